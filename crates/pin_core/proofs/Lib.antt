@@ -1,0 +1,10 @@
+pub mod Lists
+pub mod Counts
+pub mod ReaderSteps
+pub mod WriterSteps
+pub mod Fronts
+pub mod Start
+pub mod Idle
+pub mod StepLaws
+pub mod Holding
+pub mod Scans

@@ -1,0 +1,7 @@
+use Rattle.std.proofs.Common.{◌≡◌, take}
+use Rattle.pin_core.specs.Lawful.{holders}
+use Rattle.pin_core.proofs.pins.idle.is_held.Given as goal
+
+-- no reader so far holds the buffer
+abbrev pub invariant-loop-reader : goal.invariant-loop-reader
+invariant-loop-reader l = holders l.b (take l.reader-index l.readers) ≡ 0

@@ -1,0 +1,6 @@
+pub mod State
+pub mod Fields
+pub mod Effects
+pub mod Steps
+pub mod Lawful
+pub mod Laws

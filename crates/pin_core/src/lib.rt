@@ -1,0 +1,28 @@
+//! The pure core of pins: a published image that readers hold while a writer builds the next one, as a
+//! state machine whose every event is one atomic step of one actor.
+//!
+//! It is a model to be believed and not a data path: the bank of images runs the same steps on shared words.
+#![tactic(auto)]
+
+mod events;
+mod laws;
+mod pins;
+mod reader;
+mod runs;
+#[cfg(test)]
+mod tests;
+mod words;
+
+pub use events::{Event, RunError, Seen, StepError};
+pub use laws::reclamation;
+pub use pins::Core;
+pub use runs::run;
+
+/// The readers of a core, numbered from 0.
+pub const READERS: usize = 6;
+
+/// The buffers of a core, numbered from 0: one more than the readers and the current one can hold.
+pub const BUFFERS: usize = 8;
+
+/// The most words that a buffer may have; the least is 1.
+pub const MAX_WORDS: usize = 256;

@@ -1,0 +1,13 @@
+pub mod Answering
+pub mod Bytes
+pub mod ComesBack
+pub mod Consuming
+pub mod Cuts
+pub mod Events
+pub mod Gathering
+pub mod LongLines
+pub mod Midway
+pub mod Streaming
+pub mod Texts
+pub mod WholeLines
+pub mod Wholes

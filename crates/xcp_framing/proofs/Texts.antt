@@ -1,0 +1,54 @@
+-- The text of packets and numbers.
+use Rattle.std.proofs.Common.{◌≡◌, ◌<◌, ◌≤◌, ◌+◌, ◌/◌, ◌%◌, ◌^◌, ℕ, List, [], ◌∷◌, ◌++◌, length, drop, slice_index, refl, sym, ap, ◌∙◌, arith, add-one, drop-cons, decimal, append_assoc}
+use Rattle.std.proofs.lemmas.Fmt.{decimal_digit, decimal_step}
+use Rattle.std.proofs.lemmas.List.{append-nil, drop_all}
+use Rattle.hex.specs.Hex.{encode_with, encode_upper, upper_digits}
+
+-- the hex text of one byte more
+pub encode_more : (packet : List ℕ) (i : ℕ) → i < length packet
+    → encode_upper (drop i packet) ≡ slice_index upper_digits (slice_index packet i / 16) ∷ slice_index upper_digits (slice_index packet i % 16) ∷ encode_upper (drop (i + 1) packet)
+unfolding encode_with
+encode_more packet i h = rw (add-one, drop-cons packet i 0 h) refl
+
+pub two_digits : (n : ℕ) → 10 ≤ n → n < 100 → decimal n ≡ (48 + n / 10 % 10) ∷ (48 + n % 10) ∷ []
+two_digits n h k =
+    let small : n / 10 < 10 = omega arith in
+    let bounded : n < 2 ^ 64 = omega arith in
+    let same : n / 10 % 10 ≡ n / 10 = omega arith in
+    decimal_step n h bounded ∙ rw (decimal_digit (n / 10) small, same) refl
+
+pub three_digits : (n : ℕ) → 100 ≤ n → n < 256 → decimal n ≡ (48 + n / 100) ∷ (48 + n / 10 % 10) ∷ (48 + n % 10) ∷ []
+three_digits n h k =
+    let above : 10 ≤ n = omega arith in
+    let bounded : n < 2 ^ 64 = omega arith in
+    let tens : 10 ≤ n / 10 = omega arith in
+    let tens_bounded : n / 10 < 2 ^ 64 = omega arith in
+    let small : n / 10 / 10 < 10 = omega arith in
+    let same : n / 100 ≡ n / 10 / 10 = omega arith in
+    decimal_step n above bounded ∙ rw (decimal_step (n / 10) tens tens_bounded, decimal_digit (n / 10 / 10) small, same) refl
+
+-- a list with elements pushed one by one
+pub pushed_two : (xs ys zs : List ℕ) (n : ℕ) → 10 ≤ n → n < 100
+    → ys ≡ xs ++ (48 + n / 10 % 10) ∷ [] → zs ≡ ys ++ (48 + n % 10) ∷ [] → zs ≡ xs ++ decimal n
+pushed_two xs ys zs n h k p q =
+    q ∙ rw p (append_assoc xs ((48 + n / 10 % 10) ∷ []) ((48 + n % 10) ∷ []) ∙ ap (λ (w : List ℕ). xs ++ w) (sym (two_digits n h k)))
+
+pub pushed_three : (xs vs ys zs : List ℕ) (n : ℕ) → 100 ≤ n → n < 256
+    → vs ≡ xs ++ (48 + n / 100) ∷ [] → ys ≡ vs ++ (48 + n / 10 % 10) ∷ [] → zs ≡ ys ++ (48 + n % 10) ∷ [] → zs ≡ xs ++ decimal n
+pushed_three xs vs ys zs n h k o p q =
+    q ∙ rw (p, o) (ap (λ (w : List ℕ). w ++ (48 + n % 10) ∷ []) (append_assoc xs ((48 + n / 100) ∷ []) ((48 + n / 10 % 10) ∷ []))
+    ∙ append_assoc xs ((48 + n / 100) ∷ (48 + n / 10 % 10) ∷ []) ((48 + n % 10) ∷ []) ∙ ap (λ (w : List ℕ). xs ++ w) (sym (three_digits n h k)))
+
+-- two bytes more in the middle
+pub pushed_pair : (xs ys zs rest whole : List ℕ) (a b : ℕ)
+    → xs ++ a ∷ b ∷ rest ≡ whole → ys ≡ xs ++ a ∷ [] → zs ≡ ys ++ b ∷ [] → zs ++ rest ≡ whole
+pushed_pair xs ys zs rest whole a b h p q =
+    rw (q, p) (append_assoc (xs ++ a ∷ []) (b ∷ []) rest ∙ append_assoc xs (a ∷ []) (b ∷ rest) ∙ h)
+
+-- all of a packet, and then a line feed
+pub encode_ended : (start xs ys packet : List ℕ) (i : ℕ) → length packet ≤ i
+    → xs ++ encode_upper (drop i packet) ≡ start ++ encode_upper packet → ys ≡ xs ++ 10 ∷ [] → ys ≡ start ++ encode_upper packet ++ 10 ∷ []
+unfolding encode_with
+encode_ended start xs ys packet i h p q =
+    let all : xs ≡ start ++ encode_upper packet = sym (append-nil xs) ∙ (rw (drop_all i packet h) at p) in
+    q ∙ ap (λ (zs : List ℕ). zs ++ 10 ∷ []) all

@@ -1,0 +1,12 @@
+use Rattle.std.proofs.Common.{ap, ◌∙◌}
+use Rattle.xcp_slave.proofs.LayoutLaws.{answers-layout}
+use Rattle.xcp_slave.proofs.RunLaws.{run-extended}
+use Rattle.xcp_slave.specs.Value.{layout_of}
+use Rattle.xcp_framing.specs.Desk.{DeskValue}
+use Rattle.xcp_framing.proofs.desk.DeskStation.submit.Goals as goal
+
+pub invariant_of-self-2 : goal.invariant_of-self-2
+invariant_of-self-2 c = rw (c.push_reserved.ensures.items, c.copy-stored.ensures, c.reserve.ensures.items) (run-extended _ _ _ _ _ c.self.invariant c.submit-answer.ensures)
+
+pub returns-clause-layout : goal.returns-clause-layout
+returns-clause-layout c = answers-layout _ _ _ _ c.submit-answer.ensures ∙ ap (λ (d : DeskValue). layout_of d.slave) c.self.view_is

@@ -1,0 +1,5 @@
+use Rattle.xcp_framing.proofs.WholeLines.{of_lines}
+use Rattle.xcp_framing.proofs.replaying.replay_on.Goals as goal
+
+pub returns-clause-replayed : goal.returns-clause-replayed
+returns-clause-replayed g c = of_lines _ _ c.run_script-result.ensures.replayed

@@ -1,0 +1,61 @@
+use Rattle.std.proofs.Common.{◌≡◌, ◌-◌, ◌∙◌, ℕ, List, length, take, drop, ap, arith, length-drop}
+use Rattle.std.proofs.lemmas.List.{take_all}
+use Rattle.xcp_framing.proofs.Answering.{passed_on, cons≢nil}
+use Rattle.xcp_framing.proofs.Consuming.{consumes_more, consumes_bad, consumes_part}
+use Rattle.xcp_framing.proofs.serving.consume.Goals as goal
+
+pub returns-in-BadLength-clause-answers : goal.returns-in-BadLength-clause-answers
+returns-in-BadLength-clause-answers g c =
+    let s = c.args.piece.now in
+    let i = c.loop-length.used in
+    let t = take (length s - i) (drop i s) in
+    let all : t ≡ drop i s = take_all (length s - i) (drop i s) (omega (arith, length-drop i s)) in
+    let fed = rw (c.in-BadLength.is, c.loop-length.invariant.kept) at c.feed-fed.ensures.feeds in
+    let bad = rw (c.feed-fed.ensures.kept, c.loop-length.invariant.kept) at c.feed-fed.ensures.bad _ c.in-BadLength.is in
+    (consumes_bad _ _ _ _ s t _ _ c.loop-length.invariant.consumes all fed bad.0 bad.1).0
+
+pub returns-in-BadLength-clause-ends : goal.returns-in-BadLength-clause-ends
+returns-in-BadLength-clause-ends g c =
+    let s = c.args.piece.now in
+    let i = c.loop-length.used in
+    let t = take (length s - i) (drop i s) in
+    let all : t ≡ drop i s = take_all (length s - i) (drop i s) (omega (arith, length-drop i s)) in
+    let fed = rw (c.in-BadLength.is, c.loop-length.invariant.kept) at c.feed-fed.ensures.feeds in
+    let bad = rw (c.feed-fed.ensures.kept, c.loop-length.invariant.kept) at c.feed-fed.ensures.bad _ c.in-BadLength.is in
+    let ends = consumes_bad {A = Unit {0}} _ _ _ _ s t _ _ c.loop-length.invariant.consumes all fed bad.0 bad.1 in
+    (ends.1, ends.2)
+
+pub loop-length-preserved : goal.loop-length-preserved
+loop-length-preserved g c =
+    let s = c.args.piece.now in
+    let i = c.loop-length.used in
+    let j = c.feed-fed.result.used in
+    let t = take (length s - i) (drop i s) in
+    let all : t ≡ drop i s = take_all (length s - i) (drop i s) (omega (arith, length-drop i s)) in
+    let fed = rw (c.in-Packet.is, c.loop-length.invariant.kept) at c.feed-fed.ensures.feeds in
+    let answered = rw (c.in-Packet.packet-is) at c.in_ok-exchange-in-Packet.ensures.answers in
+    let counted = consumes_more _ j _ s t _ _ _ c.loop-length.invariant.consumes all fed answered in
+    let some = c.feed-fed.ensures.moves (λ e. cons≢nil (rw (c.in-Packet.is) at e)) in
+    let left : length t ≡ length s - i = ap (λ (z : List ℕ). length z) all ∙ length-drop i s in
+    let limit = c.loop-length.invariant.within in
+    let front = fed.front in
+    record {
+      consumes = rw (c.in_ok-exchange-in-Packet.ensures.frames) counted;
+      within = omega (arith, front, left, limit);
+      bound = omega (arith, c.in_ok-exchange-in-Packet.ensures.bound, c.loop-length.invariant.bound, some);
+      few = omega (arith, c.in_ok-exchange-in-Packet.ensures.frames, c.loop-length.invariant.few, some);
+      quiet = c.in_ok-exchange-in-Packet.ensures.fine ∙ c.loop-length.invariant.quiet;
+      kept = c.feed-fed.ensures.kept ∙ c.loop-length.invariant.kept;
+    }
+
+pub returns-in_err-exchange-in-Packet-clause-answers :
+    goal.returns-in_err-exchange-in-Packet-clause-answers
+returns-in_err-exchange-in-Packet-clause-answers g c =
+    let s = c.args.piece.now in
+    let i = c.loop-length.used in
+    let t = take (length s - i) (drop i s) in
+    let all : t ≡ drop i s = take_all (length s - i) (drop i s) (omega (arith, length-drop i s)) in
+    let fed = rw (c.in-Packet.is, c.loop-length.invariant.kept) at c.feed-fed.ensures.feeds in
+    let part = rw (c.in-Packet.packet-is) at c.in_err-exchange-in-Packet.ensures.answers in
+    rw (passed_on c.from_residual.result c.in_err-exchange-in-Packet.field-0.0 c.from_residual.ensures.1)
+    (consumes_part _ _ _ _ _ s t _ _ _ c.in_err-exchange-in-Packet.ensures.stops c.loop-length.invariant.consumes all fed part)

@@ -1,0 +1,34 @@
+-- What contracts see of a framer, and what a piece of the stream brings it (ASAM MCD-1 XCP, transport layer, XCP on
+-- Ethernet: TCP gives a stream in pieces of any size).
+use Rattle.std.specs.Prelude.{◌≡◌, ◌<◌, ◌≤◌, ◌+◌, ◌-◌, ◌++◌, ℕ, List, [], ◌∷◌, length, take, nat_lt, if◌then◌else◌}
+use Rattle.xcp_framing.specs.declared.framer.Got.{Got}
+use Rattle.xcp_framing.specs.declared.framer.Got.TheVariants.{Packet}
+use Rattle.xcp_framing.specs.Wire.{IsBadLength, len_of}
+use Rattle.xcp_framing.specs.Frames.{frames, rest}
+
+-- a framer: MAX_CTO, and the bytes that it holds, which stand behind the last whole frame
+pub record FramerValue : Type 0 where
+  pub max_cto : ℕ
+  pub held : List ℕ
+
+-- the packet that was given, if any
+abbrev pub packets_given : Got → List (List ℕ)
+packets_given (Packet packet) = packet.items ∷ []
+packets_given _ = []
+
+-- no packet is whole yet, and no LEN is above m
+pub record IsQuiet (m : ℕ) (stream : List ℕ) : Type 0 where
+  pub no_packet : frames m stream ≡ []
+  pub no_fault : ¬ IsBadLength m (rest m stream)
+
+-- The front of `used` bytes of a piece, behind the bytes held, brings these packets and leaves
+-- `left` to be held; no shorter front brings a packet, or a LEN above m.
+pub record Feeds (m : ℕ) (held piece : List ℕ) (used : ℕ) (packets : List (List ℕ)) (left : List ℕ) : Type 0 where
+  pub front : used ≤ length piece
+  pub brings : frames m (held ++ take used piece) ≡ packets
+  pub leaves : left ≡ rest m (held ++ take used piece)
+  pub first : (k : ℕ) → k < used → IsQuiet m (held ++ take k piece)
+
+-- how many bytes a frame that has begun wants next: those of LEN, then those that LEN tells of; none for a LEN above m
+abbrev pub missing_of : ℕ → List ℕ → ℕ
+missing_of m held = if nat_lt (length held) 2 then 2 - length held else (if nat_lt m (len_of held) then 0 else (4 + len_of held) - length held)

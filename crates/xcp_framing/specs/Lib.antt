@@ -1,0 +1,13 @@
+pub mod Desk
+pub mod Feeding
+pub mod Frames
+pub mod Front
+pub mod Lines
+pub mod Meaning
+pub mod Reading
+pub mod Replay
+pub mod Serve
+pub mod Told
+pub mod Turns
+pub mod Watched
+pub mod Wire

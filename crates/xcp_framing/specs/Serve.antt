@@ -1,0 +1,143 @@
+-- What `serve` does with a stream: the exchanges that it makes, and what it writes (ASAM MCD-1 XCP, transport layer, XCP on
+-- Ethernet; CTO packets come in and go out, DTO packets go out between them).
+use Rattle.std.specs.Prelude.{◌≡◌, ◌≢◌, ◌<◌, ◌≤◌, ℕ, List, [], ◌∷◌, ◌++◌, All, length, Option, Some, None, Result, Ok, Err, ⊤}
+use Rattle.std.specs.List.{flat_map}
+use Rattle.std.specs.Io.KnownBytes.{Appends, IsAtEnd}
+use Rattle.xcp_slave.specs.declared.Exchange.{Exchange}
+use Rattle.xcp_slave.specs.declared.Answer.{Answer}
+use Rattle.xcp_slave.specs.declared.Answer.TheVariants as answers
+use Rattle.xcp_slave.specs.declared.Request.TheVariants as requests
+use Rattle.xcp_framing.specs.declared.station.StationError.{StationError}
+use Rattle.xcp_framing.specs.declared.station.StationError.TheVariants as refusals
+use Rattle.xcp_framing.specs.declared.serving.Served.{Served}
+use Rattle.xcp_framing.specs.declared.serving.ServeError.{ServeError}
+use Rattle.xcp_framing.specs.declared.serving.ServeError.TheVariants as errors
+use Rattle.xcp_framing.specs.Front.{AppendsFront}
+use Rattle.xcp_framing.specs.Wire.{wire, len_of, IsBadLength}
+use Rattle.xcp_framing.specs.Frames.{frames, rest}
+
+-- the packet of an answer, if it is one
+abbrev pub packet_of : Answer → List (List ℕ)
+packet_of (answers.Packet packet) = packet.items ∷ []
+packet_of _ = []
+
+-- the packets of the answers, in order
+abbrev pub packets_of : List Exchange → List (List ℕ)
+packets_of exchanges = flat_map (λ x. packet_of x.answer) exchanges
+
+-- a Drain that gave a packet
+pub record GavePacket (x : Exchange) : Type 0 where
+  pub drain : x.request ≡ requests.Drain
+  pub gave : packet_of x.answer ≢ []
+
+-- behind n Drains that gave a packet each: one that gave none; none at all where they were 64
+abbrev pub EndsDrains : ℕ → List Exchange → Type 0
+EndsDrains n [] = n ≡ 64
+EndsDrains n (x ∷ more) = (n < 64) × (x.request ≡ requests.Drain) × (packet_of x.answer ≡ []) × (more ≡ [])
+
+-- The Drains behind a command: up to and with the first that gives no packet, at most 64.
+pub record Drained (exchanges : List Exchange) : Type 0 where
+  pub gave : List Exchange
+  pub last : List Exchange
+  pub joined : exchanges ≡ gave ++ last
+  pub each : All GavePacket gave
+  pub ended : EndsDrains (length gave) last
+
+-- a command and the Drains behind it
+pub record AnswersOne (packet : List ℕ) (exchanges : List Exchange) : Type 0 where
+  pub command : Exchange
+  pub drains : List Exchange
+  pub joined : exchanges ≡ command ∷ drains
+  pub asked : command.request ≡ requests.Command (record { items = packet })
+  pub drained : Drained drains
+
+-- for each packet, in order, the command and the Drains behind it
+abbrev pub AnswersAll : List (List ℕ) → List Exchange → Type 0
+AnswersAll [] exchanges = exchanges ≡ []
+AnswersAll (packet ∷ packets) exchanges =
+    (one : List Exchange) × (more : List Exchange) × (exchanges ≡ one ++ more) × AnswersOne packet one × AnswersAll packets more
+
+-- nothing, or the first packet's command and some of the Drains behind it, each of which gave a packet
+abbrev pub AnswersStart : List (List ℕ) → List Exchange → Type 0
+AnswersStart packets [] = ⊤
+AnswersStart [] (x ∷ drains) = ⊥
+AnswersStart (packet ∷ packets) (x ∷ drains) = (x.request ≡ requests.Command (record { items = packet })) × All GavePacket drains × (length drains ≤ 64)
+
+-- the first packets, each with the Drains behind it, and of the next one the start
+pub record AnswersPart (packets : List (List ℕ)) (exchanges : List Exchange) : Type 0 where
+  pub done : List (List ℕ)
+  pub next : List (List ℕ)
+  pub full : List Exchange
+  pub cut : List Exchange
+  pub packets_are : packets ≡ done ++ next
+  pub joined : exchanges ≡ full ++ cut
+  pub answered : AnswersAll done full
+  pub begun : AnswersStart next cut
+
+-- All the packets were answered, unless a write or the station ended the call.
+abbrev pub AnswersSoFar : {A : Type 0} → Result A ServeError → List (List ℕ) → List Exchange → Type 0
+AnswersSoFar (Err errors.Write) packets exchanges = AnswersPart packets exchanges
+AnswersSoFar (Err errors.Memory) packets exchanges = AnswersPart packets exchanges
+AnswersSoFar (Err errors.JournalFull) packets exchanges = AnswersPart packets exchanges
+AnswersSoFar _ packets exchanges = AnswersAll packets exchanges
+
+-- All of the text was written, unless a write ended the call: then a front of it.
+abbrev pub Writes : {A : Type 0} → Result A ServeError → Option (List ℕ) → Option (List ℕ) → List ℕ → Type 0
+Writes (Err errors.Write) before after text = AppendsFront before after text
+Writes _ before after text = Appends before after text
+
+-- a fact about the bytes read, where the reader tells its bytes: those that it had, without those that are left
+abbrev pub OnRead : Option (List ℕ) → Option (List ℕ) → (List ℕ → Type 0) → Type 0
+OnRead None after Fact = ⊤
+OnRead (Some input) None Fact = ⊥
+OnRead (Some input) (Some left) Fact = (stream : List ℕ) × (input ≡ stream ++ left) × Fact stream
+
+-- what is left of the stream at its end: nothing, a LEN above m, or a part of a frame
+abbrev pub EndsStream : ℕ → Result Served ServeError → List ℕ → Type 0
+EndsStream m (Ok served) left = left ≡ []
+EndsStream m (Err (errors.BadLength n)) left = (n ≡ len_of left) × IsBadLength m left
+EndsStream m (Err errors.Truncated) left = left ≢ []
+EndsStream m _ left = ⊤
+
+-- the reader was read to its end
+abbrev pub EndsReader : Result Served ServeError → Option (List ℕ) → Type 0
+EndsReader (Ok served) after = IsAtEnd after
+EndsReader (Err errors.Truncated) after = IsAtEnd after
+EndsReader _ after = ⊤
+
+-- the counts are those of the commands and of the packets sent
+abbrev pub Counts : Result Served ServeError → List (List ℕ) → List (List ℕ) → Type 0
+Counts (Ok served) packets sent = (served.frames ≡ length packets) × (served.sent ≡ length sent)
+Counts (Err e) packets sent = ⊤
+
+-- One call of `serve`, where MAX_CTO is m: `input` and `left` are the reader's bytes before and after, where it tells
+-- them, `old` and `new` the station's exchanges, `before` and `after` the writer's bytes.
+pub record Serves (m : ℕ) (result : Result Served ServeError) (input left : Option (List ℕ)) (old new : List Exchange) (before after : Option (List ℕ)) : Type 0 where
+  -- the packets of the bytes read, and what stands behind them
+  pub packets : List (List ℕ)
+  pub behind : List ℕ
+  pub read : OnRead input left (λ stream. (packets ≡ frames m stream) × (behind ≡ rest m stream))
+  -- the exchanges of this call
+  pub exchanges : List Exchange
+  pub grown : new ≡ old ++ exchanges
+  pub answers : AnswersSoFar result packets exchanges
+  -- the frames of the answers' packets
+  pub writes : Writes result before after (wire (packets_of exchanges))
+  -- the end of the stream
+  pub ends : EndsStream m result behind
+  pub counts : Counts result packets (packets_of exchanges)
+
+-- the number of an error
+abbrev pub number_of : ServeError → ℕ
+number_of errors.Read = 1
+number_of errors.Write = 2
+number_of (errors.BadLength n) = 3
+number_of errors.Truncated = 4
+number_of errors.Memory = 5
+number_of errors.TurnsSpent = 6
+number_of errors.JournalFull = 7
+
+-- a station's refusal as an error
+abbrev pub refused_with : StationError → ServeError
+refused_with refusals.Memory = errors.Memory
+refused_with refusals.JournalFull = errors.JournalFull

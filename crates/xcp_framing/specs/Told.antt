@@ -1,0 +1,27 @@
+-- The text of a slave's answers.
+use Rattle.std.specs.Prelude.{ℕ, List, [], ◌∷◌, ◌++◌, flat_map, codes, decimal}
+use Rattle.hex.specs.Hex.{encode_upper}
+use Rattle.xcp_slave.specs.declared.Answer.{Answer}
+use Rattle.xcp_slave.specs.declared.Answer.TheVariants as answers
+use Rattle.xcp_slave.specs.declared.Exchange.{Exchange}
+
+-- what an answer's line says: a packet in upper-case hex without spaces, or words
+abbrev pub words_of : Answer → List ℕ
+words_of answers.Silent = codes "-"
+words_of (answers.Packet packet) = encode_upper packet.items
+words_of (answers.Sampled n) = codes "sampled " ++ decimal n
+words_of answers.Overrun = codes "overrun"
+words_of answers.NoChannel = codes "no channel"
+words_of answers.BadSignals = codes "bad signals"
+words_of answers.Nothing = codes "nothing"
+words_of (answers.Stored n) = codes "stored " ++ decimal n
+words_of answers.NoStore = codes "no store"
+words_of answers.Later = codes "later"
+
+-- an answer's line, with the line feed (10) that ends it
+unfoldable pub text_of : Answer → List ℕ
+text_of answer = words_of answer ++ 10 ∷ []
+
+-- the lines of the exchanges' answers, in order
+abbrev pub told : List Exchange → List ℕ
+told exchanges = flat_map (λ x. text_of x.answer) exchanges

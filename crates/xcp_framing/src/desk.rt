@@ -1,0 +1,90 @@
+//! A station that executes each request on its slave and stores the exchange.
+ghost use Rattle.std.specs.Prelude.{◌≡◌, ◌≤◌, [], ◌∷◌, ◌++◌, IfOk, OnErr, IfErr};
+ghost use Rattle.xcp_slave.specs.Run.{Run};
+ghost use Rattle.xcp_slave.specs.Step.{Answers};
+ghost use Rattle.xcp_slave.specs.Value.{layout_of, opening};
+
+use crate::{Station, StationError};
+use std::alloc::Global;
+use std::marker::Model;
+use xcp_slave::{Answer, Exchange, Request, Slave};
+
+/// A slave with all the exchanges that it has had. They are a run of the slave, from the opening
+/// of its layout to the slave as it is now.
+#[derive(Drop)]
+pub struct Desk {
+    slave: Slave,
+    exchanges: Vec<Exchange>,
+}
+
+impl Model for Desk {
+    ghost use Rattle.xcp_framing.specs.Desk.{DeskValue};
+    ghost use Rattle.xcp_slave.specs.Run.{Run};
+    ghost use Rattle.xcp_slave.specs.Value.{layout_of, opening};
+
+    ghost Value = { DeskValue };
+
+    ghost view = { λ d. record { slave = d.slave; exchanges = d.exchanges.items } };
+
+    ghost invariant = { λ d. Run (opening (layout_of d.slave)) d.exchanges.items d.slave };
+}
+
+impl Desk {
+    /// A desk over a slave that has had no request yet. It takes no memory yet.
+    pub fn new(alloc: Global, slave: Slave) -> Desk
+        requires { slave ≡ opening (layout_of slave) }
+        ensures { result ≡ record { slave = slave; exchanges = [] } }
+    {
+        Desk {
+            slave,
+            exchanges: Vec::new(alloc),
+        }
+    }
+
+    /// MAX_CTO: the greatest length of a command or a reply, in bytes.
+    pub fn max_cto(&self) -> u8
+        ensures { result ≡ (layout_of self.now.slave).max_cto }
+    {
+        self.slave.max_cto()
+    }
+
+    /// The exchanges so far, in order.
+    pub fn exchanges(&self) -> &[Exchange]
+        ensures { result.now ≡ self.now.exchanges }
+    {
+        &self.exchanges
+    }
+
+    /// Does nothing: its contract says that the exchanges are a run, which each desk keeps.
+    pub fn audit(&self)
+        ensures { Run (opening (layout_of self.now.slave)) self.now.exchanges self.now.slave }
+    {
+        let _ = &self.slave;
+    }
+}
+
+impl Station for Desk {
+    ghost exchanges = { λ d. d.exchanges };
+
+    /// Answers a request. The one refusal is `Memory`, which comes before anything is executed.
+    fn submit(&mut self, request: Request) -> Result<Answer, StationError>
+        ensures answers { IfOk result (λ answer.
+            Answers self.old.slave request answer self.new.slave) }
+        ensures ok { IfOk result (λ answer. self.new.exchanges
+            ≡ self.old.exchanges ++ record { request = request; answer = answer } ∷ []) }
+        ensures err { OnErr result (self.new ≡ self.old) }
+        ensures memory { IfErr result (λ e. e ≡ StationError.Memory) }
+        ensures layout { layout_of self.new.slave ≡ layout_of self.old.slave }
+    {
+        if self.exchanges.reserve(1).is_err() {
+            return Err(StationError::Memory);
+        }
+        let answer = self.slave.submit(&request);
+        let stored = answer.copy();
+        self.exchanges.push_reserved(Exchange {
+            request,
+            answer: stored,
+        });
+        Ok(answer)
+    }
+}

@@ -1,0 +1,162 @@
+//! The packets of a stream that comes in pieces.
+ghost use Rattle.std.specs.Prelude.{◌≡◌, ◌≢◌, ◌<◌, ◌≤◌, ◌+◌, ◌↔◌, [], IsTrue, IfSome, IfNone, ℕ, length};
+ghost use Rattle.xcp_framing.specs.Wire.{IsBadLength, len_of};
+ghost use Rattle.xcp_framing.specs.Frames.{frames, rest};
+ghost use Rattle.xcp_framing.specs.Feeding.{packets_given, Feeds, missing_of};
+
+use crate::wire::{FRAME_SIZE, HEADER_SIZE, LEN_SIZE};
+use arrayvec::ArrayVec;
+use byteorder::{ByteOrder, LittleEndian};
+use std::marker::Model;
+use xcp_packet::Packet;
+
+/// What a piece brought.
+#[derive(Debug, PartialEq, Eq, Drop)]
+pub enum Got {
+    /// No packet yet.
+    More,
+    /// The packet of a frame that is whole.
+    Packet(Packet),
+    /// A LEN above MAX_CTO. Nothing is read behind it.
+    BadLength(u16),
+}
+
+/// How many bytes of a piece were used, and what they brought.
+#[derive(Debug, PartialEq, Eq, Drop)]
+pub struct Fed {
+    pub used: usize,
+    pub got: Got,
+}
+
+/// Takes a stream piece by piece, and gives the packets of its frames (XCP on Ethernet, TCP). It
+/// holds the bytes of the frame that has begun.
+#[derive(Debug, Drop)]
+pub struct Framer {
+    max_cto: u8,
+    held: ArrayVec<u8, FRAME_SIZE>,
+}
+
+impl Model for Framer {
+    ghost use Rattle.xcp_framing.specs.Feeding.{FramerValue};
+    ghost use Rattle.xcp_framing.specs.Wire.{IsUnfinished};
+
+    ghost Value = { FramerValue };
+
+    ghost view = { λ f. record { max_cto = f.max_cto; held = f.held.items } };
+
+    ghost invariant = { λ f. IsUnfinished f.max_cto f.held.items };
+}
+
+impl Framer {
+    /// A framer at the start of a stream, whose packets have at most max_cto bytes.
+    pub fn new(max_cto: u8) -> Framer
+        ensures { result ≡ record { max_cto = max_cto; held = [] } }
+    {
+        Framer {
+            max_cto,
+            held: ArrayVec::new(),
+        }
+    }
+
+    /// Whether a frame has begun.
+    pub fn inside(&self) -> bool
+        ensures { IsTrue result ↔ (self.now.held ≢ []) }
+    {
+        !self.held.is_empty()
+    }
+
+    /// Uses a front of the piece: up to the end of the first frame that holds a packet, or to a LEN
+    /// above MAX_CTO, or all of it. From a LEN above MAX_CTO on it uses nothing and answers
+    /// `BadLength` for good.
+    pub fn feed(&mut self, piece: &[u8]) -> Fed
+        ensures feeds { Feeds self.old.max_cto self.old.held piece.now
+            result.used (packets_given result.got) self.new.held }
+        ensures more { result.got ≡ Got.More
+            → (result.used ≡ length piece.now) × ¬ IsBadLength self.new.max_cto self.new.held }
+        ensures bad { (n : ℕ) → result.got ≡ Got.BadLength n
+            → (n ≡ len_of self.new.held) × IsBadLength self.new.max_cto self.new.held }
+        ensures moves { packets_given result.got ≢ [] → 0 < result.used }
+        ensures kept { self.new.max_cto ≡ self.old.max_cto }
+    {
+        let mut fed = self.gather(piece);
+        while let Got::More = fed.got {
+            if fed.used == piece.len() {
+                break;
+            }
+            let next = self.gather(&piece[fed.used..]);
+            fed = Fed {
+                used: fed.used + next.used,
+                got: next.got,
+            };
+        }
+        fed
+    }
+
+    /// Goes on to the end of LEN or of the frame, or to the end of the piece.
+    fn gather(&mut self, piece: &[u8]) -> Fed
+        ensures feeds { Feeds self.old.max_cto self.old.held piece.now
+            result.used (packets_given result.got) self.new.held }
+        ensures more { result.got ≡ Got.More → ¬ IsBadLength self.new.max_cto self.new.held }
+        ensures packet_moves { packets_given result.got ≢ [] → 0 < result.used }
+        ensures moves { ¬ IsBadLength self.old.max_cto self.old.held
+            → 0 < length piece.now → 0 < result.used }
+        ensures bad { (n : ℕ) → result.got ≡ Got.BadLength n
+            → (n ≡ len_of self.new.held) × IsBadLength self.new.max_cto self.new.held }
+        ensures kept { self.new.max_cto ≡ self.old.max_cto }
+    {
+        let used = missing(&self.held, self.max_cto).min(piece.len());
+        let _ = self.held.try_extend_from_slice(&piece[..used]);
+        let got = take_packet(&mut self.held, self.max_cto);
+        Fed { used, got }
+    }
+}
+
+/// LEN, once both its bytes are there.
+fn length(frame: &[u8]) -> Option<u16>
+    ensures there { IfSome result (λ n. (n ≡ len_of frame.now) × (2 ≤ length frame.now)) }
+    ensures none { IfNone result (length frame.now < 2) }
+{
+    if frame.len() < LEN_SIZE {
+        return None;
+    }
+    Some(LittleEndian::read_u16(frame))
+}
+
+/// How many bytes a frame that has begun wants next: those of LEN, then those that LEN tells of.
+fn missing(held: &[u8], max_cto: u8) -> usize
+    requires { length held.now ≤ FRAME_SIZE }
+    ensures { result ≡ missing_of max_cto held.now }
+{
+    match length(held) {
+        None => LEN_SIZE - held.len(),
+        Some(length) if length > u16::from(max_cto) => 0,
+        Some(length) => (HEADER_SIZE + length as usize).saturating_sub(held.len()),
+    }
+}
+
+/// What the bytes gathered so far are. A whole frame is taken out.
+fn take_packet(held: &mut ArrayVec<u8, FRAME_SIZE>, max_cto: u8) -> Got
+    requires { len_of held.old.items ≤ max_cto → length held.old.items ≤ 4 + len_of held.old.items }
+    ensures brings { frames max_cto held.old.items ≡ packets_given result }
+    ensures leaves { held.new.items ≡ rest max_cto held.old.items }
+    ensures more { result ≡ Got.More → ¬ IsBadLength max_cto held.new.items }
+    ensures bad { (n : ℕ) → result ≡ Got.BadLength n
+        → (n ≡ len_of held.new.items) × IsBadLength max_cto held.new.items }
+{
+    let Some(length) = length(held) else {
+        return Got::More;
+    };
+    if length > u16::from(max_cto) {
+        return Got::BadLength(length);
+    }
+    if held.len() < HEADER_SIZE + length as usize {
+        return Got::More;
+    }
+    let mut packet = Packet::new();
+    let _ = packet.try_extend_from_slice(&held[HEADER_SIZE..]);
+    held.clear();
+    if packet.is_empty() {
+        return Got::More;
+    }
+    Got::Packet(packet)
+}

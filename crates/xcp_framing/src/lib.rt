@@ -1,0 +1,49 @@
+//! Requests and answers over streams.
+//!
+//! A [`Station`] takes requests one by one; a [`Desk`] is one that executes them on its slave and
+//! stores the exchanges. [`replay_on`] answers a script of lines through a desk; [`serve`] answers
+//! commands in frames through a station, and a [`Framer`] finds the packets of a stream that comes
+//! in pieces. Both run over any reader and writer. A reader or writer stands in a [`Watched`], so
+//! that contracts can say that a fault came of a call that failed.
+//!
+//! `specs/Lines.antt` has the lines of a text, `specs/Meaning.antt` what a line says,
+//! `specs/Told.antt` the text of the answers, `specs/Replay.antt` what a replay promises.
+//! `specs/Wire.antt` has the frames of a stream, `specs/Serve.antt` what serving promises.
+#![tactic(auto)]
+
+mod desk;
+mod fault;
+mod framer;
+mod law;
+mod line;
+mod parsing;
+mod plain;
+mod replaying;
+mod script;
+mod serving;
+mod station;
+mod stream;
+mod tally;
+mod telling;
+mod watched;
+mod wire;
+
+pub use desk::Desk;
+pub use fault::ReplayError;
+pub use framer::{Fed, Framer, Got};
+pub use law::each_text_has_its_lines;
+pub use line::Line;
+pub use parsing::{LINE_BYTES, parse_line};
+pub use plain::plain_lines;
+pub use replaying::replay_on;
+pub use serving::{ServeError, Served, serve};
+pub use station::{Station, StationError};
+pub use stream::{
+    any_cutting_gives_the_same_frames, each_stream_has_its_frames, plain_frames,
+    the_wire_gives_its_packets_back,
+};
+pub use watched::{Watched, WriteFailed};
+pub use wire::{FRAME_SIZE, frame};
+
+#[cfg(test)]
+mod tests;

@@ -1,0 +1,249 @@
+//! A station behind a stream: commands in frames from a reader, answers in frames to a writer.
+ghost use Rattle.std.specs.Prelude.{◌≡◌, ◌≢◌, ◌<◌, ◌≤◌, ◌+◌, ◌*◌, ◌^◌, [], ◌∷◌, ◌++◌, OnOk, IfErr, List, ℕ, length};
+ghost use Rattle.xcp_framing.specs.Wire.{wire_from};
+ghost use Rattle.xcp_framing.specs.Frames.{frames, rest};
+ghost use Rattle.xcp_framing.specs.Serve.{AnswersSoFar, EndsReader, Serves, Writes, number_of};
+ghost use Rattle.xcp_framing.specs.Turns.{Grows, DrainsSoFar, EndsPiece, IsInterruption};
+
+use crate::{Framer, Got, Station, StationError, Watched, frame};
+use std::alloc::Global;
+use std::io::{Read, Write};
+use thiserror::Error;
+use xcp_packet::Packet;
+use xcp_slave::{Answer, Request};
+
+/// The most bytes that one read takes.
+const READ_SIZE: usize = 512;
+
+/// The most Drains behind a command.
+const DRAINS: u8 = 64;
+
+/// What a stream brought.
+#[derive(Clone, Copy, Debug, PartialEq, Eq)]
+pub struct Served {
+    /// How many packets came, each of them submitted as a command. Frames of LEN 0 don't count.
+    pub frames: u64,
+    /// How many packets were sent.
+    pub sent: u64,
+}
+
+/// Why a stream ended before its reader did.
+#[derive(Clone, Copy, Debug, Error, PartialEq, Eq, Drop)]
+pub enum ServeError {
+    /// A read failed.
+    #[error("a read failed")]
+    Read,
+    /// A write failed, or took no byte.
+    #[error("a write failed")]
+    Write,
+    /// A LEN above MAX_CTO.
+    #[error("a frame's LEN is {0}, above MAX_CTO")]
+    BadLength(u16),
+    /// The reader ended inside a frame.
+    #[error("the stream ended inside a frame")]
+    Truncated,
+    /// There was no memory for the read buffer, or for the station.
+    #[error("no memory is left")]
+    Memory,
+    /// All reads that were allowed have been made.
+    #[error("all reads that were allowed have been made")]
+    TurnsSpent,
+    /// The station takes no more exchanges.
+    #[error("the journal is full")]
+    JournalFull,
+}
+
+impl ServeError {
+    /// The error's number: 1 Read, 2 Write, 3 BadLength, 4 Truncated, 5 Memory, 6 TurnsSpent,
+    /// 7 JournalFull.
+    pub fn number(&self) -> u8
+        ensures { result ≡ number_of self.now }
+    {
+        match self {
+            ServeError::Read => 1,
+            ServeError::Write => 2,
+            ServeError::BadLength(_) => 3,
+            ServeError::Truncated => 4,
+            ServeError::Memory => 5,
+            ServeError::TurnsSpent => 6,
+            ServeError::JournalFull => 7,
+        }
+    }
+}
+
+impl From<StationError> for ServeError {
+    ghost use Rattle.xcp_framing.specs.Serve.{refused_with};
+
+    ghost from_gives = { λ e r. r ≡ refused_with e };
+
+    fn from(error: StationError) -> ServeError {
+        match error {
+            StationError::Memory => ServeError::Memory,
+            StationError::JournalFull => ServeError::JournalFull,
+        }
+    }
+}
+
+/// Sends one packet. CTR is the number of packets sent before, modulo 65,536.
+fn send<W: Write>(
+    writer: &mut Watched<W>,
+    served: &mut Served,
+    packet: &Packet,
+) -> Result<(), ServeError>
+    requires { served.old.sent + 1 < 2 ^ 64 }
+    ensures writes { Writes result (W.contents writer.old.inner) (W.contents writer.new.inner)
+        (wire_from served.old.sent (packet.now.items ∷ [])) }
+    ensures counts { OnOk result (served.new.sent ≡ served.old.sent + 1) }
+    ensures frames { served.new.frames ≡ served.old.frames }
+    ensures fine { OnOk result (writer.new.failures ≡ writer.old.failures) }
+    ensures err { IfErr result (λ e.
+        (e ≡ ServeError.Write) × (writer.old.failures < writer.new.failures)) }
+{
+    let frame = frame((served.sent % 65_536) as u16, packet);
+    if writer.write_all(frame.as_slice()).is_err() {
+        return Err(ServeError::Write);
+    }
+    served.sent += 1;
+    Ok(())
+}
+
+/// Drains the station until an answer is no packet, at most 64 times, and sends the packets.
+fn drain<W: Write, S: Station>(
+    station: &mut S,
+    writer: &mut Watched<W>,
+    served: &mut Served,
+) -> Result<(), ServeError>
+    requires { served.old.sent + 64 < 2 ^ 64 }
+    ensures drains { Grows result (DrainsSoFar result)
+        (S.exchanges station.old) (S.exchanges station.new)
+        (W.contents writer.old.inner) (W.contents writer.new.inner)
+        served.old.sent served.new.sent }
+    ensures bound { OnOk result (served.new.sent ≤ served.old.sent + 64) }
+    ensures frames { served.new.frames ≡ served.old.frames }
+    ensures fine { OnOk result (writer.new.failures ≡ writer.old.failures) }
+    ensures stops { IfErr result IsInterruption }
+    ensures write { result ≡ Err ServeError.Write → writer.old.failures < writer.new.failures }
+{
+    for _drain in 0..DRAINS {
+        let Answer::Packet(packet) = station.submit(Request::Drain)? else {
+            return Ok(());
+        };
+        send(writer, served, &packet)?;
+    }
+    Ok(())
+}
+
+/// Submits one packet as a command, sends the packet of the answer, and drains the station.
+fn exchange<W: Write, S: Station>(
+    packet: Packet,
+    station: &mut S,
+    writer: &mut Watched<W>,
+    served: &mut Served,
+) -> Result<(), ServeError>
+    requires { served.old.sent + 65 < 2 ^ 64 }
+    ensures answers { Grows result (AnswersSoFar result (packet.items ∷ []))
+        (S.exchanges station.old) (S.exchanges station.new)
+        (W.contents writer.old.inner) (W.contents writer.new.inner)
+        served.old.sent served.new.sent }
+    ensures bound { OnOk result (served.new.sent ≤ served.old.sent + 65) }
+    ensures frames { served.new.frames ≡ served.old.frames }
+    ensures fine { OnOk result (writer.new.failures ≡ writer.old.failures) }
+    ensures stops { IfErr result IsInterruption }
+    ensures write { result ≡ Err ServeError.Write → writer.old.failures < writer.new.failures }
+{
+    if let Answer::Packet(packet) = station.submit(Request::Command(packet))? {
+        send(writer, served, &packet)?;
+    }
+    drain(station, writer, served)
+}
+
+/// Answers the packets that are whole with the bytes of one read.
+fn consume<W: Write, S: Station>(
+    framer: &mut Framer,
+    piece: &[u8],
+    station: &mut S,
+    writer: &mut Watched<W>,
+    served: &mut Served,
+) -> Result<(), ServeError>
+    requires sent { served.old.sent + 65 * length piece.now < 2 ^ 64 }
+    requires frames { served.old.frames + length piece.now < 2 ^ 64 }
+    ensures answers { Grows result
+        (AnswersSoFar result (frames framer.old.max_cto (framer.old.held ++ piece.now)))
+        (S.exchanges station.old) (S.exchanges station.new)
+        (W.contents writer.old.inner) (W.contents writer.new.inner)
+        served.old.sent served.new.sent }
+    ensures ends { EndsPiece framer.old.max_cto result framer.new.held
+        (rest framer.old.max_cto (framer.old.held ++ piece.now)) }
+    ensures frames { OnOk result (served.new.frames
+        ≡ served.old.frames + length (frames framer.old.max_cto (framer.old.held ++ piece.now))) }
+    ensures bound { OnOk result (served.new.sent ≤ served.old.sent + 65 * length piece.now) }
+    ensures few { OnOk result (served.new.frames ≤ served.old.frames + length piece.now) }
+    ensures fine { OnOk result (writer.new.failures ≡ writer.old.failures) }
+    ensures write { result ≡ Err ServeError.Write → writer.old.failures < writer.new.failures }
+    ensures kept { framer.new.max_cto ≡ framer.old.max_cto }
+{
+    let mut used = 0;
+    loop {
+        let fed = framer.feed(&piece[used..]);
+        used += fed.used;
+        match fed.got {
+            Got::More => return Ok(()),
+            Got::BadLength(length) => return Err(ServeError::BadLength(length)),
+            Got::Packet(packet) => {
+                served.frames += 1;
+                exchange(packet, station, writer, served)?;
+            }
+        }
+    }
+}
+
+/// Answers a stream of frames (XCP on Ethernet, TCP), packet by packet, until the reader ends.
+///
+/// Each turn is one read of up to 512 bytes, of at most `turns` turns. Each packet that is whole is
+/// submitted as a command, and behind it `Drain` until an answer is no packet, at most 64 times.
+/// Each packet of an answer is sent in a frame of its own as soon as it is there; CTR counts them
+/// from 0. A frame of LEN 0 is skipped, and the CTR of what is read is not looked at.
+///
+/// Packets have at most `max_cto` bytes, a frame's LEN above it is `BadLength`. What comes first in
+/// the stream comes first: all whole frames before a fault in it have been answered, and nothing
+/// is written of the fault. A refusal of the station ends the call with `Memory` or `JournalFull`.
+pub fn serve<R: Read, W: Write, S: Station>(
+    alloc: Global,
+    reader: &mut Watched<R>,
+    writer: &mut Watched<W>,
+    station: &mut S,
+    max_cto: u8,
+    turns: u32,
+) -> Result<Served, ServeError>
+    // The packets of the stream, their exchanges, the text, and how it ended.
+    ensures serves { Serves max_cto result
+        (R.remaining reader.old.inner) (R.remaining reader.new.inner)
+        (S.exchanges station.old) (S.exchanges station.new)
+        (W.contents writer.old.inner) (W.contents writer.new.inner) }
+    // Ok and Truncated come at the reader's end.
+    ensures ends { EndsReader result (R.remaining reader.new.inner) }
+    // When the others come.
+    ensures read { result ≡ Err ServeError.Read → reader.old.failures < reader.new.failures }
+    ensures write { result ≡ Err ServeError.Write → writer.old.failures < writer.new.failures }
+    ensures reads { reader.new.calls ≤ reader.old.calls + turns }
+    ensures turns { result ≡ Err ServeError.TurnsSpent → reader.new.calls ≡ reader.old.calls + turns }
+{
+    let Ok(mut buffer) = vec![in alloc; 0; READ_SIZE] else {
+        return Err(ServeError::Memory);
+    };
+    let mut framer = Framer::new(max_cto);
+    let mut served = Served { frames: 0, sent: 0 };
+    for _turn in 0..turns {
+        let Ok(count) = reader.read(&mut buffer) else {
+            return Err(ServeError::Read);
+        };
+        if count == 0 {
+            if framer.inside() {
+                return Err(ServeError::Truncated);
+            }
+            return Ok(served);
+        }
+        consume(&mut framer, &buffer[..count], station, writer, &mut served)?;
+    }
+    Err(ServeError::TurnsSpent)
+}

@@ -1,0 +1,29 @@
+//! What takes requests one by one.
+ghost use Rattle.std.specs.Prelude.{◌≡◌, [], ◌∷◌, ◌++◌, List, IfOk, OnErr};
+ghost use Rattle.xcp_slave.specs.declared.Exchange.{Exchange};
+
+use thiserror::Error;
+use xcp_slave::{Answer, Request};
+
+/// Why a station did not take a request. Nothing was executed, and nothing changed.
+#[derive(Clone, Copy, Debug, Error, PartialEq, Eq, Drop)]
+pub enum StationError {
+    /// There was no memory to store the exchange.
+    #[error("no memory is left for an exchange")]
+    Memory,
+    /// The station's journal takes no more exchanges.
+    #[error("the journal is full")]
+    JournalFull,
+}
+
+/// What takes requests one by one, as a slave that stores its exchanges does.
+pub trait Station {
+    /// The exchanges that it has had, in order.
+    ghost exchanges: { Self → List Exchange };
+
+    /// Answers a request, and has this exchange from then on. After an `Err` it is as it was.
+    fn submit(&mut self, request: Request) -> Result<Answer, StationError>
+        ensures ok { IfOk result (λ answer. exchanges self.new
+            ≡ exchanges self.old ++ record { request = request; answer = answer } ∷ []) }
+        ensures err { OnErr result (exchanges self.new ≡ exchanges self.old) };
+}

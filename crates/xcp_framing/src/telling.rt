@@ -1,0 +1,73 @@
+//! The text of an answer.
+ghost use Rattle.std.specs.Prelude.{◌≡◌, ◌++◌, ◌∷◌, [], OnOk, decimal, length, ◌≤◌, ◌+◌, vec_len, vec_capacity};
+ghost use Rattle.hex.specs.Hex.{encode_upper};
+ghost use Rattle.xcp_framing.specs.Told.{text_of};
+
+use std::alloc::AllocError;
+use xcp_slave::Answer;
+
+const HEX_DIGITS: [u8; 16] = *b"0123456789ABCDEF";
+
+/// Appends the line of an answer. After an `Err` a front of it may have been appended.
+#[tactic(auto, unfolding(crate::specs::Told::text_of))]
+pub(crate) fn push_text(texts: &mut Vec<u8>, answer: &Answer) -> Result<(), AllocError>
+    ensures { OnOk result (texts.new.items ≡ texts.old.items ++ text_of answer.now) }
+{
+    match answer {
+        Answer::Packet(packet) => push_packet(texts, packet.as_slice()),
+        Answer::Sampled(count) => push_count(texts, b"sampled ", *count),
+        Answer::Stored(count) => push_count(texts, b"stored ", *count),
+        Answer::Silent => texts.extend_from_slice(b"-\n"),
+        Answer::Overrun => texts.extend_from_slice(b"overrun\n"),
+        Answer::NoChannel => texts.extend_from_slice(b"no channel\n"),
+        Answer::BadSignals => texts.extend_from_slice(b"bad signals\n"),
+        Answer::Nothing => texts.extend_from_slice(b"nothing\n"),
+        Answer::NoStore => texts.extend_from_slice(b"no store\n"),
+        Answer::Later => texts.extend_from_slice(b"later\n"),
+    }
+}
+
+/// Appends a packet in upper-case hex, and a line feed.
+fn push_packet(texts: &mut Vec<u8>, packet: &[u8]) -> Result<(), AllocError>
+    requires { length packet.now ≤ 255 }
+    ensures { OnOk result (texts.new.items
+        ≡ texts.old.items ++ encode_upper packet.now ++ 10 ∷ []) }
+{
+    texts.reserve(2 * packet.len() + 1)?;
+    for byte in packet {
+        texts.push_reserved(HEX_DIGITS[(*byte / 16) as usize]);
+        texts.push_reserved(HEX_DIGITS[(*byte % 16) as usize]);
+    }
+    texts.push_reserved(b'\n');
+    Ok(())
+}
+
+/// Appends some words, a number in decimal, and a line feed.
+fn push_count(texts: &mut Vec<u8>, words: &[u8], count: u8) -> Result<(), AllocError>
+    ensures { OnOk result (texts.new.items
+        ≡ texts.old.items ++ words.now ++ decimal count ++ 10 ∷ []) }
+{
+    texts.extend_from_slice(words)?;
+    texts.reserve(4)?;
+    push_decimal(texts, count);
+    texts.push_reserved(b'\n');
+    Ok(())
+}
+
+/// Appends a number in decimal.
+fn push_decimal(texts: &mut Vec<u8>, number: u8)
+    requires { vec_len texts.old + 3 ≤ vec_capacity texts.old }
+    ensures items { texts.new.items ≡ texts.old.items ++ decimal number }
+    ensures len { vec_len texts.new ≤ vec_len texts.old + 3 }
+    ensures capacity { vec_capacity texts.new ≡ vec_capacity texts.old }
+{
+    if number < 10 {
+        texts.push_reserved(b'0' + number);
+        return;
+    }
+    if number >= 100 {
+        texts.push_reserved(b'0' + number / 100);
+    }
+    texts.push_reserved(b'0' + number / 10 % 10);
+    texts.push_reserved(b'0' + number % 10);
+}

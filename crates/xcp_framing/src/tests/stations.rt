@@ -1,0 +1,63 @@
+//! Stations that refuse, and one that always has more to send.
+ghost use Rattle.std.specs.Prelude.{◌≡◌, [], ◌∷◌, ◌++◌, IfOk, OnErr};
+
+use crate::{Desk, Station, StationError};
+use xcp_packet::Packet;
+use xcp_slave::{Answer, Exchange, Request};
+
+/// A desk that takes so many requests, and then none.
+#[derive(Drop)]
+pub struct Refusing {
+    pub desk: Desk,
+    pub takes: u32,
+    pub error: StationError,
+}
+
+impl Station for Refusing {
+    ghost exchanges = { λ s. s.desk.exchanges };
+
+    fn submit(&mut self, request: Request) -> Result<Answer, StationError> {
+        if self.takes == 0 {
+            return Err(self.error);
+        }
+        self.takes -= 1;
+        self.desk.submit(request)
+    }
+}
+
+/// Has nothing for a command, and so many packets of one byte for Drains.
+#[derive(Drop)]
+pub struct Pending {
+    pub exchanges: Vec<Exchange>,
+    pub packets: u32,
+}
+
+impl Station for Pending {
+    ghost exchanges = { λ s. s.exchanges.items };
+
+    fn submit(&mut self, request: Request) -> Result<Answer, StationError> {
+        if self.exchanges.reserve(1).is_err() {
+            return Err(StationError::Memory);
+        }
+        let answer = match request {
+            Request::Drain if self.packets > 0 => Answer::Packet(one_byte()),
+            Request::Drain => Answer::Nothing,
+            _ => Answer::Silent,
+        };
+        if let Answer::Packet(_) = &answer {
+            self.packets -= 1;
+        }
+        let stored = answer.copy();
+        self.exchanges.push_reserved(Exchange {
+            request,
+            answer: stored,
+        });
+        Ok(answer)
+    }
+}
+
+fn one_byte() -> Packet {
+    let mut packet = Packet::new();
+    let _ = packet.try_push(0xFD);
+    packet
+}

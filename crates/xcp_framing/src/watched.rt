@@ -1,0 +1,122 @@
+//! A reader or a writer whose calls contracts count.
+ghost use Rattle.std.specs.Prelude.{◌≡◌, ◌+◌, OnOk, OnErr};
+ghost use Rattle.std.specs.Io.{ReadsAtMost, WritesAtMost};
+ghost use Rattle.std.specs.Io.KnownBytes.{Appends, ReadConsumes, WriteAppends};
+ghost use Rattle.xcp_framing.specs.Front.{AppendsFront};
+ghost use Rattle.xcp_framing.specs.Watched.{Counted, is_failed_read, is_failed_write};
+
+use crate::tally::Tally;
+use std::io::{self, Read, Write};
+use std::marker::Model;
+use thiserror::Error;
+
+/// Passes calls on to a reader or a writer. Contracts alone see how many calls there were and how
+/// many of them failed: at run time a `Watched<T>` is its `T`.
+#[derive(Drop)]
+pub struct Watched<T> {
+    inner: T,
+    calls: Tally,
+    failures: Tally,
+}
+
+impl<T> Model for Watched<T> {
+    ghost use Rattle.xcp_framing.specs.Watched.{Watched as Watching, watched_code};
+
+    ghost Value = { Watching T };
+
+    ghost coded = { watched_code T.code };
+
+    ghost view = { λ w. record { inner = w.inner; calls = w.calls.count; failures = w.failures.count } };
+}
+
+impl<T> Watched<T> {
+    /// Watches `inner` from now on.
+    pub fn new(inner: T) -> Self
+        ensures { result ≡ record { inner = inner; calls = 0; failures = 0 } }
+    {
+        Watched {
+            inner,
+            calls: Tally::new(),
+            failures: Tally::new(),
+        }
+    }
+
+    /// The reader or the writer itself, watched no more.
+    pub fn into_inner(self) -> T
+        ensures { result ≡ self.inner }
+    {
+        let Watched {
+            inner,
+            calls: _,
+            failures: _,
+        } = self;
+        inner
+    }
+}
+
+impl<R: Read> Watched<R> {
+    /// One read of the inner reader. A read fails with an `Err`.
+    pub fn read(&mut self, buf: &mut [u8]) -> io::Result<usize>
+        ensures bound { ReadsAtMost result buf.new }
+        ensures bytes { ReadConsumes
+            (R.remaining self.old.inner) (R.remaining self.new.inner) result buf.new }
+        ensures counted { Counted self.old self.new (is_failed_read result) }
+    {
+        let result = self.inner.read(buf);
+        self.calls = Tally::more(&self.calls);
+        if result.is_err() {
+            self.failures = Tally::more(&self.failures);
+        }
+        result
+    }
+}
+
+impl<W: Write> Watched<W> {
+    /// One write of the inner writer. A write fails with an `Err`, or if it takes no byte of some.
+    pub fn write(&mut self, buf: &[u8]) -> io::Result<usize>
+        ensures bound { WritesAtMost result buf.now }
+        ensures bytes { WriteAppends
+            (W.contents self.old.inner) (W.contents self.new.inner) result buf.now }
+        ensures counted { Counted self.old self.new (is_failed_write result buf.now) }
+    {
+        let result = self.inner.write(buf);
+        self.calls = Tally::more(&self.calls);
+        let failed = match &result {
+            Ok(0) => !buf.is_empty(),
+            Ok(_) => false,
+            Err(_) => true,
+        };
+        if failed {
+            self.failures = Tally::more(&self.failures);
+        }
+        result
+    }
+
+    /// Writes all of a text, in as many writes as it takes. It ends at the first write that fails;
+    /// what was written by then is a front of the text.
+    pub fn write_all(&mut self, text: &[u8]) -> Result<(), WriteFailed>
+        ensures ok { OnOk result (Appends
+            (W.contents self.old.inner) (W.contents self.new.inner) text.now) }
+        ensures fine { OnOk result (self.new.failures ≡ self.old.failures) }
+        ensures front { OnErr result (AppendsFront
+            (W.contents self.old.inner) (W.contents self.new.inner) text.now) }
+        ensures failed { OnErr result (self.new.failures ≡ self.old.failures + 1) }
+    {
+        let mut written = 0;
+        while written < text.len() {
+            let Ok(count) = self.write(&text[written..]) else {
+                return Err(WriteFailed);
+            };
+            if count == 0 {
+                return Err(WriteFailed);
+            }
+            written += count;
+        }
+        Ok(())
+    }
+}
+
+/// A write failed: it gave an error, or took no byte of some.
+#[derive(Clone, Copy, Debug, Error, PartialEq, Eq)]
+#[error("a write failed")]
+pub struct WriteFailed;

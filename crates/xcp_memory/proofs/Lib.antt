@@ -1,0 +1,13 @@
+pub mod AreaLemmas
+pub mod LimitLemmas
+pub mod ApartLemmas
+pub mod LawfulLemmas
+pub mod BuildLemmas
+pub mod PageLemmas
+pub mod Places
+pub mod Opening
+pub mod Imaging
+pub mod Switching
+pub mod Reading
+pub mod Overwriting
+pub mod Writing

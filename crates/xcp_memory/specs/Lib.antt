@@ -1,0 +1,16 @@
+pub mod Checksums
+pub mod Layout
+pub mod Parts
+pub mod Limits
+pub mod Pages
+pub mod Words
+pub mod Memory
+pub mod LayoutLaws
+pub mod Refusals
+pub mod Places
+pub mod Switch
+pub mod Checksum
+pub mod Image
+pub mod Sides
+pub mod Vectors
+pub mod AccessLaws

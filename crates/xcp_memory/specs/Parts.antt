@@ -1,0 +1,55 @@
+-- The layout that parts make.
+use Rattle.std.specs.Prelude.{ℕ, ℤ, pos, negsuc, List, [], ◌∷◌, ◌++◌, length, map, ◌==◌, if◌then◌else◌}
+use Rattle.std.specs.List.{enumerate_from}
+use Rattle.xcp_memory.specs.declared.parts.Parts.{Parts}
+use Rattle.xcp_memory.specs.declared.parts.SegmentPart.{SegmentPart}
+use Rattle.xcp_memory.specs.declared.parts.EventPart.{EventPart}
+use Rattle.xcp_memory.specs.declared.key.Area.{Area}
+use Rattle.xcp_memory.specs.declared.key.Area.TheVariants as area
+use Rattle.xcp_memory.specs.declared.checksum_kind.ChecksumKind.{ChecksumKind}
+use Rattle.xcp_memory.specs.declared.checksum_kind.ChecksumKind.TheVariants.{Add11, Add12, Add14}
+use Rattle.xcp_memory.specs.Layout.{LayoutValue, SegmentValue, EventValue, Extent, segment_extent, signals_extent}
+
+-- a number that isn't negative
+abbrev pub number : ℤ → ℕ
+number (pos n) = n
+number (negsuc n) = 0
+
+-- how many bytes a segment has
+abbrev pub size : SegmentPart → ℕ
+size s = length s.bytes.items
+
+-- the type of checksums with this number
+abbrev pub checksum_of : ℕ → ChecksumKind
+checksum_of n = if n == 1 then Add11 else (if n == 2 then Add12 else Add14)
+
+abbrev pub segment_of_part : SegmentPart → SegmentValue
+segment_of_part s = record { address = number s.address; bytes = s.bytes.items }
+
+abbrev pub event_of_part : EventPart → EventValue
+event_of_part e = record { name = e.name.items; cycle = number e.cycle; unit = number e.unit; priority = number e.priority }
+
+-- the layout of these parts
+abbrev pub layout_of : Parts → LayoutValue
+layout_of p = record {
+  id = p.id.items;
+  max_cto = number p.max_cto;
+  max_dto = number p.max_dto;
+  checksum = checksum_of (number p.checksum);
+  segments = map segment_of_part p.segments.items;
+  signals_address = number p.signals_address;
+  signals_length = number p.signals_length;
+  events = map event_of_part p.events.items;
+}
+
+-- an area by its name, and where it lies
+pub record Placed : Type 0 where
+  pub area : Area
+  pub extent : Extent
+
+abbrev pub placed_segment : ℕ × SegmentValue → Placed
+placed_segment (i, s) = record { area = area.Segment i; extent = segment_extent s }
+
+-- the areas of a layout in order, by name
+abbrev pub areas : LayoutValue → List Placed
+areas l = map placed_segment (enumerate_from 0 l.segments) ++ (record { area = area.Signals; extent = signals_extent l }) ∷ []

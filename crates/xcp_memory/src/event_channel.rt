@@ -1,0 +1,109 @@
+//! An event channel of a layout.
+ghost use Rattle.std.specs.Prelude.{◌≡◌, length, map, Some, None, IfOk, IfErr};
+ghost use Rattle.xcp_memory.specs.Parts.{event_of_part};
+ghost use Rattle.xcp_memory.specs.Limits.{first_broken, event_limits, events_limits};
+
+use crate::limits::{MAX_EVENTS, MAX_NAME};
+use crate::{EventPart, Key, LayoutFault, checks};
+use arrayvec::ArrayVec;
+use std::alloc::Global;
+use std::default::MadeWith;
+use std::marker::Model;
+
+/// An event channel. The numbers are handed on to the tool as they are.
+#[derive(Drop)]
+pub(crate) struct EventChannel {
+    name: Vec<u8>,
+    cycle: u8,
+    unit: u8,
+    priority: u8,
+}
+
+impl Model for EventChannel {
+    ghost use Rattle.xcp_memory.specs.Layout.{EventValue};
+
+    ghost Value = { EventValue };
+
+    ghost view = { λ e. record { name = e.name.items; cycle = e.cycle; unit = e.unit; priority = e.priority } };
+}
+
+impl EventChannel {
+    pub(crate) fn new(name: Vec<u8>, cycle: u8, unit: u8, priority: u8) -> EventChannel
+        ensures { result ≡ record { name = name.items; cycle = cycle; unit = unit; priority = priority } }
+    {
+        EventChannel {
+            name,
+            cycle,
+            unit,
+            priority,
+        }
+    }
+
+    pub(crate) fn name(&self) -> &[u8]
+        ensures { result.now ≡ self.now.name }
+    {
+        &self.name
+    }
+
+    pub(crate) fn cycle(&self) -> u8
+        ensures { result ≡ self.now.cycle }
+    {
+        self.cycle
+    }
+
+    pub(crate) fn unit(&self) -> u8
+        ensures { result ≡ self.now.unit }
+    {
+        self.unit
+    }
+
+    pub(crate) fn priority(&self) -> u8
+        ensures { result ≡ self.now.priority }
+    {
+        self.priority
+    }
+}
+
+impl MadeWith<Global> for EventChannel {
+    fn made_with(alloc: Global) -> EventChannel {
+        EventChannel {
+            name: Vec::new(alloc),
+            cycle: 0,
+            unit: 0,
+            priority: 0,
+        }
+    }
+}
+
+/// The event channel that a part makes.
+fn read_event(part: EventPart, number: u8) -> Result<EventChannel, LayoutFault>
+    ensures ok { IfOk result (λ e. (first_broken (event_limits (number, part)) ≡ None) × (e ≡ event_of_part part)) }
+    ensures refused { IfErr result (λ e. first_broken (event_limits (number, part)) ≡ Some e) }
+{
+    checks::check_text(&part.name, MAX_NAME, Key::Name(number))?;
+    let cycle = checks::byte(part.cycle, 0, u8::MAX, Key::Cycle(number))?;
+    let unit = checks::byte(part.unit, 0, u8::MAX, Key::Unit(number))?;
+    let priority = checks::byte(part.priority, 0, u8::MAX, Key::Priority(number))?;
+    Ok(EventChannel::new(part.name, cycle, unit, priority))
+}
+
+/// The event channels that these parts make.
+pub(crate) fn read_events(
+    parts: Vec<EventPart>,
+) -> Result<ArrayVec<EventChannel, MAX_EVENTS, Global>, LayoutFault>
+    ensures ok { IfOk result (λ s. (first_broken (events_limits parts.items) ≡ None) × (s.items ≡ map event_of_part parts.items)) }
+    ensures refused { IfErr result (λ e. first_broken (events_limits parts.items) ≡ Some e) }
+{
+    if parts.is_empty() {
+        return Err(LayoutFault::Range(Key::Event));
+    }
+    if parts.len() > MAX_EVENTS {
+        return Err(LayoutFault::TooMany(Key::Event));
+    }
+    let mut events = ArrayVec::new_in(*parts.allocator());
+    for part in parts {
+        let event = read_event(part, events.len() as u8)?;
+        events.push(event);
+    }
+    Ok(events)
+}

@@ -1,0 +1,276 @@
+//! A layout: what a controller shows to a tool.
+ghost use Rattle.std.specs.Prelude.{◌≡◌, ◌+◌, ◌<◌, ◌≤◌, ◌^◌, ◌↔◌, length, All, Some, None, Ok, Err, IfOk, IfErr, IfSome, IsTrue, slice_index_or as get_or};
+ghost use Rattle.xcp_memory.specs.Pages.{no_segment};
+ghost use Rattle.xcp_memory.specs.Layout.{IsLayout, IsPrintable, signals_extent, no_event};
+ghost use Rattle.xcp_memory.specs.declared.key.LayoutFault.{LayoutFault};
+ghost use Rattle.xcp_memory.specs.Parts.{layout_of, number, checksum_of};
+ghost use Rattle.xcp_memory.specs.Limits.{first_fault, first_broken, own_limits};
+ghost use Rattle.xcp_memory.specs.Words.{segment_of, is_inside, Located};
+
+use crate::areas::{areas_of, check_apart};
+use crate::event_channel::{EventChannel, read_events};
+use crate::extent::{Extent, read_signals};
+use crate::limits::{MAX_EVENTS, MAX_ID, MAX_SEGMENTS, MIN_PACKET};
+use crate::segment::{Segment, read_segments};
+use crate::{ChecksumKind, Key, LayoutFault, Parts, checks};
+use arrayvec::ArrayVec;
+use std::alloc::Global;
+use std::marker::Model;
+
+/// What a controller shows to a calibration tool: the identification, the greatest lengths of packets, the type of
+/// checksums, the segments, the signals and the event channels. It is within all limits.
+#[derive(Drop)]
+pub struct Layout {
+    id: Vec<u8>,
+    max_cto: u8,
+    max_dto: u8,
+    checksum: ChecksumKind,
+    segments: ArrayVec<Segment, MAX_SEGMENTS, Global>,
+    signals: Extent,
+    events: ArrayVec<EventChannel, MAX_EVENTS, Global>,
+}
+
+/// The values of the slave itself, but for the identification.
+#[derive(Drop)]
+struct OwnValues {
+    max_cto: u8,
+    max_dto: u8,
+    checksum: ChecksumKind,
+}
+
+impl OwnValues {
+    fn read(parts: &Parts) -> Result<OwnValues, LayoutFault>
+        ensures ok { IfOk result (λ o. (first_broken (own_limits parts.now) ≡ None) × (o.max_cto ≡ number parts.now.max_cto) × (o.max_dto ≡ number parts.now.max_dto) × (o.checksum ≡ checksum_of (number parts.now.checksum))) }
+        ensures refused { IfErr result (λ e. first_broken (own_limits parts.now) ≡ Some e) }
+    {
+        checks::check_text(&parts.id, MAX_ID, Key::Id)?;
+        let max_cto = checks::byte(parts.max_cto, MIN_PACKET, u8::MAX, Key::MaxCto)?;
+        let max_dto = checks::byte(parts.max_dto, MIN_PACKET, u8::MAX, Key::MaxDto)?;
+        let number = checks::byte(parts.checksum, 1, 3, Key::Checksum)?;
+        Ok(OwnValues {
+            max_cto,
+            max_dto,
+            checksum: ChecksumKind::of_number(number),
+        })
+    }
+}
+
+impl Model for Layout {
+    ghost use Rattle.xcp_memory.specs.Layout.{LayoutValue, IsLayout};
+
+    ghost Value = { LayoutValue };
+
+    ghost view = { λ l. record { id = l.id.items; max_cto = l.max_cto; max_dto = l.max_dto; checksum = l.checksum; segments = l.segments.items; signals_address = l.signals.address; signals_length = l.signals.size; events = l.events.items } };
+
+    ghost invariant = { λ l. IsLayout (record { id = l.id.items; max_cto = l.max_cto; max_dto = l.max_dto; checksum = l.checksum; segments = l.segments.items; signals_address = l.signals.address; signals_length = l.signals.size; events = l.events.items }) };
+}
+
+impl Layout {
+    /// The layout that these parts make, or the first limit that they break, in this order: the identification,
+    /// MAX_CTO, MAX_DTO, the type of checksums; how many segments there are, and for each its first address, that it
+    /// has a byte, the bytes so far and its last address; the signals' first address, length and last address; how many
+    /// event channels there are, and for each its name, time cycle, time unit and priority; the first two areas that
+    /// share an address. It takes no memory.
+    pub fn new(parts: Parts) -> Result<Layout, LayoutFault>
+        ensures ok { IfOk result (λ l. (first_fault parts ≡ None) × (l ≡ layout_of parts)) }
+        ensures refused { (e : LayoutFault) → (result ≡ Err e) ↔ (first_fault parts ≡ Some e) }
+    {
+        Self::build(parts)
+    }
+
+    fn build(parts: Parts) -> Result<Layout, LayoutFault>
+        ensures ok { IfOk result (λ l. (first_fault parts ≡ None) × (l ≡ layout_of parts)) }
+        ensures refused { IfErr result (λ e. first_fault parts ≡ Some e) }
+    {
+        let own = OwnValues::read(&parts)?;
+        let Parts {
+            id,
+            segments,
+            signals_address,
+            signals_length,
+            events,
+            ..
+        } = parts;
+        let segments = read_segments(segments)?;
+        let signals = read_signals(signals_address, signals_length)?;
+        let events = read_events(events)?;
+        check_apart(&areas_of(&segments, signals))?;
+        Ok(Layout {
+            id,
+            max_cto: own.max_cto,
+            max_dto: own.max_dto,
+            checksum: own.checksum,
+            segments,
+            signals,
+            events,
+        })
+    }
+
+    /// Every layout is within the limits. A caller that proves something of a layout calls this; it does nothing.
+    pub fn audit(&self)
+        ensures { IsLayout self.now }
+    {
+        let _ = &self.segments;
+    }
+
+    /// The identification: 1 to 64 bytes of ASCII.
+    pub fn id(&self) -> &[u8]
+        ensures value { result.now ≡ self.now.id }
+        ensures least { 1 ≤ length result.now }
+        ensures most { length result.now ≤ 64 }
+        ensures text { All IsPrintable result.now }
+    {
+        &self.id
+    }
+
+    /// MAX_CTO, in bytes.
+    pub fn max_cto(&self) -> u8
+        ensures value { result ≡ self.now.max_cto }
+        ensures least { 8 ≤ result }
+    {
+        self.max_cto
+    }
+
+    /// MAX_DTO, in bytes.
+    pub fn max_dto(&self) -> u8
+        ensures value { result ≡ self.now.max_dto }
+        ensures least { 8 ≤ result }
+    {
+        self.max_dto
+    }
+
+    /// The type of checksums.
+    pub fn checksum(&self) -> ChecksumKind
+        ensures { result ≡ self.now.checksum }
+    {
+        self.checksum
+    }
+
+    /// How many segments there are.
+    pub fn segment_count(&self) -> usize
+        ensures value { result ≡ length self.now.segments }
+        ensures least { 1 ≤ result }
+        ensures most { result ≤ 4 }
+    {
+        self.segments.len()
+    }
+
+    /// The first address of a segment.
+    pub fn segment_address(&self, segment: usize) -> u32
+        requires { segment < length self.now.segments }
+        ensures value { result ≡ (get_or self.now.segments segment no_segment).address }
+        ensures last { result + length (get_or self.now.segments segment no_segment).bytes ≤ 0xFFFF_FFFF }
+    {
+        self.segments[segment].address()
+    }
+
+    /// How many bytes a segment has.
+    pub fn segment_size(&self, segment: usize) -> usize
+        requires { segment < length self.now.segments }
+        ensures value { result ≡ length (get_or self.now.segments segment no_segment).bytes }
+        ensures least { 1 ≤ result }
+        ensures most { result ≤ 2040 }
+    {
+        self.segment_bytes(segment).len()
+    }
+
+    /// The bytes of a segment's reference page.
+    pub fn segment_bytes(&self, segment: usize) -> &[u8]
+        requires { segment < length self.now.segments }
+        ensures value { result.now ≡ (get_or self.now.segments segment no_segment).bytes }
+        ensures least { 1 ≤ length result.now }
+        ensures most { length result.now ≤ 2040 }
+    {
+        self.segments[segment].bytes()
+    }
+
+    /// The first address of the signals.
+    pub fn signals_address(&self) -> u32
+        ensures value { result ≡ self.now.signals_address }
+        ensures last { result + self.now.signals_length ≤ 0xFFFF_FFFF }
+    {
+        self.signals.address()
+    }
+
+    /// How many bytes of signals there are.
+    pub fn signals_length(&self) -> usize
+        ensures value { result ≡ self.now.signals_length }
+        ensures least { 1 ≤ result }
+        ensures most { result ≤ 64 }
+    {
+        self.signals.size() as usize
+    }
+
+    /// How many event channels there are.
+    pub fn event_count(&self) -> usize
+        ensures value { result ≡ length self.now.events }
+        ensures least { 1 ≤ result }
+        ensures most { result ≤ 8 }
+    {
+        self.events.len()
+    }
+
+    /// The name of an event channel: 1 to 32 bytes of ASCII.
+    pub fn event_name(&self, event: usize) -> &[u8]
+        requires { event < length self.now.events }
+        ensures value { result.now ≡ (get_or self.now.events event no_event).name }
+        ensures least { 1 ≤ length result.now }
+        ensures most { length result.now ≤ 32 }
+        ensures text { All IsPrintable result.now }
+    {
+        self.events[event].name()
+    }
+
+    /// The time cycle of an event channel.
+    pub fn event_cycle(&self, event: usize) -> u8
+        requires { event < length self.now.events }
+        ensures { result ≡ (get_or self.now.events event no_event).cycle }
+    {
+        self.events[event].cycle()
+    }
+
+    /// The time unit of an event channel.
+    pub fn event_unit(&self, event: usize) -> u8
+        requires { event < length self.now.events }
+        ensures { result ≡ (get_or self.now.events event no_event).unit }
+    {
+        self.events[event].unit()
+    }
+
+    /// The priority of an event channel.
+    pub fn event_priority(&self, event: usize) -> u8
+        requires { event < length self.now.events }
+        ensures { result ≡ (get_or self.now.events event no_event).priority }
+    {
+        self.events[event].priority()
+    }
+
+    /// The segment in which n bytes from an address on lie. Sums of addresses don't wrap.
+    pub fn segment_of(&self, address: u32, n: usize) -> Option<usize>
+        requires { n < 2 ^ 32 }
+        ensures value { result ≡ segment_of self.now address n }
+        ensures located { IfSome result (λ i. Located self.now address n i) }
+    {
+        self.first_segment(address, n)
+    }
+
+    // The first segment in which the range lies.
+    fn first_segment(&self, address: u32, n: usize) -> Option<usize>
+        requires { n < 2 ^ 32 }
+        ensures { result ≡ segment_of self.now address n }
+    {
+        self.segments
+            .iter()
+            .position(|s| s.extent().is_inside(address, n))
+    }
+
+    /// Whether n bytes from an address on lie in the signals. Sums of addresses don't wrap.
+    pub fn is_in_signals(&self, address: u32, n: usize) -> bool
+        requires { n < 2 ^ 32 }
+        ensures value { result ≡ is_inside address n (signals_extent self.now) }
+        ensures from { IsTrue result → self.now.signals_address ≤ address }
+        ensures to { IsTrue result → address + n ≤ self.now.signals_address + self.now.signals_length }
+    {
+        self.signals.is_inside(address, n)
+    }
+}

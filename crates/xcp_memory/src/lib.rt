@@ -1,0 +1,33 @@
+//! The memory that a controller shows to a calibration tool.
+//!
+//! ASAM MCD-1 XCP, protocol layer: calibration data segments and pages. The definitions that the
+//! contracts cite are in `specs/`.
+#![tactic(auto)]
+
+mod access_laws;
+mod areas;
+mod checks;
+mod checksum_kind;
+mod event_channel;
+mod extent;
+mod key;
+mod layout;
+mod layout_laws;
+#[cfg(test)]
+mod layout_tests;
+mod limits;
+mod page_set;
+mod pages;
+#[cfg(test)]
+mod pages_tests;
+mod parts;
+mod segment;
+mod switch_mode;
+
+pub use access_laws::{controller_is_read, tool_is_read, tool_is_written};
+pub use checksum_kind::ChecksumKind;
+pub use key::{Area, Key, LayoutFault};
+pub use layout::Layout;
+pub use layout_laws::{areas_share_no_address, kept_limits_make_a_layout, ranges_are_decided};
+pub use pages::Pages;
+pub use parts::{EventPart, Parts, SegmentPart};

@@ -1,0 +1,112 @@
+//! The pages of one segment.
+ghost use Rattle.std.specs.Prelude.{◌≡◌, ◌≤◌, ◌<◌, ◌+◌, length, [], ◌∷◌, IfOk, false, slice_set};
+ghost use Rattle.xcp_memory.specs.Pages.{xcp_page, ecu_page};
+ghost use Rattle.xcp_memory.specs.Switch.{segment_switched};
+ghost use Rattle.xcp_memory.specs.Words.{overwritten, segment_written};
+
+use crate::switch_mode::SwitchMode;
+use bitflags::Flags;
+use std::alloc::{AllocError, Global};
+use std::marker::Model;
+
+/// Who has a page: the controller (ECU) or the tool (XCP).
+#[derive(Clone, Copy, Debug, PartialEq, Eq)]
+pub(crate) enum Side {
+    Ecu,
+    Xcp,
+}
+
+/// The pages of a segment, from page 0 on, which of them each side has, and whether the segment is
+/// in FREEZE mode.
+#[derive(Drop)]
+pub(crate) struct PageSet {
+    pages: Vec<Vec<u8>>,
+    ecu: u8,
+    xcp: u8,
+    freeze: bool,
+}
+
+impl Model for PageSet {
+    ghost use Rattle.xcp_memory.specs.Pages.{SegmentPages};
+    ghost use Rattle.xcp_memory.specs.Vectors.{lists_of};
+
+    ghost Value = { SegmentPages };
+
+    ghost view = { λ s. record { pages = lists_of s.pages.items; ecu = s.ecu; xcp = s.xcp; freeze = s.freeze } };
+}
+
+impl PageSet {
+    ghost use Rattle.xcp_memory.specs.Sides.{number_by, page_by};
+
+    /// Two pages with these bytes; both sides have page 0, and FREEZE is off.
+    pub(crate) fn new(alloc: Global, bytes: &[u8]) -> Result<PageSet, AllocError>
+        ensures { IfOk result (λ s. s ≡ record { pages = bytes.now ∷ bytes.now ∷ []; ecu = 0; xcp = 0; freeze = false }) }
+    {
+        let reference = bytes.to_vec(alloc)?;
+        let working = bytes.to_vec(alloc)?;
+        let mut pages = Vec::with_capacity(alloc, 2)?;
+        pages.push(reference)?;
+        pages.push(working)?;
+        Ok(PageSet {
+            pages,
+            ecu: 0,
+            xcp: 0,
+            freeze: false,
+        })
+    }
+
+    /// How many pages there are.
+    pub(crate) fn count(&self) -> usize
+        ensures { result ≡ length self.now.pages }
+    {
+        self.pages.len()
+    }
+
+    /// The number of the page that a side has.
+    pub(crate) fn number(&self, side: Side) -> u8
+        ensures { result ≡ number_by side self.now }
+    {
+        match side {
+            Side::Ecu => self.ecu,
+            Side::Xcp => self.xcp,
+        }
+    }
+
+    /// The bytes of the page that a side has.
+    pub(crate) fn page(&self, side: Side) -> &[u8]
+        requires { number_by side self.now < length self.now.pages }
+        ensures { result.now ≡ page_by side self.now }
+    {
+        &self.pages[self.number(side) as usize]
+    }
+
+    /// Writes bytes over the tool's page, from a place on.
+    pub(crate) fn write(&mut self, place: usize, bytes: &[u8])
+        requires page { self.old.xcp < length self.old.pages }
+        requires room { place + length bytes.now ≤ length (xcp_page self.old) }
+        ensures { self.new ≡ segment_written self.old place bytes.now }
+    {
+        overwrite(&mut self.pages[self.xcp as usize], place, bytes);
+    }
+
+    /// Gives the sides that the mode of SET_CAL_PAGE names a page.
+    pub(crate) fn give(&mut self, mode: u8, page: u8)
+        ensures { self.new ≡ segment_switched mode page self.old }
+    {
+        let bits = SwitchMode::from_bits_retain(mode);
+        if bits.contains(SwitchMode::ECU) {
+            self.ecu = page;
+        }
+        if bits.contains(SwitchMode::XCP) {
+            self.xcp = page;
+        }
+    }
+}
+
+/// Writes bytes over those from a place on.
+pub(crate) fn overwrite(xs: &mut [u8], place: usize, bytes: &[u8])
+    requires { place + length bytes.now ≤ length xs.old }
+    ensures { xs.new ≡ overwritten xs.old place bytes.now }
+{
+    xs[place..place + bytes.len()].copy_from_slice(bytes);
+}

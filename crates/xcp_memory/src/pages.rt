@@ -1,0 +1,73 @@
+//! The pages of all segments.
+ghost use Rattle.std.specs.Prelude.{◌≡◌, ◌≤◌, ◌<◌, ◌+◌, ◌^◌, length, Option, Some, None, true, false, IfOk, OnOk, OnErr, IfErr, IfSome, ◌↔◌};
+ghost use Rattle.xcp_memory.specs.Layout.{IsLayout};
+ghost use Rattle.xcp_memory.specs.Pages.{opening_pages, IsPages};
+
+mod access;
+mod imaging;
+mod summing;
+mod switching;
+
+use crate::Layout;
+use crate::page_set::PageSet;
+use std::alloc::{AllocError, Global};
+use std::marker::Model;
+
+/// The pages of a slave's segments, and the bytes of its signals area.
+#[derive(Drop)]
+pub struct Pages {
+    layout: Layout,
+    segments: Vec<PageSet>,
+    signals: Vec<u8>,
+}
+
+impl Model for Pages {
+    ghost use Rattle.xcp_memory.specs.Pages.{PagesValue, IsPages};
+
+    ghost Value = { PagesValue };
+
+    ghost view = { λ p. record { layout = p.layout; segments = p.segments.items; signals = p.signals.items } };
+
+    ghost invariant = { λ p. IsPages (record { layout = p.layout; segments = p.segments.items; signals = p.signals.items }) };
+}
+
+impl Pages {
+    /// The pages of a new slave.
+    pub fn new(alloc: Global, layout: Layout) -> Result<Pages, AllocError>
+        ensures { IfOk result (λ p. p ≡ opening_pages layout) }
+    {
+        let mut segments = Vec::with_capacity(alloc, layout.segment_count())?;
+        for i in 0..layout.segment_count() {
+            segments.push(PageSet::new(alloc, layout.segment_bytes(i))?)?;
+        }
+        let signals = vec![in alloc; 0; layout.signals_length()]?;
+        Ok(Pages {
+            layout,
+            segments,
+            signals,
+        })
+    }
+
+    /// The layout.
+    pub fn layout(&self) -> &Layout
+        ensures { result.now ≡ self.now.layout }
+    {
+        &self.layout
+    }
+
+    /// Makes these bytes the content of the signals area.
+    pub fn set_signals(&mut self, bytes: &[u8])
+        requires { length bytes.now ≡ self.old.layout.signals_length }
+        ensures { self.new ≡ record self.old { signals = bytes.now } }
+    {
+        self.signals.copy_from_slice(bytes);
+    }
+
+    /// Tells a caller's proof what is true of all pages.
+    pub fn audit(&self)
+        ensures layout { IsLayout self.now.layout }
+        ensures pages { IsPages self.now }
+    {
+        self.layout.audit();
+    }
+}

@@ -1,0 +1,113 @@
+//! A segment of a layout.
+ghost use Rattle.std.specs.Prelude.{◌≡◌, ◌+◌, ◌≤◌, length, map, Some, None, IfOk, IfErr};
+ghost use Rattle.xcp_memory.specs.Parts.{segment_of_part, size};
+ghost use Rattle.xcp_memory.specs.Limits.{first_broken, segment_limits, segments_limits};
+
+use crate::extent::Extent;
+use crate::limits::{LAST_ADDRESS, MAX_BYTES, MAX_SEGMENTS};
+use crate::{Key, LayoutFault, SegmentPart, checks};
+use arrayvec::ArrayVec;
+use std::alloc::Global;
+use std::default::MadeWith;
+use std::marker::Model;
+
+/// A segment: its first address, and the bytes of its reference page.
+#[derive(Drop)]
+pub(crate) struct Segment {
+    address: u32,
+    bytes: Vec<u8>,
+}
+
+impl Model for Segment {
+    ghost use Rattle.std.specs.Prelude.{◌≤◌, length};
+    ghost use Rattle.xcp_memory.specs.Layout.{SegmentValue};
+
+    ghost Value = { SegmentValue };
+
+    ghost view = { λ s. record { address = s.address; bytes = s.bytes.items } };
+
+    ghost invariant = { λ s. length s.bytes.items ≤ 2040 };
+}
+
+impl Segment {
+    ghost use Rattle.xcp_memory.specs.Layout.{segment_extent};
+
+    pub(crate) fn new(address: u32, bytes: Vec<u8>) -> Segment
+        requires { length bytes.items ≤ 2040 }
+        ensures { result ≡ record { address = address; bytes = bytes.items } }
+    {
+        Segment { address, bytes }
+    }
+
+    pub(crate) fn address(&self) -> u32
+        ensures { result ≡ self.now.address }
+    {
+        self.address
+    }
+
+    pub(crate) fn bytes(&self) -> &[u8]
+        ensures { result.now ≡ self.now.bytes }
+    {
+        &self.bytes
+    }
+
+    /// Where the segment lies.
+    pub(crate) fn extent(&self) -> Extent
+        ensures { result ≡ segment_extent self.now }
+    {
+        Extent::new(self.address, self.bytes.len() as u32)
+    }
+}
+
+impl MadeWith<Global> for Segment {
+    fn made_with(alloc: Global) -> Segment {
+        Segment {
+            address: 0,
+            bytes: Vec::new(alloc),
+        }
+    }
+}
+
+/// The segment that a part makes, where there are `before` bytes in the segments before it.
+fn read_segment(part: SegmentPart, number: u8, before: usize) -> Result<Segment, LayoutFault>
+    requires { before ≤ 2040 }
+    ensures ok { IfOk result (λ s. (first_broken (segment_limits number (before + size part) part) ≡ None) × (s ≡ segment_of_part part)) }
+    ensures room { IfOk result (λ s. before + length s.bytes ≤ 2040) }
+    ensures refused { IfErr result (λ e. first_broken (segment_limits number (before + size part) part) ≡ Some e) }
+{
+    let address = checks::number(part.address, 0, LAST_ADDRESS, Key::Address(number))?;
+    let size = part.bytes.len();
+    if size == 0 {
+        return Err(LayoutFault::Range(Key::Data(number)));
+    }
+    if size > MAX_BYTES - before {
+        return Err(LayoutFault::TooMany(Key::Data(number)));
+    }
+    if size as u64 - 1 > u64::from(LAST_ADDRESS - address) {
+        return Err(LayoutFault::Range(Key::Address(number)));
+    }
+    Ok(Segment::new(address, part.bytes))
+}
+
+/// The segments that these parts make.
+pub(crate) fn read_segments(
+    parts: Vec<SegmentPart>,
+) -> Result<ArrayVec<Segment, MAX_SEGMENTS, Global>, LayoutFault>
+    ensures ok { IfOk result (λ s. (first_broken (segments_limits parts.items) ≡ None) × (s.items ≡ map segment_of_part parts.items)) }
+    ensures refused { IfErr result (λ e. first_broken (segments_limits parts.items) ≡ Some e) }
+{
+    if parts.is_empty() {
+        return Err(LayoutFault::Range(Key::Segment));
+    }
+    if parts.len() > MAX_SEGMENTS {
+        return Err(LayoutFault::TooMany(Key::Segment));
+    }
+    let mut segments = ArrayVec::new_in(*parts.allocator());
+    let mut total = 0;
+    for part in parts {
+        let segment = read_segment(part, segments.len() as u8, total)?;
+        total += segment.bytes().len();
+        segments.push(segment);
+    }
+    Ok(segments)
+}

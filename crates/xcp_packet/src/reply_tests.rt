@@ -1,0 +1,121 @@
+//! Replies against their bytes.
+use crate::{Code, Data, Reply, encode_reply};
+use std::process::Abort;
+
+fn assert_layout(rt: &impl Abort, reply: Reply, bytes: &[u8]) {
+    assert!(rt; reply.fits());
+    assert_eq!(rt; encode_reply(&reply).as_slice(), bytes);
+}
+
+#[test]
+fn session_and_transfers(rt: HostRuntime) {
+    let mut data = Data::new();
+    let _ = data.try_extend_from_slice(&[1, 2, 3]);
+    let connect = Reply::Connect {
+        basic: 0x80,
+        max_cto: 32,
+        max_dto: 64,
+    };
+    assert_layout(&rt, Reply::Done, &[0xFF]);
+    assert_layout(&rt, connect, &[0xFF, 5, 0x80, 0x20, 0x40, 0, 1, 1]);
+    assert_layout(&rt, Reply::Status(1), &[0xFF, 1, 0, 0, 0, 0]);
+    assert_layout(&rt, Reply::CommMode, &[0xFF, 0, 1, 0, 8, 0, 0, 0x10]);
+    assert_layout(&rt, Reply::Id(4), &[0xFF, 0, 0, 0, 4, 0, 0, 0]);
+    assert_layout(&rt, Reply::Bytes(data), &[0xFF, 1, 2, 3]);
+    assert_layout(
+        &rt,
+        Reply::Checksum { kind: 3, sum: 0x78 },
+        &[0xFF, 3, 0, 0, 0x78, 0, 0, 0],
+    );
+    assert_layout(&rt, Reply::Error(Code::OutOfRange), &[0xFE, 0x22]);
+    assert_layout(&rt, Reply::ErrorCount(Code::Sequence, 2), &[0xFE, 0x29, 2]);
+}
+
+#[test]
+fn pages(rt: HostRuntime) {
+    assert_layout(&rt, Reply::CalPage(1), &[0xFF, 0, 0, 1]);
+    assert_layout(&rt, Reply::PagInfo(2), &[0xFF, 2, 1]);
+    assert_layout(
+        &rt,
+        Reply::SegmentWord(0x1000),
+        &[0xFF, 0, 0, 0, 0, 0x10, 0, 0],
+    );
+    assert_layout(
+        &rt,
+        Reply::SegmentStandard { pages: 2 },
+        &[0xFF, 2, 0, 0, 0, 0],
+    );
+    assert_layout(
+        &rt,
+        Reply::PageInfo {
+            properties: 0x3F,
+            init: 1,
+        },
+        &[0xFF, 0x3F, 1],
+    );
+    assert_layout(&rt, Reply::SegmentMode(1), &[0xFF, 0, 1]);
+}
+
+#[test]
+fn data_acquisition(rt: HostRuntime) {
+    let entry = Reply::DaqEntry {
+        size: 2,
+        extension: 0,
+        address: 0x1000,
+    };
+    let mode = Reply::DaqListMode {
+        mode: 0x40,
+        event: 0,
+        prescaler: 1,
+        priority: 0,
+    };
+    let event = Reply::EventInfo {
+        name: 4,
+        cycle: 10,
+        unit: 6,
+        priority: 0,
+    };
+    assert_layout(&rt, entry, &[0xFF, 0xFF, 2, 0, 0, 0x10, 0, 0]);
+    assert_layout(&rt, mode, &[0xFF, 0x40, 0, 0, 0, 0, 1, 0]);
+    assert_layout(&rt, Reply::FirstPid(3), &[0xFF, 3]);
+    assert_layout(
+        &rt,
+        Reply::DaqInfo {
+            lists: 2,
+            events: 1,
+        },
+        &[0xFF, 3, 2, 0, 1, 0, 0, 0],
+    );
+    assert_layout(
+        &rt,
+        Reply::DaqResolution { greatest: 63 },
+        &[0xFF, 1, 0x3F, 1, 0, 0, 0, 0],
+    );
+    assert_layout(&rt, event, &[0xFF, 4, 0x10, 4, 0x0A, 6, 0]);
+}
+
+#[test]
+fn codes(rt: HostRuntime) {
+    for (code, number) in [
+        (Code::CmdSynch, 0x00),
+        (Code::CmdBusy, 0x10),
+        (Code::DaqActive, 0x11),
+        (Code::PgmActive, 0x12),
+        (Code::CmdUnknown, 0x20),
+        (Code::CmdSyntax, 0x21),
+        (Code::OutOfRange, 0x22),
+        (Code::WriteProtected, 0x23),
+        (Code::AccessDenied, 0x24),
+        (Code::AccessLocked, 0x25),
+        (Code::PageNotValid, 0x26),
+        (Code::ModeNotValid, 0x27),
+        (Code::SegmentNotValid, 0x28),
+        (Code::Sequence, 0x29),
+        (Code::DaqConfig, 0x2A),
+        (Code::MemoryOverflow, 0x30),
+        (Code::Generic, 0x31),
+        (Code::Verify, 0x32),
+    ] {
+        assert_eq!(rt; code.number(), number);
+    }
+}

@@ -1,0 +1,118 @@
+//! From a reply to bytes.
+ghost use Rattle.std.specs.Prelude.{◌≡◌, ◌≤◌, ◌+◌, ◌++◌, ◌∷◌, length};
+ghost use Rattle.arrayvec.specs.ArrayVec.{array_vec_len};
+ghost use Rattle.xcp_packet.specs.Layout.{layout, Fits};
+ghost use Rattle.xcp_packet.specs.Order.{word_bytes, double_bytes};
+
+use crate::words::{append, append_double, append_word};
+use crate::{Order, Packet, Reply};
+
+/// The packet identifier of a positive response.
+const RES: u8 = 0xFF;
+
+/// The packet identifier of an error packet.
+const ERR: u8 = 0xFE;
+
+fn packet_of(bytes: &[u8]) -> Packet
+    requires { length bytes.now ≤ 255 }
+    ensures items { result.items ≡ bytes.now }
+    ensures length { array_vec_len result ≡ length bytes.now }
+{
+    let mut packet = Packet::new();
+    append(&mut packet, bytes);
+    packet
+}
+
+/// Some bytes, a word, and two bytes.
+fn with_word(front: &[u8], word: u16, back: &[u8]) -> Packet
+    requires { length front.now + 2 + length back.now ≤ 255 }
+    ensures { result.items ≡ front.now ++ (word_bytes Order.Intel word ++ back.now) }
+{
+    let mut packet = packet_of(front);
+    append_word(&mut packet, word);
+    append(&mut packet, back);
+    packet
+}
+
+/// Some bytes, and then a double word.
+fn with_double(front: &[u8], double: u32) -> Packet
+    requires { length front.now + 4 ≤ 255 }
+    ensures { result.items ≡ front.now ++ double_bytes Order.Intel double }
+{
+    let mut packet = packet_of(front);
+    append_double(&mut packet, double);
+    packet
+}
+
+/// DAQ_PROPERTIES (dynamic DAQ lists, with prescalers), the two numbers, MIN_DAQ and DAQ_KEY_BYTE.
+fn daq_info(lists: u16, events: u16) -> Packet
+    ensures { result.items ≡ layout Order.Intel (Reply.DaqInfo lists events) }
+{
+    let mut packet = packet_of(&[RES, 0x03]);
+    append_word(&mut packet, lists);
+    append_word(&mut packet, events);
+    append(&mut packet, &[0, 0]);
+    packet
+}
+
+fn bytes_read(bytes: &[u8]) -> Packet
+    requires { length bytes.now ≤ 254 }
+    ensures { result.items ≡ 0xFF ∷ bytes.now }
+{
+    let mut packet = packet_of(&[RES]);
+    append(&mut packet, bytes);
+    packet
+}
+
+/// The bytes of a reply.
+///
+/// ASAM MCD-1 XCP, protocol layer, description of commands: the positive responses, and the error
+/// packet.
+pub fn encode_reply(reply: &Reply) -> Packet
+    requires { Fits reply.now }
+    ensures { result.items ≡ layout Order.Intel reply.now }
+{
+    match reply {
+        Reply::Done => packet_of(&[RES]),
+        Reply::Connect {
+            basic,
+            max_cto,
+            max_dto,
+        } => with_word(&[RES, 0x05, *basic, *max_cto], *max_dto, &[1, 1]),
+        Reply::Status(status) => packet_of(&[RES, *status, 0, 0, 0, 0]),
+        Reply::CommMode => packet_of(&[RES, 0, 0x01, 0, 0x08, 0, 0, 0x10]),
+        Reply::Id(size) => with_double(&[RES, 0, 0, 0], *size),
+        Reply::Bytes(bytes) => bytes_read(bytes),
+        Reply::Checksum { kind, sum } => with_double(&[RES, *kind, 0, 0], *sum),
+        Reply::CalPage(page) => packet_of(&[RES, 0, 0, *page]),
+        Reply::PagInfo(segments) => packet_of(&[RES, *segments, 0x01]),
+        Reply::SegmentWord(number) => with_double(&[RES, 0, 0, 0], *number),
+        Reply::SegmentStandard { pages } => packet_of(&[RES, *pages, 0, 0, 0, 0]),
+        Reply::PageInfo { properties, init } => packet_of(&[RES, *properties, *init]),
+        Reply::SegmentMode(mode) => packet_of(&[RES, 0, *mode]),
+        Reply::DaqEntry {
+            size,
+            extension,
+            address,
+        } => with_double(&[RES, 0xFF, *size, *extension], *address),
+        Reply::DaqListMode {
+            mode,
+            event,
+            prescaler,
+            priority,
+        } => with_word(&[RES, *mode, 0, 0], *event, &[*prescaler, *priority]),
+        Reply::FirstPid(pid) => packet_of(&[RES, *pid]),
+        Reply::DaqInfo { lists, events } => daq_info(*lists, *events),
+        Reply::DaqResolution { greatest } => {
+            packet_of(&[RES, 0x01, *greatest, 0x01, 0, 0, 0, 0])
+        }
+        Reply::EventInfo {
+            name,
+            cycle,
+            unit,
+            priority,
+        } => packet_of(&[RES, 0x04, 0x10, *name, *cycle, *unit, *priority]),
+        Reply::Error(code) => packet_of(&[ERR, code.number()]),
+        Reply::ErrorCount(code, count) => packet_of(&[ERR, code.number(), *count]),
+    }
+}

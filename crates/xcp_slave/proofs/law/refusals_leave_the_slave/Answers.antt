@@ -1,0 +1,8 @@
+use Rattle.xcp_slave.proofs.RefusalLaws.{error-leaves, refusal-leaves}
+use Rattle.xcp_slave.proofs.law.refusals_leave_the_slave.Goals as goal
+
+pub returns-clause-errors : goal.returns-clause-errors
+returns-clause-errors c = error-leaves
+
+pub returns-clause-others : goal.returns-clause-others
+returns-clause-others c = refusal-leaves

@@ -1,0 +1,5 @@
+pub mod Value
+pub mod Rows
+pub mod Step
+pub mod Run
+pub mod Refused

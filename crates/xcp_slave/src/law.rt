@@ -1,0 +1,36 @@
+//! Laws of the definitions: each is the contract of a function with an empty body.
+ghost use Rattle.std.specs.Prelude.{◌≡◌, ◌<◌, ◌≤◌, ℕ, List, length};
+ghost use Rattle.arrayvec.specs.ArrayVec.{ArrayVec};
+ghost use Rattle.xcp_memory.specs.Layout.{IsLayout};
+ghost use Rattle.xcp_slave.specs.declared.answer.Answer.{Answer};
+ghost use Rattle.xcp_slave.specs.declared.exchange.Exchange.{Exchange};
+ghost use Rattle.xcp_slave.specs.declared.request.Request.{Request};
+ghost use Rattle.xcp_slave.specs.Refused.{IsErrorPacket, IsRefusal};
+ghost use Rattle.xcp_slave.specs.Run.{Run, requests_of};
+ghost use Rattle.xcp_slave.specs.Step.{Answers};
+ghost use Rattle.xcp_slave.specs.Value.{SlaveValue, layout_of, noblock};
+
+/// For each slave and each request there is one answer and one slave after it, and no other.
+pub fn each_request_has_one_answer()
+    ensures total { (v : SlaveValue) (q : Request) → (a : Answer) × (w : SlaveValue) × Answers v q a w }
+    ensures single { (v : SlaveValue) (q : Request) (a b : Answer) (w u : SlaveValue) → Answers v q a w → Answers v q b u → (a ≡ b) × (w ≡ u) }
+{}
+
+/// A run is determined by where it begins and by its requests, and never changes the layout.
+pub fn each_run_has_one_outcome()
+    ensures total { (v : SlaveValue) (qs : List Request) → (xs : List Exchange) × (w : SlaveValue) × (requests_of xs ≡ qs) × Run v xs w }
+    ensures single { (v : SlaveValue) (xs ys : List Exchange) (w u : SlaveValue) → requests_of xs ≡ requests_of ys → Run v xs w → Run v ys u → (xs ≡ ys) × (w ≡ u) }
+    ensures layout { (v : SlaveValue) (xs : List Exchange) (w : SlaveValue) → Run v xs w → layout_of w ≡ layout_of v }
+{}
+
+/// An error packet other than SYNCH's leaves the slave as it was, but that a block under way is
+/// given up; an answer that says that nothing was done leaves the slave as it was.
+pub fn refusals_leave_the_slave()
+    ensures errors { (v : SlaveValue) (q : Request) (a : Answer) (w : SlaveValue) → Answers v q a w → IsErrorPacket a → w ≡ noblock v }
+    ensures others { (v : SlaveValue) (q : Request) (a : Answer) (w : SlaveValue) → Answers v q a w → IsRefusal a → w ≡ v }
+{}
+
+/// A packet that is sent has at least one byte and at most MAX_CTO.
+pub fn no_packet_is_longer_than_max_cto()
+    ensures { (v : SlaveValue) (q : Request) (p : ArrayVec ℕ) (w : SlaveValue) → IsLayout (layout_of v) → Answers v q (Answer.Packet p) w → (0 < length p.items) × (length p.items ≤ (layout_of v).max_cto) }
+{}

@@ -1,0 +1,26 @@
+//! The XCP slave: one request, one answer, by one step relation.
+//!
+//! A [`Slave`] is driven by [`Slave::submit`] alone. `specs/Step.antt` says what each request
+//! does to it; `specs/Rows.antt` has the row of each command.
+#![tactic(auto)]
+
+mod answer;
+mod exchange;
+mod law;
+mod packet;
+mod request;
+mod slave;
+mod status;
+
+pub use answer::Answer;
+pub use exchange::Exchange;
+pub use law::{
+    each_request_has_one_answer, each_run_has_one_outcome, no_packet_is_longer_than_max_cto,
+    refusals_leave_the_slave,
+};
+pub use request::Request;
+pub use slave::Slave;
+pub use status::SessionStatus;
+
+#[cfg(test)]
+mod tests;

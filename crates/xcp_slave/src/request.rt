@@ -1,0 +1,37 @@
+//! What a slave is asked.
+ghost use Rattle.std.specs.Prelude.{◌≡◌};
+
+use crate::packet::copied;
+use arrayvec::ArrayVec;
+use xcp_packet::Packet;
+
+/// A request to a slave: a command packet of the tool, or one of the four things that the
+/// controller and the transport ask of it.
+#[derive(Debug, PartialEq, Eq, Drop)]
+pub enum Request {
+    /// A command packet (CTO) as it came, of at most 255 bytes.
+    Command(Packet),
+    /// An event channel fires: its number, and the signals that the controller measured.
+    Event(u16, ArrayVec<u8, 64>),
+    /// The transport takes the first data or event packet that is ready to be sent.
+    Drain,
+    /// The controller has stored what SET_REQUEST asked for.
+    FinishStore,
+    /// The tool's connection is gone: the session ends.
+    Hangup,
+}
+
+impl Request {
+    /// An equal request. It takes no memory and always succeeds.
+    pub fn copy(&self) -> Request
+        ensures { result ≡ self.now }
+    {
+        match self {
+            Request::Command(packet) => Request::Command(copied(packet)),
+            Request::Event(channel, signals) => Request::Event(*channel, copied(signals)),
+            Request::Drain => Request::Drain,
+            Request::FinishStore => Request::FinishStore,
+            Request::Hangup => Request::Hangup,
+        }
+    }
+}

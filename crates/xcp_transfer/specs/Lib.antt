@@ -1,0 +1,7 @@
+pub mod Value
+pub mod Words
+pub mod Rows
+pub mod Downloads
+pub mod Uploads
+pub mod Relations
+pub mod Laws

@@ -1,0 +1,39 @@
+-- The row of a command: why it is refused, and else its reply and its effect.
+use Rattle.std.specs.Prelude.{◌≡◌, Bool, true, List, [], ◌∷◌, Option, Some, None, Result, Ok, Err, if◌then◌else◌}
+use Rattle.xcp_packet.specs.declared.Code.{Code}
+use Rattle.xcp_packet.specs.declared.Reply.{Reply}
+use Rattle.xcp_packet.specs.declared.Reply.TheVariants.{Error}
+use Rattle.xcp_packet.specs.Layout.{Fits}
+
+-- Refusals in the order in which they are looked at, each a test and its error packet; the reply to a command that
+-- none of them meets, none where nothing is sent; and the value after it.
+pub record Row (V : Type 0) : Type 0 where
+  pub refusals : List (Bool × Reply)
+  pub reply : Option Reply
+  pub after : V
+
+-- the error packet of the first test that holds
+abbrev pub first_holding : List (Bool × Reply) → Option Reply
+first_holding [] = None
+first_holding (t ∷ ts) = if t.0 then Some t.1 else first_holding ts
+
+-- a refusal that is decided elsewhere
+abbrev pub refused : Option Code → List (Bool × Reply)
+refused None = []
+refused (Some code) = (true, Error code) ∷ []
+
+-- The row is met: no refusal holds, and reply and value are the row's; or the first refusal that holds is answered,
+-- and the value is what a refusal leaves.
+abbrev pub Meets : {V : Type 0} → Row V → V → Result (Option Reply) Reply → V → Type 0
+Meets r left (Ok reply) w = (first_holding r.refusals ≡ None) × (reply ≡ r.reply) × (w ≡ r.after)
+Meets r left (Err e) w = (first_holding r.refusals ≡ Some e) × (w ≡ left)
+
+-- one packet holds what is sent
+abbrev pub FitsPacket : Result (Option Reply) Reply → Type 0
+FitsPacket (Ok None) = Unit {0}
+FitsPacket (Ok (Some reply)) = Fits reply
+FitsPacket (Err e) = Fits e
+
+-- the same row over a greater value, of which what it changes is a part
+abbrev pub row_within : {V W : Type 0} → (V → W) → Row V → Row W
+row_within whole r = record { refusals = r.refusals; reply = r.reply; after = whole r.after }

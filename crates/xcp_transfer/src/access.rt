@@ -1,0 +1,174 @@
+//! Reads and writes of the pages at a memory transfer address (MTA).
+ghost use Rattle.std.specs.Prelude.{◌≡◌, ◌≤◌, ◌<◌, ◌+◌, length, drop, take, true, false, None, Some, IfOk, IfErr, nat_le};
+ghost use Rattle.xcp_memory.specs.Words.{lies_inside, tool_bytes, write_refusal, pages_written};
+ghost use Rattle.xcp_packet.specs.Order.{double_at, double_bytes};
+ghost use Rattle.xcp_transfer.specs.Value.{text_of, IsText, IsMta};
+ghost use Rattle.xcp_transfer.specs.Words.{is_readable, is_summable, sum_at, bytes_at, write_refusal_at, written_at, moved};
+
+use crate::{Mta, TextId};
+use byteorder::{ByteOrder, LittleEndian};
+use xcp_memory::{Layout, Pages};
+use xcp_packet::{Code, Data, Order};
+
+/// Reads n bytes from an MTA on: the bytes, and the MTA behind them. `AccessDenied` where they
+/// don't lie in one area, or a text has fewer left.
+pub(crate) fn read(pages: &Pages, mta: Mta, n: u8) -> Result<(Data, Mta), Code>
+    requires some { 0 < n }
+    requires there { IsMta pages.now.layout mta }
+    ensures ok { IfOk result (λ r. (is_readable pages.now mta n ≡ true) × (r.0.items ≡ bytes_at pages.now mta n) × (length r.0.items ≡ n) × (r.1 ≡ moved mta n)) }
+    ensures next { IfOk result (λ r. IsMta pages.now.layout r.1) }
+    ensures refused { IfErr result (λ code. (is_readable pages.now mta n ≡ false) × (code ≡ Code.AccessDenied)) }
+{
+    match mta {
+        Mta::Nowhere => Err(Code::AccessDenied),
+        Mta::Memory(address) => {
+            let bytes = read_memory(pages, address, n)?;
+            Ok((bytes, Mta::Memory(address + u32::from(n))))
+        }
+        Mta::Text(id, place) => {
+            let bytes = read_text(pages.layout(), id, place, n)?;
+            Ok((bytes, Mta::Text(id, place + n)))
+        }
+    }
+}
+
+fn read_memory(pages: &Pages, address: u32, n: u8) -> Result<Data, Code>
+    requires { 0 < n }
+    ensures ok { IfOk result (λ bytes. (lies_inside pages.now.layout address n ≡ true) × (bytes.items ≡ tool_bytes pages.now address n) × (length bytes.items ≡ n)) }
+    ensures last { IfOk result (λ bytes. address + n ≤ 0xFFFF_FFFF) }
+    ensures refused { IfErr result (λ code. (lies_inside pages.now.layout address n ≡ false) × (code ≡ Code.AccessDenied)) }
+{
+    let mut buffer = [0; 255];
+    read_through(pages, address, &mut buffer[..n as usize])
+}
+
+/// Reads as many bytes as the buffer has.
+#[tactic(auto, using(crate::proofs::Ends::inside_last))]
+fn read_through(pages: &Pages, address: u32, buffer: &mut [u8]) -> Result<Data, Code>
+    requires some { 0 < length buffer.old }
+    requires most { length buffer.old ≤ 255 }
+    ensures ok { IfOk result (λ bytes. (lies_inside pages.now.layout address (length buffer.old) ≡ true) × (bytes.items ≡ tool_bytes pages.now address (length buffer.old)) × (length bytes.items ≡ length buffer.old)) }
+    ensures last { IfOk result (λ bytes. address + length buffer.old ≤ 0xFFFF_FFFF) }
+    ensures refused { IfErr result (λ code. (lies_inside pages.now.layout address (length buffer.old) ≡ false) × (code ≡ Code.AccessDenied)) }
+{
+    pages.audit();
+    pages.read_xcp(address, buffer)?;
+    Ok(data(buffer))
+}
+
+fn read_text(layout: &Layout, id: TextId, place: u8, n: u8) -> Result<Data, Code>
+    requires text { IsText layout.now id }
+    ensures ok { IfOk result (λ bytes. (nat_le (place + n) (length (text_of layout.now id)) ≡ true) × (bytes.items ≡ take n (drop place (text_of layout.now id))) × (length bytes.items ≡ n)) }
+    ensures last { IfOk result (λ bytes. (place + n ≤ length (text_of layout.now id)) × (place + n ≤ 64)) }
+    ensures refused { IfErr result (λ code. (nat_le (place + n) (length (text_of layout.now id)) ≡ false) × (code ≡ Code.AccessDenied)) }
+{
+    let text = text(layout, id);
+    let place = place as usize;
+    let end = place + n as usize;
+    if end > text.len() {
+        return Err(Code::AccessDenied);
+    }
+    Ok(data(&text[place..end]))
+}
+
+/// Sums up `size` bytes from an MTA on: the checksum, and the MTA behind them. `AccessDenied` where
+/// they don't lie in one area, also nowhere and at a text.
+#[tactic(auto, using(crate::proofs::Ends::inside_last))]
+pub(crate) fn checksum(pages: &Pages, mta: Mta, size: u32) -> Result<(u32, Mta), Code>
+    requires { 0 < size }
+    ensures ok { IfOk result (λ r. (is_summable pages.now mta size ≡ true) × (r.0 ≡ sum_at pages.now mta size) × (r.1 ≡ moved mta size)) }
+    ensures next { IfOk result (λ r. IsMta pages.now.layout r.1) }
+    ensures refused { IfErr result (λ code. (is_summable pages.now mta size ≡ false) × (code ≡ Code.AccessDenied)) }
+{
+    let Mta::Memory(address) = mta else {
+        return Err(Code::AccessDenied);
+    };
+    pages.audit();
+    let sum = pages.checksum(address, size)?;
+    Ok((sum, Mta::Memory(address + size)))
+}
+
+/// The bytes of a text.
+fn text(layout: &Layout, id: TextId) -> &[u8]
+    requires { IsText layout.now id }
+    ensures value { result.now ≡ text_of layout.now id }
+    ensures most { length result.now ≤ 64 }
+{
+    match id {
+        TextId::Id => layout.id(),
+        TextId::Name(event) => layout.event_name(event as usize),
+    }
+}
+
+fn data(bytes: &[u8]) -> Data
+    requires { length bytes.now ≤ 255 }
+    ensures { result.items ≡ bytes.now }
+{
+    let mut data = Data::new();
+    let _ = data.try_extend_from_slice(bytes);
+    data
+}
+
+/// The address of n bytes at an MTA that may be written. `AccessDenied` nowhere and where they
+/// don't lie in one area, then `WriteProtected` at a text, at the signals and where the tool has
+/// page 0.
+pub(crate) fn writable(pages: &Pages, mta: Mta, n: u8) -> Result<u32, Code>
+    requires { 0 < n }
+    ensures ok { IfOk result (λ address. (mta ≡ Mta.Memory address) × (write_refusal pages.now address n ≡ None)) }
+    ensures refused { IfErr result (λ code. write_refusal_at pages.now mta n ≡ Some code) }
+{
+    match mta {
+        Mta::Nowhere => Err(Code::AccessDenied),
+        Mta::Memory(address) => {
+            pages.may_write(address, n as usize)?;
+            Ok(address)
+        }
+        Mta::Text(_, _) => Err(Code::WriteProtected),
+    }
+}
+
+/// Writes bytes from an MTA on, and answers the MTA behind them. Refused as `writable` is.
+pub(crate) fn write(pages: &mut Pages, mta: Mta, bytes: &[u8]) -> Result<Mta, Code>
+    requires some { 0 < length bytes.now }
+    requires most { length bytes.now ≤ 255 }
+    ensures ok { IfOk result (λ next. (write_refusal_at pages.old mta (length bytes.now) ≡ None) × (pages.new ≡ written_at pages.old mta bytes.now) × (next ≡ moved mta (length bytes.now))) }
+    ensures next { IfOk result (λ next. IsMta pages.new.layout next) }
+    ensures refused { IfErr result (λ code. (write_refusal_at pages.old mta (length bytes.now) ≡ Some code) × (pages.new ≡ pages.old)) }
+{
+    let address = writable(pages, mta, bytes.len() as u8)?;
+    Ok(write_allowed(pages, address, bytes))
+}
+
+#[tactic(auto, using(crate::proofs::Ends::allowed_last))]
+/// Writes bytes where they may be written, and answers the MTA behind them.
+pub(crate) fn write_allowed(pages: &mut Pages, address: u32, bytes: &[u8]) -> Mta
+    requires some { 0 < length bytes.now }
+    requires most { length bytes.now ≤ 255 }
+    requires allowed { write_refusal pages.old address (length bytes.now) ≡ None }
+    ensures written { pages.new ≡ pages_written pages.old address bytes.now }
+    ensures next { result ≡ Mta.Memory (address + length bytes.now) }
+{
+    pages.audit();
+    let _ = pages.write_xcp(address, bytes);
+    Mta::Memory(address + bytes.len() as u32)
+}
+
+/// The double word at an address, where four bytes may be written.
+pub(crate) fn read_double(pages: &Pages, address: u32) -> u32
+    requires { write_refusal pages.now address 4 ≡ None }
+    ensures { result ≡ double_at Order.Intel 0 (tool_bytes pages.now address 4) }
+{
+    let mut bytes = [0; 4];
+    let _ = pages.read_xcp(address, &mut bytes);
+    LittleEndian::read_u32(&bytes)
+}
+
+/// Makes a double word stand at an address, where four bytes may be written.
+pub(crate) fn write_double(pages: &mut Pages, address: u32, value: u32)
+    requires { write_refusal pages.old address 4 ≡ None }
+    ensures { pages.new ≡ pages_written pages.old address (double_bytes Order.Intel value) }
+{
+    let mut bytes = [0; 4];
+    LittleEndian::write_u32(&mut bytes, value);
+    let _ = pages.write_xcp(address, &bytes);
+}
