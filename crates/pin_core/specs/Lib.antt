@@ -1,4 +1,5 @@
 pub mod State
+pub mod Head
 pub mod Fields
 pub mod Effects
 pub mod Steps

@@ -5,6 +5,7 @@
 #![tactic(auto)]
 
 mod events;
+mod heads;
 mod laws;
 mod pins;
 mod reader;
@@ -14,6 +15,7 @@ mod tests;
 mod words;
 
 pub use events::{Event, RunError, Seen, StepError};
+pub use heads::{head, parts};
 pub use laws::reclamation;
 pub use pins::Core;
 pub use runs::run;

@@ -1,5 +1,5 @@
 // The whole state, and how it begins.
-ghost use Rattle.std.specs.Prelude.{◌≡◌, ℕ, ◌<◌, ◌≤◌, List, ◌∷◌, length, replicate, IfOk};
+ghost use Rattle.std.specs.Prelude.{◌≡◌, ◌<◌, ◌≤◌, ◌∷◌, length, replicate, IfOk};
 ghost use Rattle.pin_core.specs.State.{newcomer, opening, width};
 ghost use Rattle.pin_core.specs.Lawful.{Lawful};
 

@@ -1,5 +1,5 @@
 // What one reader knows, and how its own events change that.
-ghost use Rattle.std.specs.Prelude.{◌≡◌, ◌≢◌, ◌↔◌, ◌⊎◌, ℕ, ◌-◌, ◌<◌, ◌||◌, true, IsTrue, if◌then◌else◌, Some, None};
+ghost use Rattle.std.specs.Prelude.{◌≡◌, ◌≢◌, ◌↔◌, ◌⊎◌, ◌-◌, ◌<◌, ◌||◌, true, IsTrue, if◌then◌else◌, Some, None};
 ghost use Rattle.pin_core.specs.State.{newcomer};
 ghost use Rattle.pin_core.specs.Lawful.{at_buffer};
 

@@ -7,6 +7,8 @@ pub mod Events
 pub mod Gathering
 pub mod LongLines
 pub mod Midway
+pub mod Refusing
+pub mod Shortage
 pub mod Streaming
 pub mod Texts
 pub mod WholeLines

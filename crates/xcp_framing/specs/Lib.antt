@@ -5,6 +5,7 @@ pub mod Front
 pub mod Lines
 pub mod Meaning
 pub mod Reading
+pub mod Refusal
 pub mod Replay
 pub mod Serve
 pub mod Told

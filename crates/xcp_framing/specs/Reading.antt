@@ -1,10 +1,13 @@
 -- The lines of a text as a reader meets them, byte by byte. The contracts of private functions
 -- speak in these words; they say the same of a whole text as `Lines`, `asked` and `first_faulty`.
-use Rattle.std.specs.Prelude.{ℕ, ◌+◌, List, [], ◌∷◌, ◌++◌, Option, Some, None, ◌==◌, if◌then◌else◌}
+use Rattle.std.specs.Prelude.{◌≡◌, ◌⊎◌, ℕ, ◌+◌, List, [], ◌∷◌, ◌++◌, Option, Some, None, ◌==◌, if◌then◌else◌}
+use Rattle.xcp_slave.specs.declared.Exchange.{Exchange}
 use Rattle.xcp_slave.specs.declared.Request.{Request}
+use Rattle.xcp_framing.specs.Front.{IsFront}
 use Rattle.xcp_framing.specs.Lines.{without_return, unless_empty}
 use Rattle.xcp_framing.specs.Meaning.{meaning}
-use Rattle.xcp_framing.specs.Replay.{is_faulty, asked_by}
+use Rattle.xcp_framing.specs.Replay.{is_faulty, asked_by, NotTaken}
+use Rattle.xcp_framing.specs.Told.{told}
 
 -- the lines of a text of whose first line the bytes in begun have come already
 abbrev pub lines_from : List ℕ → List ℕ → List (List ℕ)
@@ -28,3 +31,15 @@ faulty_from max_cto n (l ∷ ls) =
 abbrev pub OfRead : Option (List ℕ) → (List (List ℕ) → Type 0) → Type 0
 OfRead None Holds = Unit {0}
 OfRead (Some input) Holds = Holds (lines_from [] input)
+
+-- The answer to the last request has no text. What was a front of the text before these exchanges is one of the text of
+-- the answers before it.
+pub record LastUntold (old new : List Exchange) : Type 0 where
+  pub earlier : List Exchange
+  pub last : Exchange
+  pub joined : new ≡ earlier ++ last ∷ []
+  pub kept : (text : List ℕ) → IsFront text (told old) → IsFront text (told earlier)
+
+-- where memory is short, in some lines of a script
+abbrev pub ShortOf : List Request → List Exchange → List Exchange → Type 0
+ShortOf asks old new = NotTaken asks new ⊎ LastUntold old new

@@ -1,8 +1,10 @@
 -- What a replay of a script asks, and what it writes.
-use Rattle.std.specs.Prelude.{◌≡◌, ℕ, ◌+◌, Bool, true, false, List, [], ◌∷◌, length, flat_map, position, Option, Some, None, option_map, Result, Ok, Err}
+use Rattle.std.specs.Prelude.{◌≡◌, ℕ, ◌+◌, ◌⊎◌, Bool, true, false, List, [], ◌∷◌, ◌++◌, length, flat_map, position, Option, Some, None, option_map, Result, Ok, Err}
 use Rattle.std.specs.List.{before_first}
 use Rattle.std.specs.Io.KnownBytes.{Appends}
+use Rattle.xcp_slave.specs.declared.Exchange.{Exchange}
 use Rattle.xcp_slave.specs.declared.Request.{Request}
+use Rattle.xcp_slave.specs.Run.{requests_of}
 use Rattle.xcp_framing.specs.declared.line.Line.{Line}
 use Rattle.xcp_framing.specs.declared.line.Line.TheVariants.{Ask, Faulty}
 use Rattle.xcp_framing.specs.declared.fault.ReplayError.{ReplayError}
@@ -10,6 +12,7 @@ use Rattle.xcp_framing.specs.declared.fault.ReplayError.TheVariants as errors
 use Rattle.xcp_framing.specs.Front.{IsFront, AppendsFront}
 use Rattle.xcp_framing.specs.Lines.{Lines}
 use Rattle.xcp_framing.specs.Meaning.{meaning}
+use Rattle.xcp_framing.specs.Told.{told}
 
 abbrev pub is_faulty : Line → Bool
 is_faulty Faulty = true
@@ -53,3 +56,20 @@ Tells (Ok value) old new text = Appends old new text
 Tells (Err (errors.Line k)) old new text = Appends old new text
 Tells (Err errors.Read) old new text = Appends old new text
 Tells (Err e) old new text = AppendsFront old new text
+
+-- of the requests that were asked the next one was not taken
+pub record NotTaken (asks : List Request) (exchanges : List Exchange) : Type 0 where
+  pub next : Request
+  pub more : List Request
+  pub joined : asks ≡ requests_of exchanges ++ next ∷ more
+
+-- The answer to the last request has no text: what was written is a front of the text of the answers before it.
+pub record NotTold (exchanges : List Exchange) (old new : Option (List ℕ)) : Type 0 where
+  pub earlier : List Exchange
+  pub last : Exchange
+  pub joined : exchanges ≡ earlier ++ last ∷ []
+  pub written : AppendsFront old new (told earlier)
+
+-- where memory is short: at a request that was not taken, or at the text of its answer
+abbrev pub EndsShort : List Request → List Exchange → Option (List ℕ) → Option (List ℕ) → Type 0
+EndsShort asks exchanges old new = NotTaken asks exchanges ⊎ NotTold exchanges old new

@@ -1,5 +1,5 @@
 //! A station that executes each request on its slave and stores the exchange.
-ghost use Rattle.std.specs.Prelude.{◌≡◌, ◌≤◌, [], ◌∷◌, ◌++◌, IfOk, OnErr, IfErr};
+ghost use Rattle.std.specs.Prelude.{◌≡◌, [], ◌∷◌, ◌++◌, IfOk, OnErr, IfErr};
 ghost use Rattle.xcp_slave.specs.Run.{Run};
 ghost use Rattle.xcp_slave.specs.Step.{Answers};
 ghost use Rattle.xcp_slave.specs.Value.{layout_of, opening};
@@ -64,7 +64,11 @@ impl Desk {
 }
 
 impl Station for Desk {
+    ghost use Rattle.xcp_framing.specs.declared.station.StationError.TheVariants as refusals;
+
     ghost exchanges = { λ d. d.exchanges };
+
+    ghost refuses = { λ d request e. e ≡ refusals.Memory };
 
     /// Answers a request. The one refusal is `Memory`, which comes before anything is executed.
     fn submit(&mut self, request: Request) -> Result<Answer, StationError>

@@ -31,7 +31,7 @@ mod wire;
 pub use desk::Desk;
 pub use fault::ReplayError;
 pub use framer::{Fed, Framer, Got};
-pub use law::each_text_has_its_lines;
+pub use law::{a_desk_is_never_full, each_text_has_its_lines};
 pub use line::Line;
 pub use parsing::{LINE_BYTES, parse_line};
 pub use plain::plain_lines;

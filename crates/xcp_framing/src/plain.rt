@@ -1,5 +1,5 @@
 //! A plain and slow program for the lines of a text, by which their definition is tested.
-ghost use Rattle.std.specs.Prelude.{◌≡◌, ℕ, List, IfOk, map};
+ghost use Rattle.std.specs.Prelude.{IfOk, map};
 ghost use Rattle.xcp_framing.specs.Lines.{Lines};
 
 use crate::script::without_return;

@@ -1,11 +1,11 @@
 //! A script run through a desk.
-ghost use Rattle.std.specs.Prelude.{◌≡◌, ◌≢◌, ◌<◌, ◌≤◌, ◌+◌, ◌*◌, ◌^◌, ◌++◌, [], ℕ, List, Option, Some, None, OnOk, OnErr, IfErr, ◌⊎◌};
+ghost use Rattle.std.specs.Prelude.{◌≡◌, ◌≢◌, ◌<◌, ◌+◌, ◌^◌, ◌++◌, [], ℕ, List, Option, OnOk, OnErr, IfErr, ◌⊎◌};
 ghost use Rattle.std.specs.Io.KnownBytes.{Appends, IsAtEnd};
 ghost use Rattle.xcp_slave.specs.Run.{Run, requests_of};
 ghost use Rattle.xcp_slave.specs.Value.{layout_of, opening};
 ghost use Rattle.xcp_framing.specs.Front.{IsFront};
 ghost use Rattle.xcp_framing.specs.Reading.{OfRead};
-ghost use Rattle.xcp_framing.specs.Replay.{OfLines, Replayed, Tells};
+ghost use Rattle.xcp_framing.specs.Replay.{EndsShort, OfLines, Replayed, Tells, asked};
 ghost use Rattle.xcp_framing.specs.Told.{told};
 
 use crate::script::{LineError, Pending};
@@ -87,6 +87,10 @@ fn run_script<R: Read, W: Write>(
     ensures write { result ≡ Err ReplayError.Write → writer.old.failures < writer.new.failures }
     ensures write_quiet { result ≢ Err ReplayError.Write
         → writer.new.failures ≡ writer.old.failures }
+    ensures memory { result ≡ Err ReplayError.Memory
+        → OfRead (R.remaining reader.old.inner) (λ lines.
+        EndsShort (asked (layout_of desk.old.slave).max_cto lines) desk.new.exchanges
+        (W.contents writer.old.inner) (W.contents writer.new.inner)) }
     ensures layout { layout_of desk.new.slave ≡ layout_of desk.old.slave }
 {
     let max_cto = desk.max_cto();
@@ -140,6 +144,13 @@ pub fn replay_on<R: Read, W: Write>(
     ensures write { result ≡ Err ReplayError.Write → writer.old.failures < writer.new.failures }
     ensures write_quiet { result ≢ Err ReplayError.Write
         → writer.new.failures ≡ writer.old.failures }
+
+    // Memory comes only at a request of the script: the desk did not take it, or there is no text
+    // of its answer.
+    ensures memory { result ≡ Err ReplayError.Memory
+        → OfLines (R.remaining reader.old.inner) (λ lines.
+        EndsShort (asked (layout_of desk.old.slave).max_cto lines) desk.new.exchanges
+        (W.contents writer.old.inner) (W.contents writer.new.inner)) }
 {
     let result = run_script(alloc, desk, reader, writer, turns);
     desk.audit();

@@ -5,7 +5,7 @@ ghost use Rattle.xcp_slave.specs.Value.{layout_of};
 ghost use Rattle.xcp_framing.specs.Front.{IsFront};
 ghost use Rattle.xcp_framing.specs.Lines.{unless_empty, without_return};
 ghost use Rattle.xcp_framing.specs.Meaning.{meaning};
-ghost use Rattle.xcp_framing.specs.Reading.{asked_before, faulty_from, lines_from};
+ghost use Rattle.xcp_framing.specs.Reading.{asked_before, faulty_from, lines_from, ShortOf};
 ghost use Rattle.xcp_framing.specs.Replay.{asked_by, is_faulty};
 ghost use Rattle.xcp_framing.specs.Told.{told};
 
@@ -70,6 +70,10 @@ impl Pending {
         ensures memory { result ≡ Err LineError.Memory → (rest : List ℕ) →
             IsFront (requests_of desk.new.exchanges) (requests_of desk.old.exchanges
             ++ asked_before max_cto (lines_from self.old.line.items (piece.now ++ rest))) }
+        ensures short { result ≡ Err LineError.Memory → (rest : List ℕ) →
+            ShortOf (requests_of desk.old.exchanges
+            ++ asked_before max_cto (lines_from self.old.line.items (piece.now ++ rest)))
+            desk.old.exchanges desk.new.exchanges }
         // Whatever was written before these texts: what it is with them.
         ensures told { result ≢ Err LineError.Memory → (before : List ℕ)
             → before ++ texts.old.items ≡ told desk.old.exchanges
@@ -111,6 +115,9 @@ impl Pending {
             → faulty_from max_cto count (unless_empty self.now.line.items) ≡ Some (count + 1)) }
         ensures memory { result ≡ Err LineError.Memory → IsFront (requests_of desk.new.exchanges)
             (requests_of desk.old.exchanges ++ asked_before max_cto (unless_empty self.now.line.items)) }
+        ensures short { result ≡ Err LineError.Memory → ShortOf (requests_of desk.old.exchanges
+            ++ asked_before max_cto (unless_empty self.now.line.items))
+            desk.old.exchanges desk.new.exchanges }
         ensures told { result ≢ Err LineError.Memory → (before : List ℕ)
             → before ++ texts.old.items ≡ told desk.old.exchanges
             → before ++ texts.new.items ≡ told desk.new.exchanges }
@@ -151,6 +158,9 @@ fn answer_line(
     ensures memory { result ≡ Err LineError.Memory → (later : List (List ℕ))
         → IsFront (requests_of desk.new.exchanges)
         (requests_of desk.old.exchanges ++ asked_before max_cto (line.now ∷ later)) }
+    ensures short { result ≡ Err LineError.Memory → (later : List (List ℕ))
+        → ShortOf (requests_of desk.old.exchanges ++ asked_before max_cto (line.now ∷ later))
+        desk.old.exchanges desk.new.exchanges }
     ensures told { result ≢ Err LineError.Memory → (before : List ℕ)
         → before ++ texts.old.items ≡ told desk.old.exchanges
         → before ++ texts.new.items ≡ told desk.new.exchanges }

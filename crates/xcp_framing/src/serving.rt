@@ -1,8 +1,9 @@
 //! A station behind a stream: commands in frames from a reader, answers in frames to a writer.
-ghost use Rattle.std.specs.Prelude.{◌≡◌, ◌≢◌, ◌<◌, ◌≤◌, ◌+◌, ◌*◌, ◌^◌, [], ◌∷◌, ◌++◌, OnOk, IfErr, List, ℕ, length};
+ghost use Rattle.std.specs.Prelude.{◌≡◌, ◌<◌, ◌≤◌, ◌+◌, ◌*◌, ◌^◌, [], ◌∷◌, ◌++◌, ◌⊎◌, OnOk, IfErr, length};
 ghost use Rattle.xcp_framing.specs.Wire.{wire_from};
 ghost use Rattle.xcp_framing.specs.Frames.{frames, rest};
 ghost use Rattle.xcp_framing.specs.Serve.{AnswersSoFar, EndsReader, Serves, Writes, number_of};
+ghost use Rattle.xcp_framing.specs.Refusal.{AsksNext, DrainsNext, OnRefusal, ReadsNext, Refused};
 ghost use Rattle.xcp_framing.specs.Turns.{Grows, DrainsSoFar, EndsPiece, IsInterruption};
 
 use crate::{Framer, Got, Station, StationError, Watched, frame};
@@ -123,6 +124,8 @@ fn drain<W: Write, S: Station>(
     ensures fine { OnOk result (writer.new.failures ≡ writer.old.failures) }
     ensures stops { IfErr result IsInterruption }
     ensures write { result ≡ Err ServeError.Write → writer.old.failures < writer.new.failures }
+    ensures refused { OnRefusal result (λ e. Refused S.exchanges S.refuses e DrainsNext
+        (S.exchanges station.old) (S.exchanges station.new)) }
 {
     for _drain in 0..DRAINS {
         let Answer::Packet(packet) = station.submit(Request::Drain)? else {
@@ -150,6 +153,9 @@ fn exchange<W: Write, S: Station>(
     ensures fine { OnOk result (writer.new.failures ≡ writer.old.failures) }
     ensures stops { IfErr result IsInterruption }
     ensures write { result ≡ Err ServeError.Write → writer.old.failures < writer.new.failures }
+    ensures refused { OnRefusal result (λ e.
+        Refused S.exchanges S.refuses e (AsksNext (packet.items ∷ []))
+        (S.exchanges station.old) (S.exchanges station.new)) }
 {
     if let Answer::Packet(packet) = station.submit(Request::Command(packet))? {
         send(writer, served, &packet)?;
@@ -181,6 +187,9 @@ fn consume<W: Write, S: Station>(
     ensures fine { OnOk result (writer.new.failures ≡ writer.old.failures) }
     ensures write { result ≡ Err ServeError.Write → writer.old.failures < writer.new.failures }
     ensures kept { framer.new.max_cto ≡ framer.old.max_cto }
+    ensures refused { OnRefusal result (λ e. Refused S.exchanges S.refuses e
+        (AsksNext (frames framer.old.max_cto (framer.old.held ++ piece.now)))
+        (S.exchanges station.old) (S.exchanges station.new)) }
 {
     let mut used = 0;
     loop {
@@ -227,6 +236,14 @@ pub fn serve<R: Read, W: Write, S: Station>(
     ensures write { result ≡ Err ServeError.Write → writer.old.failures < writer.new.failures }
     ensures reads { reader.new.calls ≤ reader.old.calls + turns }
     ensures turns { result ≡ Err ServeError.TurnsSpent → reader.new.calls ≡ reader.old.calls + turns }
+    // Memory and JournalFull come where the station refused the request that comes next. Memory
+    // also comes where there was no buffer, before anything was done.
+    ensures refused { OnRefusal result (λ e.
+        ((e ≡ StationError.Memory) × (reader.new ≡ reader.old) × (writer.new ≡ writer.old)
+        × (station.new ≡ station.old))
+        ⊎ Refused S.exchanges S.refuses e
+        (ReadsNext max_cto (R.remaining reader.old.inner) (R.remaining reader.new.inner))
+        (S.exchanges station.old) (S.exchanges station.new)) }
 {
     let Ok(mut buffer) = vec![in alloc; 0; READ_SIZE] else {
         return Err(ServeError::Memory);

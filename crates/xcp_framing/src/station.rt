@@ -1,6 +1,8 @@
 //! What takes requests one by one.
-ghost use Rattle.std.specs.Prelude.{◌≡◌, [], ◌∷◌, ◌++◌, List, IfOk, OnErr};
+ghost use Rattle.std.specs.Prelude.{◌≡◌, [], ◌∷◌, ◌++◌, List, IfOk, OnErr, IfErr};
 ghost use Rattle.xcp_slave.specs.declared.Exchange.{Exchange};
+ghost use Rattle.xcp_slave.specs.declared.Request.{Request};
+ghost use Rattle.xcp_framing.specs.declared.station.StationError.{StationError};
 
 use thiserror::Error;
 use xcp_slave::{Answer, Request};
@@ -21,9 +23,13 @@ pub trait Station {
     /// The exchanges that it has had, in order.
     ghost exchanges: { Self → List Exchange };
 
+    /// What a refusal may mean: in this state it may refuse this request with this error.
+    ghost refuses: { Self → Request → StationError → Type 0 };
+
     /// Answers a request, and has this exchange from then on. After an `Err` it is as it was.
     fn submit(&mut self, request: Request) -> Result<Answer, StationError>
         ensures ok { IfOk result (λ answer. exchanges self.new
             ≡ exchanges self.old ++ record { request = request; answer = answer } ∷ []) }
-        ensures err { OnErr result (exchanges self.new ≡ exchanges self.old) };
+        ensures err { OnErr result (exchanges self.new ≡ exchanges self.old) }
+        ensures refused { IfErr result (λ e. refuses self.old request e) };
 }

@@ -1,5 +1,5 @@
 //! Laws of frames on a stream, and a plain program for their definition.
-ghost use Rattle.std.specs.Prelude.{◌≡◌, ◌≤◌, ◌+◌, ◌++◌, ℕ, List, IfOk, IfSome, IfNone, OnOk, length, drop, map};
+ghost use Rattle.std.specs.Prelude.{◌≡◌, ◌≤◌, ◌+◌, ◌++◌, IfOk, IfSome, IfNone, OnOk, length, drop, map};
 ghost use Rattle.xcp_framing.specs.Frames.{CutsAlike, FramesAreFramed, WireComesBack};
 ghost use Rattle.xcp_framing.specs.Wire.{len_of, packet_in, Framed, IsUnfinished};
 

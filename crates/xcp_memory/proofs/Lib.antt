@@ -11,3 +11,6 @@ pub mod Switching
 pub mod Reading
 pub mod Overwriting
 pub mod Writing
+pub mod Copying
+pub mod SegmentModes
+pub mod Freezing

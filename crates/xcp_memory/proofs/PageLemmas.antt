@@ -9,7 +9,7 @@ use Rattle.xcp_memory.specs.Pages.{SegmentPages, IsSegment, xcp_page}
 use Rattle.xcp_memory.specs.Vectors.{lists_of}
 use Rattle.xcp_memory.specs.Words.{overwritten, segment_written}
 
-length-lists_of : (vs : List (Vec ℕ)) → length (lists_of vs) ≡ length vs
+pub length-lists_of : (vs : List (Vec ℕ)) → length (lists_of vs) ≡ length vs
 length-lists_of vs = length-map vs (λ (v : Vec ℕ). v.items)
 
 -- a vector that was read out of the pages is the page of its number
@@ -24,7 +24,7 @@ pub refilled : {X : Type 0} (n : ℕ) (new xs : List X) → n ≡ length xs → 
 refilled {X} n new xs e h = grind (arith, common_steps)
 
 -- the pages after a write through one of the vectors
-written : (vs : List (Vec ℕ)) (x i : ℕ) (v : Vec ℕ) (new ys : List ℕ) → x < length (lists_of vs) → v ≡ get_or vs x v → i + length ys ≤ length v.items → new ≡ overwritten v.items i ys → lists_of (slice_set vs x (with_items v new)) ≡ slice_set (lists_of vs) x (overwritten (get_or (lists_of vs) x []) i ys)
+pub written : (vs : List (Vec ℕ)) (x i : ℕ) (v : Vec ℕ) (new ys : List ℕ) → x < length (lists_of vs) → v ≡ get_or vs x v → i + length ys ≤ length v.items → new ≡ overwritten v.items i ys → lists_of (slice_set vs x (with_items v new)) ≡ slice_set (lists_of vs) x (overwritten (get_or (lists_of vs) x []) i ys)
 written vs x i v new ys h e k w =
     let l : length new ≡ length v.items = ap length w ∙ length-overwritten v.items ys i k in
     map-set (λ (w : Vec ℕ). w.items) vs x (with_items v new)

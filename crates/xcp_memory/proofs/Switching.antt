@@ -97,7 +97,7 @@ is_pages-set v i s h k f =
     }
 
 -- the pages after a change of each segment
-is_pages-map : (v : PagesValue) (f : SegmentPages → SegmentPages) → IsPages v → ((i size : ℕ) → i < length v.segments → IsSegment size (segment_at v i) → IsSegment size (f (segment_at v i))) → IsPages (record v { segments = map f v.segments })
+pub is_pages-map : (v : PagesValue) (f : SegmentPages → SegmentPages) → IsPages v → ((i size : ℕ) → i < length v.segments → IsSegment size (segment_at v i) → IsSegment size (f (segment_at v i))) → IsPages (record v { segments = map f v.segments })
 is_pages-map v f h g =
     let same = length-map v.segments f in
     record {

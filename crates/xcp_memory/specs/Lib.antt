@@ -9,6 +9,8 @@ pub mod LayoutLaws
 pub mod Refusals
 pub mod Places
 pub mod Switch
+pub mod Copying
+pub mod Freeze
 pub mod Checksum
 pub mod Image
 pub mod Sides

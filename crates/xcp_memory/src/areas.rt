@@ -1,6 +1,6 @@
 //! The areas of a layout, by name.
 ghost use Rattle.std.specs.Prelude.{◌≡◌, ◌≤◌, ◌∷◌, ◌++◌, [], length, map, true, false, Some, None, IfOk, IfErr};
-ghost use Rattle.std.specs.List.{enumerate_from, list_all};
+ghost use Rattle.std.specs.List.{enumerate_from};
 ghost use Rattle.xcp_memory.specs.Parts.{Placed as PlacedValue, placed_segment};
 ghost use Rattle.xcp_memory.specs.Limits.{first_broken, apart_limit, apart_limits};
 

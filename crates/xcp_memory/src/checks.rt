@@ -1,5 +1,5 @@
 //! Checks of single values.
-ghost use Rattle.std.specs.Prelude.{◌≡◌, ◌≤◌, length, true, false, IfOk, IfErr};
+ghost use Rattle.std.specs.Prelude.{◌≡◌, true, false, IfOk, IfErr};
 ghost use Rattle.xcp_memory.specs.Parts.{number as number_of};
 ghost use Rattle.xcp_memory.specs.Limits.{is_within, is_printable, is_text};
 ghost use Rattle.std.specs.List.{list_all};

@@ -1,5 +1,5 @@
 //! An event channel of a layout.
-ghost use Rattle.std.specs.Prelude.{◌≡◌, length, map, Some, None, IfOk, IfErr};
+ghost use Rattle.std.specs.Prelude.{◌≡◌, map, Some, None, IfOk, IfErr};
 ghost use Rattle.xcp_memory.specs.Parts.{event_of_part};
 ghost use Rattle.xcp_memory.specs.Limits.{first_broken, event_limits, events_limits};
 

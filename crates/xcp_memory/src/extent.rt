@@ -1,5 +1,5 @@
 //! Where an area lies.
-ghost use Rattle.std.specs.Prelude.{◌≡◌, ◌+◌, ◌<◌, ◌≤◌, ◌^◌, Some, None, IfOk, IfErr};
+ghost use Rattle.std.specs.Prelude.{◌≡◌, ◌+◌, ◌<◌, ◌^◌, Some, None, IfOk, IfErr};
 ghost use Rattle.xcp_memory.specs.Words.{is_inside};
 ghost use Rattle.xcp_memory.specs.Limits.{is_apart, signals_limits, first_broken};
 ghost use Rattle.xcp_memory.specs.Parts.{number};

@@ -22,6 +22,7 @@ mod pages;
 mod pages_tests;
 mod parts;
 mod segment;
+mod segment_mode;
 mod switch_mode;
 
 pub use access_laws::{controller_is_read, tool_is_read, tool_is_written};

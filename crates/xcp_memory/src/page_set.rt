@@ -1,7 +1,10 @@
 //! The pages of one segment.
-ghost use Rattle.std.specs.Prelude.{◌≡◌, ◌≤◌, ◌<◌, ◌+◌, length, [], ◌∷◌, IfOk, false, slice_set};
-ghost use Rattle.xcp_memory.specs.Pages.{xcp_page, ecu_page};
+ghost use Rattle.std.specs.Prelude.{◌≡◌, ◌≤◌, ◌<◌, ◌+◌, length, [], ◌∷◌, IfOk, false, slice_set, slice_index_or as get_or};
+ghost use Rattle.xcp_memory.specs.Pages.{xcp_page};
+ghost use Rattle.xcp_memory.specs.Copying.{with_content};
+ghost use Rattle.xcp_memory.specs.Freeze.{segment_frozen};
 ghost use Rattle.xcp_memory.specs.Switch.{segment_switched};
+ghost use Rattle.xcp_memory.specs.Vectors.{lists_of};
 ghost use Rattle.xcp_memory.specs.Words.{overwritten, segment_written};
 
 use crate::switch_mode::SwitchMode;
@@ -80,6 +83,14 @@ impl PageSet {
         &self.pages[self.number(side) as usize]
     }
 
+    /// The bytes of a page.
+    pub(crate) fn at(&self, page: usize) -> &[u8]
+        requires { page < length self.now.pages }
+        ensures { result.now ≡ get_or self.now.pages page [] }
+    {
+        &self.pages[page]
+    }
+
     /// Writes bytes over the tool's page, from a place on.
     pub(crate) fn write(&mut self, place: usize, bytes: &[u8])
         requires page { self.old.xcp < length self.old.pages }
@@ -87,6 +98,50 @@ impl PageSet {
         ensures { self.new ≡ segment_written self.old place bytes.now }
     {
         overwrite(&mut self.pages[self.xcp as usize], place, bytes);
+    }
+
+    /// Replaces the whole content of a page.
+    pub(crate) fn fill(&mut self, page: usize, bytes: &[u8])
+        requires page { page < length self.old.pages }
+        requires size { length bytes.now ≡ length (get_or self.old.pages page []) }
+        ensures { self.new ≡ with_content self.old page bytes.now }
+    {
+        overwrite(&mut self.pages[page], 0, bytes);
+    }
+
+    /// Replaces the whole content of a page by that of another.
+    pub(crate) fn copy(&mut self, source: usize, target: usize)
+        requires source { source < length self.old.pages }
+        requires target { target < length self.old.pages }
+        requires size { length (get_or self.old.pages source []) ≡ length (get_or self.old.pages target []) }
+        ensures { self.new ≡ with_content self.old target (get_or self.old.pages source []) }
+    {
+        copy_page(&mut self.pages, source, target);
+    }
+
+    /// Whether the segment is in FREEZE mode.
+    pub(crate) fn is_frozen(&self) -> bool
+        ensures { result ≡ self.now.freeze }
+    {
+        self.freeze
+    }
+
+    /// Sets or clears FREEZE mode.
+    pub(crate) fn set_freeze(&mut self, freeze: bool)
+        ensures { self.new ≡ record self.old { freeze = freeze } }
+    {
+        self.freeze = freeze;
+    }
+
+    /// In FREEZE mode: page 0 gets the content of the page that the tool has.
+    pub(crate) fn store(&mut self)
+        requires page { self.old.xcp < length self.old.pages }
+        requires size { length (xcp_page self.old) ≡ length (get_or self.old.pages 0 []) }
+        ensures { self.new ≡ segment_frozen self.old }
+    {
+        if self.freeze {
+            self.copy(self.xcp as usize, 0);
+        }
     }
 
     /// Gives the sides that the mode of SET_CAL_PAGE names a page.
@@ -109,4 +164,20 @@ pub(crate) fn overwrite(xs: &mut [u8], place: usize, bytes: &[u8])
     ensures { xs.new ≡ overwritten xs.old place bytes.now }
 {
     xs[place..place + bytes.len()].copy_from_slice(bytes);
+}
+
+/// Replaces the content of one of these pages by that of another.
+fn copy_page(pages: &mut [Vec<u8>], source: usize, target: usize)
+    requires source { source < length pages.old }
+    requires target { target < length pages.old }
+    requires size { length (get_or (lists_of pages.old) source []) ≡ length (get_or (lists_of pages.old) target []) }
+    ensures { lists_of pages.new ≡ slice_set (lists_of pages.old) target (get_or (lists_of pages.old) source []) }
+{
+    if source < target {
+        let (front, back) = pages.split_at_mut(target);
+        overwrite(&mut back[0], 0, &front[source]);
+    } else if target < source {
+        let (front, back) = pages.split_at_mut(source);
+        overwrite(&mut front[target], 0, &back[0]);
+    }
 }

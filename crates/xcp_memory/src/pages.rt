@@ -1,9 +1,11 @@
 //! The pages of all segments.
-ghost use Rattle.std.specs.Prelude.{◌≡◌, ◌≤◌, ◌<◌, ◌+◌, ◌^◌, length, Option, Some, None, true, false, IfOk, OnOk, OnErr, IfErr, IfSome, ◌↔◌};
+ghost use Rattle.std.specs.Prelude.{◌≡◌, ◌<◌, length, IfOk};
 ghost use Rattle.xcp_memory.specs.Layout.{IsLayout};
 ghost use Rattle.xcp_memory.specs.Pages.{opening_pages, IsPages};
 
 mod access;
+mod copying;
+mod freezing;
 mod imaging;
 mod summing;
 mod switching;

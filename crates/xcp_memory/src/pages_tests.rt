@@ -37,6 +37,36 @@ fn sample_pages(alloc: Global, checksum: i64) -> Result<Pages, Fail> {
     Ok(Pages::new(alloc, layout)?)
 }
 
+/// Two segments of 8 bytes, all 01 and all 02.
+fn twin_pages(alloc: Global) -> Result<Pages, Fail> {
+    let mut segments = Vec::new(alloc);
+    segments.push(SegmentPart {
+        address: 0x1000,
+        bytes: [1; 8].to_vec(alloc)?,
+    })?;
+    segments.push(SegmentPart {
+        address: 0x2000,
+        bytes: [2; 8].to_vec(alloc)?,
+    })?;
+    let event = EventPart {
+        name: b"10ms".to_vec(alloc)?,
+        cycle: 10,
+        unit: 6,
+        priority: 0,
+    };
+    let layout = Layout::new(Parts {
+        id: b"ECU1".to_vec(alloc)?,
+        max_cto: 32,
+        max_dto: 64,
+        checksum: 3,
+        segments,
+        signals_address: 0x8000,
+        signals_length: 8,
+        events: Vec::from_array(alloc, [event])?,
+    })?;
+    Ok(Pages::new(alloc, layout)?)
+}
+
 /// The first byte of a read of the tool's bytes.
 fn first_read(rt: &impl Abort, pages: &Pages, address: u32, n: usize) -> Result<u8, Code> {
     let mut out = [0; 32];
@@ -172,5 +202,98 @@ fn signals_are_read_by_both(rt: HostRuntime) -> Result<(), Fail> {
     assert_eq!(rt; pages.read_ecu(0x8000, &mut seen), Ok(()));
     assert_eq!(rt; seen, [1, 2]);
     pages.audit();
+    Ok(())
+}
+
+#[test]
+fn pages_are_copied(rt: HostRuntime) -> Result<(), Fail> {
+    let mut pages = sample_pages(rt.alloc(), 3)?;
+    assert_eq!(rt; pages.page_count(1), Ok(2));
+    assert_eq!(rt; pages.page_count(2), Err(Code::SegmentNotValid));
+    assert_eq!(rt; pages.switch(2, 0, 1), Ok(()));
+    assert_eq!(rt; pages.write_xcp(0x1000, &[0x55]), Ok(()));
+    assert_eq!(rt;
+        pages.content(0, 1).map(|bytes| bytes.first().copied()),
+        Ok(Some(0x55))
+    );
+    assert_eq!(rt;
+        pages.content(0, 0).map(|bytes| bytes.first().copied()),
+        Ok(Some(0))
+    );
+    assert_eq!(rt;
+        pages.content(2, 0).map(|bytes| bytes.first().copied()),
+        Err(Code::SegmentNotValid)
+    );
+    assert_eq!(rt;
+        pages.content(0, 2).map(|bytes| bytes.first().copied()),
+        Err(Code::PageNotValid)
+    );
+    let rows = [
+        (0, 0, 0, 0, Err(Code::WriteProtected)),
+        (7, 0, 0, 1, Err(Code::SegmentNotValid)),
+        (0, 2, 0, 1, Err(Code::PageNotValid)),
+        (0, 0, 2, 1, Err(Code::SegmentNotValid)),
+        (0, 0, 0, 2, Err(Code::PageNotValid)),
+        (0, 0, 1, 1, Err(Code::OutOfRange)),
+        (0, 1, 0, 1, Ok(())),
+        (0, 0, 0, 1, Ok(())),
+    ];
+    for (source, source_page, target, target_page, want) in rows {
+        assert_eq!(rt; pages.copy(source, source_page, target, target_page), want);
+    }
+    assert_eq!(rt;
+        pages.content(0, 1).map(|bytes| bytes.first().copied()),
+        Ok(Some(0))
+    );
+    Ok(())
+}
+
+#[test]
+fn pages_are_copied_between_segments(rt: HostRuntime) -> Result<(), Fail> {
+    for (source, target, byte, other) in [(0, 1, 0x01, 0x02), (1, 0, 0x02, 0x01)] {
+        let mut pages = twin_pages(rt.alloc())?;
+        assert_eq!(rt; pages.copy(source, 0, target, 1), Ok(()));
+        assert_eq!(rt;
+            pages.content(target, 1).map(|bytes| bytes.get(3).copied()),
+            Ok(Some(byte))
+        );
+        assert_eq!(rt;
+            pages.content(target, 0).map(|bytes| bytes.get(3).copied()),
+            Ok(Some(other))
+        );
+        assert_eq!(rt;
+            pages.content(source, 1).map(|bytes| bytes.get(3).copied()),
+            Ok(Some(byte))
+        );
+    }
+    Ok(())
+}
+
+#[test]
+fn segments_in_freeze_mode_are_stored(rt: HostRuntime) -> Result<(), Fail> {
+    let mut pages = sample_pages(rt.alloc(), 3)?;
+    assert_eq!(rt; pages.freeze(), 0);
+    assert_eq!(rt; pages.set_freeze(1, 0), Ok(()));
+    assert_eq!(rt; pages.set_freeze(2, 0), Err(Code::ModeNotValid));
+    assert_eq!(rt; pages.set_freeze(1, 7), Err(Code::SegmentNotValid));
+    assert_eq!(rt; pages.freeze_mode(0), Ok(1));
+    assert_eq!(rt; pages.freeze_mode(1), Ok(0));
+    assert_eq!(rt; pages.freeze_mode(2), Err(Code::SegmentNotValid));
+    assert_eq!(rt; pages.switch(0x82, 0, 1), Ok(()));
+    assert_eq!(rt; pages.write_xcp(0x1000, &[0x55]), Ok(()));
+    assert_eq!(rt; pages.write_xcp(0x2000, &[0x66]), Ok(()));
+    assert_eq!(rt; pages.freeze(), 1);
+    assert_eq!(rt;
+        pages
+            .content(0, 0)
+            .map(|bytes| (bytes.first().copied(), bytes.get(1).copied())),
+        Ok((Some(0x55), Some(1)))
+    );
+    assert_eq!(rt;
+        pages.content(1, 0).map(|bytes| bytes.first().copied()),
+        Ok(Some(0xAA))
+    );
+    assert_eq!(rt; pages.set_freeze(0, 0), Ok(()));
+    assert_eq!(rt; pages.freeze_mode(0), Ok(0));
     Ok(())
 }

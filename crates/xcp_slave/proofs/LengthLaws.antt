@@ -13,9 +13,7 @@ use Rattle.xcp_packet.specs.declared.Code.{Code}
 use Rattle.xcp_packet.specs.declared.Code.TheVariants.{CmdUnknown, CmdSyntax}
 use Rattle.xcp_memory.specs.Layout.{IsLayout, LayoutValue}
 use Rattle.xcp_transfer.specs.Rows.{Meets}
-use Rattle.xcp_slave.specs.declared.request.Request.{Request}
 use Rattle.xcp_slave.specs.declared.request.Request.TheVariants as requests
-use Rattle.xcp_slave.specs.declared.answer.Answer.{Answer}
 use Rattle.xcp_slave.specs.declared.answer.Answer.TheVariants as answers
 use Rattle.xcp_slave.specs.Value.{SlaveValue, layout_of, noblock}
 use Rattle.xcp_slave.specs.Rows.{row}
@@ -63,9 +61,5 @@ heeds-length v (Err refuses.Empty) p w l h = ignored v w p _ h
 heeds-length v (Err refuses.Unknown) p w l h = either v.connected _ _ _ h (refused-length v w CmdUnknown p l) (ignored v w p _)
 heeds-length v (Err refuses.Short) p w l h = either v.connected _ _ _ h (refused-length v w CmdSyntax p l) (ignored v w p _)
 
-pub answers-length : (v : SlaveValue) (q : Request) (p : ArrayVec ℕ) (w : SlaveValue) → IsLayout (layout_of v) → Answers v q (answers.Packet p) w → (0 < length p.items) × (length p.items ≤ (layout_of v).max_cto)
-answers-length v (requests.Command packet) p w l h = heeds-length v h.0 p w l h.2
-answers-length v (requests.Event channel signals) p w l h = let e = h.0 in cc
-answers-length v requests.Drain p w l h = let e = h.0 in cc
-answers-length v requests.FinishStore p w l h = let e = h.0 in cc
-answers-length v requests.Hangup p w l h = let e = h.0 in cc
+pub answers-length : (v : SlaveValue) (packet p : ArrayVec ℕ) (w : SlaveValue) → IsLayout (layout_of v) → Answers v (requests.Command packet) (answers.Packet p) w → (0 < length p.items) × (length p.items ≤ (layout_of v).max_cto)
+answers-length v packet p w l h = heeds-length v h.0 p w l h.2

@@ -5,3 +5,6 @@ pub mod ReplyLemmas
 pub mod RefusalLaws
 pub mod LengthLaws
 pub mod Obeying
+pub mod Rings
+pub mod EventChannels
+pub mod Writing

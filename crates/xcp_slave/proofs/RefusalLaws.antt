@@ -1,6 +1,7 @@
 -- What a refusal leaves.
-use Rattle.std.proofs.Common.{◌≡◌, ◌≢◌, ℕ, Bool, true, false, List, [], ◌∷◌, refl, sym, ap, ◌∙◌, subst, arith, slice_index, Option, Some, None, Result, Ok, Err, ◌||◌}
+use Rattle.std.proofs.Common.{◌≡◌, ℕ, ◌+◌, length, ◌==◌, ◌&&◌, nat_le, nat_lt, Bool, true, false, List, [], ◌∷◌, refl, sym, ap, ◌∙◌, subst, arith, slice_index, Option, Some, None, Result, Ok, Err, ◌||◌}
 use Rattle.std.specs.Prelude.{if◌then◌else◌}
+use Rattle.arrayvec.specs.ArrayVec.{ArrayVec}
 use Rattle.xcp_packet.specs.Layout.{layout}
 use Rattle.xcp_packet.specs.declared.Order.TheVariants.{Intel}
 use Rattle.xcp_packet.specs.declared.Command.{Command}
@@ -16,10 +17,13 @@ use Rattle.xcp_slave.specs.declared.request.Request.{Request}
 use Rattle.xcp_slave.specs.declared.request.Request.TheVariants as requests
 use Rattle.xcp_slave.specs.declared.answer.Answer.{Answer}
 use Rattle.xcp_slave.specs.declared.answer.Answer.TheVariants as answers
-use Rattle.xcp_slave.specs.Value.{SlaveValue, noblock}
+use Rattle.xcp_daq.specs.declared.Element.{Element}
+use Rattle.xcp_daq.specs.Configuring.{read_daq_reply}
+use Rattle.xcp_slave.specs.DaqRows.{told_entry}
+use Rattle.xcp_slave.specs.Value.{SlaveValue, layout_of, noblock}
 use Rattle.xcp_slave.specs.Refused.{IsErrorPacket, IsRefusal}
 use Rattle.xcp_slave.specs.Rows.{row}
-use Rattle.xcp_slave.specs.Step.{Answers, Heeds, Executes, found_by, sent_reply, answer_of, is_connect}
+use Rattle.xcp_slave.specs.Step.{Answers, Heeds, Executes, Drains, Stores, Samples, Fires, outbox_size, with_event, with_signals, found_by, sent_reply, answer_of, is_connect}
 use Rattle.xcp_slave.proofs.StepLaws.{either}
 
 differ : (n m : ℕ) → n ≡ 0xFF → m ≡ 0xFE → n ≡ m → ⊥
@@ -41,11 +45,21 @@ next-positive : (o : Option BlockValue) (remaining : ℕ) (bytes : List ℕ) (t 
 next-positive None remaining bytes t reply rest s e = cc
 next-positive (Some b) remaining bytes t reply rest s e = chosen _ reply rest s e
 
+info-positive : (t : Bool) (word pages : ℕ) (reply : Reply) (rest : List ℕ) → Some (if t then replies.SegmentWord word else replies.SegmentStandard pages) ≡ Some reply → layout Intel reply ≡ 0xFE ∷ rest → ⊥
+info-positive true word pages reply rest s e = positive (replies.SegmentWord word) reply _ rest s refl e
+info-positive false word pages reply rest s e = positive (replies.SegmentStandard pages) reply _ rest s refl e
+
+entry-positive : (o : Option Element) (reply : Reply) (rest : List ℕ) → Some (told_entry o) ≡ Some reply → layout Intel reply ≡ 0xFE ∷ rest → ⊥
+entry-positive None reply rest s e = positive (replies.DaqEntry 0 0 0) reply _ rest s refl e
+entry-positive (Some x) reply rest s e = positive (told_entry (Some x)) reply _ rest s refl e
+
 -- A row that replies with an error packet changes nothing. It is SYNCH's.
 row-error : (c : Command) (v : SlaveValue) (reply : Reply) (rest : List ℕ) → (row c (found_by c v)).reply ≡ Some reply → layout Intel reply ≡ 0xFE ∷ rest → (row c (found_by c v)).after ≡ noblock v
 row-error (commands.DownloadNext remaining bytes) v reply rest s e = absurd (next-positive v.transfer.block remaining bytes.items v.transfer reply rest s e)
 row-error (commands.Synch) v reply rest s e = refl
 row-error (commands.Download n bytes) v reply rest s e = absurd (chosen _ reply rest s e)
+row-error (commands.GetSegmentInfo mode segment info mapping) v reply rest s e = absurd (info-positive (mode == 0) _ _ reply rest s e)
+row-error commands.ReadDaq v reply rest s e = absurd (entry-positive (read_daq_reply v.daq) reply rest s e)
 row-error _ v reply rest s e = absurd (positive _ reply _ rest s refl e)
 
 items_of : Answer → List ℕ
@@ -74,16 +88,8 @@ heeds-error v (Err refuses.Empty) a w h r = silent-error a _ r h.0
 heeds-error v (Err refuses.Unknown) a w h r = either v.connected _ _ _ h (λ k. k.1) (λ k. silent-error a _ r k.0)
 heeds-error v (Err refuses.Short) a w h r = either v.connected _ _ _ h (λ k. k.1) (λ k. silent-error a _ r k.0)
 
--- an answer that is no packet is no error packet
-other-error : (a b : Answer) (R : Type 0) → IsErrorPacket a → a ≡ b → ((p : List ℕ) → b ≢ answers.Packet (record { items = p })) → R
-other-error a b R r h n = absurd (n (0xFE ∷ r.code ∷ r.rest) (sym h ∙ r.packet))
-
-pub error-leaves : (v : SlaveValue) (q : Request) (a : Answer) (w : SlaveValue) → Answers v q a w → IsErrorPacket a → w ≡ noblock v
-error-leaves v (requests.Command p) a w h r = heeds-error v h.0 a w h.2 r
-error-leaves v (requests.Event channel signals) a w h r = other-error a answers.NoChannel _ r h.0 (λ p e. cc)
-error-leaves v requests.Drain a w h r = other-error a answers.Nothing _ r h.0 (λ p e. cc)
-error-leaves v requests.FinishStore a w h r = other-error a answers.NoStore _ r h.0 (λ p e. cc)
-error-leaves v requests.Hangup a w h r = silent-error a _ r h.0
+pub error-leaves : (v : SlaveValue) (packet : ArrayVec ℕ) (a : Answer) (w : SlaveValue) → Answers v (requests.Command packet) a w → IsErrorPacket a → w ≡ noblock v
+error-leaves v packet a w h r = heeds-error v h.0 a w h.2 r
 
 -- nothing that is sent says that nothing was done
 sent-refusal : (o : Option Reply) (R : Type 0) → IsRefusal (answer_of o) → R
@@ -96,9 +102,35 @@ heeds-refusal v (Err refuses.Empty) a w h r = h.1
 heeds-refusal v (Err refuses.Unknown) a w h r = either v.connected _ _ _ h (λ k. absurd (subst IsRefusal k.0 r)) (λ k. k.1)
 heeds-refusal v (Err refuses.Short) a w h r = either v.connected _ _ _ h (λ k. absurd (subst IsRefusal k.0 r)) (λ k. k.1)
 
+drains-refusal : (o : List (ArrayVec ℕ)) (v : SlaveValue) (a : Answer) (w : SlaveValue) → Drains o v a w → IsRefusal a → w ≡ v
+drains-refusal [] v a w h r = h.1
+drains-refusal (packet ∷ rest) v a w h r = absurd (subst IsRefusal h.0 r)
+
+stores-refusal : (v : SlaveValue) (a : Answer) (w : SlaveValue) → Stores v a w → IsRefusal a → w ≡ v
+stores-refusal v a w h r = either (v.connected && nat_le outbox_size (length v.outbox)) _ _ _ h (λ k. k.1) (λ k. absurd (subst IsRefusal k.0 r))
+
+samples-refusal : (channel : ℕ) (packets : List (ArrayVec ℕ)) (v u : SlaveValue) (a : Answer) (w : SlaveValue) → Samples channel packets u a w → IsRefusal a → w ≡ v
+samples-refusal channel packets v u a w h r = either (nat_le (length u.outbox + length packets) outbox_size) _ _ _ h (λ k. absurd (subst IsRefusal k.0 r)) (λ k. absurd (subst IsRefusal k.0 r))
+
+fires-refusal : (channel : ℕ) (signals : List ℕ) (v : SlaveValue) (a : Answer) (w : SlaveValue) → Fires channel signals v a w → IsRefusal a → w ≡ v
+fires-refusal channel signals v a w h r =
+    either (nat_lt channel (length (layout_of v).events)) _ _ _ h
+    (λ k. either (length signals == (layout_of v).signals_length) _ _ _ k (λ l. samples-refusal channel _ v (with_signals signals v) a w l r) (λ l. l.1))
+    (λ k. k.1)
+
+-- what an overrun leaves
+samples-overrun : (channel : ℕ) (packets : List (ArrayVec ℕ)) (v w : SlaveValue) → Samples channel packets v answers.Overrun w → w ≡ with_event channel v
+samples-overrun channel packets v w h = either (nat_le (length v.outbox + length packets) outbox_size) _ _ _ h (λ k. let e = k.0 in cc) (λ k. k.1)
+
+pub overrun-leaves : (v : SlaveValue) (channel : ℕ) (signals : ArrayVec ℕ) (w : SlaveValue) → Answers v (requests.Event channel signals) answers.Overrun w → w ≡ with_event channel (with_signals signals.items v)
+overrun-leaves v channel signals w h =
+    either (nat_lt channel (length (layout_of v).events)) _ _ _ h
+    (λ k. either (length signals.items == (layout_of v).signals_length) _ _ _ k (samples-overrun channel _ (with_signals signals.items v) w) (λ l. let e = l.0 in cc))
+    (λ k. let e = k.0 in cc)
+
 pub refusal-leaves : (v : SlaveValue) (q : Request) (a : Answer) (w : SlaveValue) → Answers v q a w → IsRefusal a → w ≡ v
 refusal-leaves v (requests.Command p) a w h r = heeds-refusal v h.0 a w h.2 r
-refusal-leaves v (requests.Event channel signals) a w h r = h.1
-refusal-leaves v requests.Drain a w h r = h.1
-refusal-leaves v requests.FinishStore a w h r = h.1
+refusal-leaves v (requests.Event channel signals) a w h r = fires-refusal channel signals.items v a w h r
+refusal-leaves v requests.Drain a w h r = drains-refusal v.outbox v a w h r
+refusal-leaves v requests.FinishStore a w h r = either v.store _ _ _ h (λ k. stores-refusal v a w k r) (λ k. k.1)
 refusal-leaves v requests.Hangup a w h r = absurd (subst IsRefusal h.0 r)

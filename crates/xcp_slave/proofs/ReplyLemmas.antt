@@ -18,6 +18,9 @@ use Rattle.xcp_transfer.specs.Value.{BlockValue, TransferValue}
 use Rattle.xcp_transfer.specs.Words.{bytes_at, is_readable}
 use Rattle.xcp_transfer.specs.Rows.{first_holding, refused}
 use Rattle.xcp_transfer.specs.Downloads.{next_row}
+use Rattle.xcp_daq.specs.declared.Element.{Element}
+use Rattle.xcp_daq.specs.Configuring.{read_daq_reply}
+use Rattle.xcp_slave.specs.DaqRows.{told_entry}
 use Rattle.xcp_slave.specs.Value.{SlaveValue, layout_of}
 use Rattle.xcp_slave.specs.Rows.{row}
 
@@ -48,6 +51,22 @@ row-errors (commands.ShortDownload n extension address bytes) v = refused-errors
 row-errors (commands.ModifyBits s ma mx) v = refused-errors _
 row-errors (commands.SetCalPage mode segment page) v = refused-errors _
 row-errors (commands.GetCalPage mode segment) v = refused-errors _
+row-errors (commands.GetPageInfo segment page) v = refused-errors _
+row-errors (commands.SetSegmentMode mode segment) v = refused-errors _
+row-errors (commands.GetSegmentMode segment) v = refused-errors _
+row-errors (commands.CopyCalPage source source_page target target_page) v = refused-errors _
+row-errors (commands.ClearDaqList list) v = refused-errors _
+row-errors (commands.SetDaqPtr list odt entry) v = refused-errors _
+row-errors (commands.WriteDaq offset size extension address) v = refused-errors _
+row-errors (commands.SetDaqListMode mode list event prescaler priority) v = refused-errors _
+row-errors (commands.GetDaqListMode list) v = refused-errors _
+row-errors (commands.StartStopDaqList mode list) v = refused-errors _
+row-errors (commands.StartStopSynch mode) v = refused-errors _
+row-errors (commands.ReadDaq) v = refused-errors _
+row-errors (commands.GetDaqEventInfo channel) v = refused-errors _
+row-errors (commands.AllocDaq count) v = refused-errors _
+row-errors (commands.AllocOdt list count) v = refused-errors _
+row-errors (commands.AllocOdtEntry list odt count) v = refused-errors _
 row-errors _ v = refl
 
 error-data : (reply : Reply) → is_error reply ≡ true → data_length reply ≡ 0
@@ -112,10 +131,20 @@ next-data (Some b) remaining bytes t reply s = done-data _ reply s
 same-data : (x reply : Reply) → data_length x ≡ 0 → Some x ≡ Some reply → data_length reply ≡ 0
 same-data x reply z s = let same : x ≡ reply = cc in ap data_length (sym same) ∙ z
 
+info-data : (t : Bool) (word pages : ℕ) → data_length (if t then replies.SegmentWord word else replies.SegmentStandard pages) ≡ 0
+info-data true word pages = refl
+info-data false word pages = refl
+
+entry-data : (o : Option Element) → data_length (told_entry o) ≡ 0
+entry-data None = refl
+entry-data (Some e) = refl
+
 -- a reply has at most MAX_CTO - 1 bytes of data
 pub reply-data : (c : Command) (v : SlaveValue) (reply : Reply) → first_holding (row c v).refusals ≡ None → (row c v).reply ≡ Some reply → data_length reply ≤ (layout_of v).max_cto - 1
 reply-data (commands.Upload n) v reply h s = uploaded ((layout_of v).max_cto - 1) n v.transfer.pages v.transfer.mta ((not (is_readable v.transfer.pages v.transfer.mta n), replies.Error AccessDenied) ∷ []) reply h s
 reply-data (commands.ShortUpload n extension address) v reply h s = uploaded ((layout_of v).max_cto - 1) n v.transfer.pages (Memory address) ((not (extension == 0), replies.Error OutOfRange) ∷ (not (is_readable v.transfer.pages (Memory address) n), replies.Error AccessDenied) ∷ []) reply h s
 reply-data (commands.Download n bytes) v reply h s = let z = done-data _ reply s in omega arith
 reply-data (commands.DownloadNext remaining bytes) v reply h s = let z = next-data v.transfer.block remaining bytes.items v.transfer reply s in omega arith
+reply-data (commands.GetSegmentInfo mode segment info mapping) v reply h s = let z = same-data _ reply (info-data (mode == 0) _ _) s in omega arith
+reply-data commands.ReadDaq v reply h s = let z = same-data _ reply (entry-data (read_daq_reply v.daq)) s in omega arith
 reply-data _ v reply h s = let z = same-data _ reply refl s in omega arith

@@ -1,5 +1,5 @@
 -- For each slave and each request there is one answer and one slave after it.
-use Rattle.std.proofs.Common.{◌≡◌, Bool, true, false, refl, sym, ap, ◌∙◌, subst, Option, Some, None, Result, Ok, Err, ◌||◌}
+use Rattle.std.proofs.Common.{◌≡◌, ℕ, ◌+◌, Bool, true, false, List, [], ◌∷◌, ◌++◌, length, ◌==◌, ◌&&◌, nat_le, nat_lt, refl, sym, ap, ◌∙◌, subst, Option, Some, None, Result, Ok, Err, ◌||◌}
 use Rattle.std.specs.Prelude.{MatchBool}
 use Rattle.std.proofs.lemmas.Option.{none-some}
 use Rattle.xcp_packet.proofs.Deciding.{decodes_once, decodes_total}
@@ -11,21 +11,24 @@ use Rattle.xcp_packet.specs.declared.Reply.{Reply}
 use Rattle.xcp_packet.specs.declared.Reply.TheVariants as replies
 use Rattle.xcp_packet.specs.declared.Code.{Code}
 use Rattle.xcp_packet.specs.declared.Code.TheVariants.{CmdUnknown, CmdSyntax}
+use Rattle.arrayvec.specs.ArrayVec.{ArrayVec}
+use Rattle.xcp_memory.specs.Freeze.{frozen_count}
+use Rattle.xcp_daq.specs.Sample.{sampled}
 use Rattle.xcp_transfer.specs.Rows.{Row, Meets, first_holding}
 use Rattle.xcp_slave.specs.declared.request.Request.{Request}
 use Rattle.xcp_slave.specs.declared.request.Request.TheVariants as requests
 use Rattle.xcp_slave.specs.declared.answer.Answer.{Answer}
 use Rattle.xcp_slave.specs.declared.answer.Answer.TheVariants as answers
-use Rattle.xcp_slave.specs.Value.{SlaveValue, noblock, ended}
+use Rattle.xcp_slave.specs.Value.{SlaveValue, layout_of, noblock, ended}
 use Rattle.xcp_slave.specs.Rows.{row}
-use Rattle.xcp_slave.specs.Step.{Answers, Heeds, Executes, Ignores, Refuses, answer_of, sent_reply, found_by, is_connect}
+use Rattle.xcp_slave.specs.Step.{Answers, Heeds, Executes, Ignores, Refuses, Drains, Stores, Samples, Fires, outbox_size, stored, with_event, with_signals, answer_of, sent_reply, found_by, is_connect}
 
 -- whichever way a test goes
 pub either : (t : Bool) (P Q R : Type 0) → MatchBool t P Q → (P → R) → (Q → R) → R
 either true P Q R h p q = p h
 either false P Q R h p q = q h
 
-both : (t : Bool) (P Q S T R : Type 0) → MatchBool t P Q → MatchBool t S T → (P → S → R) → (Q → T → R) → R
+pub both : (t : Bool) (P Q S T R : Type 0) → MatchBool t P Q → MatchBool t S T → (P → S → R) → (Q → T → R) → R
 both true P Q S T R h k p q = p h k
 both false P Q S T R h k p q = q h k
 
@@ -82,21 +85,76 @@ heeds-some v (Err refuses.Empty) = ignores-some v
 heeds-some v (Err refuses.Unknown) = one_of v.connected (Refuses v CmdUnknown) (Ignores v) (refuses-some v CmdUnknown) (ignores-some v)
 heeds-some v (Err refuses.Short) = one_of v.connected (Refuses v CmdSyntax) (Ignores v) (refuses-some v CmdSyntax) (ignores-some v)
 
+-- what one of two ways of answering settles
+settled : (x : Answer) (y : SlaveValue) (a b : Answer) (w u : SlaveValue) → (a ≡ x) × (w ≡ y) → (b ≡ x) × (u ≡ y) → (a ≡ b) × (w ≡ u)
+settled x y a b w u h k = (h.0 ∙ sym k.0, h.1 ∙ sym k.1)
+
+drains-single : (o : List (ArrayVec ℕ)) (v : SlaveValue) (a b : Answer) (w u : SlaveValue) → Drains o v a w → Drains o v b u → (a ≡ b) × (w ≡ u)
+drains-single [] v a b w u h k = settled answers.Nothing v a b w u h k
+drains-single (packet ∷ rest) v a b w u h k = settled (answers.Packet packet) (record v { outbox = rest }) a b w u h k
+
+drains-some : (o : List (ArrayVec ℕ)) (v : SlaveValue) → (a : Answer) × (w : SlaveValue) × Drains o v a w
+drains-some [] v = (answers.Nothing, v, (refl, refl))
+drains-some (packet ∷ rest) v = (answers.Packet packet, record v { outbox = rest }, (refl, refl))
+
+stores-single : (v : SlaveValue) (a b : Answer) (w u : SlaveValue) → Stores v a w → Stores v b u → (a ≡ b) × (w ≡ u)
+stores-single v a b w u h k = both (v.connected && nat_le outbox_size (length v.outbox)) _ _ _ _ _ h k (settled answers.Later v a b w u) (settled (answers.Stored (frozen_count v.transfer.pages)) (stored v) a b w u)
+
+stores-some : (v : SlaveValue) → (a : Answer) × (w : SlaveValue) × Stores v a w
+stores-some v =
+    one_of (v.connected && nat_le outbox_size (length v.outbox)) (λ a w. (a ≡ answers.Later) × (w ≡ v)) (λ a w. (a ≡ answers.Stored (frozen_count v.transfer.pages)) × (w ≡ stored v))
+    (answers.Later, v, (refl, refl))
+    (answers.Stored (frozen_count v.transfer.pages), stored v, (refl, refl))
+
+-- a slave whose packets of an event wait
+abbrev waits : ℕ → List (ArrayVec ℕ) → SlaveValue → SlaveValue
+waits channel packets v = record (with_event channel v) { outbox = v.outbox ++ packets }
+
+samples-single : (channel : ℕ) (packets : List (ArrayVec ℕ)) (v : SlaveValue) (a b : Answer) (w u : SlaveValue) → Samples channel packets v a w → Samples channel packets v b u → (a ≡ b) × (w ≡ u)
+samples-single channel packets v a b w u h k =
+    both (nat_le (length v.outbox + length packets) outbox_size) _ _ _ _ _ h k (settled (answers.Sampled (length packets)) (waits channel packets v) a b w u) (settled answers.Overrun (with_event channel v) a b w u)
+
+samples-some : (channel : ℕ) (packets : List (ArrayVec ℕ)) (v : SlaveValue) → (a : Answer) × (w : SlaveValue) × Samples channel packets v a w
+samples-some channel packets v =
+    one_of (nat_le (length v.outbox + length packets) outbox_size) (λ a w. (a ≡ answers.Sampled (length packets)) × (w ≡ waits channel packets v)) (λ a w. (a ≡ answers.Overrun) × (w ≡ with_event channel v))
+    (answers.Sampled (length packets), waits channel packets v, (refl, refl))
+    (answers.Overrun, with_event channel v, (refl, refl))
+
+-- the sample of an event with its signals in place
+abbrev event_packets : ℕ → List ℕ → SlaveValue → List (ArrayVec ℕ)
+event_packets channel signals v = sampled channel (with_signals signals v).transfer.pages v.daq
+
+fires-single : (channel : ℕ) (signals : List ℕ) (v : SlaveValue) (a b : Answer) (w u : SlaveValue) → Fires channel signals v a w → Fires channel signals v b u → (a ≡ b) × (w ≡ u)
+fires-single channel signals v a b w u h k =
+    both (nat_lt channel (length (layout_of v).events)) _ _ _ _ _ h k
+    (λ h k. both (length signals == (layout_of v).signals_length) _ _ _ _ _ h k (samples-single channel (event_packets channel signals v) (with_signals signals v) a b w u) (settled answers.BadSignals v a b w u))
+    (settled answers.NoChannel v a b w u)
+
+fires-some : (channel : ℕ) (signals : List ℕ) (v : SlaveValue) → (a : Answer) × (w : SlaveValue) × Fires channel signals v a w
+fires-some channel signals v =
+    one_of (nat_lt channel (length (layout_of v).events))
+    (λ a w. MatchBool (length signals == (layout_of v).signals_length) (Samples channel (event_packets channel signals v) (with_signals signals v) a w) ((a ≡ answers.BadSignals) × (w ≡ v)))
+    (λ a w. (a ≡ answers.NoChannel) × (w ≡ v))
+    (one_of (length signals == (layout_of v).signals_length) (Samples channel (event_packets channel signals v) (with_signals signals v)) (λ a w. (a ≡ answers.BadSignals) × (w ≡ v))
+    (samples-some channel (event_packets channel signals v) (with_signals signals v))
+    (answers.BadSignals, v, (refl, refl)))
+    (answers.NoChannel, v, (refl, refl))
+
 pub answers-single : (v : SlaveValue) (q : Request) (a b : Answer) (w u : SlaveValue) → Answers v q a w → Answers v q b u → (a ≡ b) × (w ≡ u)
 answers-single v (requests.Command p) a b w u h k =
     let s = decodes_once Intel p.items k.0 h.0 k.1 h.1 in
     heeds-single v h.0 a b w u h.2 (subst (λ (d : Result Command Refuse). Heeds v d b u) s k.2)
-answers-single v (requests.Event channel signals) a b w u h k = (h.0 ∙ sym k.0, h.1 ∙ sym k.1)
-answers-single v requests.Drain a b w u h k = (h.0 ∙ sym k.0, h.1 ∙ sym k.1)
-answers-single v requests.FinishStore a b w u h k = (h.0 ∙ sym k.0, h.1 ∙ sym k.1)
-answers-single v requests.Hangup a b w u h k = (h.0 ∙ sym k.0, h.1 ∙ sym k.1)
+answers-single v (requests.Event channel signals) a b w u h k = fires-single channel signals.items v a b w u h k
+answers-single v requests.Drain a b w u h k = drains-single v.outbox v a b w u h k
+answers-single v requests.FinishStore a b w u h k = both v.store _ _ _ _ _ h k (stores-single v a b w u) (settled answers.NoStore v a b w u)
+answers-single v requests.Hangup a b w u h k = settled answers.Silent (ended v) a b w u h k
 
 pub answers-some : (v : SlaveValue) (q : Request) → (a : Answer) × (w : SlaveValue) × Answers v q a w
 answers-some v (requests.Command p) =
     let d = decodes_total Intel p.items in
     let r = heeds-some v d.0 in
     (r.0, r.1, (d.0, d.1, r.2))
-answers-some v (requests.Event channel signals) = (answers.NoChannel, v, (refl, refl))
-answers-some v requests.Drain = (answers.Nothing, v, (refl, refl))
-answers-some v requests.FinishStore = (answers.NoStore, v, (refl, refl))
+answers-some v (requests.Event channel signals) = fires-some channel signals.items v
+answers-some v requests.Drain = drains-some v.outbox v
+answers-some v requests.FinishStore = one_of v.store (Stores v) (λ a w. (a ≡ answers.NoStore) × (w ≡ v)) (stores-some v) (answers.NoStore, v, (refl, refl))
 answers-some v requests.Hangup = (answers.Silent, ended v, (refl, refl))

@@ -1,5 +1,6 @@
 -- The step relation: what a slave answers to a request, and what it is then.
-use Rattle.std.specs.Prelude.{◌≡◌, ℕ, Bool, true, false, ◌||◌, List, Option, Some, None, Result, Ok, Err, MatchBool}
+use Rattle.std.specs.Prelude.{◌≡◌, ℕ, ◌+◌, Bool, true, false, ◌&&◌, ◌||◌, ◌==◌, nat_le, nat_lt, List, [], ◌∷◌, ◌++◌, length, Option, Some, None, Result, Ok, Err, MatchBool, if◌then◌else◌}
+use Rattle.arrayvec.specs.ArrayVec.{ArrayVec}
 use Rattle.xcp_packet.specs.Refusal.{Decodes}
 use Rattle.xcp_packet.specs.Layout.{layout}
 use Rattle.xcp_packet.specs.declared.Order.TheVariants.{Intel}
@@ -11,12 +12,14 @@ use Rattle.xcp_packet.specs.declared.Reply.{Reply}
 use Rattle.xcp_packet.specs.declared.Reply.TheVariants as replies
 use Rattle.xcp_packet.specs.declared.Code.{Code}
 use Rattle.xcp_packet.specs.declared.Code.TheVariants.{CmdUnknown, CmdSyntax}
+use Rattle.xcp_memory.specs.Freeze.{pages_frozen, frozen_count}
 use Rattle.xcp_transfer.specs.Rows.{Meets}
+use Rattle.xcp_daq.specs.Sample.{sampled, after_event}
 use Rattle.xcp_slave.specs.declared.request.Request.{Request}
 use Rattle.xcp_slave.specs.declared.request.Request.TheVariants as requests
 use Rattle.xcp_slave.specs.declared.answer.Answer.{Answer}
 use Rattle.xcp_slave.specs.declared.answer.Answer.TheVariants as answers
-use Rattle.xcp_slave.specs.Value.{SlaveValue, noblock, ended}
+use Rattle.xcp_slave.specs.Value.{SlaveValue, layout_of, noblock, ended}
 use Rattle.xcp_slave.specs.Rows.{row}
 
 -- the answer to a reply: its packet, or nothing where nothing is sent
@@ -63,11 +66,69 @@ Heeds v (Err refuses.Short) a w = MatchBool v.connected (Refuses v CmdSyntax a w
 abbrev pub AnswersPacket : SlaveValue → List ℕ → Answer → SlaveValue → Type 0
 AnswersPacket v bytes a w = (d : Result Command Refuse) × Decodes Intel bytes d × Heeds v d a w
 
--- The slave v answers a to the request and is then w. There is no event channel to sample yet, no packet waits to be sent and
--- no store is requested; a hangup ends the session.
+-- Drain answers the first packet that waits and takes it out; the others stay in order.
+-- (ASAM MCD-1 XCP, protocol layer: event packets, data packets.)
+abbrev pub Drains : List (ArrayVec ℕ) → SlaveValue → Answer → SlaveValue → Type 0
+Drains [] v a w = (a ≡ answers.Nothing) × (w ≡ v)
+Drains (packet ∷ rest) v a w = (a ≡ answers.Packet packet) × (w ≡ record v { outbox = rest })
+
+-- how many packets can wait
+abbrev pub outbox_size : ℕ
+outbox_size = 64
+
+-- EV_STORE_CAL: the pages have been stored
+-- (ASAM MCD-1 XCP, protocol layer, event packets: EV_STORE_CAL.)
+abbrev pub store_event : ArrayVec ℕ
+store_event = record { items = 0xFD ∷ 0x03 ∷ [] }
+
+-- the slave once its pages are stored: page 0 of each segment in FREEZE mode has the content of the tool's page, the request is
+-- gone, and a connected tool is told
+abbrev pub stored : SlaveValue → SlaveValue
+stored v = record v {
+  transfer = record v.transfer { pages = pages_frozen v.transfer.pages };
+  store = false;
+  outbox = if v.connected then v.outbox ++ store_event ∷ [] else v.outbox;
+}
+
+-- FinishStore where a store is requested: while the tool that has to be told is connected and its packet has no room, nothing
+-- is done yet.
+abbrev pub Stores : SlaveValue → Answer → SlaveValue → Type 0
+Stores v a w =
+    MatchBool (v.connected && nat_le outbox_size (length v.outbox))
+    ((a ≡ answers.Later) × (w ≡ v))
+    ((a ≡ answers.Stored (frozen_count v.transfer.pages)) × (w ≡ stored v))
+
+-- the slave with these signals
+abbrev pub with_signals : List ℕ → SlaveValue → SlaveValue
+with_signals signals v = record v { transfer = record v.transfer { pages = record v.transfer.pages { signals = signals } } }
+
+-- the slave once its lists have counted an event
+abbrev pub with_event : ℕ → SlaveValue → SlaveValue
+with_event channel v = record v { daq = after_event channel v.daq }
+
+-- An event of a channel that there is, with its signals in place: the packets of its sample wait, all of them, or none where
+-- they have no room together. Lists have counted the event either way.
+-- (ASAM MCD-1 XCP, protocol layer: DAQ, event channels, data packets.)
+abbrev pub Samples : ℕ → List (ArrayVec ℕ) → SlaveValue → Answer → SlaveValue → Type 0
+Samples channel packets v a w =
+    MatchBool (nat_le (length v.outbox + length packets) outbox_size)
+    ((a ≡ answers.Sampled (length packets)) × (w ≡ record (with_event channel v) { outbox = v.outbox ++ packets }))
+    ((a ≡ answers.Overrun) × (w ≡ with_event channel v))
+
+-- An event: its channel has to be one of the layout's, and its signals as many bytes as the layout says; they become the
+-- content of the signals area first.
+abbrev pub Fires : ℕ → List ℕ → SlaveValue → Answer → SlaveValue → Type 0
+Fires channel signals v a w =
+    MatchBool (nat_lt channel (length (layout_of v).events))
+    (MatchBool (length signals == (layout_of v).signals_length)
+    (Samples channel (sampled channel (with_signals signals v).transfer.pages v.daq) (with_signals signals v) a w)
+    ((a ≡ answers.BadSignals) × (w ≡ v)))
+    ((a ≡ answers.NoChannel) × (w ≡ v))
+
+-- The slave v answers a to the request and is then w. A hangup ends the session.
 abbrev pub Answers : SlaveValue → Request → Answer → SlaveValue → Type 0
 Answers v (requests.Command packet) a w = AnswersPacket v packet.items a w
-Answers v (requests.Event channel signals) a w = (a ≡ answers.NoChannel) × (w ≡ v)
-Answers v requests.Drain a w = (a ≡ answers.Nothing) × (w ≡ v)
-Answers v requests.FinishStore a w = (a ≡ answers.NoStore) × (w ≡ v)
+Answers v (requests.Event channel signals) a w = Fires channel signals.items v a w
+Answers v requests.Drain a w = Drains v.outbox v a w
+Answers v requests.FinishStore a w = MatchBool v.store (Stores v a w) ((a ≡ answers.NoStore) × (w ≡ v))
 Answers v requests.Hangup a w = (a ≡ answers.Silent) × (w ≡ ended v)

@@ -7,7 +7,7 @@ ghost use Rattle.xcp_slave.specs.declared.exchange.Exchange.{Exchange};
 ghost use Rattle.xcp_slave.specs.declared.request.Request.{Request};
 ghost use Rattle.xcp_slave.specs.Refused.{IsErrorPacket, IsRefusal};
 ghost use Rattle.xcp_slave.specs.Run.{Run, requests_of};
-ghost use Rattle.xcp_slave.specs.Step.{Answers};
+ghost use Rattle.xcp_slave.specs.Step.{Answers, with_event, with_signals};
 ghost use Rattle.xcp_slave.specs.Value.{SlaveValue, layout_of, noblock};
 
 /// For each slave and each request there is one answer and one slave after it, and no other.
@@ -23,14 +23,16 @@ pub fn each_run_has_one_outcome()
     ensures layout { (v : SlaveValue) (xs : List Exchange) (w : SlaveValue) → Run v xs w → layout_of w ≡ layout_of v }
 {}
 
-/// An error packet other than SYNCH's leaves the slave as it was, but that a block under way is
-/// given up; an answer that says that nothing was done leaves the slave as it was.
+/// A command's error packet other than SYNCH's leaves the slave as it was, but that a block under
+/// way is given up; an answer that says that nothing was done leaves the slave as it was. An overrun
+/// leaves the packets of the event behind, and no more: signals and counts of events have changed.
 pub fn refusals_leave_the_slave()
-    ensures errors { (v : SlaveValue) (q : Request) (a : Answer) (w : SlaveValue) → Answers v q a w → IsErrorPacket a → w ≡ noblock v }
+    ensures errors { (v : SlaveValue) (p : ArrayVec ℕ) (a : Answer) (w : SlaveValue) → Answers v (Request.Command p) a w → IsErrorPacket a → w ≡ noblock v }
     ensures others { (v : SlaveValue) (q : Request) (a : Answer) (w : SlaveValue) → Answers v q a w → IsRefusal a → w ≡ v }
+    ensures overrun { (v : SlaveValue) (channel : ℕ) (signals : ArrayVec ℕ) (w : SlaveValue) → Answers v (Request.Event channel signals) Answer.Overrun w → w ≡ with_event channel (with_signals signals.items v) }
 {}
 
-/// A packet that is sent has at least one byte and at most MAX_CTO.
-pub fn no_packet_is_longer_than_max_cto()
-    ensures { (v : SlaveValue) (q : Request) (p : ArrayVec ℕ) (w : SlaveValue) → IsLayout (layout_of v) → Answers v q (Answer.Packet p) w → (0 < length p.items) × (length p.items ≤ (layout_of v).max_cto) }
+/// A reply to a command has at least one byte and at most MAX_CTO.
+pub fn no_reply_is_longer_than_max_cto()
+    ensures { (v : SlaveValue) (q p : ArrayVec ℕ) (w : SlaveValue) → IsLayout (layout_of v) → Answers v (Request.Command q) (Answer.Packet p) w → (0 < length p.items) × (length p.items ≤ (layout_of v).max_cto) }
 {}

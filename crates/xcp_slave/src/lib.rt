@@ -7,7 +7,9 @@
 mod answer;
 mod exchange;
 mod law;
+mod outbox;
 mod packet;
+mod page_properties;
 mod request;
 mod slave;
 mod status;
@@ -15,9 +17,10 @@ mod status;
 pub use answer::Answer;
 pub use exchange::Exchange;
 pub use law::{
-    each_request_has_one_answer, each_run_has_one_outcome, no_packet_is_longer_than_max_cto,
+    each_request_has_one_answer, each_run_has_one_outcome, no_reply_is_longer_than_max_cto,
     refusals_leave_the_slave,
 };
+pub use page_properties::PageProperties;
 pub use request::Request;
 pub use slave::Slave;
 pub use status::SessionStatus;

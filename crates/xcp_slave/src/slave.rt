@@ -6,25 +6,37 @@ ghost use Rattle.xcp_slave.specs.Step.{Answers, AnswersPacket, Executes, answer_
 ghost use Rattle.xcp_slave.specs.Value.{ended, layout_of, noblock, opening};
 ghost use Rattle.xcp_transfer.specs.Rows.{FitsPacket};
 
+mod acquisition;
+mod allocation;
 mod calibration;
+mod events;
 mod paging;
 mod session;
 
+use crate::outbox::Outbox;
 use crate::{Answer, Request};
+use arrayvec::ArrayVec;
 use std::alloc::{AllocError, Global};
 use std::marker::Model;
+use xcp_daq::Daq;
 use xcp_memory::{Layout, Pages};
-use xcp_packet::{Code, Command, Refuse, Reply, commands, decode, encode_reply};
+use xcp_packet::{Code, Command, Packet, Refuse, Reply, commands, decode, encode_reply};
 use xcp_transfer::{Mta, Transfer};
 
 /// What comes of a command: the reply, or none where nothing is sent, or the error packet.
 type Outcome = Result<Option<Reply>, Reply>;
 
-/// An XCP slave: segments with their pages, the signals, and one session of a tool.
+/// An XCP slave: segments with their pages, the signals, and one session of a tool with its DAQ
+/// lists and the packets that wait for it.
 #[derive(Drop)]
 pub struct Slave {
     connected: bool,
     transfer: Transfer,
+    daq: Daq,
+    outbox: Outbox,
+    store: bool,
+    // The packets of the last event: here they take no time to be made anew.
+    sample: ArrayVec<Packet, 64>,
 }
 
 impl Model for Slave {
@@ -32,10 +44,10 @@ impl Model for Slave {
 
     ghost Value = { SlaveValue };
 
-    ghost view = { λ s. record { connected = s.connected; transfer = s.transfer } };
+    ghost view = { λ s. record { connected = s.connected; transfer = s.transfer; daq = s.daq; outbox = s.outbox; store = s.store } };
 }
 
-// The handler of each command that this slave executes; the others are unknown to it.
+// The handler of each command.
 macro_rules! handle {
     ($slave:ident Connect $mode:ident) => {
         $slave.connect(*$mode)
@@ -88,8 +100,71 @@ macro_rules! handle {
     ($slave:ident GetCalPage $mode:ident $segment:ident) => {
         $slave.get_cal_page(*$mode, *$segment)
     };
-    ($slave:ident $variant:ident $($name:ident)*) => {
-        $slave.unknown()
+    ($slave:ident GetPagProcessorInfo) => {
+        $slave.get_pag_processor_info()
+    };
+    ($slave:ident GetSegmentInfo $mode:ident $segment:ident $info:ident $mapping:ident) => {
+        $slave.get_segment_info(*$mode, *$segment, *$info, *$mapping)
+    };
+    ($slave:ident GetPageInfo $segment:ident $page:ident) => {
+        $slave.get_page_info(*$segment, *$page)
+    };
+    ($slave:ident SetSegmentMode $mode:ident $segment:ident) => {
+        $slave.set_segment_mode(*$mode, *$segment)
+    };
+    ($slave:ident GetSegmentMode $segment:ident) => {
+        $slave.get_segment_mode(*$segment)
+    };
+    ($slave:ident CopyCalPage $source:ident $source_page:ident $target:ident $target_page:ident) => {
+        $slave.copy_cal_page(*$source, *$source_page, *$target, *$target_page)
+    };
+    ($slave:ident SetRequest $mode:ident $id:ident) => {
+        $slave.set_request(*$mode, *$id)
+    };
+    ($slave:ident ClearDaqList $list:ident) => {
+        $slave.clear_daq_list(*$list)
+    };
+    ($slave:ident SetDaqPtr $list:ident $odt:ident $entry:ident) => {
+        $slave.set_daq_ptr(*$list, *$odt, *$entry)
+    };
+    ($slave:ident WriteDaq $offset:ident $size:ident $extension:ident $address:ident) => {
+        $slave.write_daq(*$offset, *$size, *$extension, *$address)
+    };
+    ($slave:ident SetDaqListMode $mode:ident $list:ident $event:ident $prescaler:ident $priority:ident) => {
+        $slave.set_daq_list_mode(*$mode, *$list, *$event, *$prescaler, *$priority)
+    };
+    ($slave:ident GetDaqListMode $list:ident) => {
+        $slave.get_daq_list_mode(*$list)
+    };
+    ($slave:ident StartStopDaqList $mode:ident $list:ident) => {
+        $slave.start_stop_daq_list(*$mode, *$list)
+    };
+    ($slave:ident StartStopSynch $mode:ident) => {
+        $slave.start_stop_synch(*$mode)
+    };
+    ($slave:ident ReadDaq) => {
+        $slave.read_daq()
+    };
+    ($slave:ident GetDaqProcessorInfo) => {
+        $slave.get_daq_processor_info()
+    };
+    ($slave:ident GetDaqResolutionInfo) => {
+        $slave.get_daq_resolution_info()
+    };
+    ($slave:ident GetDaqEventInfo $channel:ident) => {
+        $slave.get_daq_event_info(*$channel)
+    };
+    ($slave:ident FreeDaq) => {
+        $slave.free_daq()
+    };
+    ($slave:ident AllocDaq $count:ident) => {
+        $slave.alloc_daq(*$count)
+    };
+    ($slave:ident AllocOdt $list:ident $count:ident) => {
+        $slave.alloc_odt(*$list, *$count)
+    };
+    ($slave:ident AllocOdtEntry $list:ident $odt:ident $count:ident) => {
+        $slave.alloc_odt_entry(*$list, *$odt, *$count)
     };
 }
 
@@ -110,6 +185,10 @@ impl Slave {
         Ok(Slave {
             connected: false,
             transfer: Transfer::new(pages),
+            daq: Daq::new(),
+            outbox: Outbox::new(),
+            store: false,
+            sample: ArrayVec::new(),
         })
     }
 
@@ -141,9 +220,9 @@ impl Slave {
     {
         match request {
             Request::Command(packet) => self.answer_packet(packet),
-            Request::Event(_, _) => Answer::NoChannel,
-            Request::Drain => Answer::Nothing,
-            Request::FinishStore => Answer::NoStore,
+            Request::Event(channel, signals) => self.fire(*channel, signals),
+            Request::Drain => self.drain(),
+            Request::FinishStore => self.finish_store(),
             Request::Hangup => {
                 self.end_session();
                 Answer::Silent
@@ -205,6 +284,8 @@ impl Slave {
         self.connected = false;
         self.transfer.give_up_block();
         self.transfer.set_mta(Mta::Nowhere);
+        self.daq.reset();
+        self.outbox.clear();
     }
 }
 

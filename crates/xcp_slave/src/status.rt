@@ -1,5 +1,5 @@
 //! The session status byte.
-ghost use Rattle.std.specs.Prelude.{⊤, [], ◌∷◌, codes};
+ghost use Rattle.std.specs.Prelude.{⊤, ◌≡◌, ◌+◌, if◌then◌else◌, [], ◌∷◌, codes};
 
 use bitflags::{Flag, Flags, bitflag_items};
 
@@ -35,5 +35,21 @@ impl Flags for SessionStatus {
 
     fn from_bits_retain(bits: u8) -> SessionStatus {
         SessionStatus(bits)
+    }
+}
+
+impl SessionStatus {
+    /// The status byte of a session.
+    pub(crate) fn bits_of(store: bool, running: bool) -> u8
+        ensures { result ≡ (if store then 0x01 else 0) + (if running then 0x40 else 0) }
+    {
+        let mut status = SessionStatus(0);
+        if store {
+            status.insert(SessionStatus::STORE_CAL_REQUEST);
+        }
+        if running {
+            status.insert(SessionStatus::DAQ_RUNNING);
+        }
+        status.0
     }
 }

@@ -1,5 +1,7 @@
 //! Worked rows of the protocol, and what no clause says.
+mod acquisition;
 mod fixtures;
+mod paging;
 mod rows;
 
 use crate::{Answer, Request};
@@ -69,18 +71,6 @@ fn the_image_is_of_the_controllers_pages(rt: HostRuntime) -> Result<(), Fail> {
     let _ = sent(&mut slave, &[0xEB, 1, 0, 1]);
     slave.image(&mut after);
     assert_eq!(rt; after[..4], [0xAB, 0xCD, 2, 3][..]);
-    Ok(())
-}
-
-#[test]
-fn what_the_controller_asks(rt: HostRuntime) -> Result<(), Fail> {
-    let mut slave = connected(rt.alloc(), 32, 3)?;
-    assert_eq!(rt;
-        slave.submit(&Request::Event(0, ArrayVec::new())),
-        Answer::NoChannel
-    );
-    assert_eq!(rt; slave.submit(&Request::Drain), Answer::Nothing);
-    assert_eq!(rt; slave.submit(&Request::FinishStore), Answer::NoStore);
     Ok(())
 }
 

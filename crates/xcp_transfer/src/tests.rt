@@ -417,3 +417,31 @@ fn the_controller_keeps_its_page(rt: HostRuntime) -> Result<(), Fail> {
     assert_eq!(rt; after, before);
     Ok(())
 }
+
+#[test]
+fn pages_are_copied_and_stored(rt: HostRuntime) -> Result<(), Fail> {
+    let mut transfer = transfer(rt.alloc(), 8, 3, &BYTES)?;
+    transfer.give_up_block();
+    assert_eq!(rt; transfer.set_freeze(1, 0), Ok(()));
+    transfer.give_up_block();
+    assert_eq!(rt; transfer.set_freeze(1, 9), Err(Code::SegmentNotValid));
+    transfer.give_up_block();
+    assert_eq!(rt; transfer.copy(0, 0, 0, 0), Err(Code::WriteProtected));
+    transfer.give_up_block();
+    assert_eq!(rt; transfer.copy(0, 0, 0, 1), Ok(()));
+    let _ = sent(&mut transfer, &[0xEB, 2, 0, 1]);
+    let _ = sent(&mut transfer, &[0xF6, 0, 0, 0, 0, 0x10, 0, 0]);
+    assert_eq!(rt; sent(&mut transfer, &[0xF0, 1, 0x55]), packet(&[0xFF]));
+    assert_eq!(rt;
+        sent(&mut transfer, &[0xF0, 7, 1, 2, 3, 4, 5, 6]),
+        packet(&[])
+    );
+    assert_eq!(rt; transfer.freeze(), 1);
+    assert_eq!(rt; sent(&mut transfer, &[0xEF, 1, 7]), packet(&[0xFF]));
+    let _ = sent(&mut transfer, &[0xEB, 2, 0, 0]);
+    assert_eq!(rt;
+        sent(&mut transfer, &[0xF4, 3, 0, 0, 0, 0x10, 0, 0]),
+        packet(&[0xFF, 0x55, 1, 2])
+    );
+    Ok(())
+}

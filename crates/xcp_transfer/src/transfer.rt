@@ -1,5 +1,7 @@
 //! The tool's transfers: its memory transfer address, and the block under way.
-ghost use Rattle.std.specs.Prelude.{◌≡◌, ◌≤◌, length, None, OnOk, IfErr};
+ghost use Rattle.std.specs.Prelude.{◌≡◌, length, None, OnOk, IfErr};
+ghost use Rattle.xcp_memory.specs.Copying.{copy_refusal, pages_copied};
+ghost use Rattle.xcp_memory.specs.Freeze.{set_freeze_refusal, pages_with_mode, pages_frozen, frozen_count};
 ghost use Rattle.xcp_memory.specs.Switch.{switch_refusal, pages_switched};
 ghost use Rattle.xcp_transfer.specs.Laws.{IsLawful};
 ghost use Rattle.xcp_transfer.specs.Value.{opening_transfer, without_block, IsMta};
@@ -95,6 +97,44 @@ impl Transfer {
         ensures refused { IfErr result (λ code. (switch_refusal mode segment page self.old.pages ≡ Some code) × (self.new ≡ self.old)) }
     {
         self.pages.switch(mode, segment, page)
+    }
+
+    /// Copies a page over another, as `Pages::copy` says. No block may be under way.
+    ///
+    /// ASAM MCD-1 XCP, protocol layer, description of commands: COPY_CAL_PAGE.
+    pub fn copy(
+        &mut self,
+        source: u8,
+        source_page: u8,
+        target: u8,
+        target_page: u8,
+    ) -> Result<(), Code>
+        requires { self.old.block ≡ None }
+        ensures ok { OnOk result ((copy_refusal source source_page target target_page self.old.pages ≡ None) × (self.new ≡ record self.old { pages = pages_copied source source_page target target_page self.old.pages })) }
+        ensures refused { IfErr result (λ code. (copy_refusal source source_page target target_page self.old.pages ≡ Some code) × (self.new ≡ self.old)) }
+    {
+        self.pages.copy(source, source_page, target, target_page)
+    }
+
+    /// Sets or clears FREEZE mode of a segment, as `Pages::set_freeze` says. No block may be under
+    /// way.
+    ///
+    /// ASAM MCD-1 XCP, protocol layer, description of commands: SET_SEGMENT_MODE.
+    pub fn set_freeze(&mut self, mode: u8, segment: u8) -> Result<(), Code>
+        requires { self.old.block ≡ None }
+        ensures ok { OnOk result ((set_freeze_refusal mode segment self.old.pages ≡ None) × (self.new ≡ record self.old { pages = pages_with_mode mode segment self.old.pages })) }
+        ensures refused { IfErr result (λ code. (set_freeze_refusal mode segment self.old.pages ≡ Some code) × (self.new ≡ self.old)) }
+    {
+        self.pages.set_freeze(mode, segment)
+    }
+
+    /// Stores the segments that are in FREEZE mode, as `Pages::freeze` says, and answers how many
+    /// there are. A block under way goes on.
+    pub fn freeze(&mut self) -> u8
+        ensures count { result ≡ frozen_count self.old.pages }
+        ensures stored { self.new ≡ record self.old { pages = pages_frozen self.old.pages } }
+    {
+        self.pages.freeze()
     }
 
     /// Makes these bytes, as many as the layout says, the content of the signals area. A block

@@ -1,2 +1,2 @@
-pub mod ConfigLemmas
 pub mod SourceLemmas
+pub mod CommandLineLemmas

@@ -1,3 +1,3 @@
-pub mod Config
+pub mod CommandLine
 pub mod Fault
 pub mod Replay

@@ -6,8 +6,8 @@ use thiserror::Error;
 /// Why the program ends early: one line on standard error behind `xcpd: `, and a status.
 #[derive(Clone, Copy, Debug, PartialEq, Eq, Error)]
 pub enum Fault {
-    /// The configuration: 0 where the file can't be read within 65,536 bytes, 1 where it
-    /// describes no layout.
+    /// The configuration: 0 where the file can't be read within 65,536 bytes, 1 to 6 where it
+    /// describes no layout, by the number of its first fault.
     #[error("configuration {0}")]
     Configuration(u8),
     /// The first faulty line, where all lines are counted from 1.

@@ -1,12 +1,14 @@
 //! The XCP slave as a program: `xcpd replay --config FILE`.
 #![tactic(auto)]
 
-mod config;
+mod command_line;
 mod fault;
+mod options;
 mod replay;
 mod source;
 
 use fault::Fault;
+use options::{Options, OptionsFault};
 use std::fs::File;
 use std::process::ExitCode;
 use std::{env, io};
@@ -15,29 +17,12 @@ use xcp_framing::Watched;
 /// The most reads of one replay.
 const TURNS: u32 = 1_000_000;
 
-/// The configuration file that the words name, if they are `replay --config FILE`.
-fn config_of(rt: &HostRuntime) -> Option<String> {
-    let mut words = env::args(rt).ok()?;
-    let _program = words.next();
-    let verb = words.next()?;
-    let flag = words.next()?;
-    let path = words.next()?;
-    if verb.as_str() != "replay" || flag.as_str() != "--config" || words.next().is_some() {
-        return None;
-    }
-    Some(path)
-}
-
 /// The text of the configuration file.
 fn text_of(rt: &HostRuntime, path: &str) -> Result<String, Fault> {
     let Ok(file) = File::open(rt, path) else {
         return Err(Fault::Configuration(0));
     };
-    let bytes = source::read_whole(rt.alloc(), file)?;
-    match String::from_utf8(bytes) {
-        Ok(text) => Ok(text),
-        Err(_) => Err(Fault::Configuration(1)),
-    }
+    source::read_text(rt.alloc(), file)
 }
 
 /// Replays standard input by the configuration file.
@@ -48,16 +33,31 @@ fn run(rt: &HostRuntime, path: &str) -> Result<u64, Fault> {
     replay::replay(rt.alloc(), text.as_str(), &mut reader, &mut writer, TURNS)
 }
 
-fn main(rt: HostRuntime) -> ExitCode {
-    let Some(path) = config_of(&rt) else {
-        let _ = eprintln!(rt; "usage: xcpd replay --config FILE");
-        return ExitCode::from(1);
+/// Tells a fault on standard error.
+fn tell(rt: &HostRuntime, fault: Fault) -> ExitCode {
+    let _ = eprintln!(rt; "xcpd: {fault}");
+    ExitCode::from(fault.status())
+}
+
+/// What the words of the command line ask for.
+fn asked(rt: &HostRuntime) -> Result<Options, OptionsFault> {
+    let Ok(words) = env::args(rt) else {
+        return Err(OptionsFault::Memory);
     };
-    match run(&rt, path.as_str()) {
-        Ok(_) => ExitCode::from(0),
-        Err(fault) => {
-            let _ = eprintln!(rt; "xcpd: {fault}");
-            ExitCode::from(fault.status())
+    let words = words.collect::<Vec<String>>(rt.alloc())?;
+    command_line::options(rt.alloc(), words.as_slice())
+}
+
+fn main(rt: HostRuntime) -> ExitCode {
+    match asked(&rt) {
+        Ok(Options::Replay { config }) => match run(&rt, config.as_str()) {
+            Ok(_) => ExitCode::from(0),
+            Err(fault) => tell(&rt, fault),
+        },
+        Err(OptionsFault::Memory) => tell(&rt, Fault::Memory),
+        Err(OptionsFault::Words(e)) => {
+            let _ = e.print(&rt);
+            ExitCode::from(if e.use_stderr() { 1 } else { 0 })
         }
     }
 }

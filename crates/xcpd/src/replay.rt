@@ -2,10 +2,10 @@
 ghost use Rattle.std.specs.Prelude.{◌≡◌, ◌<◌, ◌+◌, ◌⊎◌};
 ghost use Rattle.xcpd.specs.Replay.{AnswersScript, Ends};
 
-use crate::config::{ConfigError, read_layout};
 use crate::fault::Fault;
 use std::alloc::Global;
 use std::io::{Read, Write};
+use xcp_config::{ConfigError, read_layout};
 use xcp_framing::{Desk, ReplayError, Watched, replay_on};
 use xcp_memory::Layout;
 use xcp_slave::Slave;
@@ -15,7 +15,7 @@ use xcp_slave::Slave;
 /// many times as there are turns; the answers of the lines that a read made whole are written
 /// before the next.
 ///
-/// Faults: `Configuration(1)` first, where the text describes no layout; `Line` of the first
+/// Faults: `Configuration` first, 1 to 6, where the text describes no layout; `Line` of the first
 /// faulty line, once the lines before it are answered; `Stream(1)` where a read failed or the
 /// turns are spent, `Stream(2)` where a write failed; `Memory` at any place.
 pub fn replay<R: Read, W: Write>(
@@ -31,8 +31,8 @@ pub fn replay<R: Read, W: Write>(
 {
     let layout = match read_layout(alloc, config) {
         Ok(layout) => layout,
-        Err(ConfigError::Refused) => return Err(Fault::Configuration(1)),
         Err(ConfigError::Memory) => return Err(Fault::Memory),
+        Err(fault) => return Err(Fault::Configuration(fault.number())),
     };
     match answer_script(alloc, layout, reader, writer, turns) {
         Ok(requests) => Ok(requests),

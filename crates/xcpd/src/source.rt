@@ -1,5 +1,6 @@
 //! The bytes of the configuration file.
-ghost use Rattle.std.specs.Prelude.{◌≡◌, ◌≤◌, IfOk, IfSome, length};
+ghost use Rattle.std.specs.Prelude.{◌≡◌, ◌≤◌, ◌⊎◌, Err, IfOk, IfErr, IfSome, length, string_bytes};
+ghost use Rattle.std.specs.Str.{IsUtf8};
 
 use crate::fault::Fault;
 use std::alloc::Global;
@@ -13,6 +14,7 @@ const MOST_BYTES: usize = 65_536;
 pub fn read_whole<R: Read + Drop>(alloc: Global, file: R) -> Result<Vec<u8>, Fault>
     ensures size { IfOk result (λ bytes. length bytes.items ≤ 65536) }
     ensures whole { IfOk result (λ bytes. IfSome (R.remaining file) (λ all. bytes.items ≡ all)) }
+    ensures refused { IfErr result (λ e. (e ≡ Fault.Memory) ⊎ (e ≡ Fault.Configuration 0)) }
 {
     let mut bytes = Vec::new(alloc);
     let mut front = file.take(MOST_BYTES as u64 + 1);
@@ -20,5 +22,18 @@ pub fn read_whole<R: Read + Drop>(alloc: Global, file: R) -> Result<Vec<u8>, Fau
         Ok(_) if bytes.len() <= MOST_BYTES => Ok(bytes),
         Err(e) if e.kind() == ErrorKind::OutOfMemory => Err(Fault::Memory),
         _ => Err(Fault::Configuration(0)),
+    }
+}
+
+/// The text of a file. Beside the faults of `read_whole`, `Configuration(1)` comes where the bytes are no UTF-8.
+pub fn read_text<R: Read + Drop>(alloc: Global, file: R) -> Result<String, Fault>
+    ensures size { IfOk result (λ text. length (string_bytes text) ≤ 65536) }
+    ensures whole { IfOk result (λ text. IfSome (R.remaining file) (λ all. string_bytes text ≡ all)) }
+    ensures no_text { result ≡ Err (Fault.Configuration 1) → IfSome (R.remaining file) (λ all. ¬ IsUtf8 all) }
+{
+    let bytes = read_whole(alloc, file)?;
+    match String::from_utf8(bytes) {
+        Ok(text) => Ok(text),
+        Err(_) => Err(Fault::Configuration(1)),
     }
 }

@@ -1,5 +1,5 @@
 // A buffer that a writer could take.
-ghost use Rattle.std.specs.Prelude.{◌≡◌, ℕ, ◌<◌, ◌↔◌, IsTrue};
+ghost use Rattle.std.specs.Prelude.{ℕ, ◌<◌, ◌↔◌, IsTrue};
 ghost use Rattle.pin_core.specs.Lawful.{holders, IsIdle};
 
 use crate::pins::Core;

@@ -85,9 +85,9 @@ fn scripts(rt: HostRuntime) -> Result<(), Fail> {
         (
             "no line feed at the end",
             Row {
-                script: b"FF00\r\nhangup\r\nevent 0 00\ndrain\nstore",
-                result: Ok(5),
-                written: b"FF05802040000101\n-\nno channel\nnothing\nno store\n",
+                script: b"FF00\r\nhangup\r\nevent 1 00\nevent 0 00\ndrain\nstore",
+                result: Ok(6),
+                written: b"FF05802040000101\n-\nno channel\nbad signals\nnothing\nno store\n",
                 ..GOOD
             },
         ),

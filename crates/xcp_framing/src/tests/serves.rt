@@ -1,7 +1,9 @@
 //! Streams that are served.
+ghost use Rattle.std.specs.Prelude.{◌≢◌, IfOk};
+
 use super::fakes::{Full, Narrow, Pieces, desk};
 use super::stations::{Pending, Refusing};
-use crate::{ServeError, Served, StationError, Watched, serve};
+use crate::{ServeError, Served, StationError, Watched, a_desk_is_never_full, serve};
 use std::alloc::Global;
 use std::io::Read;
 use std::test::Fail;
@@ -36,7 +38,10 @@ const GOOD: Row = Row {
     written: CONNECTED,
 };
 
-fn run(alloc: Global, row: &Row) -> Result<(Result<Served, ServeError>, Vec<u8>), Fail> {
+/// Serves the row's stream over a desk, which is never full.
+fn run(alloc: Global, row: &Row) -> Result<(Result<Served, ServeError>, Vec<u8>), Fail>
+    ensures { IfOk result (λ served. served.0 ≢ Err ServeError.JournalFull) }
+{
     let mut desk = desk(alloc)?;
     let mut reader = Watched::new(Pieces {
         text: row.stream,
@@ -252,6 +257,7 @@ fn ctr_starts_anew(rt: HostRuntime) -> Result<(), Fail> {
     for _ in 0..65_536 {
         stream.extend_from_slice(&[1, 0, 0, 0, 0xFC])?;
     }
+    a_desk_is_never_full();
     let mut desk = desk(rt.alloc())?;
     let mut reader = Watched::new(stream.as_slice());
     let mut writer = Watched::new(Vec::new(rt.alloc()));

@@ -1,11 +1,13 @@
 //! Stations that refuse, and one that always has more to send.
-ghost use Rattle.std.specs.Prelude.{◌≡◌, [], ◌∷◌, ◌++◌, IfOk, OnErr};
+ghost use Rattle.std.specs.Prelude.{◌≡◌, ◌⊎◌};
+ghost use Rattle.xcp_framing.specs.declared.station.StationError.TheVariants as refusals;
 
 use crate::{Desk, Station, StationError};
 use xcp_packet::Packet;
 use xcp_slave::{Answer, Exchange, Request};
 
-/// A desk that takes so many requests, and then none.
+/// A desk that takes so many requests, and then refuses all with one error: a full journal is told
+/// only there.
 #[derive(Drop)]
 pub struct Refusing {
     pub desk: Desk,
@@ -15,6 +17,8 @@ pub struct Refusing {
 
 impl Station for Refusing {
     ghost exchanges = { λ s. s.desk.exchanges };
+
+    ghost refuses = { λ s request e. (e ≡ refusals.Memory) ⊎ ((s.takes ≡ 0) × (e ≡ s.error)) };
 
     fn submit(&mut self, request: Request) -> Result<Answer, StationError> {
         if self.takes == 0 {
@@ -34,6 +38,8 @@ pub struct Pending {
 
 impl Station for Pending {
     ghost exchanges = { λ s. s.exchanges.items };
+
+    ghost refuses = { λ s request e. e ≡ refusals.Memory };
 
     fn submit(&mut self, request: Request) -> Result<Answer, StationError> {
         if self.exchanges.reserve(1).is_err() {

@@ -1,5 +1,5 @@
 //! Reads and writes of address ranges.
-ghost use Rattle.std.specs.Prelude.{◌≡◌, ◌≤◌, ◌<◌, ◌+◌, ◌^◌, length, Option, Some, None, true, false, IfOk, OnOk, IfErr, IfSome, slice_index_or, take, drop};
+ghost use Rattle.std.specs.Prelude.{◌≡◌, ◌≤◌, ◌<◌, ◌+◌, ◌^◌, length, Option, Some, None, true, false, IfOk, OnOk, IfErr, IfSome, take, drop};
 ghost use Rattle.xcp_packet.specs.declared.Code.{Code};
 ghost use Rattle.xcp_memory.specs.Words.{lies_inside, segment_of, bytes_by, tool_bytes, controller_bytes, write_refusal, pages_written};
 ghost use Rattle.xcp_memory.specs.Refusals.{Checks};
@@ -10,7 +10,7 @@ use crate::page_set::Side;
 use xcp_packet::Code;
 
 impl Pages {
-    ghost use Rattle.xcp_memory.specs.Sides.{number_by, page_by};
+    ghost use Rattle.xcp_memory.specs.Sides.{page_by};
 
     /// Reads the bytes that the tool has at a range, at least one. `AccessDenied` where the range
     /// does not lie in one area.

@@ -8,8 +8,6 @@ use crate::page_set::Side;
 use xcp_packet::Code;
 
 impl Pages {
-    ghost use Rattle.xcp_memory.specs.Sides.{page_by};
-
     /// The checksum of the bytes that the tool has at a range: their sum, in as many bits as the
     /// layout's type of checksum says. `OutOfRange` at size 0, then `AccessDenied` where the range
     /// does not lie in one area.

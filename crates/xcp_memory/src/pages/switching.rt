@@ -1,5 +1,5 @@
 //! Switching pages, and telling which page a side has.
-ghost use Rattle.std.specs.Prelude.{◌≡◌, ◌<◌, ◌&&◌, not, ◌==◌, length, None, Some, OnOk, IfOk, IfErr, map, true, false, slice_index_or, [], ◌∷◌};
+ghost use Rattle.std.specs.Prelude.{◌≡◌, ◌<◌, not, length, None, Some, OnOk, IfOk, IfErr, map, true, false, slice_index_or, [], ◌∷◌};
 ghost use Rattle.std.specs.List.{list_any};
 ghost use Rattle.xcp_packet.specs.declared.Code.{Code};
 ghost use Rattle.xcp_memory.specs.Pages.{segment_at, no_pages};

@@ -1,15 +1,13 @@
 //! The commands of a session: CONNECT, DISCONNECT, GET_STATUS, SYNCH, GET_COMM_MODE_INFO, GET_ID.
 #![tactic(auto, unfolding(crate::specs::Rows::MeetsRow))]
 
-ghost use Rattle.std.specs.Prelude.{◌≡◌};
 ghost use Rattle.xcp_slave.specs.Rows.{MeetsRow};
-ghost use Rattle.xcp_slave.specs.Value.{noblock};
 ghost use Rattle.xcp_transfer.specs.Rows.{FitsPacket};
 
 use super::{Outcome, Slave};
 use crate::SessionStatus;
-use bitflags::Flags;
 use xcp_packet::{Code, Command, Reply};
+use xcp_transfer::Mta;
 
 /// COMM_MODE_BASIC of CONNECT: optional information can be had (bit 7); Intel byte order,
 /// address granularity of one byte, no slave block mode.
@@ -20,8 +18,9 @@ impl Slave {
         ensures row { MeetsRow (Command.Connect _mode) self.old result self.new }
         ensures fits { FitsPacket result }
     {
-        self.end_session();
         self.connected = true;
+        self.transfer.give_up_block();
+        self.transfer.set_mta(Mta::Nowhere);
         Ok(Some(Reply::Connect {
             basic: COMM_MODE_BASIC,
             max_cto: self.layout().max_cto(),
@@ -41,8 +40,8 @@ impl Slave {
         ensures row { MeetsRow Command.GetStatus self.old result self.new }
         ensures fits { FitsPacket result }
     {
-        let status = SessionStatus::empty();
-        Ok(Some(Reply::Status(status.bits())))
+        let status = SessionStatus::bits_of(self.store, self.daq.any_running());
+        Ok(Some(Reply::Status(status)))
     }
 
     pub(super) fn synch(&mut self) -> Outcome
@@ -64,15 +63,5 @@ impl Slave {
         ensures fits { FitsPacket result }
     {
         self.transfer.get_id(kind)
-    }
-
-    /// A command that this slave doesn't execute yet.
-    pub(super) fn unknown(&mut self) -> Outcome
-        ensures refused { result ≡ Err (Reply.Error Code.CmdUnknown) }
-        ensures left { self.new ≡ noblock self.old }
-        ensures fits { FitsPacket result }
-    {
-        self.transfer.give_up_block();
-        Err(Reply::Error(Code::CmdUnknown))
     }
 }

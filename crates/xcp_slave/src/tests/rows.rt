@@ -1,6 +1,5 @@
 //! Each row is a fresh connected slave, and command packets with what they are answered.
-use super::fixtures::{connected, packet, sent};
-use crate::Answer;
+use super::fixtures::{answer, connected, sent};
 use std::test::Fail;
 
 const SET_MTA: &[u8] = &[0xF6, 0, 0, 0, 0, 0x10, 0, 0];
@@ -14,14 +13,6 @@ const WORKING: &[u8] = &[0xEB, 2, 0, 1];
 const DONE: &[u8] = &[0xFF];
 /// Nothing is sent.
 const SILENT: &[u8] = &[];
-
-fn answer(bytes: &[u8]) -> Answer {
-    if bytes.is_empty() {
-        Answer::Silent
-    } else {
-        Answer::Packet(packet(bytes))
-    }
-}
 
 type Row<'a> = &'a [(&'a [u8], &'a [u8])];
 
@@ -181,5 +172,25 @@ fn types_of_checksums(rt: HostRuntime) -> Result<(), Fail> {
         let built = sent(&mut slave, &[0xF3, 0, 0, 0, 8, 0, 0, 0]);
         assert_eq!(rt; built, answer(reply));
     }
+    Ok(())
+}
+
+#[test]
+fn packets_of_one_byte(rt: HostRuntime) -> Result<(), Fail> {
+    let mut unknown = 0u32;
+    let mut short = 0u32;
+    for first in 0..=255u8 {
+        let mut slave = connected(rt.alloc(), 32, 3)?;
+        let told = sent(&mut slave, &[first]);
+        if told == answer(&[0xFE, 0x20]) {
+            unknown = unknown.wrapping_add(1);
+        } else if told == answer(&[0xFE, 0x21]) {
+            short = short.wrapping_add(1);
+        }
+        if first == 0xDB {
+            assert_eq!(rt; told, answer(&[0xFE, 0x2A]));
+        }
+    }
+    assert_eq!(rt; (unknown, short), (217, 30));
     Ok(())
 }

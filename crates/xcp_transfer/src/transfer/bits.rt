@@ -1,10 +1,8 @@
 //! MODIFY_BITS.
-ghost use Rattle.std.specs.Prelude.{◌≡◌, ◌≤◌, IfOk, IfErr, length, None, Some};
-ghost use Rattle.xcp_packet.specs.Order.{double_at, double_bytes};
+ghost use Rattle.std.specs.Prelude.{◌≡◌, ◌≤◌, None, Some};
 ghost use Rattle.xcp_transfer.specs.Downloads.{modify_bits_row, modified};
 ghost use Rattle.xcp_transfer.specs.Rows.{Meets, FitsPacket};
 ghost use Rattle.xcp_transfer.specs.Value.{without_block};
-ghost use Rattle.xcp_transfer.specs.Words.{bytes_at, write_refusal_at};
 
 use super::Transfer;
 use crate::access::{read_double, writable, write_double};

@@ -1,8 +1,9 @@
-use Rattle.std.proofs.Common.{rules, Err}
+use Rattle.std.proofs.Common.{rules, Err, ℕ, sym, ◌∙◌, ◌≡◌, refl}
 use Rattle.std.proofs.lemmas.Result.{err_from_is_err_and}
 use Rattle.xcp_slave.specs.Run.{requests_of}
 use Rattle.xcp_framing.proofs.Bytes.{appends_none, front_all, none_more}
 use Rattle.xcp_framing.proofs.Midway.{at_end, at_limit, fed_error, last_error, midway_init}
+use Rattle.xcp_framing.proofs.Shortage.{fed_short, last_short, memory_as, memory_tells}
 use Rattle.xcp_framing.proofs.replaying.run_script.Goals as goal
 
 pub loop-init : goal.loop-init
@@ -41,3 +42,21 @@ returns-in_err-write_out-2-clause-told g c =
     rw (p.1, p.2) (c.in_err-write_out-2.ensures.told _ _ _ c.loop.invariant.written
     (λ known. c.feed-fed.ensures.told known _ (none_more _ _ c.loop.invariant.none_left))
     (c.feed-fed.ensures.kept _ (front_all _)))
+
+pub returns-in_err-write_out-clause-memory : goal.returns-in_err-write_out-clause-memory
+returns-in_err-write_out-clause-memory g c = λ h.
+    let p = err_from_is_err_and c.from_residual.result c.from_residual.ensures.1 in
+    let same : c.from_residual.result ≡ Err c.in_err-write_out.field-0.0 = rw (p.1, p.2) refl in
+    let short = c.in_err-write_out.ensures.memory (memory_as ℕ (Unit {0}) _ (sym same ∙ h)) in
+    last_short _ _ _ _ _ _ _ _ _ _ c.max_cto-max_cto.ensures c.loop.invariant.midway (at_end _ _ _ _ c.if-length-eq0.true c.in-Ok.ensures.bytes.0 (c.in-Ok.ensures.bytes.1 c.if-length-eq0.true (search rules)))
+    (c.finish-last.ensures.short short)
+    (λ text front. memory_tells (Unit {0}) ℕ c.in_err-write_out.field-0.0 _ _ text (sym same ∙ h) (c.in_err-write_out.ensures.told _ _ text c.loop.invariant.written (λ known. absurd (known short)) front))
+
+pub returns-in_err-write_out-2-clause-memory : goal.returns-in_err-write_out-2-clause-memory
+returns-in_err-write_out-2-clause-memory g c = λ h.
+    let p = err_from_is_err_and c.from_residual-in_err-write_out-2.result c.from_residual-in_err-write_out-2.ensures.1 in
+    let same : c.from_residual-in_err-write_out-2.result ≡ Err c.in_err-write_out-2.field-0.0 = rw (p.1, p.2) refl in
+    let short = c.in_err-write_out-2.ensures.memory (memory_as ℕ (Unit {0}) _ (sym same ∙ h)) in
+    fed_short _ _ _ _ _ _ _ _ _ _ _ _ c.max_cto-max_cto.ensures c.loop.invariant.midway c.in-Ok.ensures.bytes.0
+    (c.feed-fed.ensures.short short)
+    (λ text front. memory_tells (Unit {0}) ℕ c.in_err-write_out-2.field-0.0 _ _ text (sym same ∙ h) (c.in_err-write_out-2.ensures.told _ _ text c.loop.invariant.written (λ known. absurd (known short)) front))

@@ -2,6 +2,7 @@ use Rattle.std.proofs.Common.{◌≡◌, ◌-◌, ◌∙◌, ℕ, List, length, 
 use Rattle.std.proofs.lemmas.List.{take_all}
 use Rattle.xcp_framing.proofs.Answering.{passed_on, cons≢nil}
 use Rattle.xcp_framing.proofs.Consuming.{consumes_more, consumes_bad, consumes_part}
+use Rattle.xcp_framing.proofs.Refusing.{on_refusal_map, refused_in_piece}
 use Rattle.xcp_framing.proofs.serving.consume.Goals as goal
 
 pub returns-in-BadLength-clause-answers : goal.returns-in-BadLength-clause-answers
@@ -59,3 +60,15 @@ returns-in_err-exchange-in-Packet-clause-answers g c =
     let part = rw (c.in-Packet.packet-is) at c.in_err-exchange-in-Packet.ensures.answers in
     rw (passed_on c.from_residual.result c.in_err-exchange-in-Packet.field-0.0 c.from_residual.ensures.1)
     (consumes_part _ _ _ _ _ s t _ _ _ c.in_err-exchange-in-Packet.ensures.stops c.loop-length.invariant.consumes all fed part)
+
+pub returns-in_err-exchange-in-Packet-clause-refused :
+    goal.returns-in_err-exchange-in-Packet-clause-refused
+returns-in_err-exchange-in-Packet-clause-refused g c =
+    let s = c.args.piece.now in
+    let i = c.loop-length.used in
+    let t = take (length s - i) (drop i s) in
+    let all : t ≡ drop i s = take_all (length s - i) (drop i s) (omega (arith, length-drop i s)) in
+    let fed = rw (c.in-Packet.is, c.loop-length.invariant.kept) at c.feed-fed.ensures.feeds in
+    let part = rw (c.in-Packet.packet-is) at c.in_err-exchange-in-Packet.ensures.refused in
+    rw (passed_on c.from_residual.result c.in_err-exchange-in-Packet.field-0.0 c.from_residual.ensures.1)
+    (on_refusal_map (Unit {0}) (Unit {0}) _ _ _ (refused_in_piece _ _ _ _ _ s t _ _ _ c.loop-length.invariant.consumes all fed) part)

@@ -4,6 +4,7 @@ use Rattle.xcp_slave.specs.declared.Request.TheVariants as requests
 use Rattle.xcp_framing.specs.Serve.{refused_with}
 use Rattle.xcp_framing.specs.Turns.{Grows, fine}
 use Rattle.xcp_framing.proofs.Answering.{grows_more, grows_quiet, grows_sent, grows_refused, passed_on, answers_none, answers_one, no_packet}
+use Rattle.xcp_framing.proofs.Refusing.{on_refusal, on_refusal_all, refused_command, refused_more, asks_drain}
 use Rattle.xcp_framing.proofs.serving.exchange.Goals as goal
 use Rattle.xcp_framing.proofs.serving.exchange.Goals.{in-Packet+in_ok-send, in_default}
 
@@ -21,3 +22,13 @@ returns-clause-answers g c =
       | in_default w ↦ rw (w.writer-is, w.served-is) (grows_quiet x _ _ c.in_ok-packet.ensures.ok (no_packet _ w.in_default.not-Packet))
     ] in
     grows_more c.drain.result asked c.drain.ensures.drains (answers_one c.drain.result c.args.packet.items x refl c.drain.ensures.stops)
+
+pub returns-in_err-packet-clause-refused : goal.returns-in_err-packet-clause-refused
+returns-in_err-packet-clause-refused g c =
+    rw (passed_on c.from_residual.result (refused_with c.in_err-packet.field-0.0) c.from_residual.ensures.1)
+    (on_refusal (Unit {0}) c.in_err-packet.field-0.0 _ (refused_command _ _ _ c.args.packet.items c.args.station.now c.in_err-packet.ensures.err c.in_err-packet.ensures.refused))
+
+pub returns-clause-refused : goal.returns-clause-refused
+returns-clause-refused g c =
+    let x : Exchange = record { request = requests.Command c.args.packet; answer = c.in_ok-packet.field-0 } in
+    on_refusal_all (Unit {0}) c.drain.result _ _ (λ e r. refused_more _ _ e _ _ (x ∷ []) c.in_ok-packet.ensures.ok (asks_drain c.args.packet.items x refl) r) c.drain.ensures.refused

@@ -1,7 +1,9 @@
-use Rattle.std.proofs.Common.{◌≡◌, ◌≤◌, ◌∙◌, length, take, sym, ap, refl, arith, length-take}
+use Rattle.std.proofs.Common.{inr, ◌≡◌, ◌≤◌, ◌∙◌, length, take, sym, ap, refl, arith, length-take}
 use Rattle.std.proofs.lemmas.Bool.{false≢true}
+use Rattle.xcp_framing.specs.declared.serving.Served.{Served}
 use Rattle.xcp_framing.proofs.Answering.{passed_on}
 use Rattle.xcp_framing.proofs.Streaming.{midway_start, midway_more, serves_memory, serves_read, serves_all, serves_truncated, serves_part, ends_for, whole_buffer, nothing_held, reader_goes_on}
+use Rattle.xcp_framing.proofs.Refusing.{on_refusal_map, refused_midway}
 use Rattle.xcp_framing.proofs.serving.serve.Goals as goal
 
 pub returns-in_default-clause-serves : goal.returns-in_default-clause-serves
@@ -63,3 +65,10 @@ pub returns-then-count-eq0-clause-serves : goal.returns-then-count-eq0-clause-se
 returns-then-count-eq0-clause-serves g c =
     let read = rw (c.if-count-eq0.true) at c.in-Ok-read.ensures.bytes.0 in
     serves_all _ c.loop-turn.served c.loop-turn.invariant.midway read (nothing_held _ (λ some. false≢true (sym c.if-inside.false ∙ c.inside.ensures.1 some)))
+
+pub returns-in_err-consume-clause-refused : goal.returns-in_err-consume-clause-refused
+returns-in_err-consume-clause-refused g c =
+    let same : take c.in-Ok-read.count c.deref.result.now ≡ take c.in-Ok-read.count c.read.new.buf = ap (take c.in-Ok-read.count) (c.deref.ensures.value ∙ whole_buffer _ _ _ (c.read.auto.buf ∙ c.deref_mut.ensures.len)) in
+    let part = rw (c.loop-turn.invariant.limit, same) at c.in_err-consume.ensures.refused in
+    rw (passed_on c.from_residual.result c.in_err-consume.field-0.0 c.from_residual.ensures.1)
+    (on_refusal_map (Unit {0}) Served _ _ _ (λ e r. inr (refused_midway _ _ _ _ c.loop-turn.invariant.midway c.in-Ok-read.ensures.bytes.0 e r)) part)

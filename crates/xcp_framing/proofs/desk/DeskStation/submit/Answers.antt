@@ -9,4 +9,5 @@ pub invariant_of-self-2 : goal.invariant_of-self-2
 invariant_of-self-2 c = rw (c.push_reserved.ensures.items, c.copy-stored.ensures, c.reserve.ensures.items) (run-extended _ _ _ _ _ c.self.invariant c.submit-answer.ensures)
 
 pub returns-clause-layout : goal.returns-clause-layout
-returns-clause-layout c = answers-layout _ _ _ _ c.submit-answer.ensures ∙ ap (λ (d : DeskValue). layout_of d.slave) c.self.view_is
+returns-clause-layout c =
+    answers-layout c.self.inside.slave c.args.request c.submit-answer.result c.submit-answer.new.self c.submit-answer.ensures ∙ ap (λ (d : DeskValue). layout_of d.slave) c.self.view_is

@@ -6,3 +6,6 @@ returns-in-ShortUpload-clause-row c = search rules
 
 pub returns-in-ShortDownload-clause-row : goal.returns-in-ShortDownload-clause-row
 returns-in-ShortDownload-clause-row c = search rules
+
+pub returns-in-WriteDaq-clause-row : goal.returns-in-WriteDaq-clause-row
+returns-in-WriteDaq-clause-row c = search rules

@@ -1,0 +1,15 @@
+pub mod Beginnings
+pub mod Frame
+pub mod ReaderLemmas
+pub mod Seating
+pub mod WriterLemmas
+pub mod Desking
+pub mod Published
+pub mod Cutting
+pub mod Told
+pub mod Opening
+pub mod Kept
+pub mod EndLemmas
+pub mod WriterEndLemmas
+pub mod ImageLemmas
+pub mod Parts

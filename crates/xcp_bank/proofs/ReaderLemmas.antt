@@ -1,0 +1,269 @@
+-- Each step of a reader keeps the bank's rule.
+use Rattle.std.proofs.Common.{◌≡◌, ◌≢◌, ℕ, ◌+◌, ◌-◌, ◌*◌, ◌%◌, ◌<◌, ◌≤◌, Bool, true, false, List, [], ◌∷◌, ◌++◌, length, take, drop, set, get_or, sym, refl, ap, ◌∙◌, subst, arith, length-set, get_or-set_other, get_or-set_same, Some, None, ◌⊎◌, take_all, take-append-drop, get_or-take}
+use Rattle.std.proofs.lemmas.Option.{none-some}
+use Rattle.std.proofs.lemmas.List.{set-get_or}
+use Rattle.std.proofs.lemmas.List.Sums.{sum_by-set}
+use mathlib.Core.Logic.{dite}
+use native.Mathlib.Decide.{ℕ_discrete}
+use mathlib.Core.Option.{some}
+use lib.ListN.{get_elem?}
+use Rattle.atomic_table.specs.Table.{State, Step, keeps, Allows}
+use Rattle.pin_core.specs.State.{Reader, Writer, PinState, newcomer, reader, leavings_of, published, publication}
+use Rattle.pin_core.specs.Effects.{looking, after_look, CanPin, pinning, after_pin, CanUnpin, leaving, after_unpin}
+use Rattle.pin_core.specs.Lawful.{Lawful, holders, at_buffer}
+use Rattle.pin_core.proofs.Counts.{same_sum, at_other}
+use Rattle.pin_core.proofs.ReaderSteps.{look_keeps, pin_keeps, unpin_keeps}
+use Rattle.xcp_bank.specs.Known.{Begins, Reading, Known, one_reader}
+use Rattle.xcp_bank.specs.Rule.{Shows, IsNumbered, Stands, Banked}
+use Rattle.xcp_bank.specs.ReaderSteps.{Seat, reader_plays, Finds, Pinned, reading_after_pin, Looked, reading_after_look, Unpinned, reading_after_unpin, ReadAt, reading_after_reads}
+use Rattle.xcp_bank.proofs.Beginnings.{all_again}
+use Rattle.xcp_bank.proofs.Frame.{seat_step}
+
+-- what a reader has seen begins what is published
+pub stands_begins : (s : PinState) (own : ℕ → ℕ) (id r : ℕ) (x : Reading) → Stands s own id r x → Begins x.list s.writer.publications
+stands_begins s own id r x mine =
+    let rest : List (List ℕ) = drop x.pins.seen s.writer.publications in
+    (rest, sym (ap (λ (l : List (List ℕ)). l ++ rest) mine.list ∙ take-append-drop x.pins.seen s.writer.publications))
+
+module _ (W : ℕ) (t : State (Unit {0}) Known) (b : Banked W t) where
+  -- the count is small
+  pub few : b.core.count ≤ 6
+  few = b.lawful.counted.few
+
+  pub pin_step : (id r : ℕ) (x : Reading) → get_elem? t.views id ≡ some (one_reader r x) → x.pins.gone ≡ false → x.pins.held ≡ None
+      → Banked W record { words = set t.words 0 ((get_or t.words 0 0 + 1) % 18446744073709551616); homes = t.homes; views = set t.views id (one_reader r (reading_after_pin x b.core.index b.core.writer.publications)) }
+  pin_step id r x at here free =
+      let s = b.core in
+      let mine : Stands s b.own id r x = (b.readers id (one_reader r x) at).0 in
+      let law = b.lawful in
+      let inside : r < length s.readers = (let l = law.sizes.seats in let i = mine.inside in omega arith) in
+      let can : CanPin s r = (mine.inside, ap (λ (y : Reader). y.gone) mine.pins ∙ here, ap (λ (y : Reader). y.held) mine.pins ∙ free) in
+      let gone_same : (reader s r).gone ≡ x.pins.gone = ap (λ (y : Reader). y.gone) mine.pins in
+      let s' = after_pin s r in
+      let y = reading_after_pin x s.index s.writer.publications in
+      let z : Reader = pinning s (reader s r) in
+      let small = few in let head = b.shows.head in let low = law.sizes.index in
+      let next : (get_or t.words 0 0 + 1) % 18446744073709551616 ≡ s.index * 4294967296 + (s.count + 1) = omega arith in
+      let size = b.shows.size in
+      let first : 0 < length t.words = omega arith in
+      seat_step W t b id (one_reader r y) (set t.words 0 ((get_or t.words 0 0 + 1) % 18446744073709551616)) s'
+      (pin_keeps W s r law can)
+      record {
+        size = length-set t.words 0 ((get_or t.words 0 0 + 1) % 18446744073709551616) ∙ b.shows.size;
+        head = get_or-set_same t.words 0 ((get_or t.words 0 0 + 1) % 18446744073709551616) 0 first ∙ next;
+        left = λ c l. get_or-set_other t.words 0 (1 + c) ((get_or t.words 0 0 + 1) % 18446744073709551616) 0 (λ e. omega arith) ∙ b.shows.left c l;
+        image = λ c k l m. get_or-set_other t.words 0 (9 + (c * W + k)) ((get_or t.words 0 0 + 1) % 18446744073709551616) 0 (λ e. omega arith) ∙ b.shows.image c k l m;
+      }
+      b.numbered (
+        record {
+          inside = mine.inside;
+          mine = mine.mine;
+          pins = get_or-set_same s.readers r z newcomer inside ∙ ap (λ (g : Bool). record { held = Some (s.index, published s - 1); looked = s.index; seen = published s; gone = g }) gone_same;
+          list = sym (take_all (published s) s.writer.publications (omega arith));
+          past = tt;
+        },
+        tt,
+      )
+      (λ w e. absurd (none-some w e))
+      (λ q other. get_or-set_other s.readers r q z newcomer (λ e. other (ap b.own e ∙ mine.mine)))
+      (λ n l. refl)
+      (λ other w k. record {
+        pins = k.pins;
+        current = k.current;
+        idle = k.idle;
+        apart = k.apart;
+        unheld = same_sum (λ (u : Reader). at_buffer w.idle u.held) s.readers r z inside
+            (at_other s.index w.idle (published s - 1) (λ e. k.apart (sym e ∙ k.current)) ∙ sym (ap (at_buffer w.idle) can.2)) ∙ k.unheld;
+      })
+
+  -- all that the reader had seen is published, and what it had seen before that too
+  pub begins : (id r : ℕ) (x : Reading) → get_elem? t.views id ≡ some (one_reader r x) → Begins x.list b.core.writer.publications
+  begins id r x at = stands_begins b.core b.own id r x (b.readers id (one_reader r x) at).0
+
+  pub found : (id r : ℕ) (x : Reading) → get_elem? t.views id ≡ some (one_reader r x) → Finds x (get_or t.words 0 0) b.core.index b.core.writer.publications
+  found id r x at = record {
+    count = b.core.count;
+    few = few;
+    buffer = b.lawful.sizes.index;
+    head = b.shows.head;
+    some = b.lawful.latest.some;
+    begins = begins id r x at;
+    pasts = all_again x.past x.list b.core.writer.publications ((b.readers id (one_reader r x) at).0).past (begins id r x at);
+  }
+
+-- who makes a step of a reader's seat owes this of each state
+module _ (W slots id : ℕ) (r : ℕ) (x : Reading) (i : ℕ) (f : ℕ → ℕ) (after : Reading → ℕ → Reading → Type 0) where
+  abbrev pub Makes : Type 0
+  Makes = (t : State (Unit {0}) Known) (b : Banked W t) → get_elem? t.views id ≡ some (one_reader r x)
+      → (y : Reading) × Banked W record { words = set t.words i (f (get_or t.words i 0)); homes = t.homes; views = set t.views id (one_reader r y) } × after x (get_or t.words i 0) y
+
+  one_reader_is : (q : ℕ) (u : Reading) → one_reader r x ≡ one_reader q u → ◌≡◌ {A = ℕ × Reading} (r, x) (q, u)
+  one_reader_is q u e = let l : ◌≡◌ {A = List (ℕ × Reading)} ((r, x) ∷ []) ((q, u) ∷ []) = ap (λ (v : Known). v.readers) e in cc
+
+  fits_one : (c : List (ℕ × Unit {0})) → Makes → (st : Step (Unit {0})) → Allows (Banked W) slots id (one_reader r x, c) i f (reader_plays after st (one_reader r x, c))
+  fits_one c make st t b homes at fits =
+      let m = make t b at in (
+        one_reader r m.0,
+        keeps,
+        tt,
+        m.1,
+        λ q u e. let same = one_reader_is q u e in
+            (m.0, ap (λ (z : ℕ × Reading). (one_reader z.0 m.0, c)) same, subst (λ (z : ℕ × Reading). after z.1 (get_or t.words i 0) m.0) same m.2),
+      )
+
+  pub allowed : (me : Seat) → me.0 ≡ one_reader r x → Makes → (st : Step (Unit {0})) → Allows (Banked W) slots id me i f (reader_plays after st me)
+  allowed me is make st = subst (λ (v : Known). Allows (Banked W) slots id (v, me.1) i f (reader_plays after st (v, me.1))) (sym is) (fits_one me.1 make st)
+
+pub pin_allowed : (W slots id r : ℕ) (x : Reading) (me : Seat) → me.0 ≡ one_reader r x → x.pins.gone ≡ false → x.pins.held ≡ None → (st : Step (Unit {0}))
+    → Allows (Banked W) slots id me 0 (λ n. (n + 1) % 18446744073709551616) (reader_plays Pinned st me)
+pin_allowed W slots id r x me is here free st = allowed W slots id r x 0 (λ n. (n + 1) % 18446744073709551616) Pinned me is
+    (λ t b at. (
+      reading_after_pin x b.core.index b.core.writer.publications,
+      pin_step W t b id r x at here free,
+      record { index = b.core.index; list = b.core.writer.publications; finds = found W t b id r x at; is = refl },
+    )) st
+
+module _ (W : ℕ) (t : State (Unit {0}) Known) (b : Banked W t) (id r : ℕ) (x : Reading) (at : get_elem? t.views id ≡ some (one_reader r x)) where
+  abbrev s : PinState
+  s = b.core
+
+  mine : Stands b.core b.own id r x
+  mine = (b.readers id (one_reader r x) at).0
+
+  inside : r < length b.core.readers
+  inside = let l = b.lawful.sizes.seats in let i = mine.inside in omega arith
+
+  -- a step that changes no word, and of the reader neither what it holds nor whether it is gone
+  pub quiet_step : (i : ℕ) (y : Reading) (u : PinState) → Lawful W u → Shows W t.words u
+      → Stands u b.own id r y
+      → ((q : ℕ) → q ≢ r → reader u q ≡ reader b.core q) → u.writer ≡ b.core.writer → u.index ≡ b.core.index → ((c : ℕ) → holders c u.readers ≡ holders c b.core.readers)
+      → Banked W record { words = set t.words i (get_or t.words i 0); homes = t.homes; views = set t.views id (one_reader r y) }
+  quiet_step i y u law shows stands others same index held =
+      seat_step W t b id (one_reader r y) (set t.words i (get_or t.words i 0)) u law
+      (subst (λ (ws : List ℕ). Shows W ws u) (sym (set-get_or t.words i 0)) shows)
+      (λ p l. subst (λ (z : Writer). IsNumbered W p (get_or z.publications p [])) (sym same) (b.numbered p (subst (λ (z : Writer). p < length z.publications) same l)))
+      (stands, tt)
+      (λ w e. absurd (none-some w e))
+      (λ q other. others q (λ e. other (ap b.own e ∙ mine.mine)))
+      (λ n l. ap (λ (z : Writer). take n z.publications) same)
+      (λ other w k. record { pins = same ∙ k.pins; current = index ∙ k.current; idle = k.idle; apart = k.apart; unheld = held w.idle ∙ k.unheld })
+
+  pub look_step : x.pins.gone ≡ false → Banked W record { words = set t.words 0 (get_or t.words 0 0); homes = t.homes; views = set t.views id (one_reader r (reading_after_look x b.core.index b.core.writer.publications)) }
+  look_step here =
+      let z : Reader = looking s (reader s r) in
+      let some_one = b.lawful.latest.some in
+      quiet_step 0 (reading_after_look x b.core.index b.core.writer.publications) (after_look s r)
+      (look_keeps W s r b.lawful (mine.inside, ap (λ (y : Reader). y.gone) mine.pins ∙ here))
+      record { size = b.shows.size; head = b.shows.head; left = b.shows.left; image = b.shows.image }
+      record {
+        inside = mine.inside;
+        mine = mine.mine;
+        pins = get_or-set_same s.readers r z newcomer inside ∙ ap (λ (y : Reader). looking s y) mine.pins;
+        list = sym (take_all (published s) s.writer.publications (omega arith));
+        past = tt;
+      }
+      (λ q ne. get_or-set_other s.readers r q z newcomer ne)
+      refl refl
+      (λ c. same_sum (λ (u : Reader). at_buffer c u.held) s.readers r z inside refl)
+
+  pub look_tells : Looked x (get_or t.words 0 0) (reading_after_look x b.core.index b.core.writer.publications)
+  look_tells = record {
+    index = s.index;
+    list = s.writer.publications;
+    finds = found W t b id r x at;
+    is = refl;
+    current = λ c p e i. (b.lawful.keeps r c p (ap (λ (y : Reader). y.held) mine.pins ∙ e)).current i;
+    newest = λ c p e i. (b.lawful.keeps r c p (ap (λ (y : Reader). y.held) mine.pins ∙ e)).newest i;
+    known = λ c p e. (let h = (b.lawful.seen r).held c p (ap (λ (y : Reader). y.held) mine.pins ∙ e) in let m = (b.lawful.seen r).most in omega arith);
+  }
+
+  -- a step that reads
+  pub read_step : (i : ℕ) → Banked W record { words = set t.words i (get_or t.words i 0); homes = t.homes; views = set t.views id (one_reader r (reading_after_reads 1 x)) }
+  read_step i = quiet_step i (reading_after_reads 1 x) s b.lawful b.shows record { inside = mine.inside; mine = mine.mine; pins = mine.pins; list = mine.list; past = mine.past } (λ q ne. refl) refl refl (λ c. refl)
+
+  -- the publication that is held is one of those that it has seen, and it is the publication with that number
+  held_seen : (c p : ℕ) → x.pins.held ≡ Some (c, p) → (p < x.pins.seen) × (p < published s) × (publication s p ≡ get_or x.list p [])
+  held_seen c p e =
+      let h = (b.lawful.seen r).held c p (ap (λ (y : Reader). y.held) mine.pins ∙ e) in
+      let m = (b.lawful.seen r).most in
+      let same : (reader s r).seen ≡ x.pins.seen = ap (λ (y : Reader). y.seen) mine.pins in
+      let seen : p < x.pins.seen = omega arith in
+      (seen, omega arith, sym (get_or-take x.pins.seen s.writer.publications p [] seen) ∙ ap (λ (l : List (List ℕ)). get_or l p []) (sym mine.list))
+
+  pub read_tells : (i : ℕ) → ReadAt W i x (get_or t.words i 0) (reading_after_reads 1 x)
+  read_tells i = record {
+    is = refl;
+    value = λ c p k e place low.
+        let h = b.lawful.keeps r c p (ap (λ (y : Reader). y.held) mine.pins ∙ e) in
+        ap (λ (z : ℕ). get_or t.words z 0) place ∙ (b.shows.image c k h.buffer low ∙ ap (λ (l : List ℕ). get_or l k 0) (h.words ∙ (held_seen c p e).2));
+    numbered = λ c p e. let h = held_seen c p e in subst (IsNumbered W p) h.2 (b.numbered p h.1);
+    pasts = mine.past;
+  }
+
+pub look_allowed : (W slots id r : ℕ) (x : Reading) (me : Seat) → me.0 ≡ one_reader r x → x.pins.gone ≡ false → (st : Step (Unit {0})) → Allows (Banked W) slots id me 0 (λ n. n) (reader_plays Looked st me)
+look_allowed W slots id r x me is here st = allowed W slots id r x 0 (λ n. n) Looked me is
+    (λ t b at. (reading_after_look x b.core.index b.core.writer.publications, look_step W t b id r x at here, look_tells W t b id r x at)) st
+
+pub read_allowed : (W slots id r : ℕ) (x : Reading) (me : Seat) (i : ℕ) → me.0 ≡ one_reader r x → (st : Step (Unit {0})) → Allows (Banked W) slots id me i (λ n. n) (reader_plays (ReadAt W i) st me)
+read_allowed W slots id r x me i is st = allowed W slots id r x i (λ n. n) (ReadAt W i) me is
+    (λ t b at. (reading_after_reads 1 x, read_step W t b id r x at i, read_tells W t b id r x at i)) st
+
+module _ (W : ℕ) (t : State (Unit {0}) Known) (b : Banked W t) (id r : ℕ) (x : Reading) (at : get_elem? t.views id ≡ some (one_reader r x)) where
+  -- a reader gives its buffer c up
+  pub unpin_step : (c p : ℕ) (last : Bool) → x.pins.held ≡ Some (c, p) → (x.pins.looked ≢ c) ⊎ (last ≡ true)
+      → Banked W record { words = set t.words (1 + c) ((get_or t.words (1 + c) 0 + 1) % 18446744073709551616); homes = t.homes; views = set t.views id (one_reader r (reading_after_unpin last x)) }
+  unpin_step c p last holds may =
+      let s = b.core in
+      let law = b.lawful in
+      let m = mine W t b id r x at in
+      let l = inside W t b id r x at in
+      let holds' : (reader s r).held ≡ Some (c, p) = ap (λ (y : Reader). y.held) m.pins ∙ holds in
+      let can : CanUnpin s r c p last = (m.inside, holds', subst (λ (y : Reader). (y.looked ≢ c) ⊎ (last ≡ true)) (sym m.pins) may) in
+      let kept = law.keeps r c p holds' in
+      let low = kept.buffer in
+      let size = b.shows.size in
+      let there : 1 + c < length t.words = omega arith in
+      let low' : c < length s.leavings = (let n = law.sizes.counters in omega arith) in
+      let old = b.shows.left c low in
+      let few_left : leavings_of s c ≤ 6 = dite (ℕ_discrete c s.index)
+      (λ e. let f = few W t b in let k = law.counted.exact in subst (λ (z : ℕ). leavings_of s z ≤ 6) (sym e) (omega arith))
+      (λ ne. let o = law.others c low ne in let o₀ = o.exact in let o₁ = o.few in omega arith) in
+      let next : (get_or t.words (1 + c) 0 + 1) % 18446744073709551616 ≡ leavings_of s c + 1 = omega arith in
+      let n : ℕ = (get_or t.words (1 + c) 0 + 1) % 18446744073709551616 in
+      let z : Reader = leaving last (reader s r) in
+      seat_step W t b id (one_reader r (reading_after_unpin last x)) (set t.words (1 + c) n) (after_unpin s r c last)
+      (unpin_keeps W s r c p last law can)
+      record {
+        size = length-set t.words (1 + c) n ∙ b.shows.size;
+        head = get_or-set_other t.words (1 + c) 0 n 0 (λ e. omega arith) ∙ b.shows.head;
+        left = λ d g. dite (ℕ_discrete d c)
+            (λ e. subst (λ (k : ℕ). get_or (set t.words (1 + c) n) (1 + k) 0 ≡ get_or (set s.leavings c (leavings_of s c + 1)) k 0) (sym e)
+            (get_or-set_same t.words (1 + c) n 0 there ∙ (next ∙ sym (get_or-set_same s.leavings c (leavings_of s c + 1) 0 low'))))
+            (λ ne. get_or-set_other t.words (1 + c) (1 + d) n 0 (λ e. omega arith) ∙ (b.shows.left d g ∙ sym (get_or-set_other s.leavings c d (leavings_of s c + 1) 0 ne)));
+        image = λ d k g h. get_or-set_other t.words (1 + c) (9 + (d * W + k)) n 0 (λ e. omega arith) ∙ b.shows.image d k g h;
+      }
+      b.numbered (
+        record {
+          inside = m.inside;
+          mine = m.mine;
+          pins = get_or-set_same s.readers r z newcomer l ∙ ap (λ (y : Reader). leaving last y) m.pins;
+          list = m.list;
+          past = m.past;
+        },
+        tt,
+      )
+      (λ w e. absurd (none-some w e))
+      (λ q other. get_or-set_other s.readers r q z newcomer (λ e. other (ap b.own e ∙ m.mine)))
+      (λ k g. refl)
+      (λ other w k. record {
+        pins = k.pins;
+        current = k.current;
+        idle = k.idle;
+        apart = k.apart;
+        unheld = (let u = k.unheld in let v = sum_by-set (λ (y : Reader). at_buffer w.idle y.held) s.readers r z newcomer l in let none_now : at_buffer w.idle z.held ≡ 0 = refl in omega arith);
+      })
+
+pub unpin_allowed : (W slots id r : ℕ) (x : Reading) (me : Seat) (c p : ℕ) (last : Bool) → me.0 ≡ one_reader r x → x.pins.held ≡ Some (c, p) → (x.pins.looked ≢ c) ⊎ (last ≡ true) → (st : Step (Unit {0}))
+    → Allows (Banked W) slots id me (1 + c) (λ n. (n + 1) % 18446744073709551616) (reader_plays (Unpinned last) st me)
+unpin_allowed W slots id r x me c p last is holds may st = allowed W slots id r x (1 + c) (λ n. (n + 1) % 18446744073709551616) (Unpinned last) me is
+    (λ t b at. (reading_after_unpin last x, unpin_step W t b id r x at c p last holds may, refl)) st

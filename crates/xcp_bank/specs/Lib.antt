@@ -1,0 +1,9 @@
+pub mod Images
+pub mod Known
+pub mod Rule
+pub mod ReaderSteps
+pub mod WriterSteps
+pub mod Cuts
+pub mod Seats
+pub mod Ends
+pub mod Fields

@@ -1,0 +1,36 @@
+//! What is left of a reader.
+ghost use Rattle.std.specs.Prelude.{◌≡◌};
+ghost use Rattle.std.specs.Arc.{arc_value};
+ghost use Rattle.std.specs.Prelude.{Some};
+ghost use Rattle.xcp_bank.specs.Fields.{shown_reader};
+
+use crate::rule::{Board, View};
+use atomic_table::Seat;
+use std::marker::Model;
+use std::sync::Arc;
+
+/// A reader that has left: it can do nothing, and contracts see that it holds nothing.
+#[derive(Drop)]
+pub struct Left {
+    board: Arc<Board>,
+    seat: Seat<(), View>,
+}
+
+impl Model for Left {
+    ghost use Rattle.std.specs.Prelude.{Some};
+    ghost use Rattle.std.specs.Arc.{arc_value};
+    ghost use Rattle.xcp_bank.specs.Ends.{ReaderEnd};
+    ghost use Rattle.xcp_bank.specs.Fields.{shown_reader};
+
+    ghost Value = { ReaderEnd };
+
+    ghost view = { λ l. shown_reader (arc_value l.board).shared.table_id (Some l.seat) };
+}
+
+impl Left {
+    pub(crate) fn new(board: Arc<Board>, seat: Seat<(), View>) -> Left
+        ensures { result ≡ shown_reader (arc_value board).shared.table_id (Some seat) }
+    {
+        Left { board, seat }
+    }
+}

@@ -1,0 +1,157 @@
+//! A reader of the bank.
+ghost use Rattle.std.specs.Prelude.{◌≡◌, ◌↔◌, ℕ, ◌+◌, ◌-◌, ◌%◌, ◌<◌, ◌≤◌, List, [], ◌∷◌, length, take, drop, Some, None, IsTrue};
+ghost use Rattle.std.specs.Arc.{arc_value};
+ghost use Rattle.xcp_bank.specs.Known.{Begins, AllBegin, starting};
+ghost use Rattle.xcp_bank.specs.Seats.{Sits};
+ghost use Rattle.xcp_bank.specs.Ends.{Holds, HoldsNumber, image_held, words_in, steps_later, after_leave, reader_end};
+
+use crate::IMAGE_BYTES;
+use crate::acquiring::acquire_at;
+use crate::left::Left;
+use crate::reader_steps::{read_word, unpin_for_good};
+use crate::reading::read_at;
+use crate::rule::{Board, IMAGE_WORDS, View};
+use crate::taken::Taken;
+use crate::writer::Writer;
+use atomic_table::Seat;
+use std::marker::Model;
+use std::sync::Arc;
+
+/// One of the six readers of a bank: it holds one publication at most, which stays as it is while it is held.
+///
+/// It takes no memory, waits for nobody and is never refused. A dropped reader keeps its buffer held.
+#[derive(Drop)]
+pub struct Reader {
+    board: Arc<Board>,
+    // (There is one, but while `tell` joins it with the writer's.)
+    seat: Option<Seat<(), View>>,
+    held: Option<usize>,
+}
+
+impl Model for Reader {
+    ghost use Rattle.std.specs.Arc.{arc_value};
+    ghost use Rattle.xcp_bank.specs.Ends.{ReaderEnd};
+    ghost use Rattle.xcp_bank.specs.Fields.{shown_reader, ReaderKept};
+
+    ghost Value = { ReaderEnd };
+
+    ghost view = { λ r. shown_reader (arc_value r.board).shared.table_id r.seat };
+
+    ghost invariant = { λ r. ReaderKept (arc_value r.board).shared.table_id r.held r.seat };
+}
+
+impl Reader {
+    /// The reader for which this seat stands. It holds nothing.
+    pub(crate) fn new(board: Arc<Board>, seat: Seat<(), View>) -> Reader
+        requires { (r : ℕ) × (words : List ℕ) × Sits seat (arc_value board).shared.table_id r (starting words) }
+        ensures { (r : ℕ) (words : List ℕ) → Sits seat (arc_value board).shared.table_id r (starting words) → result ≡ reader_end (arc_value board).shared.table_id r (starting words) }
+    {
+        Reader {
+            board,
+            seat: Some(seat),
+            held: None,
+        }
+    }
+
+    /// Takes the current image, where the one held isn't current any more.
+    ///
+    /// One step where it is, or where nothing is held, else three.
+    pub fn acquire(&mut self) -> Taken
+        ensures same_reader { (self.new.bank ≡ self.old.bank) × (self.new.place ≡ self.old.place) }
+        ensures holds_the_last { HoldsNumber self.new (length self.new.seen - 1) }
+        ensures has_seen { 0 < length self.new.seen }
+        ensures seen { Begins self.old.seen self.new.seen }
+        ensures past { AllBegin self.old.past self.new.seen }
+        ensures settled { self.new.past ≡ [] }
+        ensures same { result ≡ Taken.Same ↔ HoldsNumber self.old (length self.new.seen - 1) }
+        ensures newer { result ≡ Taken.Newer ↔ ((b p : ℕ) → self.old.held ≡ Some (b, p) → p < length self.new.seen - 1) }
+        ensures last_step { (self.new.since ≡ 0) × ((b p : ℕ) → self.new.held ≡ Some (b, p) → b ≡ self.new.looked) }
+        ensures looks { self.old.looks < self.new.looks }
+        ensures some_step { self.old.steps < self.new.steps }
+        ensures few_steps { self.new.steps ≤ self.old.steps + 3 }
+        ensures once { result ≡ Taken.Same → self.new.steps ≡ self.old.steps + 1 }
+        ensures first { self.old.held ≡ None → self.new.steps ≡ self.old.steps + 1 }
+    {
+        let Some(seat) = &mut self.seat else {
+            unreachable!()
+        };
+        let (taken, buffer) = acquire_at(&self.board.shared, seat, self.held);
+        self.held = Some(buffer);
+        taken
+    }
+
+    /// Whether it holds an image.
+    pub fn holds(&self) -> bool
+        ensures { IsTrue result ↔ Holds self.now }
+    {
+        self.held.is_some()
+    }
+
+    /// Reads the bytes of the held image from `at` on, as many as `out` has: one step for each word of
+    /// 8 bytes that they lie in, so 255 for the whole image. What it holds and has seen stays.
+    pub fn read(&mut self, at: usize, out: &mut [u8])
+        requires holds { Holds self.old }
+        requires inside { at + length out.old ≤ IMAGE_BYTES }
+        ensures bytes { out.new ≡ take (length out.old) (drop at (image_held self.old)) }
+        ensures steps { self.new ≡ steps_later (words_in at (length out.old)) self.old }
+        ensures past { 0 < length out.old → AllBegin self.old.past self.new.seen }
+    {
+        let Some(seat) = &mut self.seat else {
+            unreachable!()
+        };
+        let Some(buffer) = self.held else {
+            unreachable!()
+        };
+        read_at(&self.board.shared, seat, buffer, at, out);
+    }
+
+    /// The number of the held publication, from 0, modulo 2^64: one step.
+    pub fn number(&mut self) -> u64
+        requires { Holds self.old }
+        ensures number { (b p : ℕ) → self.old.held ≡ Some (b, p) → result ≡ p % 18446744073709551616 }
+        ensures step { self.new ≡ steps_later 1 self.old }
+        ensures past { AllBegin self.old.past self.new.seen }
+    {
+        let Some(seat) = &mut self.seat else {
+            unreachable!()
+        };
+        let Some(buffer) = self.held else {
+            unreachable!()
+        };
+        read_word(&self.board.shared, seat, buffer, IMAGE_WORDS)
+    }
+
+    /// Tells this reader all that was published: two steps, both Looks. What it holds stays.
+    ///
+    /// That all begins with what it had seen is known to its next step.
+    pub fn tell(&mut self, writer: &mut Writer)
+        requires { self.old.bank ≡ writer.old.bank }
+        ensures same_reader { (self.new.bank ≡ self.old.bank) × (self.new.place ≡ self.old.place) }
+        ensures writer { writer.new ≡ writer.old }
+        ensures seen { self.new.seen ≡ writer.old.publications }
+        ensures past { self.new.past ≡ self.old.seen ∷ self.old.past }
+        ensures held { self.new.held ≡ self.old.held }
+        ensures looked { self.new.looked ≡ writer.old.current }
+        ensures last_step { self.new.since ≡ 0 }
+        ensures steps { self.new.steps ≡ self.old.steps + 2 }
+        ensures looks { self.new.looks ≡ self.old.looks + 2 }
+    {
+        let Some(seat) = self.seat.take() else {
+            unreachable!()
+        };
+        self.seat = Some(writer.tell_seat(seat));
+    }
+
+    /// Gives back what it holds, for good: its buffer may be written again.
+    pub fn leave(self) -> Left
+        ensures { result ≡ after_leave self }
+    {
+        let Reader { board, seat, held } = self;
+        let Some(mut seat) = seat else { unreachable!() };
+        let Some(buffer) = held else {
+            return Left::new(board, seat);
+        };
+        unpin_for_good(&board.shared, &mut seat, buffer);
+        Left::new(board, seat)
+    }
+}

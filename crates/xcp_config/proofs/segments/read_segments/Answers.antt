@@ -1,0 +1,45 @@
+use Rattle.std.proofs.Common.{◌≡◌, List, ◌∙◌, codes, ap, sym, map, inr}
+use Rattle.std.specs.List.{flat_map, enumerate_from}
+use Rattle.std.proofs.lemmas.Result.{err_from_is_err_and}
+use Rattle.toml.specs.Data.{Data, get}
+use Rattle.toml.specs.View.{view}
+use Rattle.xcp_memory.specs.declared.Key.TheVariants as key
+use Rattle.xcp_config.specs.Check.{Check, first_failed}
+use Rattle.xcp_config.specs.Layout.{segments_of}
+use Rattle.xcp_config.specs.Table.{array_checks, checks_in, segments_checks}
+use Rattle.xcp_config.specs.Seen.{segment_written}
+use Rattle.xcp_config.proofs.CheckLemmas.{failed_left, passed_left, if_ok, if_err, or_so}
+use Rattle.xcp_config.proofs.segments.read_segments.Goals as goal
+
+abbrev there : Data → List Check
+there t = array_checks key.Segment 4 (get (codes "segment") t)
+
+abbrev each : List Data → List Check
+each ds = flat_map (checks_in ds) (enumerate_from 0 ds)
+
+pub returns-in_err-members-clause-refused : goal.returns-in_err-members-clause-refused
+unfolding segments_checks
+returns-in_err-members-clause-refused c =
+    let t = view c.args.table.now in
+    let p = err_from_is_err_and c.from_residual.result c.from_residual.ensures.1 in
+    rw (p.1, p.2) (inr (failed_left (there t) (each (segments_of t)) _ c.in_err-members.ensures.refused))
+
+pub returns-clause-passes : goal.returns-clause-passes
+unfolding segments_checks
+returns-clause-passes c =
+    let t = view c.args.table.now in
+    let e : map view c.in_ok-members.members.now ≡ segments_of t = c.in_ok-members.ensures.value in
+    if_ok c.read_each.result _ _ (λ _ h. passed_left (there t) (each (segments_of t)) c.in_ok-members.ensures.passes ∙ ap (λ ds. first_failed (each ds)) (sym e) ∙ h) c.read_each.ensures.passes
+
+pub returns-clause-read : goal.returns-clause-read
+returns-clause-read c =
+    let t = view c.args.table.now in
+    let e : map view c.in_ok-members.members.now ≡ segments_of t = c.in_ok-members.ensures.value in
+    if_ok c.read_each.result _ _ (λ _ h. h ∙ ap (map segment_written) e) c.read_each.ensures.read
+
+pub returns-clause-refused : goal.returns-clause-refused
+unfolding segments_checks
+returns-clause-refused c =
+    let t = view c.args.table.now in
+    let e : map view c.in_ok-members.members.now ≡ segments_of t = c.in_ok-members.ensures.value in
+    if_err c.read_each.result _ _ (λ f h. or_so h (λ k. passed_left (there t) (each (segments_of t)) c.in_ok-members.ensures.passes ∙ ap (λ ds. first_failed (each ds)) (sym e) ∙ k)) c.read_each.ensures.refused

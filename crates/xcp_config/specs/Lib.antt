@@ -1,0 +1,7 @@
+pub mod Check
+pub mod ConfigError
+pub mod Values
+pub mod Table
+pub mod Layout
+pub mod Seen
+pub mod Text

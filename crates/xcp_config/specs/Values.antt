@@ -1,0 +1,61 @@
+-- The values that a TOML document has at its keys (TOML v1.0.0: keys, arrays and tables), read as a configuration reads them.
+use Rattle.std.specs.Prelude.{ℕ, ℤ, pos, Bool, List, [], ◌∷◌, ◌&&◌, ◌||◌, codes, Option, Some, None, Result, Ok, Err, is_some, unwrap_or, if◌then◌else◌}
+use Rattle.std.specs.Option.{option_and_then}
+use Rattle.std.specs.List.{list_all}
+use Rattle.std.specs.Str.{bytes_eq}
+use Rattle.hex.specs.Hex.{decode_of}
+use Rattle.hex.specs.declared.FromHexError.{FromHexError}
+use Rattle.toml.specs.Data.{Data, Items, no_items, item, as_integer, as_str, as_array, as_table}
+use Rattle.xcp_memory.specs.declared.ChecksumKind.{ChecksumKind}
+use Rattle.xcp_memory.specs.declared.ChecksumKind.TheVariants.{Add11, Add12, Add14}
+
+-- the value of an optional key: its own, or the default where the key isn't there
+abbrev pub optional : Data → Option Data → Option Data
+optional d None = Some d
+optional d (Some v) = Some v
+
+-- the text that a value is, and none where it is no text
+abbrev pub text_of : Option Data → List ℕ
+text_of v = unwrap_or (option_and_then as_str v) []
+
+-- the integer that a value is, and 0 where it is none
+abbrev pub integer_of : Option Data → ℤ
+integer_of v = unwrap_or (option_and_then as_integer v) (pos 0)
+
+-- the bytes that were decoded, and none where they couldn't be
+abbrev pub decoded : Result (List ℕ) FromHexError → List ℕ
+decoded (Ok bytes) = bytes
+decoded (Err e) = []
+
+-- the bytes that a text of hex digits of either case writes, and none where a digit is wrong or their number is odd
+abbrev pub bytes_of : Option Data → List ℕ
+bytes_of v = decoded (decode_of (text_of v))
+
+-- the members of an array as a list
+abbrev pub list_of : Items → List Data
+list_of no_items = []
+list_of (item d ds) = d ∷ list_of ds
+
+-- the members of the array that a value is, and none where it is no array
+abbrev pub members_of : Option Data → List Data
+members_of v = list_of (unwrap_or (option_and_then as_array v) no_items)
+
+abbrev pub is_table : Data → Bool
+is_table d = is_some (as_table d)
+
+-- an array of tables alone
+abbrev pub is_array_of_tables : Option Data → Bool
+is_array_of_tables v = is_some (option_and_then as_array v) && list_all is_table (members_of v)
+
+-- the one byte order that there is, `intel`: the lowest byte first
+abbrev pub is_byte_order : List ℕ → Bool
+is_byte_order text = bytes_eq text (codes "intel")
+
+-- the names of the types of checksums
+-- (ASAM MCD-1 XCP, protocol layer, description of commands: BUILD_CHECKSUM, XCP_ADD_11, XCP_ADD_12, XCP_ADD_14.)
+abbrev pub is_checksum : List ℕ → Bool
+is_checksum text = bytes_eq text (codes "ADD_11") || bytes_eq text (codes "ADD_12") || bytes_eq text (codes "ADD_14")
+
+-- the type of checksums with this name
+abbrev pub checksum_named : List ℕ → ChecksumKind
+checksum_named text = if bytes_eq text (codes "ADD_11") then Add11 else (if bytes_eq text (codes "ADD_12") then Add12 else Add14)

@@ -1,0 +1,58 @@
+//! The event channels of a configuration.
+ghost use Rattle.std.specs.Prelude.{◌≡◌, ◌≤◌, ◌⊎◌, length, map, Some, None, IfOk, IfErr};
+ghost use Rattle.std.specs.List.{flat_map, enumerate_from};
+ghost use Rattle.toml.specs.View.{view};
+ghost use Rattle.xcp_config.specs.Check.{first_failed};
+ghost use Rattle.xcp_config.specs.Layout.{events_of};
+ghost use Rattle.xcp_config.specs.Table.{event_checks, events_checks};
+ghost use Rattle.xcp_config.specs.Seen.{event_read, event_written};
+
+use crate::ConfigError;
+use crate::limits::{MAX_EVENTS, MAX_NAME};
+use crate::values::{read_setting, read_text, tables_in};
+use std::alloc::Global;
+use toml::Value;
+use xcp_memory::{EventPart, Key};
+
+/// The event channel that a table describes.
+fn read_event(alloc: Global, table: &Value, number: u8) -> Result<EventPart, ConfigError>
+    ensures passes { IfOk result (λ _. first_failed (event_checks (number, view table.now)) ≡ None) }
+    ensures read { IfOk result (λ e. event_read e ≡ event_written (view table.now)) }
+    ensures refused { IfErr result (λ e. (e ≡ ConfigError.Memory) ⊎ (first_failed (event_checks (number, view table.now)) ≡ Some e)) }
+{
+    let name = read_text(alloc, table, "name", Key::Name(number), MAX_NAME)?;
+    let cycle = read_setting(table, "cycle", Key::Cycle(number))?;
+    let unit = read_setting(table, "unit", Key::Unit(number))?;
+    let priority = read_setting(table, "priority", Key::Priority(number))?;
+    Ok(EventPart {
+        name,
+        cycle,
+        unit,
+        priority,
+    })
+}
+
+/// The event channels that these tables describe.
+fn read_each(alloc: Global, members: &[Value]) -> Result<Vec<EventPart>, ConfigError>
+    requires { length members.now ≤ 8 }
+    ensures passes { IfOk result (λ _. first_failed (flat_map event_checks (enumerate_from 0 (map view members.now))) ≡ None) }
+    ensures read { IfOk result (λ parts. map event_read parts.items ≡ map event_written (map view members.now)) }
+    ensures refused { IfErr result (λ e. (e ≡ ConfigError.Memory) ⊎ (first_failed (flat_map event_checks (enumerate_from 0 (map view members.now))) ≡ Some e)) }
+{
+    let mut parts = Vec::new(alloc);
+    for (i, member) in members.iter().enumerate() {
+        let part = read_event(alloc, member, i as u8)?;
+        parts.push(part)?;
+    }
+    Ok(parts)
+}
+
+/// The event channels of a table.
+pub(crate) fn read_events(alloc: Global, table: &Value) -> Result<Vec<EventPart>, ConfigError>
+    ensures passes { IfOk result (λ _. first_failed (events_checks (view table.now)) ≡ None) }
+    ensures read { IfOk result (λ parts. map event_read parts.items ≡ map event_written (events_of (view table.now))) }
+    ensures refused { IfErr result (λ e. (e ≡ ConfigError.Memory) ⊎ (first_failed (events_checks (view table.now)) ≡ Some e)) }
+{
+    let members = tables_in(table, "event", Key::Event, MAX_EVENTS)?;
+    read_each(alloc, members)
+}

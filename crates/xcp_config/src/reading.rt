@@ -1,0 +1,68 @@
+//! The layout that a text describes.
+ghost use Rattle.std.specs.Prelude.{◌≡◌, ◌⊎◌, ◌++◌, Some, None, Err, IfOk, IfErr};
+ghost use Rattle.toml.specs.View.{view};
+ghost use Rattle.xcp_config.specs.Check.{first_failed};
+ghost use Rattle.xcp_config.specs.Layout.{layout_in};
+ghost use Rattle.xcp_config.specs.Seen.{Reads};
+ghost use Rattle.xcp_config.specs.Table.{events_checks, first_fault, own_checks, segments_checks, signals_checks};
+ghost use Rattle.xcp_config.specs.Text.{HasFault, HasLayout, IsNoDocument};
+
+use crate::ConfigError;
+use crate::events::read_events;
+use crate::own::Own;
+use crate::segments::read_segments;
+use crate::signals::read_signals;
+use std::alloc::Global;
+use toml::Value;
+use xcp_memory::{Layout, Parts};
+
+/// The layout that a text describes. `Text` comes only where the text is no TOML document; then the keys are looked at
+/// in the order of `specs/Table.antt`, and the first check that fails tells the fault: for each key `Missing`, `Kind`,
+/// `Range`; for an array `TooMany` behind these; for a segment the number of bytes so far and its last address; areas
+/// that overlap last. `Memory` comes where memory is wanting, at any place.
+pub fn read_layout(alloc: Global, text: &str) -> Result<Layout, ConfigError>
+    ensures layout { IfOk result (λ l. HasLayout text.now l) }
+    ensures text { result ≡ Err ConfigError.Text → IsNoDocument text.now }
+    ensures fault { IfErr result (λ e. (e ≡ ConfigError.Text) ⊎ (e ≡ ConfigError.Memory) ⊎ HasFault text.now e) }
+{
+    match toml::table_from_str(alloc, text) {
+        Ok(table) => read_table(alloc, &Value::Table(table)),
+        Err(e) if e.is_memory() => Err(ConfigError::Memory),
+        Err(_) => Err(ConfigError::Text),
+    }
+}
+
+/// The parts of the layout that a table has, before it is known whether areas overlap.
+fn read_parts(alloc: Global, table: &Value) -> Result<Parts, ConfigError>
+    ensures passes { IfOk result (λ _. first_failed (own_checks (view table.now) ++ segments_checks (view table.now) ++ signals_checks (view table.now) ++ events_checks (view table.now)) ≡ None) }
+    ensures reads { IfOk result (λ p. Reads p (view table.now)) }
+    ensures refused { IfErr result (λ e. (e ≡ ConfigError.Memory) ⊎ (first_fault (view table.now) ≡ Some e)) }
+{
+    let own = Own::read(alloc, table)?;
+    let segments = read_segments(alloc, table)?;
+    let signals = read_signals(table)?;
+    let events = read_events(alloc, table)?;
+    Ok(Parts {
+        id: own.id,
+        max_cto: own.max_cto,
+        max_dto: own.max_dto,
+        checksum: own.checksum,
+        segments,
+        signals_address: signals.address,
+        signals_length: signals.length,
+        events,
+    })
+}
+
+/// The layout that a table has.
+fn read_table(alloc: Global, table: &Value) -> Result<Layout, ConfigError>
+    ensures passes { IfOk result (λ _. first_fault (view table.now) ≡ None) }
+    ensures value { IfOk result (λ l. l ≡ layout_in (view table.now)) }
+    ensures refused { IfErr result (λ e. (e ≡ ConfigError.Memory) ⊎ (first_fault (view table.now) ≡ Some e)) }
+{
+    let parts = read_parts(alloc, table)?;
+    match Layout::new(parts) {
+        Ok(layout) => Ok(layout),
+        Err(fault) => Err(ConfigError::of_limit(fault)),
+    }
+}

@@ -1,0 +1,183 @@
+//! The values at single keys. Each reader tells the first check that fails.
+ghost use Rattle.std.specs.Prelude.{◌≡◌, ◌≤◌, ◌⊎◌, length, map, pos, true, Some, None, IfOk, IfErr};
+ghost use Rattle.std.specs.List.{list_all};
+ghost use Rattle.toml.specs.Data.{get, integer};
+ghost use Rattle.toml.specs.View.{view};
+ghost use Rattle.xcp_memory.specs.Limits.{is_within, is_text, is_byte, is_printable};
+ghost use Rattle.xcp_config.specs.Check.{first_failed};
+ghost use Rattle.xcp_config.specs.Values.{bytes_of, integer_of, is_table, members_of, optional, text_of};
+ghost use Rattle.xcp_config.specs.Table.{array_checks, data_checks, integer_checks, table_checks, text_checks, text_there};
+
+use crate::ConfigError;
+use hex::FromHexError;
+use std::alloc::Global;
+use toml::Value;
+use xcp_memory::Key;
+
+/// A text, of whatever range.
+pub(crate) fn text_in<'a>(table: &'a Value, name: &str, key: Key) -> Result<&'a str, ConfigError>
+    ensures passes { IfOk result (λ _. first_failed (text_there key (get name.now (view table.now))) ≡ None) }
+    ensures value { IfOk result (λ s. s.now ≡ text_of (get name.now (view table.now))) }
+    ensures refused { IfErr result (λ e. first_failed (text_there key (get name.now (view table.now))) ≡ Some e) }
+{
+    let Some(value) = table.get(name) else {
+        return Err(ConfigError::Missing(key));
+    };
+    match value.as_str() {
+        Some(text) => Ok(text),
+        None => Err(ConfigError::Kind(key)),
+    }
+}
+
+/// Whether all bytes are printable characters of ASCII.
+fn all_printable(bytes: &[u8]) -> bool
+    ensures { result ≡ list_all is_printable bytes.now }
+{
+    bytes.iter().all(|b| (0x20..=0x7E).contains(b))
+}
+
+/// Whether there are 1 to `most` printable characters.
+fn is_text(bytes: &[u8], most: usize) -> bool
+    ensures { result ≡ is_text most bytes.now }
+{
+    !bytes.is_empty() && bytes.len() <= most && all_printable(bytes)
+}
+
+/// A text of 1 to `most` printable characters.
+#[tactic(auto, unfolding(crate::specs::Table::text_checks))]
+pub(crate) fn read_text(
+    alloc: Global,
+    table: &Value,
+    name: &str,
+    key: Key,
+    most: usize,
+) -> Result<Vec<u8>, ConfigError>
+    ensures passes { IfOk result (λ _. first_failed (text_checks key (is_text most) (get name.now (view table.now))) ≡ None) }
+    ensures value { IfOk result (λ bytes. bytes.items ≡ text_of (get name.now (view table.now))) }
+    ensures refused { IfErr result (λ e. (e ≡ ConfigError.Memory) ⊎ (first_failed (text_checks key (is_text most) (get name.now (view table.now))) ≡ Some e)) }
+{
+    let text = text_in(table, name, key)?;
+    if !is_text(text.as_bytes(), most) {
+        return Err(ConfigError::Range(key));
+    }
+    Ok(text.as_bytes().to_vec(alloc)?)
+}
+
+/// An integer from `least` to `most`.
+#[tactic(auto, unfolding(crate::specs::Table::integer_checks))]
+pub(crate) fn read_integer(
+    table: &Value,
+    name: &str,
+    key: Key,
+    least: u32,
+    most: u32,
+) -> Result<i64, ConfigError>
+    ensures passes { IfOk result (λ _. first_failed (integer_checks key (is_within least most) (get name.now (view table.now))) ≡ None) }
+    ensures value { IfOk result (λ n. n ≡ integer_of (get name.now (view table.now))) }
+    ensures range { IfOk result (λ n. is_within least most n ≡ true) }
+    ensures refused { IfErr result (λ e. first_failed (integer_checks key (is_within least most) (get name.now (view table.now))) ≡ Some e) }
+{
+    let Some(value) = table.get(name) else {
+        return Err(ConfigError::Missing(key));
+    };
+    let Some(number) = value.as_integer() else {
+        return Err(ConfigError::Kind(key));
+    };
+    if i64::from(least) <= number && number <= i64::from(most) {
+        Ok(number)
+    } else {
+        Err(ConfigError::Range(key))
+    }
+}
+
+/// An integer from 0 to 255, and 0 where the key isn't there.
+#[tactic(auto, unfolding(crate::specs::Table::integer_checks))]
+pub(crate) fn read_setting(table: &Value, name: &str, key: Key) -> Result<i64, ConfigError>
+    ensures passes { IfOk result (λ _. first_failed (integer_checks key is_byte (optional (integer (pos 0)) (get name.now (view table.now)))) ≡ None) }
+    ensures value { IfOk result (λ n. n ≡ integer_of (optional (integer (pos 0)) (get name.now (view table.now)))) }
+    ensures refused { IfErr result (λ e. first_failed (integer_checks key is_byte (optional (integer (pos 0)) (get name.now (view table.now)))) ≡ Some e) }
+{
+    match table.get(name) {
+        None => Ok(0),
+        Some(_) => read_integer(table, name, key, 0, 255),
+    }
+}
+
+/// The bytes that a text of hex digits writes: one at least.
+#[tactic(auto, unfolding(crate::specs::Table::data_checks))]
+pub(crate) fn read_bytes(
+    alloc: Global,
+    table: &Value,
+    name: &str,
+    key: Key,
+) -> Result<Vec<u8>, ConfigError>
+    ensures passes { IfOk result (λ _. first_failed (data_checks key (get name.now (view table.now))) ≡ None) }
+    ensures value { IfOk result (λ bytes. bytes.items ≡ bytes_of (get name.now (view table.now))) }
+    ensures least { IfOk result (λ bytes. 1 ≤ length bytes.items) }
+    ensures refused { IfErr result (λ e. (e ≡ ConfigError.Memory) ⊎ (first_failed (data_checks key (get name.now (view table.now))) ≡ Some e)) }
+{
+    let text = text_in(table, name, key)?;
+    match hex::decode(alloc, text) {
+        Ok(bytes) if bytes.is_empty() => Err(ConfigError::Range(key)),
+        Ok(bytes) => Ok(bytes),
+        Err(FromHexError::OutOfMemory) => Err(ConfigError::Memory),
+        Err(_) => Err(ConfigError::Range(key)),
+    }
+}
+
+/// A table.
+#[tactic(auto, unfolding(crate::specs::Table::table_checks))]
+pub(crate) fn table_in<'a>(table: &'a Value, name: &str, key: Key) -> Result<&'a Value, ConfigError>
+    ensures passes { IfOk result (λ _. first_failed (table_checks key (get name.now (view table.now))) ≡ None) }
+    ensures value { IfOk result (λ t. get name.now (view table.now) ≡ Some (view t.now)) }
+    ensures refused { IfErr result (λ e. first_failed (table_checks key (get name.now (view table.now))) ≡ Some e) }
+{
+    match table.get(name) {
+        None => Err(ConfigError::Missing(key)),
+        Some(value) if value.is_table() => Ok(value),
+        Some(_) => Err(ConfigError::Kind(key)),
+    }
+}
+
+/// Whether all values are tables.
+fn all_tables(members: &[Value]) -> bool
+    ensures { result ≡ list_all is_table (map view members.now) }
+{
+    for member in members {
+        if !member.is_table() {
+            return false;
+        }
+    }
+    true
+}
+
+/// The members of an array of 1 to `most` tables.
+#[tactic(auto, unfolding(crate::specs::Table::array_checks))]
+pub(crate) fn tables_in<'a>(
+    table: &'a Value,
+    name: &str,
+    key: Key,
+    most: usize,
+) -> Result<&'a [Value], ConfigError>
+    ensures passes { IfOk result (λ _. first_failed (array_checks key most (get name.now (view table.now))) ≡ None) }
+    ensures value { IfOk result (λ members. map view members.now ≡ members_of (get name.now (view table.now))) }
+    ensures most { IfOk result (λ members. length members.now ≤ most) }
+    ensures refused { IfErr result (λ e. first_failed (array_checks key most (get name.now (view table.now))) ≡ Some e) }
+{
+    let Some(value) = table.get(name) else {
+        return Err(ConfigError::Missing(key));
+    };
+    let Some(members) = value.as_array() else {
+        return Err(ConfigError::Kind(key));
+    };
+    if !all_tables(members) {
+        return Err(ConfigError::Kind(key));
+    }
+    if members.is_empty() {
+        return Err(ConfigError::Range(key));
+    }
+    if members.len() > most {
+        return Err(ConfigError::TooMany(key));
+    }
+    Ok(members)
+}

@@ -1,0 +1,45 @@
+-- The bytes of ODTs, and their packets.
+use Rattle.std.proofs.Common.{◌≡◌, ℕ, ◌+◌, ◌<◌, ◌≤◌, Bool, true, false, List, [], ◌∷◌, ◌++◌, length, take, drop, get_or, Option, Some, None, ap, sym, ◌∙◌, arith, append_assoc, length-append, if◌then◌else◌}
+use Rattle.std.proofs.lemmas.List.{take_more, length-take}
+use Rattle.std.proofs.lemmas.List.Sums.{sum_by_push, sum_by-cons, sum_by-take-le}
+use Rattle.arrayvec.specs.ArrayVec.{ArrayVec}
+use Rattle.xcp_memory.specs.Pages.{PagesValue, SegmentPages, ecu_page}
+use Rattle.xcp_memory.specs.Words.{lies_inside, controller_bytes, bytes_by, segment_of}
+use Rattle.xcp_daq.specs.declared.element.Element.{Element}
+use Rattle.xcp_daq.specs.Daq.{entry_size, odt_size}
+use Rattle.xcp_daq.specs.Pools.{parts}
+use Rattle.xcp_daq.specs.Sample.{entry_bytes, odt_bytes, packet_of, packets_from}
+use Rattle.xcp_daq.proofs.OdtLemmas.{parts_step}
+
+short_range : (page_of : SegmentPages → List ℕ) (o : Option ℕ) (pages : PagesValue) (a n : ℕ) → length (bytes_by page_of o pages a n) ≤ n
+short_range page_of (Some i) pages a n = simp length-take (omega arith)
+short_range page_of None pages a n = simp length-take (omega arith)
+
+short_by : (b : Bool) (bytes : List ℕ) (n : ℕ) → length bytes ≤ n → length (if b then bytes else []) ≤ n
+short_by true bytes n h = h
+short_by false bytes n h = omega arith
+
+-- an entry gives no more bytes than its size
+pub short_entry : (pages : PagesValue) (entry : Option Element) → length (entry_bytes pages entry) ≤ entry_size entry
+short_entry pages None = omega arith
+short_entry pages (Some e) = short_by (lies_inside pages.layout e.address e.size) (controller_bytes pages e.address e.size) e.size (short_range ecu_page (segment_of pages.layout e.address e.size) pages e.address e.size)
+
+-- an ODT gives no more bytes than its size
+pub short_odt : (pages : PagesValue) (odt : List (Option Element)) → length (odt_bytes pages odt) ≤ odt_size odt
+short_odt pages [] = omega arith
+short_odt pages (x ∷ xs) = omega (arith, length-append (entry_bytes pages x) (odt_bytes pages xs), sum_by-cons entry_size x xs, short_entry pages x, short_odt pages xs)
+
+-- there is room for one more entry
+pub room_for : (pages : PagesValue) (es : List (Option Element)) (i : ℕ) → i < length es → length (odt_bytes pages (take i es)) + entry_size (get_or es i None) ≤ odt_size es
+room_for pages es i h = omega (arith, short_odt pages (take i es), ap odt_size (take_more es i None h), sum_by_push entry_size (take i es) (get_or es i None), sum_by-take-le entry_size es (i + 1))
+
+-- the packets of one ODT, and of those behind it
+pub packets_step : (pages : PagesValue) (out out' all : List (ArrayVec ℕ)) (ns : List ℕ) (es : List (Option Element)) (first j at : ℕ) → j < length ns → out ++ packets_from pages (first + j) (parts (drop j ns) (drop at es)) ≡ all → out' ≡ out ++ packet_of (first + j) (odt_bytes pages (take (get_or ns j 0) (drop at es))) → out' ++ packets_from pages (first + (j + 1)) (parts (drop (j + 1) ns) (drop (at + get_or ns j 0) es)) ≡ all
+packets_step pages out out' all ns es first j at h e f =
+    let rest : List (List (Option Element)) = parts (drop (j + 1) ns) (drop (at + get_or ns j 0) es) in
+    let packet : List (ArrayVec ℕ) = packet_of (first + j) (odt_bytes pages (take (get_or ns j 0) (drop at es))) in
+    ap (λ (xs : List (ArrayVec ℕ)). xs ++ packets_from pages (first + (j + 1)) rest) f
+    ∙ append_assoc out packet (packets_from pages (first + (j + 1)) rest)
+    ∙ ap (λ n. out ++ (packet ++ packets_from pages n rest)) (omega arith)
+    ∙ ap (λ (odts : List (List (Option Element))). out ++ packets_from pages (first + j) odts) (sym (parts_step ns es j at h))
+    ∙ e

@@ -1,0 +1,13 @@
+use Rattle.std.proofs.Common.{ap, sym, ◌∙◌, arith, ◌++◌, List, ℕ}
+use Rattle.arrayvec.specs.ArrayVec.{ArrayVec}
+use Rattle.xcp_daq.proofs.DueLemmas.{due_fits, due_packets, joined_more}
+use Rattle.xcp_daq.proofs.daq.sampling.sample_list.Goals as goal
+
+pub sample-requires-clause-fits : goal.sample-requires-clause-fits
+sample-requires-clause-fits c = due_fits c.args.modes.now c.args.odts.now c.args.i _ c.args.channel c.requires.same c.requires.place c.requires.lists (sym c.is_due.ensures ∙ c.if-is_due.true)
+
+pub returns-then-is_due-clause-items : goal.returns-then-is_due-clause-items
+returns-then-is_due-clause-items c = c.sample.ensures.items ∙ ap (λ (ps : List (ArrayVec ℕ)). c.args.out.now.items ++ ps) (due_packets c.args.modes.now c.args.odts.now c.args.i _ c.args.channel c.args.pages.now c.requires.same c.requires.place (sym c.is_due.ensures ∙ c.if-is_due.true))
+
+pub returns-else-is_due-clause-room : goal.returns-else-is_due-clause-room
+returns-else-is_due-clause-room c = omega (arith, c.requires.room, joined_more c.args.odts.now c.args.i (omega (arith, c.requires.place, c.requires.same)))

@@ -1,0 +1,12 @@
+use Rattle.std.proofs.Common.{◌≡◌, ◌≤◌, ◌+◌, ◌++◌, drop, take}
+use Rattle.arrayvec.specs.ArrayVec.{array_vec_len}
+use Rattle.xcp_daq.specs.Pools.{parts, total}
+use Rattle.xcp_daq.specs.Sample.{packets_from}
+use Rattle.xcp_daq.proofs.odts.sampling.sample_odts.Given as goal
+
+abbrev pub invariant-loop-j : goal.invariant-loop-j
+invariant-loop-j l = record {
+  at : l.at ≡ total (take l.j l.counts);
+  room : array_vec_len l.out ≤ array_vec_len l.fn.out + l.j;
+  rest : l.out.items ++ packets_from l.pages (l.first + l.j) (parts (drop l.j l.counts) (drop l.at l.entries)) ≡ l.fn.out.items ++ packets_from l.pages l.first (parts l.counts l.entries);
+}

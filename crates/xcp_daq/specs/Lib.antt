@@ -1,0 +1,10 @@
+pub mod Daq
+pub mod Phase
+pub mod Allocating
+pub mod Configuring
+pub mod Starting
+pub mod Telling
+pub mod Sample
+pub mod Lawful
+pub mod SampleLaws
+pub mod Pools

@@ -1,0 +1,59 @@
+-- The sample of an event: the data packets of the lists that are due.
+-- (ASAM MCD-1 XCP, protocol layer: DAQ, data packets and their identification field; event channels, prescaler.)
+use Rattle.std.specs.Prelude.{ℕ, ◌+◌, ◌%◌, ◌==◌, ◌&&◌, Bool, List, [], ◌∷◌, map, Option, Some, None, if◌then◌else◌}
+use Rattle.std.specs.List.{flat_map, enumerate_from}
+use Rattle.arrayvec.specs.ArrayVec.{ArrayVec}
+use Rattle.xcp_memory.specs.Pages.{PagesValue}
+use Rattle.xcp_memory.specs.Words.{lies_inside, controller_bytes}
+use Rattle.xcp_daq.specs.declared.element.Element.{Element}
+use Rattle.xcp_daq.specs.Daq.{DaqValue, DaqList, first_pid}
+
+-- a list that runs counts the events of its channel
+abbrev pub counts : ℕ → DaqList → Bool
+counts channel l = l.running && (l.event == channel)
+
+-- it is due at the first event after its start and then at each p-th, p being its prescaler
+abbrev pub due : ℕ → DaqList → Bool
+due channel l = counts channel l && (l.since == 0)
+
+-- what the controller has at an element; a range that doesn't lie in one area gives nothing
+abbrev pub element_bytes : PagesValue → Element → List ℕ
+element_bytes pages e = if lies_inside pages.layout e.address e.size then controller_bytes pages e.address e.size else []
+
+-- an unwritten entry gives nothing
+abbrev pub entry_bytes : PagesValue → Option Element → List ℕ
+entry_bytes pages (Some e) = element_bytes pages e
+entry_bytes pages None = []
+
+-- the bytes of an ODT: those of its written entries in order
+abbrev pub odt_bytes : PagesValue → List (Option Element) → List ℕ
+odt_bytes pages odt = flat_map (entry_bytes pages) odt
+
+-- the packet of these bytes: the PID, and then they; no bytes give no packet
+abbrev pub packet_of : ℕ → List ℕ → List (ArrayVec ℕ)
+packet_of pid [] = []
+packet_of pid (byte ∷ bytes) = record { items = pid ∷ byte ∷ bytes } ∷ []
+
+-- the packet of an ODT with this PID
+abbrev pub odt_packets : PagesValue → ℕ × List (Option Element) → List (ArrayVec ℕ)
+odt_packets pages (pid, odt) = packet_of pid (odt_bytes pages odt)
+
+-- the packets of ODTs, whose PIDs are the numbers from the first one on
+abbrev pub packets_from : PagesValue → ℕ → List (List (Option Element)) → List (ArrayVec ℕ)
+packets_from pages first odts = flat_map (odt_packets pages) (enumerate_from first odts)
+
+-- the packets of list i, if it is due
+abbrev pub list_packets : ℕ → PagesValue → DaqValue → ℕ × DaqList → List (ArrayVec ℕ)
+list_packets channel pages v (i, l) = if due channel l then packets_from pages (first_pid i v) l.odts else []
+
+-- the packets of an event: those of the due lists in order
+abbrev pub sampled : ℕ → PagesValue → DaqValue → List (ArrayVec ℕ)
+sampled channel pages v = flat_map (list_packets channel pages v) (enumerate_from 0 v.lists)
+
+-- a list after an event: one that runs on the channel counts it
+abbrev pub counted : ℕ → DaqList → DaqList
+counted channel l = if counts channel l then record l { since = (l.since + 1) % l.prescaler } else l
+
+-- the lists after an event
+abbrev pub after_event : ℕ → DaqValue → DaqValue
+after_event channel v = record v { lists = map (counted channel) v.lists }

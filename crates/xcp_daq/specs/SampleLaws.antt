@@ -1,0 +1,10 @@
+-- A law of samples.
+use Rattle.std.specs.Prelude.{ℕ, ◌≤◌, length, All}
+use Rattle.xcp_memory.specs.Pages.{PagesValue}
+use Rattle.xcp_daq.specs.Daq.{DaqValue}
+use Rattle.xcp_daq.specs.Lawful.{IsDaq}
+use Rattle.xcp_daq.specs.Sample.{sampled}
+
+-- an event gives 64 packets at most, each of 1 to 255 bytes
+abbrev pub SamplesAreBounded : Type 0
+SamplesAreBounded = (channel : ℕ) (pages : PagesValue) (v : DaqValue) → IsDaq v → (length (sampled channel pages v) ≤ 64) × All (λ packet. (1 ≤ length packet.items) × (length packet.items ≤ 255)) (sampled channel pages v)

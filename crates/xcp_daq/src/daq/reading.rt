@@ -1,0 +1,94 @@
+//! What the commands ask of the lists.
+ghost use Rattle.std.specs.Prelude.{◌≡◌, ◌<◌, ◌≤◌, length};
+ghost use Rattle.xcp_daq.specs.Daq.{list_at, odt_at, all_odts, all_entries, any_large, first_pid, with_list};
+ghost use Rattle.xcp_daq.specs.Lawful.{IsList};
+ghost use Rattle.xcp_daq.specs.Pools.{list_of};
+
+use super::Daq;
+use crate::mode::Mode;
+use crate::pools::put;
+
+impl Daq {
+    /// How many lists there are.
+    pub(super) fn list_count(&self) -> usize
+        ensures value { result ≡ length self.now.lists }
+        ensures bound { result ≤ 16 }
+    {
+        self.modes.len()
+    }
+
+    /// How many ODTs there are, in all lists.
+    pub(super) fn odt_count(&self) -> usize
+        ensures value { result ≡ length (all_odts self.now.lists) }
+        ensures bound { result ≤ 64 }
+    {
+        self.odts.odt_count()
+    }
+
+    /// How many entries there are, in all ODTs.
+    pub(super) fn entry_count(&self) -> usize
+        ensures value { result ≡ length (all_entries self.now.lists) }
+        ensures bound { result ≤ 256 }
+    {
+        self.odts.entry_count()
+    }
+
+    /// How many ODTs a list has.
+    pub(super) fn odts_of(&self, i: usize) -> usize
+        requires { i < length self.now.lists }
+        ensures { result ≡ length (list_at self.now i).odts }
+    {
+        self.odts.odts_of(i)
+    }
+
+    /// How many entries an ODT has.
+    pub(super) fn entries_of(&self, i: usize, j: usize) -> usize
+        requires list { i < length self.now.lists }
+        requires odt { j < length (list_at self.now i).odts }
+        ensures value { result ≡ length (odt_at self.now i j) }
+        ensures bound { result ≤ 256 }
+    {
+        self.odts.entries_of(i, j)
+    }
+
+    /// The mode of a list.
+    pub(super) fn mode(&self, i: usize) -> Mode
+        requires { i < length self.now.lists }
+        ensures { list_of result (list_at self.now i).odts ≡ list_at self.now i }
+    {
+        self.modes[i]
+    }
+
+    /// Whether a list runs.
+    pub(super) fn runs(&self, i: usize) -> bool
+        requires { i < length self.now.lists }
+        ensures { result ≡ (list_at self.now i).running }
+    {
+        self.mode(i).running
+    }
+
+    /// Whether an ODT of a list has more bytes.
+    pub(super) fn has_large(&self, i: usize, greatest: u8) -> bool
+        requires { i < length self.now.lists }
+        ensures { result ≡ any_large greatest (list_at self.now i).odts }
+    {
+        self.odts.has_large(i, greatest)
+    }
+
+    /// FIRST_PID of a list.
+    pub(super) fn first_pid(&self, i: usize) -> u8
+        requires { i < length self.now.lists }
+        ensures { result ≡ first_pid i self.now }
+    {
+        self.odts.first_pid(i) as u8
+    }
+
+    /// Gives a list another mode.
+    pub(super) fn set_mode(&mut self, i: usize, mode: Mode)
+        requires list { i < length self.old.lists }
+        requires lawful { IsList (list_of mode (list_at self.old i).odts) }
+        ensures { self.new ≡ with_list self.old i (list_of mode (list_at self.old i).odts) }
+    {
+        put(&mut self.modes, i, mode);
+    }
+}

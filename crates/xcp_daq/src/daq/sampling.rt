@@ -1,0 +1,93 @@
+//! The sample of an event.
+ghost use Rattle.std.specs.Prelude.{◌≡◌, ◌≤◌, ◌<◌, All, ◌+◌, ◌++◌, [], length, map, take, None, slice_index_or as get_or};
+ghost use Rattle.xcp_daq.specs.Lawful.{IsEntry, IsList};
+ghost use Rattle.arrayvec.specs.ArrayVec.{array_vec_len};
+ghost use Rattle.xcp_daq.specs.Sample.{sampled, list_packets, after_event};
+ghost use Rattle.xcp_daq.specs.Pools.{counted_mode, joined, list_of, lists_of};
+
+use super::Daq;
+use crate::mode::{Mode, NEW_LIST};
+use crate::odts::Odts;
+use arrayvec::ArrayVec;
+use xcp_memory::Pages;
+use xcp_packet::Packet;
+
+impl Daq {
+    /// Counts an event of a channel, and gives the data packets of the lists that are due: for each ODT with bytes its PID
+    /// and then what the controller has at its elements. `out` has to be empty; it gets up to 64 packets.
+    pub fn sample(&mut self, channel: u16, pages: &Pages, out: &mut ArrayVec<Packet, 64>)
+        requires { array_vec_len out.old ≡ 0 }
+        ensures packets { out.new.items ≡ sampled channel pages.now self.old }
+        ensures value { self.new ≡ after_event channel self.old }
+    {
+        sample_due(&self.modes, &self.odts, channel, pages, out);
+        self.count_event(channel);
+    }
+
+    /// Counts the event in the lists that run on its channel.
+    fn count_event(&mut self, channel: u16)
+        ensures { self.new ≡ after_event channel self.old }
+    {
+        count_each(&mut self.modes, channel);
+    }
+}
+
+/// Appends the packets of the lists that are due.
+fn sample_due(
+    modes: &[Mode],
+    odts: &Odts,
+    channel: u16,
+    pages: &Pages,
+    out: &mut ArrayVec<Packet, 64>,
+)
+    requires same { length modes.now ≡ length odts.now }
+    requires lists { All IsList (lists_of modes.now odts.now) }
+    requires written { All IsEntry (joined (joined odts.now)) }
+    requires empty { array_vec_len out.old ≡ 0 }
+    ensures { out.new.items ≡ sampled channel pages.now (record { lists = lists_of modes.now odts.now; pointer = None; last = None }) }
+{
+    for i in 0..modes.len() {
+        sample_list(modes, odts, i, channel, pages, out);
+    }
+}
+
+/// Appends the packets of a list, if it is due.
+fn sample_list(
+    modes: &[Mode],
+    odts: &Odts,
+    i: usize,
+    channel: u16,
+    pages: &Pages,
+    out: &mut ArrayVec<Packet, 64>,
+)
+    requires place { i < length modes.now }
+    requires same { length modes.now ≡ length odts.now }
+    requires lists { All IsList (lists_of modes.now odts.now) }
+    requires written { All IsEntry (joined (joined odts.now)) }
+    requires room { array_vec_len out.old ≤ length (joined (take i odts.now)) }
+    ensures items { out.new.items ≡ out.old.items ++ list_packets channel pages.now (record { lists = lists_of modes.now odts.now; pointer = None; last = None }) (i, list_of (get_or modes.now i NEW_LIST) (get_or odts.now i [])) }
+    ensures room { array_vec_len out.new ≤ length (joined (take (i + 1) odts.now)) }
+{
+    if modes[i].is_due(channel) {
+        odts.sample(i, pages, out);
+    }
+}
+
+/// Counts an event in each of the lists that run on its channel.
+fn count_each(modes: &mut [Mode], channel: u16)
+    requires { All (λ m. 1 ≤ m.prescaler) modes.old }
+    ensures { modes.new ≡ map (counted_mode channel) modes.old }
+{
+    for mode in modes.iter_mut() {
+        count_one(mode, channel);
+    }
+}
+
+fn count_one(mode: &mut Mode, channel: u16)
+    requires { 1 ≤ mode.old.prescaler }
+    ensures { mode.new ≡ counted_mode channel mode.old }
+{
+    if mode.counts(channel) {
+        mode.since = ((u16::from(mode.since) + 1) % u16::from(mode.prescaler)) as u8;
+    }
+}

@@ -1,0 +1,79 @@
+//! The commands that only ask.
+ghost use Rattle.std.specs.Prelude.{◌≡◌, ◌-◌, ◌<◌, length, None, Some, IfOk, IfErr};
+ghost use Rattle.xcp_daq.specs.Daq.{greatest_size};
+ghost use Rattle.xcp_daq.specs.Telling.{daq_list_mode_refusal, daq_list_mode_reply, processor_info_reply, event_info_refusal, event_info_reply};
+
+use super::Daq;
+use crate::list_flags::ListFlags;
+use crate::{EventInfo, ListMode, ProcessorInfo};
+use xcp_memory::Layout;
+use xcp_packet::Code;
+
+impl Daq {
+    /// The mode of a list. `OutOfRange` where there is no such list.
+    ///
+    /// ASAM MCD-1 XCP, protocol layer, description of commands: GET_DAQ_LIST_MODE.
+    pub fn daq_list_mode(&self, list: u16) -> Result<ListMode, Code>
+        ensures ok { IfOk result (λ mode. (daq_list_mode_refusal list self.now ≡ None) × (mode ≡ daq_list_mode_reply list self.now)) }
+        ensures refused { IfErr result (λ code. daq_list_mode_refusal list self.now ≡ Some code) }
+    {
+        let i = list as usize;
+        if i >= self.list_count() {
+            return Err(Code::OutOfRange);
+        }
+        Ok(self.told_mode(i))
+    }
+
+    /// How many lists and event channels there are.
+    ///
+    /// ASAM MCD-1 XCP, protocol layer, description of commands: GET_DAQ_PROCESSOR_INFO.
+    pub fn processor_info(&self, layout: &Layout) -> ProcessorInfo
+        ensures { result ≡ processor_info_reply layout.now self.now }
+    {
+        ProcessorInfo {
+            lists: self.list_count() as u16,
+            events: layout.event_count() as u16,
+        }
+    }
+
+    /// How many bytes an ODT entry has at most: MAX_DTO - 1.
+    ///
+    /// ASAM MCD-1 XCP, protocol layer, description of commands: GET_DAQ_RESOLUTION_INFO.
+    pub fn resolution_info(layout: &Layout) -> u8
+        ensures { result ≡ greatest_size layout.now }
+    {
+        layout.max_dto() - 1
+    }
+
+    /// An event channel. `OutOfRange` where the layout has none of this number.
+    ///
+    /// ASAM MCD-1 XCP, protocol layer, description of commands: GET_DAQ_EVENT_INFO.
+    pub fn event_info(layout: &Layout, channel: u16) -> Result<EventInfo, Code>
+        ensures ok { IfOk result (λ event. (event_info_refusal layout.now channel ≡ None) × (event ≡ event_info_reply layout.now channel)) }
+        ensures refused { IfErr result (λ code. event_info_refusal layout.now channel ≡ Some code) }
+    {
+        let event = channel as usize;
+        if event >= layout.event_count() {
+            return Err(Code::OutOfRange);
+        }
+        Ok(EventInfo {
+            name_length: layout.event_name(event).len() as u8,
+            cycle: layout.event_cycle(event),
+            unit: layout.event_unit(event),
+            priority: layout.event_priority(event),
+        })
+    }
+
+    fn told_mode(&self, i: usize) -> ListMode
+        requires { i < length self.now.lists }
+        ensures { result ≡ daq_list_mode_reply i self.now }
+    {
+        let mode = self.mode(i);
+        ListMode {
+            mode: ListFlags::bits_of(mode.selected, mode.running),
+            event: mode.event,
+            prescaler: mode.prescaler,
+            priority: mode.priority,
+        }
+    }
+}

@@ -1,0 +1,125 @@
+//! The ODTs of all lists, in flat pools.
+ghost use Rattle.std.specs.Prelude.{◌≡◌, ◌<◌, ◌≤◌, ◌+◌, ◌++◌, [], None, Some, length, map, replicate, slice_index_or as get_or, slice_set};
+ghost use Rattle.xcp_daq.specs.Pools.{joined};
+
+mod reading;
+mod sampling;
+
+use crate::Element;
+use crate::daq::MAX_LISTS;
+use crate::pools::{blank, end_of, grow, place_of, put, put_in, sum_before};
+use arrayvec::ArrayVec;
+use std::marker::Model;
+
+/// How many ODTs there are at most, in all lists.
+pub(crate) const MAX_ODTS: usize = 64;
+
+/// How many entries there are at most, in all ODTs.
+pub(crate) const MAX_ENTRIES: usize = 256;
+
+/// The ODTs of all lists: how many ODTs each list has, how many entries each ODT has, list by list, and the entries, ODT
+/// by ODT. So the place of an ODT among all of them is its PID.
+#[derive(Drop)]
+pub(crate) struct Odts {
+    odt_counts: ArrayVec<u16, MAX_LISTS>,
+    entry_counts: ArrayVec<u16, MAX_ODTS>,
+    entries: ArrayVec<Option<Element>, MAX_ENTRIES>,
+}
+
+impl Model for Odts {
+    ghost use Rattle.std.specs.Prelude.{List, Option};
+    ghost use Rattle.xcp_daq.specs.declared.element.Element.{Element};
+    ghost use Rattle.xcp_daq.specs.Pools.{parts, IsFit};
+
+    ghost Value = { List (List (List (Option Element))) };
+
+    ghost view = { λ p. parts p.odt_counts.items (parts p.entry_counts.items p.entries.items) };
+
+    ghost invariant = { λ p. IsFit p.odt_counts.items p.entry_counts.items p.entries.items };
+}
+
+impl Odts {
+    /// No lists.
+    pub(crate) fn new() -> Odts
+        ensures { result ≡ [] }
+    {
+        Odts {
+            odt_counts: ArrayVec::new(),
+            entry_counts: ArrayVec::new(),
+            entries: ArrayVec::new(),
+        }
+    }
+
+    /// Takes all lists away.
+    pub(crate) fn clear(&mut self)
+        ensures { self.new ≡ [] }
+    {
+        self.odt_counts.clear();
+        self.entry_counts.clear();
+        self.entries.clear();
+    }
+
+    /// Puts lists without ODTs behind the others.
+    pub(crate) fn add_lists(&mut self, n: usize)
+        requires { length self.old + n ≤ 16 }
+        ensures { self.new ≡ self.old ++ replicate n [] }
+    {
+        let end = self.odt_counts.len();
+        put_in(&mut self.odt_counts, end, n, 0);
+    }
+
+    /// Puts ODTs without entries behind the others of a list.
+    pub(crate) fn add_odts(&mut self, i: usize, n: usize)
+        requires list { i < length self.old }
+        requires room { length (joined self.old) + n ≤ 64 }
+        ensures { self.new ≡ slice_set self.old i (get_or self.old i [] ++ replicate n []) }
+    {
+        let _all = self.entry_counts.len();
+        let end = end_of(&self.odt_counts, i);
+        put_in(&mut self.entry_counts, end, n, 0);
+        grow(&mut self.odt_counts, i, n);
+    }
+
+    /// Puts unwritten entries behind the others of an ODT.
+    pub(crate) fn add_entries(&mut self, i: usize, j: usize, n: usize)
+        requires list { i < length self.old }
+        requires odt { j < length (get_or self.old i []) }
+        requires room { length (joined (joined self.old)) + n ≤ 256 }
+        ensures { self.new ≡ slice_set self.old i (slice_set (get_or self.old i []) j (get_or (get_or self.old i []) j [] ++ replicate n None)) }
+    {
+        let _all = self.entries.len();
+        let _odts = self.entry_counts.len();
+        let g = place_of(&self.odt_counts, i, j);
+        let end = end_of(&self.entry_counts, g);
+        put_in(&mut self.entries, end, n, None);
+        grow(&mut self.entry_counts, g, n);
+    }
+
+    /// Writes an entry.
+    pub(crate) fn write(&mut self, i: usize, j: usize, k: usize, element: Element)
+        requires list { i < length self.old }
+        requires odt { j < length (get_or self.old i []) }
+        requires entry { k < length (get_or (get_or self.old i []) j []) }
+        ensures { self.new ≡ slice_set self.old i (slice_set (get_or self.old i []) j (slice_set (get_or (get_or self.old i []) j []) k (Some element))) }
+    {
+        let _all = self.entries.len();
+        let _odts = self.entry_counts.len();
+        let g = place_of(&self.odt_counts, i, j);
+        let m = place_of(&self.entry_counts, g, k);
+        put(&mut self.entries, m, Some(element));
+    }
+
+    /// Makes all entries of a list unwritten.
+    pub(crate) fn unwrite(&mut self, i: usize)
+        requires { i < length self.old }
+        ensures { self.new ≡ slice_set self.old i (map (map (λ entry. None)) (get_or self.old i [])) }
+    {
+        let _all = self.entries.len();
+        let _odts = self.entry_counts.len();
+        let first = sum_before(&self.odt_counts, i);
+        let end = end_of(&self.odt_counts, i);
+        let from = sum_before(&self.entry_counts, first);
+        let to = sum_before(&self.entry_counts, end);
+        blank(&mut self.entries, from, to);
+    }
+}

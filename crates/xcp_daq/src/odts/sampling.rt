@@ -1,0 +1,141 @@
+//! The data packets of a list.
+ghost use Rattle.std.specs.Prelude.{◌≡◌, ◌<◌, ◌≤◌, ◌+◌, ◌++◌, ◌∷◌, [], ◌^◌, All, length, take, slice_index_or as get_or, OnOk, OnErr, true, false};
+ghost use Rattle.xcp_memory.specs.Words.{lies_inside, controller_bytes};
+ghost use Rattle.arrayvec.specs.ArrayVec.{array_vec_len};
+ghost use Rattle.xcp_daq.specs.Daq.{entry_size, odt_size};
+ghost use Rattle.xcp_daq.specs.Lawful.{IsEntry};
+ghost use Rattle.xcp_daq.specs.Pools.{joined, parts, total};
+ghost use Rattle.xcp_daq.specs.Sample.{element_bytes, entry_bytes, odt_bytes, packet_of, packets_from};
+
+use super::Odts;
+use crate::Element;
+use crate::pools::cut;
+use arrayvec::ArrayVec;
+use xcp_memory::Pages;
+use xcp_packet::{Code, Packet};
+
+/// What an element's place in a packet holds before the element is read.
+const ZEROS: [u8; 254] = [0; 254];
+
+impl Odts {
+    /// Appends the packets of a list.
+    pub(crate) fn sample(&self, i: usize, pages: &Pages, out: &mut ArrayVec<Packet, 64>)
+        requires list { i < length self.now }
+        requires fits { All (λ odt. odt_size odt ≤ 254) (get_or self.now i []) }
+        requires written { All IsEntry (joined (joined self.now)) }
+        requires room { array_vec_len out.old ≤ length (joined (take i self.now)) }
+        ensures items { out.new.items ≡ out.old.items ++ packets_from pages.now (length (joined (take i self.now))) (get_or self.now i []) }
+        ensures len { array_vec_len out.new ≤ length (joined (take (i + 1) self.now)) }
+    {
+        let _odts = self.odt_count();
+        let first = self.first_pid(i);
+        let (counts, entries) = self.list(i);
+        sample_odts(counts, entries, first as u8, pages, out);
+    }
+}
+
+/// Appends the packets of ODTs with so many entries each; the first ODT has this PID.
+fn sample_odts(
+    counts: &[u16],
+    entries: &[Option<Element>],
+    first: u8,
+    pages: &Pages,
+    out: &mut ArrayVec<Packet, 64>,
+)
+    requires cut { total counts.now ≤ length entries.now }
+    requires few { length entries.now ≤ 256 }
+    requires room { array_vec_len out.old + length counts.now ≤ 64 }
+    requires pids { first + length counts.now ≤ 64 }
+    requires written { All IsEntry entries.now }
+    requires fits { All (λ odt. odt_size odt ≤ 254) (parts counts.now entries.now) }
+    ensures items { out.new.items ≡ out.old.items ++ packets_from pages.now first (parts counts.now entries.now) }
+    ensures len { array_vec_len out.new ≤ array_vec_len out.old + length counts.now }
+{
+    let mut at = 0;
+    for j in 0..counts.len() {
+        let n = counts[j] as usize;
+        push_packet(first + j as u8, cut(entries, at, n), pages, out);
+        at += n;
+    }
+}
+
+/// Appends the packet of an ODT, if it has bytes.
+fn push_packet(pid: u8, entries: &[Option<Element>], pages: &Pages, out: &mut ArrayVec<Packet, 64>)
+    requires room { array_vec_len out.old < 64 }
+    requires written { All IsEntry entries.now }
+    requires fits { odt_size entries.now ≤ 254 }
+    ensures items { out.new.items ≡ out.old.items ++ packet_of pid (odt_bytes pages.now entries.now) }
+    ensures len { array_vec_len out.new ≤ array_vec_len out.old + 1 }
+{
+    let place = out.len();
+    out.push(Packet::new());
+    fill(&mut out[place], pid, entries, pages);
+    if out[place].len() == 1 {
+        out.pop();
+    }
+}
+
+/// Writes a PID and the bytes of an ODT into an empty packet.
+fn fill(packet: &mut Packet, pid: u8, entries: &[Option<Element>], pages: &Pages)
+    requires empty { packet.old.items ≡ [] }
+    requires written { All IsEntry entries.now }
+    requires fits { odt_size entries.now ≤ 254 }
+    ensures { packet.new.items ≡ pid ∷ odt_bytes pages.now entries.now }
+{
+    packet.push(pid);
+    for entry in entries {
+        append_entry(packet, entry, pages);
+    }
+}
+
+/// Appends the bytes of an entry.
+fn append_entry(packet: &mut Packet, entry: &Option<Element>, pages: &Pages)
+    requires lawful { IsEntry entry.now }
+    requires room { array_vec_len packet.old + entry_size entry.now ≤ 255 }
+    ensures { packet.new.items ≡ packet.old.items ++ entry_bytes pages.now entry.now }
+{
+    if let Some(element) = entry {
+        append(packet, element, pages);
+    }
+}
+
+/// Appends what the controller has at an element.
+fn append(packet: &mut Packet, element: &Element, pages: &Pages)
+    requires some { 1 ≤ element.now.size }
+    requires short { element.now.size ≤ 254 }
+    requires room { array_vec_len packet.old + element.now.size ≤ 255 }
+    ensures { packet.new.items ≡ packet.old.items ++ element_bytes pages.now element.now }
+{
+    let place = packet.len();
+    let size = element.size as usize;
+    extend(packet, size);
+    if read_at(packet, place, size, element.address, pages).is_err() {
+        packet.truncate(place);
+    }
+}
+
+/// Makes room for n bytes behind the others.
+fn extend(packet: &mut Packet, n: usize)
+    requires short { n ≤ 254 }
+    requires room { array_vec_len packet.old + n ≤ 255 }
+    ensures { packet.new.items ≡ packet.old.items ++ take n ZEROS }
+{
+    let _ = packet.try_extend_from_slice(&ZEROS[..n]);
+}
+
+/// Reads the n bytes that the controller has from an address on, into the last n bytes.
+fn read_at(
+    bytes: &mut [u8],
+    place: usize,
+    n: usize,
+    address: u32,
+    pages: &Pages,
+) -> Result<(), Code>
+    requires some { 1 ≤ n }
+    requires end { place + n ≡ length bytes.old }
+    requires fits { length bytes.old < 2 ^ 32 }
+    ensures ok { OnOk result ((lies_inside pages.now.layout address n ≡ true) × (bytes.new ≡ take place bytes.old ++ controller_bytes pages.now address n)) }
+    ensures refused { OnErr result ((lies_inside pages.now.layout address n ≡ false) × (bytes.new ≡ bytes.old)) }
+{
+    pages.read_ecu(address, &mut bytes[place..place + n])
+}

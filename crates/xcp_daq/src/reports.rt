@@ -1,0 +1,42 @@
+//! What commands that only ask are told.
+
+/// What GET_DAQ_LIST_MODE is told of a DAQ list.
+///
+/// ASAM MCD-1 XCP, protocol layer, description of commands: GET_DAQ_LIST_MODE.
+#[derive(Clone, Copy, Debug, PartialEq, Eq)]
+pub struct ListMode {
+    /// Bit 0: the list is selected; bit 6: it runs.
+    pub mode: u8,
+    /// The number of the event channel.
+    pub event: u16,
+    /// The prescaler, at least 1.
+    pub prescaler: u8,
+    /// The priority.
+    pub priority: u8,
+}
+
+/// What GET_DAQ_PROCESSOR_INFO is told.
+///
+/// ASAM MCD-1 XCP, protocol layer, description of commands: GET_DAQ_PROCESSOR_INFO.
+#[derive(Clone, Copy, Debug, PartialEq, Eq)]
+pub struct ProcessorInfo {
+    /// How many DAQ lists there are: up to 16.
+    pub lists: u16,
+    /// How many event channels there are: 1 to 8.
+    pub events: u16,
+}
+
+/// What GET_DAQ_EVENT_INFO is told of an event channel.
+///
+/// ASAM MCD-1 XCP, protocol layer, description of commands: GET_DAQ_EVENT_INFO.
+#[derive(Clone, Copy, Debug, PartialEq, Eq)]
+pub struct EventInfo {
+    /// How many bytes the name has: 1 to 32.
+    pub name_length: u8,
+    /// The time cycle.
+    pub cycle: u8,
+    /// The time unit.
+    pub unit: u8,
+    /// The priority.
+    pub priority: u8,
+}

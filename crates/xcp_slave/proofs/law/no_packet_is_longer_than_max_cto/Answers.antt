@@ -1,5 +1,0 @@
-use Rattle.xcp_slave.proofs.LengthLaws.{answers-length}
-use Rattle.xcp_slave.proofs.law.no_packet_is_longer_than_max_cto.Goals as goal
-
-pub returns : goal.returns
-returns c = answers-length

@@ -1,0 +1,58 @@
+-- The rows of the commands of data acquisition (DAQ).
+use Rattle.std.specs.Prelude.{ℕ, Option, Some, None, Result, Ok, Err}
+use Rattle.xcp_packet.specs.declared.Reply.{Reply}
+use Rattle.xcp_packet.specs.declared.Reply.TheVariants as replies
+use Rattle.xcp_packet.specs.declared.Code.{Code}
+use Rattle.xcp_transfer.specs.declared.Mta.TheVariants.{Text}
+use Rattle.xcp_transfer.specs.declared.TextId.TheVariants.{Name}
+use Rattle.xcp_transfer.specs.Rows.{Row, refused}
+use Rattle.xcp_daq.specs.declared.Element.{Element}
+use Rattle.xcp_daq.specs.declared.ListMode.{ListMode}
+use Rattle.xcp_daq.specs.declared.ProcessorInfo.{ProcessorInfo}
+use Rattle.xcp_daq.specs.declared.EventInfo.{EventInfo}
+use Rattle.xcp_daq.specs.Daq.{DaqValue}
+use Rattle.xcp_daq.specs.Telling.{event_info_refusal, event_info_reply}
+use Rattle.xcp_slave.specs.Value.{SlaveValue, layout_of, noblock}
+
+-- a row that changes the DAQ lists and nothing else
+abbrev pub daq_row : Option Code → Reply → DaqValue → SlaveValue → Row SlaveValue
+daq_row refusal reply daq v = record {
+  refusals = refused refusal;
+  reply = Some reply;
+  after = record (noblock v) { daq = daq };
+}
+
+-- a row that only tells
+abbrev pub told_row : Option Code → Reply → SlaveValue → Row SlaveValue
+told_row refusal reply v = record { refusals = refused refusal; reply = Some reply; after = noblock v }
+
+-- what comes of a command that replies nothing but that it is done
+abbrev pub done_or_error : Result (Unit {0}) Code → Result (Option Reply) Reply
+done_or_error (Ok ended) = Ok (Some replies.Done)
+done_or_error (Err code) = Err (replies.Error code)
+
+-- an entry as READ_DAQ tells it: no bit of it, and all zeros where it is unwritten
+-- (ASAM MCD-1 XCP, protocol layer, description of commands: READ_DAQ.)
+abbrev pub told_entry : Option Element → Reply
+told_entry None = replies.DaqEntry 0 0 0
+told_entry (Some e) = replies.DaqEntry e.size 0 e.address
+
+-- (ASAM MCD-1 XCP, protocol layer, description of commands: GET_DAQ_LIST_MODE.)
+abbrev pub told_mode : ListMode → Reply
+told_mode m = replies.DaqListMode m.mode m.event m.prescaler m.priority
+
+-- (ASAM MCD-1 XCP, protocol layer, description of commands: GET_DAQ_PROCESSOR_INFO.)
+abbrev pub told_info : ProcessorInfo → Reply
+told_info i = replies.DaqInfo i.lists i.events
+
+-- (ASAM MCD-1 XCP, protocol layer, description of commands: GET_DAQ_EVENT_INFO.)
+abbrev pub told_event : EventInfo → Reply
+told_event e = replies.EventInfo e.name_length e.cycle e.unit e.priority
+
+-- GET_DAQ_EVENT_INFO tells of an event channel, and leaves the MTA at the first byte of its name.
+abbrev pub get_daq_event_info_row : ℕ → SlaveValue → Row SlaveValue
+get_daq_event_info_row channel v = record {
+  refusals = refused (event_info_refusal (layout_of v) channel);
+  reply = Some (told_event (event_info_reply (layout_of v) channel));
+  after = record v { transfer = record v.transfer { mta = Text (Name channel) 0; block = None } };
+}

@@ -1,0 +1,107 @@
+//! The packets that wait to be sent.
+ghost use Rattle.std.specs.Prelude.{◌≡◌, ◌≤◌, ◌<◌, ◌+◌, [], ◌∷◌, ◌++◌, length, Option, Some, None};
+ghost use Rattle.xcp_slave.specs.Outbox.{first_of, behind_first, wrapped};
+
+use crate::packet::copied;
+use arrayvec::ArrayVec;
+use std::marker::Model;
+use xcp_packet::Packet;
+
+/// How many packets can wait.
+const CAPACITY: usize = 64;
+
+/// Data and event packets (DTO) that wait to be sent, at most 64, in the order in which they came.
+///
+/// They stand in a ring of slots, so that neither putting a packet in nor taking one out moves the
+/// others.
+#[derive(Drop)]
+pub(crate) struct Outbox {
+    slots: ArrayVec<Packet, 64>,
+    first: usize,
+    count: usize,
+}
+
+impl Model for Outbox {
+    ghost use Rattle.std.specs.Prelude.{List, ℕ};
+    ghost use Rattle.arrayvec.specs.ArrayVec.{ArrayVec};
+    ghost use Rattle.xcp_slave.specs.Outbox.{ring, IsRing};
+
+    ghost Value = { List (ArrayVec ℕ) };
+
+    ghost view = { λ o. ring o.first o.count o.slots.items };
+
+    ghost invariant = { λ o. IsRing o.first o.count o.slots.items };
+}
+
+impl Outbox {
+    /// No packet waits.
+    pub(crate) fn new() -> Outbox
+        ensures { result ≡ [] }
+    {
+        let mut slots = ArrayVec::new();
+        for _slot in 0..CAPACITY {
+            slots.push(Packet::new());
+        }
+        Outbox {
+            slots,
+            first: 0,
+            count: 0,
+        }
+    }
+
+    /// How many packets have room.
+    pub(crate) fn room(&self) -> usize
+        ensures { result + length self.now ≡ 64 }
+    {
+        CAPACITY - self.count
+    }
+
+    /// No packet waits any more.
+    pub(crate) fn clear(&mut self)
+        ensures { self.new ≡ [] }
+    {
+        self.count = 0;
+    }
+
+    /// Puts a packet behind the others.
+    pub(crate) fn push(&mut self, packet: Packet)
+        requires { length self.old < 64 }
+        ensures { self.new ≡ self.old ++ packet ∷ [] }
+    {
+        let behind = around(self.first + self.count);
+        self.slots[behind] = packet;
+        self.count += 1;
+    }
+
+    /// Puts packets behind the others, in order.
+    pub(crate) fn append(&mut self, packets: &ArrayVec<Packet, 64>)
+        requires { length self.old + length packets.now.items ≤ 64 }
+        ensures { self.new ≡ self.old ++ packets.now.items }
+    {
+        for packet in packets.as_slice() {
+            self.push(copied(packet));
+        }
+    }
+
+    /// Takes the first packet out.
+    pub(crate) fn take_first(&mut self) -> Option<Packet>
+        ensures packet { result ≡ first_of self.old }
+        ensures others { self.new ≡ behind_first self.old }
+    {
+        if self.count == 0 {
+            return None;
+        }
+        let packet = copied(&self.slots[self.first]);
+        self.first = around(self.first + 1);
+        self.count -= 1;
+        Some(packet)
+    }
+}
+
+/// The slot of a number of slots counted on past the last one.
+fn around(n: usize) -> usize
+    requires { n < 128 }
+    ensures { result ≡ wrapped n }
+{
+    if n < CAPACITY { n } else { n - CAPACITY }
+}

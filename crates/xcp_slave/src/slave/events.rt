@@ -1,0 +1,82 @@
+//! What the controller and the transport ask: events, packets that wait, and stores.
+ghost use Rattle.std.specs.Prelude.{◌≡◌, MatchBool};
+ghost use Rattle.xcp_slave.specs.Step.{Drains, Fires, Samples, Stores, store_event};
+ghost use Rattle.xcp_daq.specs.Sample.{sampled};
+
+use super::Slave;
+use crate::Answer;
+use xcp_packet::Packet;
+
+/// The first byte of an event packet, and the event's code.
+const EVENT: u8 = 0xFD;
+
+const EV_STORE_CAL: u8 = 0x03;
+
+impl Slave {
+    /// An event channel fires: its signals are taken over, and the lists that are due are sampled.
+    pub(super) fn fire(&mut self, channel: u16, signals: &[u8]) -> Answer
+        ensures { Fires channel signals.now self.old result self.new }
+    {
+        let layout = self.transfer.pages().layout();
+        if channel as usize >= layout.event_count() {
+            return Answer::NoChannel;
+        }
+        if signals.len() != layout.signals_length() {
+            return Answer::BadSignals;
+        }
+        self.transfer.set_signals(signals);
+        self.sample(channel)
+    }
+
+    /// All packets of a sample wait, or none.
+    fn sample(&mut self, channel: u16) -> Answer
+        ensures { Samples channel (sampled channel self.old.transfer.pages self.old.daq) self.old result self.new }
+    {
+        self.sample.clear();
+        let pages = self.transfer.pages();
+        self.daq.sample(channel, pages, &mut self.sample);
+        if self.sample.len() > self.outbox.room() {
+            return Answer::Overrun;
+        }
+        self.outbox.append(&self.sample);
+        Answer::Sampled(self.sample.len() as u8)
+    }
+
+    /// The first packet that waits.
+    pub(super) fn drain(&mut self) -> Answer
+        ensures { Drains self.old.outbox self.old result self.new }
+    {
+        match self.outbox.take_first() {
+            Some(packet) => Answer::Packet(packet),
+            None => Answer::Nothing,
+        }
+    }
+
+    /// Stores the segments that are in FREEZE mode, where it was asked for.
+    pub(super) fn finish_store(&mut self) -> Answer
+        ensures { MatchBool self.old.store (Stores self.old result self.new) ((result ≡ Answer.NoStore) × (self.new ≡ self.old)) }
+    {
+        if !self.store {
+            return Answer::NoStore;
+        }
+        if self.connected && self.outbox.room() == 0 {
+            return Answer::Later;
+        }
+        let count = self.transfer.freeze();
+        self.store = false;
+        if self.connected {
+            self.outbox.push(stored_packet());
+        }
+        Answer::Stored(count)
+    }
+}
+
+/// The event packet that tells of a store.
+fn stored_packet() -> Packet
+    ensures { result ≡ store_event }
+{
+    let mut packet = Packet::new();
+    packet.push(EVENT);
+    packet.push(EV_STORE_CAL);
+    packet
+}

@@ -1,0 +1,96 @@
+//! The words of the command line.
+ghost use Rattle.std.specs.Prelude.{◌≡◌, List, ℕ, map, true, None, IfOk, IfErr, IfSome, string_bytes};
+ghost use Rattle.clap.specs.Words.{app_of, kind_of, subcommand_of, subcommand_rows_of, takes};
+ghost use Rattle.xcpd.specs.CommandLine.{Asks, IsReplay, program};
+
+use crate::options::{Options, OptionsFault};
+use clap::error::ErrorKind;
+use clap::{Arg, ArgAction, ArgMatches, Command, Error};
+use std::alloc::{AllocError, Global};
+
+/// What help says below the options of a replay.
+const LINES: &str =
+    "Each line is a command packet in hex, as FF00 (CONNECT), or one of: event C HEX, drain, store, hangup.
+Empty lines and lines that begin with # are skipped. A dash is the answer where nothing is sent.
+
+A fault ends the program with one line on standard error and this status:
+  1  configuration N: the file can't be read (0), is no TOML (1), lacks a key (2), has a value of the wrong
+     type (3), out of its range (4), areas that overlap (5), or too many segments, bytes or events (6)
+  2  line N: the line is faulty
+  3  stream N: reading (1) or writing (2) failed
+  4  memory: memory was wanting";
+
+/// The program's command line.
+fn program<'a>(alloc: Global) -> Result<Command<'a>, AllocError>
+    ensures { IfOk result (λ c. app_of c ≡ program) }
+{
+    let config = Arg::new(alloc, "config")
+        .long("config")
+        .value_name("FILE")
+        .required(true)
+        .action(ArgAction::Set)
+        .help(
+            "The layout file, in TOML: identification, packet lengths, segments, signals, events",
+        );
+    let replay = Command::new(alloc, "replay")
+        .about(
+            "Answers command packets in hex, one line of standard input each, by one line of standard output each",
+        )
+        .after_help(LINES)
+        .arg(config)?;
+    let top = Command::new(alloc, "xcpd")
+        .about("A calibration slave: XCP of ASAM MCD-1, major version 1")
+        .subcommand_required(true);
+    Ok(top.subcommand(replay)?)
+}
+
+/// The configuration file of a replay, if these matches are of one.
+fn config_in<'a>(matches: &ArgMatches<'a>) -> Option<&'a str>
+    ensures some { IfSome result (λ s. IsReplay (subcommand_rows_of matches.now) s.now) }
+    ensures none { result ≡ None → (config : List ℕ) → ¬ (IsReplay (subcommand_rows_of matches.now) config) }
+{
+    match matches.subcommand_matches("replay") {
+        Some(found) => found.get_str("config"),
+        None => None,
+    }
+}
+
+/// What the words ask for, of which the first is the program's name. `Words` comes only where clap doesn't take the
+/// words, or they ask for no replay with a configuration file; `Memory` comes where memory is wanting, at any place.
+pub fn options(alloc: Global, words: &[String]) -> Result<Options, OptionsFault>
+    ensures asked { IfOk result (λ o. Asks (subcommand_of program (map string_bytes words.now)) o) }
+    ensures refused { IfErr result (λ e. takes program (map string_bytes words.now) ≡ true → (config : List ℕ) → IsReplay (subcommand_of program (map string_bytes words.now)) config → e ≡ OptionsFault.Memory) }
+{
+    let command = program(alloc)?;
+    match command.try_get_matches_from(words) {
+        Ok(matches) => asked(alloc, &matches),
+        Err(e) => Err(fault_of(e)),
+    }
+}
+
+/// Why clap gave no matches.
+fn fault_of(e: Error) -> OptionsFault
+    ensures { kind_of e ≡ ErrorKind.OutOfMemory → result ≡ OptionsFault.Memory }
+{
+    match e.kind() {
+        ErrorKind::OutOfMemory => OptionsFault::Memory,
+        _ => OptionsFault::Words(e),
+    }
+}
+
+/// What these matches ask for.
+fn asked(alloc: Global, matches: &ArgMatches<'_>) -> Result<Options, OptionsFault>
+    ensures asked { IfOk result (λ o. Asks (subcommand_rows_of matches.now) o) }
+    ensures refused { IfErr result (λ e. (config : List ℕ) → IsReplay (subcommand_rows_of matches.now) config → e ≡ OptionsFault.Memory) }
+{
+    let Some(config) = config_in(matches) else {
+        let mut command = program(alloc)?;
+        let e = command.error(
+            ErrorKind::MissingSubcommand,
+            "a replay wants a configuration file",
+        )?;
+        return Err(OptionsFault::Words(e));
+    };
+    let config = String::from_str(alloc, config)?;
+    Ok(Options::Replay { config })
+}
