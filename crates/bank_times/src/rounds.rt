@@ -63,7 +63,7 @@ impl Pace {
 }
 
 /// Times a work with nothing beside it.
-pub fn alone<C: Clock, W: Work>(
+pub(crate) fn alone<C: Clock, W: Work>(
     rt: &C,
     alloc: Global,
     rounds: u32,
@@ -77,7 +77,7 @@ pub fn alone<C: Clock, W: Work>(
 }
 
 /// Times a work while each of the others is repeated in a thread of its own, as fast as it can.
-pub fn beside<R: Clock + Threads + Sync, W: Work, L: Work + Send + Drop>(
+pub(crate) fn beside<R: Clock + Threads + Sync, W: Work, L: Work + Send + Drop>(
     rt: &R,
     alloc: Global,
     rounds: u32,

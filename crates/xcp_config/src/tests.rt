@@ -49,6 +49,25 @@ fn the_layout_of_the_document(rt: HostRuntime) -> Result<(), Fail> {
     Ok(())
 }
 
+// Passes whichever allocation is refused (`rt try --test --fail-alloc N`): the refusal is told as `Memory` and not as
+// another fault, and the same text is then read as with ample memory.
+#[test]
+fn refused_memory_is_told(rt: HostRuntime) -> Result<(), Fail> {
+    let text = match changed(rt.alloc(), LINES.len(), "") {
+        Ok(text) => text,
+        Err(_) => changed(rt.alloc(), LINES.len(), "")?,
+    };
+    let layout = match read_layout(rt.alloc(), text.as_str()) {
+        Err(ConfigError::Memory) => read_layout(rt.alloc(), text.as_str())?,
+        answer => answer?,
+    };
+    assert_eq!(rt; layout.id(), &b"ECU1"[..]);
+    assert_eq!(rt; layout.segment_count(), 2);
+    assert_eq!(rt; layout.signals_length(), 8);
+    assert_eq!(rt; layout.event_count(), 1);
+    Ok(())
+}
+
 /// One line of the document changed, and the fault that it then has.
 type Row = (usize, &'static str, Option<ConfigError>);
 

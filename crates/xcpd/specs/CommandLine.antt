@@ -1,9 +1,11 @@
 -- The words of the command line, as clap reads them.
-use Rattle.std.specs.Prelude.{◌≡◌, List, true, codes, Option, Some, string_bytes}
+use Rattle.std.specs.Prelude.{◌≡◌, ◌⊎◌, List, [], true, codes, Option, Some, string_bytes}
 use Rattle.std.specs.Option.{option_map, option_and_then}
-use Rattle.clap.specs.Words.{App, Row, Rule, Text, first_of, new_app, new_rule, with_rule, with_subcommand}
+use Rattle.clap.specs.Words.{App, IsAmong, Kinds, Row, Rule, Text, first_of, kind_of, new_app, new_rule, with_rule, with_subcommand}
 use Rattle.xcpd.specs.declared.options.Options.{Options}
 use Rattle.xcpd.specs.declared.options.Options.TheVariants.{Replay}
+use Rattle.xcpd.specs.declared.options.OptionsFault.{OptionsFault}
+use Rattle.xcpd.specs.declared.options.OptionsFault.TheVariants.{Memory, Words}
 use Rattle.clap.specs.declared.builder.ArgAction.TheVariants.{Set}
 
 -- `--config FILE`, which has to be there
@@ -29,3 +31,9 @@ pub record IsReplay (found : Option (Text × List Row)) (config : Text) : Type 0
 -- what a subcommand with its rows asks for
 abbrev pub Asks : Option (Text × List Row) → Options → Type 0
 Asks found (Replay config) = IsReplay found (string_bytes config)
+
+-- Why the words ask for nothing, by the kinds of error of the first fault that clap finds in them (a wish for help is one): the error
+-- has one of these kinds, or clap finds no fault, and yet they name no replay with a file. Memory may be wanting at any place.
+abbrev pub IsMistake : Kinds → Option (Text × List Row) → OptionsFault → Type 0
+IsMistake kinds found Memory = Unit {0}
+IsMistake kinds found (Words e) = IsAmong (kind_of e) kinds ⊎ ((kinds ≡ []) × ((config : Text) → ¬ (IsReplay found config)))

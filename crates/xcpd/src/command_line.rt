@@ -1,7 +1,7 @@
 //! The words of the command line.
-ghost use Rattle.std.specs.Prelude.{◌≡◌, List, ℕ, map, true, None, IfOk, IfErr, IfSome, string_bytes};
-ghost use Rattle.clap.specs.Words.{app_of, kind_of, subcommand_of, subcommand_rows_of, takes};
-ghost use Rattle.xcpd.specs.CommandLine.{Asks, IsReplay, program};
+ghost use Rattle.std.specs.Prelude.{◌≡◌, ◌⊎◌, List, [], ℕ, map, true, None, IfOk, IfErr, IfSome, string_bytes};
+ghost use Rattle.clap.specs.Words.{app_of, fault_of as faults_in, kind_of, subcommand_of, subcommand_rows_of, takes};
+ghost use Rattle.xcpd.specs.CommandLine.{Asks, IsMistake, IsReplay, program};
 
 use crate::options::{Options, OptionsFault};
 use clap::error::ErrorKind;
@@ -55,10 +55,13 @@ fn config_in<'a>(matches: &ArgMatches<'a>) -> Option<&'a str>
     }
 }
 
-/// What the words ask for, of which the first is the program's name. `Words` comes only where clap doesn't take the
-/// words, or they ask for no replay with a configuration file; `Memory` comes where memory is wanting, at any place.
+/// What the words ask for, of which the first is the program's name: only where clap finds no fault in them. `Words`
+/// has clap's error for the first fault, a wish for help among them; `Memory` comes where memory is wanting, at any
+/// place.
 pub fn options(alloc: Global, words: &[String]) -> Result<Options, OptionsFault>
     ensures asked { IfOk result (λ o. Asks (subcommand_of program (map string_bytes words.now)) o) }
+    ensures taken { IfOk result (λ o. faults_in program (map string_bytes words.now) ≡ []) }
+    ensures mistake { IfErr result (λ e. IsMistake (faults_in program (map string_bytes words.now)) (subcommand_of program (map string_bytes words.now)) e) }
     ensures refused { IfErr result (λ e. takes program (map string_bytes words.now) ≡ true → (config : List ℕ) → IsReplay (subcommand_of program (map string_bytes words.now)) config → e ≡ OptionsFault.Memory) }
 {
     let command = program(alloc)?;
@@ -70,7 +73,8 @@ pub fn options(alloc: Global, words: &[String]) -> Result<Options, OptionsFault>
 
 /// Why clap gave no matches.
 fn fault_of(e: Error) -> OptionsFault
-    ensures { kind_of e ≡ ErrorKind.OutOfMemory → result ≡ OptionsFault.Memory }
+    ensures memory { kind_of e ≡ ErrorKind.OutOfMemory → result ≡ OptionsFault.Memory }
+    ensures which { (result ≡ OptionsFault.Memory) ⊎ (result ≡ OptionsFault.Words e) }
 {
     match e.kind() {
         ErrorKind::OutOfMemory => OptionsFault::Memory,
