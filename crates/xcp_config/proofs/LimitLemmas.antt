@@ -225,7 +225,7 @@ layout_read p t r =
     sym (map-map as_segment segment_read p.segments.items) ∙ ap (map as_segment) r.segments ∙ map-map as_segment segment_written (segments_of t) in
     let events : map event_of_part p.events.items ≡ map event_in (events_of t) =
     sym (map-map as_event event_read p.events.items) ∙ ap (map as_event) r.events ∙ map-map as_event event_written (events_of t) in
-    rw (r.id, r.max_cto, r.max_dto, r.checksum, segments, r.signals_address, r.signals_length, events) refl
+    rw (r.id, r.max_cto, r.max_dto, r.checksum, r.order, segments, r.signals_address, r.signals_length, events) refl
 
 -- the areas decide, where all checks before theirs pass
 pub areas_decide : (p : Parts) (t : Data) → Reads p t → first_failed (own_checks t ++ segments_checks t ++ signals_checks t ++ events_checks t) ≡ None → first_limit p ≡ first_broken (apart_limits (areas (layout_in t)))

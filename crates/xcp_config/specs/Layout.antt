@@ -1,6 +1,7 @@
 -- The layout that the table of a configuration has.
 use Rattle.std.specs.Prelude.{ℕ, ℤ, pos, List, map, length, codes, Option, unwrap_or}
 use Rattle.toml.specs.Data.{Data, integer, string, table, no_members, get}
+use Rattle.xcp_packet.specs.declared.Order.TheVariants.{Intel}
 use Rattle.xcp_memory.specs.Parts.{number}
 use Rattle.xcp_memory.specs.Layout.{LayoutValue, SegmentValue, EventValue}
 use Rattle.xcp_config.specs.Values.{optional, text_of, integer_of, bytes_of, members_of, checksum_named}
@@ -53,13 +54,14 @@ event_in e = record {
   priority = number (integer_of (setting (codes "priority") e));
 }
 
--- the layout, where no check of the table fails
+-- the layout, where no check of the table fails; `intel` is the only byte order that passes
 abbrev pub layout_in : Data → LayoutValue
 layout_in t = record {
   id = text_of (get (codes "id") t);
   max_cto = number (integer_of (get (codes "max_cto") t));
   max_dto = number (integer_of (get (codes "max_dto") t));
   checksum = checksum_named (text_of (checksum_of t));
+  order = Intel;
   segments = map segment_in (segments_of t);
   signals_address = number (address_of (signals_of t));
   signals_length = number (length_of (signals_of t));

@@ -1,6 +1,7 @@
 -- What was read of a table, beside what the table has.
 use Rattle.std.specs.Prelude.{◌≡◌, ℕ, ℤ, List, true, map, codes}
 use Rattle.toml.specs.Data.{Data, get}
+use Rattle.xcp_packet.specs.declared.Order.TheVariants.{Intel}
 use Rattle.xcp_memory.specs.declared.SegmentPart.{SegmentPart}
 use Rattle.xcp_memory.specs.declared.EventPart.{EventPart}
 use Rattle.xcp_memory.specs.declared.Parts.{Parts}
@@ -45,6 +46,7 @@ pub record Reads (p : Parts) (t : Data) : Type 0 where
   pub max_dto : p.max_dto ≡ integer_of (get (codes "max_dto") t)
   pub checksum : kind_of (number p.checksum) ≡ checksum_named (text_of (checksum_of t))
   pub known : is_within 1 3 p.checksum ≡ true
+  pub order : p.order ≡ Intel
   pub segments : map segment_read p.segments.items ≡ map segment_written (segments_of t)
   pub signals_address : p.signals_address ≡ address_of (signals_of t)
   pub signals_length : p.signals_length ≡ length_of (signals_of t)

@@ -5,7 +5,7 @@ use std::alloc::Global;
 use std::process::Abort;
 use std::test::Fail;
 use xcp_memory::{EventPart, Layout, Pages, Parts, SegmentPart};
-use xcp_packet::{Code, Packet};
+use xcp_packet::{Code, Order, Packet};
 
 /// Segment 0 at 0x1000 with the bytes 00 to 0F, segment 1 at 0x2000 with 8 bytes AA, 8 bytes of
 /// signals at 0x8000, which are 1 to 8, and one event channel.
@@ -31,6 +31,7 @@ fn sample_pages(alloc: Global, max_dto: i64) -> Result<Pages, Fail> {
         max_cto: 32,
         max_dto,
         checksum: 3,
+        order: Order::Intel,
         segments,
         signals_address: 0x8000,
         signals_length: 8,

@@ -59,5 +59,5 @@ pub areas_built : (p : Parts) (ss : List SegmentValue) (signals : Extent) → ss
 areas_built p ss signals e f = rw (e, f) refl
 
 -- what was read is the layout
-pub layout_built : (p : Parts) (cto dto : ℕ) (kind : ChecksumKind) (ss : List SegmentValue) (signals : Extent) (es : List EventValue) → cto ≡ number p.max_cto → dto ≡ number p.max_dto → kind ≡ checksum_of (number p.checksum) → ss ≡ map segment_of_part p.segments.items → signals ≡ signals_extent (layout_of p) → es ≡ map event_of_part p.events.items → (let l : LayoutValue = record { id = p.id.items; max_cto = cto; max_dto = dto; checksum = kind; segments = ss; signals_address = signals.address; signals_length = signals.size; events = es } in l) ≡ layout_of p
+pub layout_built : (p : Parts) (cto dto : ℕ) (kind : ChecksumKind) (ss : List SegmentValue) (signals : Extent) (es : List EventValue) → cto ≡ number p.max_cto → dto ≡ number p.max_dto → kind ≡ checksum_of (number p.checksum) → ss ≡ map segment_of_part p.segments.items → signals ≡ signals_extent (layout_of p) → es ≡ map event_of_part p.events.items → (let l : LayoutValue = record { id = p.id.items; max_cto = cto; max_dto = dto; checksum = kind; order = p.order; segments = ss; signals_address = signals.address; signals_length = signals.size; events = es } in l) ≡ layout_of p
 layout_built p cto dto kind ss signals es a b c d e f = rw (a, b, c, d, e, f) refl

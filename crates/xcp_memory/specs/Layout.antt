@@ -1,5 +1,6 @@
 -- A layout: what a controller shows to a calibration tool.
 use Rattle.std.specs.Prelude.{ℕ, List, [], ◌∷◌, ◌++◌, length, map, sum_by, All, ◌+◌, ◌<◌, ◌≤◌, ◌⊎◌, slice_index_or as get_or}
+use Rattle.xcp_packet.specs.declared.Order.{Order}
 use Rattle.xcp_memory.specs.declared.checksum_kind.ChecksumKind.{ChecksumKind}
 
 -- A segment: its first address, and the bytes of its reference page.
@@ -17,12 +18,14 @@ pub record EventValue : Type 0 where
   pub priority : ℕ
 
 -- The identification, the greatest lengths of command and data packets (MAX_CTO, MAX_DTO), the type of
--- checksums, the segments, where the signals stand that the controller measures, and the event channels.
+-- checksums, the byte order of words and double words in packets, the segments, where the signals stand that the
+-- controller measures, and the event channels.
 pub record LayoutValue : Type 0 where
   pub id : List ℕ
   pub max_cto : ℕ
   pub max_dto : ℕ
   pub checksum : ChecksumKind
+  pub order : Order
   pub segments : List SegmentValue
   pub signals_address : ℕ
   pub signals_length : ℕ

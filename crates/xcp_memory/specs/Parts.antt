@@ -36,6 +36,7 @@ layout_of p = record {
   max_cto = number p.max_cto;
   max_dto = number p.max_dto;
   checksum = checksum_of (number p.checksum);
+  order = p.order;
   segments = map segment_of_part p.segments.items;
   signals_address = number p.signals_address;
   signals_length = number p.signals_length;

@@ -16,15 +16,17 @@ use crate::{ChecksumKind, Key, LayoutFault, Parts, checks};
 use arrayvec::ArrayVec;
 use std::alloc::Global;
 use std::marker::Model;
+use xcp_packet::Order;
 
 /// What a controller shows to a calibration tool: the identification, the greatest lengths of packets, the type of
-/// checksums, the segments, the signals and the event channels. It is within all limits.
+/// checksums, the byte order in packets, the segments, the signals and the event channels. It is within all limits.
 #[derive(Drop)]
 pub struct Layout {
     id: Vec<u8>,
     max_cto: u8,
     max_dto: u8,
     checksum: ChecksumKind,
+    order: Order,
     segments: ArrayVec<Segment, MAX_SEGMENTS, Global>,
     signals: Extent,
     events: ArrayVec<EventChannel, MAX_EVENTS, Global>,
@@ -60,9 +62,9 @@ impl Model for Layout {
 
     ghost Value = { LayoutValue };
 
-    ghost view = { λ l. record { id = l.id.items; max_cto = l.max_cto; max_dto = l.max_dto; checksum = l.checksum; segments = l.segments.items; signals_address = l.signals.address; signals_length = l.signals.size; events = l.events.items } };
+    ghost view = { λ l. record { id = l.id.items; max_cto = l.max_cto; max_dto = l.max_dto; checksum = l.checksum; order = l.order; segments = l.segments.items; signals_address = l.signals.address; signals_length = l.signals.size; events = l.events.items } };
 
-    ghost invariant = { λ l. IsLayout (record { id = l.id.items; max_cto = l.max_cto; max_dto = l.max_dto; checksum = l.checksum; segments = l.segments.items; signals_address = l.signals.address; signals_length = l.signals.size; events = l.events.items }) };
+    ghost invariant = { λ l. IsLayout (record { id = l.id.items; max_cto = l.max_cto; max_dto = l.max_dto; checksum = l.checksum; order = l.order; segments = l.segments.items; signals_address = l.signals.address; signals_length = l.signals.size; events = l.events.items }) };
 }
 
 impl Layout {
@@ -85,6 +87,7 @@ impl Layout {
         let own = OwnValues::read(&parts)?;
         let Parts {
             id,
+            order,
             segments,
             signals_address,
             signals_length,
@@ -100,6 +103,7 @@ impl Layout {
             max_cto: own.max_cto,
             max_dto: own.max_dto,
             checksum: own.checksum,
+            order,
             segments,
             signals,
             events,
@@ -144,6 +148,13 @@ impl Layout {
         ensures { result ≡ self.now.checksum }
     {
         self.checksum
+    }
+
+    /// The byte order of words and double words in packets.
+    pub fn order(&self) -> Order
+        ensures { result ≡ self.now.order }
+    {
+        self.order
     }
 
     /// How many segments there are.

@@ -2,6 +2,7 @@
 use crate::{Area, ChecksumKind, EventPart, Key, Layout, LayoutFault, Parts, SegmentPart};
 use std::alloc::{AllocError, Global};
 use std::test::Fail;
+use xcp_packet::Order;
 
 /// The parts of a layout: the segments by address and number of bytes, the events by name and numbers.
 struct Row {
@@ -38,6 +39,7 @@ fn parts(alloc: Global, row: &Row) -> Result<Parts, AllocError> {
         max_cto,
         max_dto,
         checksum,
+        order: Order::Intel,
         segments,
         signals_address,
         signals_length,
@@ -318,6 +320,7 @@ fn example(alloc: Global) -> Result<Parts, AllocError> {
         max_cto: 32,
         max_dto: 64,
         checksum: 3,
+        order: Order::Motorola,
         segments,
         signals_address: 0x8000,
         signals_length: 8,
@@ -333,6 +336,7 @@ fn layout_has_its_values(rt: HostRuntime) -> Result<(), Fail> {
     assert_eq!(rt; (layout.max_cto(), layout.max_dto()), (32, 64));
     assert_eq!(rt; layout.checksum(), ChecksumKind::Add14);
     assert_eq!(rt; layout.checksum().number(), 3);
+    assert_eq!(rt; layout.order(), Order::Motorola);
     assert_eq!(rt; layout.segment_count(), 2);
     assert_eq!(rt;
         (layout.segment_address(0), layout.segment_size(0)),

@@ -3,7 +3,7 @@ use crate::{EventPart, Layout, Pages, Parts, SegmentPart};
 use std::alloc::Global;
 use std::process::Abort;
 use std::test::Fail;
-use xcp_packet::Code;
+use xcp_packet::{Code, Order};
 
 /// Segment 0 at 0x1000 with the bytes 00 to 0F, segment 1 at 0x2000 with 8 bytes AA, 8 bytes of
 /// signals at 0x8000.
@@ -29,6 +29,7 @@ fn sample_pages(alloc: Global, checksum: i64) -> Result<Pages, Fail> {
         max_cto: 32,
         max_dto: 64,
         checksum,
+        order: Order::Intel,
         segments,
         signals_address: 0x8000,
         signals_length: 8,
@@ -59,6 +60,7 @@ fn twin_pages(alloc: Global) -> Result<Pages, Fail> {
         max_cto: 32,
         max_dto: 64,
         checksum: 3,
+        order: Order::Intel,
         segments,
         signals_address: 0x8000,
         signals_length: 8,

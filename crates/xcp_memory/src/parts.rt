@@ -1,4 +1,5 @@
 //! The parts that a layout is made of.
+use xcp_packet::Order;
 
 /// What a layout is made of, as it was read: no limit has been checked.
 #[derive(Debug, PartialEq, Drop)]
@@ -11,6 +12,8 @@ pub struct Parts {
     pub max_dto: i64,
     /// The number of the type of checksums: 1 to 3.
     pub checksum: i64,
+    /// The byte order of words and double words in packets.
+    pub order: Order,
     /// The segments: 1 to 4, with 2,040 bytes in all.
     pub segments: Vec<SegmentPart>,
     /// The first address of the signals: 0 to 0xFFFF_FFFE, and so for their last address.

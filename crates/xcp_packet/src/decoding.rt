@@ -1,9 +1,9 @@
 //! From bytes to a command.
 ghost use Rattle.std.specs.Prelude.{◌≡◌, ◌≤◌, ◌↔◌, length, drop};
-ghost use Rattle.xcp_packet.specs.Refusal.{Decodes, Refused};
+ghost use Rattle.xcp_packet.specs.Reading.{Reads};
+ghost use Rattle.xcp_packet.specs.Refusal.{Refused};
 ghost use Rattle.xcp_packet.specs.Spelling.{spells};
 
-use crate::words::{double_from, word_from};
 use crate::{Command, Data, Order, Refuse, commands};
 
 fn data_from(bytes: &[u8], place: usize) -> Data
@@ -17,53 +17,53 @@ fn data_from(bytes: &[u8], place: usize) -> Data
 }
 
 macro_rules! parameter {
-    ($bytes:ident byte $place:literal) => {
+    ($bytes:ident $order:ident byte $place:literal) => {
         $bytes[$place]
     };
-    ($bytes:ident word $place:literal) => {
-        word_from($bytes, $place)
+    ($bytes:ident $order:ident word $place:literal) => {
+        $order.word_at($bytes, $place)
     };
-    ($bytes:ident double $place:literal) => {
-        double_from($bytes, $place)
+    ($bytes:ident $order:ident double $place:literal) => {
+        $order.double_at($bytes, $place)
     };
-    ($bytes:ident data $place:literal) => {
+    ($bytes:ident $order:ident data $place:literal) => {
         data_from($bytes, $place)
     };
 }
 
 macro_rules! read_by_code {
-    ([$bytes:ident $code:ident] $($variant:ident $value:literal $least:literal { $($name:ident: $kind:ident $place:literal),* })*) => {
+    ([$bytes:ident $order:ident $code:ident] $($variant:ident $value:literal $least:literal { $($name:ident: $kind:ident $place:literal),* })*) => {
         match $code {
             $($value => {
                 if $bytes.len() < $least {
                     return Err(Refuse::Short);
                 }
-                Ok(Command::$variant { $($name: parameter!($bytes $kind $place)),* })
+                Ok(Command::$variant { $($name: parameter!($bytes $order $kind $place)),* })
             })*
             _ => Err(Refuse::Unknown),
         }
     };
 }
 
-fn read(bytes: &[u8]) -> Result<Command, Refuse>
+fn read(bytes: &[u8], order: Order) -> Result<Command, Refuse>
     requires { length bytes.now ≤ 255 }
-    ensures { Decodes Order.Intel bytes.now result }
+    ensures { Reads order bytes.now result }
 {
     let Some(&code) = bytes.first() else {
         return Err(Refuse::Empty);
     };
-    commands!(read_by_code [bytes code])
+    commands!(read_by_code [bytes order code])
 }
 
-/// The command that the bytes of a packet spell.
+/// The command that the bytes of a packet spell, its words and double words in this byte order.
 ///
 /// Empty comes for no bytes, Unknown for a first byte that is no command's code, and then Short for
 /// fewer bytes than the command wants. Bytes behind the last parameter are no fault.
 /// ASAM MCD-1 XCP, protocol layer, description of commands.
-pub fn decode(bytes: &[u8]) -> Result<Command, Refuse>
+pub fn decode(bytes: &[u8], order: Order) -> Result<Command, Refuse>
     requires { length bytes.now ≤ 255 }
-    ensures spelt { (c : Command) → (result ≡ Ok c) ↔ spells Order.Intel c bytes.now }
+    ensures spelt { (c : Command) → (result ≡ Ok c) ↔ spells order c bytes.now }
     ensures refused { (e : Refuse) → (result ≡ Err e) ↔ Refused e bytes.now }
 {
-    read(bytes)
+    read(bytes, order)
 }

@@ -1,8 +1,9 @@
 //! From a command to bytes.
-ghost use Rattle.std.specs.Prelude.{◌≡◌, ◌≤◌, ◌<◌, ◌+◌, ◌↔◌, length, IsTrue};
+ghost use Rattle.std.specs.Prelude.{◌≡◌, ◌≤◌, ◌<◌, ◌+◌, ◌↔◌, length, IsTrue, [], ◌∷◌};
 ghost use Rattle.arrayvec.specs.ArrayVec.{array_vec_len};
-ghost use Rattle.xcp_packet.specs.Building.{built, start, up_to, with_byte, with_word, with_double, with_data};
-ghost use Rattle.xcp_packet.specs.Plain.{plain, HasWidths};
+ghost use Rattle.xcp_packet.specs.Building.{built, start, up_to, put};
+ghost use Rattle.xcp_packet.specs.Order.{word_bytes, double_bytes};
+ghost use Rattle.xcp_packet.specs.Plain.{plain, OnePacket, HasWidths};
 ghost use Rattle.xcp_packet.specs.Spelling.{spells};
 
 use crate::words::{append, append_double, append_word};
@@ -30,44 +31,44 @@ fn started(code: u8) -> Packet
     packet
 }
 
-#[tactic(auto, unfolding(crate::specs::Building::with_byte))]
+#[tactic(auto, unfolding(crate::specs::Building::put))]
 fn put_byte(packet: &mut Packet, place: usize, value: u8)
     requires from { array_vec_len packet.old ≤ place }
     requires to { place < 255 }
-    ensures items { packet.new.items ≡ with_byte packet.old.items place value }
+    ensures items { packet.new.items ≡ put packet.old.items place (value ∷ []) }
     ensures length { array_vec_len packet.new ≡ place + 1 }
 {
     pad(packet, place);
     packet.push(value);
 }
 
-#[tactic(auto, unfolding(crate::specs::Building::with_word))]
-fn put_word(packet: &mut Packet, place: usize, value: u16)
+#[tactic(auto, unfolding(crate::specs::Building::put))]
+fn put_word(packet: &mut Packet, place: usize, value: u16, order: Order)
     requires from { array_vec_len packet.old ≤ place }
     requires to { place + 2 ≤ 255 }
-    ensures items { packet.new.items ≡ with_word Order.Intel packet.old.items place value }
+    ensures items { packet.new.items ≡ put packet.old.items place (word_bytes order value) }
     ensures length { array_vec_len packet.new ≡ place + 2 }
 {
     pad(packet, place);
-    append_word(packet, value);
+    append_word(packet, value, order);
 }
 
-#[tactic(auto, unfolding(crate::specs::Building::with_double))]
-fn put_double(packet: &mut Packet, place: usize, value: u32)
+#[tactic(auto, unfolding(crate::specs::Building::put))]
+fn put_double(packet: &mut Packet, place: usize, value: u32, order: Order)
     requires from { array_vec_len packet.old ≤ place }
     requires to { place + 4 ≤ 255 }
-    ensures items { packet.new.items ≡ with_double Order.Intel packet.old.items place value }
+    ensures items { packet.new.items ≡ put packet.old.items place (double_bytes order value) }
     ensures length { array_vec_len packet.new ≡ place + 4 }
 {
     pad(packet, place);
-    append_double(packet, value);
+    append_double(packet, value, order);
 }
 
-#[tactic(auto, unfolding(crate::specs::Building::with_data))]
+#[tactic(auto, unfolding(crate::specs::Building::put))]
 fn put_data(packet: &mut Packet, place: usize, bytes: &[u8])
     requires from { array_vec_len packet.old ≤ place }
     requires to { place + length bytes.now ≤ 255 }
-    ensures items { packet.new.items ≡ with_data packet.old.items place bytes.now }
+    ensures items { packet.new.items ≡ put packet.old.items place bytes.now }
     ensures length { array_vec_len packet.new ≡ place + length bytes.now }
 {
     pad(packet, place);
@@ -75,63 +76,64 @@ fn put_data(packet: &mut Packet, place: usize, bytes: &[u8])
 }
 
 macro_rules! put {
-    ($packet:ident byte $place:literal $value:ident) => {
+    ($packet:ident $order:ident byte $place:literal $value:ident) => {
         put_byte(&mut $packet, $place, *$value)
     };
-    ($packet:ident word $place:literal $value:ident) => {
-        put_word(&mut $packet, $place, *$value)
+    ($packet:ident $order:ident word $place:literal $value:ident) => {
+        put_word(&mut $packet, $place, *$value, $order)
     };
-    ($packet:ident double $place:literal $value:ident) => {
-        put_double(&mut $packet, $place, *$value)
+    ($packet:ident $order:ident double $place:literal $value:ident) => {
+        put_double(&mut $packet, $place, *$value, $order)
     };
-    ($packet:ident data $place:literal $value:ident) => {
+    ($packet:ident $order:ident data $place:literal $value:ident) => {
         put_data(&mut $packet, $place, $value)
     };
 }
 
 macro_rules! write_by_variant {
-    ([$command:ident] $($variant:ident $value:literal $least:literal { $($name:ident: $kind:ident $place:literal),* })*) => {
+    ([$command:ident $order:ident] $($variant:ident $value:literal $least:literal { $($name:ident: $kind:ident $place:literal),* })*) => {
         match $command {
             $(Command::$variant { $($name),* } => {
                 let mut packet = started($value);
-                $(put!(packet $kind $place $name);)*
+                $(put!(packet $order $kind $place $name);)*
                 packet
             })*
         }
     };
 }
 
-fn written(command: &Command) -> Packet
-    requires { length (plain Order.Intel command.now) ≤ 255 }
-    ensures items { result.items ≡ built Order.Intel command.now }
+fn written(command: &Command, order: Order) -> Packet
+    requires { OnePacket command.now }
+    ensures items { result.items ≡ built order command.now }
     ensures widths { HasWidths command.now }
 {
-    commands!(write_by_variant[command])
+    commands!(write_by_variant[command order])
 }
 
 /// The plain spelling of a command: zeros as reserved bytes, and nothing behind the last parameter.
+/// Words and double words stand in this byte order.
 ///
 /// ASAM MCD-1 XCP, protocol layer, description of commands.
-pub fn encode_command(command: &Command) -> Packet
-    requires { length (plain Order.Intel command.now) ≤ 255 }
-    ensures plain { result.items ≡ plain Order.Intel command.now }
-    ensures spelt { spells Order.Intel command.now result.items }
+pub fn encode_command(command: &Command, order: Order) -> Packet
+    requires { OnePacket command.now }
+    ensures plain { result.items ≡ plain order command.now }
+    ensures spelt { spells order command.now result.items }
 {
-    written(command)
+    written(command, order)
 }
 
-/// Encodes a command and decodes the bytes again, which gives the command.
-pub fn decode_encoded(command: &Command) -> Result<Command, Refuse>
-    requires { length (plain Order.Intel command.now) ≤ 255 }
+/// Encodes a command and decodes the bytes again in the same byte order, which gives the command.
+pub fn decode_encoded(command: &Command, order: Order) -> Result<Command, Refuse>
+    requires { OnePacket command.now }
     ensures { result ≡ Ok command.now }
 {
-    decode(&encode_command(command))
+    decode(&encode_command(command, order), order)
 }
 
 impl Command {
     /// Whether one packet holds the plain spelling, which has at most 255 bytes then.
     pub fn fits(&self) -> bool
-        ensures { IsTrue result ↔ (length (plain Order.Intel self.now) ≤ 255) }
+        ensures { IsTrue result ↔ OnePacket self.now }
     {
         match self {
             Command::Download { bytes, .. } | Command::DownloadNext { bytes, .. } => {

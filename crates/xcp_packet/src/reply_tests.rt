@@ -1,10 +1,10 @@
 //! Replies against their bytes.
-use crate::{Code, Data, Reply, encode_reply};
+use crate::{Code, Data, Order, Reply, encode_reply};
 use std::process::Abort;
 
 fn assert_layout(rt: &impl Abort, reply: Reply, bytes: &[u8]) {
     assert!(rt; reply.fits());
-    assert_eq!(rt; encode_reply(&reply).as_slice(), bytes);
+    assert_eq!(rt; encode_reply(&reply, Order::Intel).as_slice(), bytes);
 }
 
 #[test]
@@ -118,4 +118,29 @@ fn codes(rt: HostRuntime) {
     ] {
         assert_eq!(rt; code.number(), number);
     }
+}
+
+#[test]
+fn highest_byte_first(rt: HostRuntime) {
+    let connect = Reply::Connect {
+        basic: 0xC1,
+        max_cto: 32,
+        max_dto: 64,
+    };
+    let bytes = [0xFF, 5, 0xC1, 0x20, 0, 0x40, 1, 1];
+    assert!(rt; connect.fits());
+    assert_eq!(rt;
+        encode_reply(&connect, Order::Motorola).as_slice(),
+        bytes.as_slice()
+    );
+}
+
+#[test]
+fn orders(rt: HostRuntime) {
+    let bytes = [0, 0x01, 0x02, 0x03, 0x04];
+    assert_eq!(rt; (Order::Intel.bit(), Order::Motorola.bit()), (0, 1));
+    assert_eq!(rt; Order::Intel.double_at(&bytes, 1), 0x0403_0201);
+    assert_eq!(rt; Order::Motorola.double_at(&bytes, 1), 0x0102_0304);
+    assert_eq!(rt; Order::Intel.double_bytes(0x0403_0201), [1, 2, 3, 4]);
+    assert_eq!(rt; Order::Motorola.double_bytes(0x0102_0304), [1, 2, 3, 4]);
 }

@@ -24,33 +24,33 @@ fn packet_of(bytes: &[u8]) -> Packet
 }
 
 /// Some bytes, a word, and two bytes.
-fn with_word(front: &[u8], word: u16, back: &[u8]) -> Packet
+fn with_word(front: &[u8], word: u16, back: &[u8], order: Order) -> Packet
     requires { length front.now + 2 + length back.now ≤ 255 }
-    ensures { result.items ≡ front.now ++ (word_bytes Order.Intel word ++ back.now) }
+    ensures { result.items ≡ front.now ++ (word_bytes order word ++ back.now) }
 {
     let mut packet = packet_of(front);
-    append_word(&mut packet, word);
+    append_word(&mut packet, word, order);
     append(&mut packet, back);
     packet
 }
 
 /// Some bytes, and then a double word.
-fn with_double(front: &[u8], double: u32) -> Packet
+fn with_double(front: &[u8], double: u32, order: Order) -> Packet
     requires { length front.now + 4 ≤ 255 }
-    ensures { result.items ≡ front.now ++ double_bytes Order.Intel double }
+    ensures { result.items ≡ front.now ++ double_bytes order double }
 {
     let mut packet = packet_of(front);
-    append_double(&mut packet, double);
+    append_double(&mut packet, double, order);
     packet
 }
 
 /// DAQ_PROPERTIES (dynamic DAQ lists, with prescalers), the two numbers, MIN_DAQ and DAQ_KEY_BYTE.
-fn daq_info(lists: u16, events: u16) -> Packet
-    ensures { result.items ≡ layout Order.Intel (Reply.DaqInfo lists events) }
+fn daq_info(lists: u16, events: u16, order: Order) -> Packet
+    ensures { result.items ≡ layout order (Reply.DaqInfo lists events) }
 {
     let mut packet = packet_of(&[RES, 0x03]);
-    append_word(&mut packet, lists);
-    append_word(&mut packet, events);
+    append_word(&mut packet, lists, order);
+    append_word(&mut packet, events, order);
     append(&mut packet, &[0, 0]);
     packet
 }
@@ -64,13 +64,13 @@ fn bytes_read(bytes: &[u8]) -> Packet
     packet
 }
 
-/// The bytes of a reply.
+/// The bytes of a reply: at least 1 and at most 255, words and double words in this byte order.
 ///
 /// ASAM MCD-1 XCP, protocol layer, description of commands: the positive responses, and the error
 /// packet.
-pub fn encode_reply(reply: &Reply) -> Packet
+pub fn encode_reply(reply: &Reply, order: Order) -> Packet
     requires { Fits reply.now }
-    ensures { result.items ≡ layout Order.Intel reply.now }
+    ensures { result.items ≡ layout order reply.now }
 {
     match reply {
         Reply::Done => packet_of(&[RES]),
@@ -78,15 +78,15 @@ pub fn encode_reply(reply: &Reply) -> Packet
             basic,
             max_cto,
             max_dto,
-        } => with_word(&[RES, 0x05, *basic, *max_cto], *max_dto, &[1, 1]),
+        } => with_word(&[RES, 0x05, *basic, *max_cto], *max_dto, &[1, 1], order),
         Reply::Status(status) => packet_of(&[RES, *status, 0, 0, 0, 0]),
         Reply::CommMode => packet_of(&[RES, 0, 0x01, 0, 0x08, 0, 0, 0x10]),
-        Reply::Id(size) => with_double(&[RES, 0, 0, 0], *size),
+        Reply::Id(size) => with_double(&[RES, 0, 0, 0], *size, order),
         Reply::Bytes(bytes) => bytes_read(bytes),
-        Reply::Checksum { kind, sum } => with_double(&[RES, *kind, 0, 0], *sum),
+        Reply::Checksum { kind, sum } => with_double(&[RES, *kind, 0, 0], *sum, order),
         Reply::CalPage(page) => packet_of(&[RES, 0, 0, *page]),
         Reply::PagInfo(segments) => packet_of(&[RES, *segments, 0x01]),
-        Reply::SegmentWord(number) => with_double(&[RES, 0, 0, 0], *number),
+        Reply::SegmentWord(number) => with_double(&[RES, 0, 0, 0], *number, order),
         Reply::SegmentStandard { pages } => packet_of(&[RES, *pages, 0, 0, 0, 0]),
         Reply::PageInfo { properties, init } => packet_of(&[RES, *properties, *init]),
         Reply::SegmentMode(mode) => packet_of(&[RES, 0, *mode]),
@@ -94,15 +94,15 @@ pub fn encode_reply(reply: &Reply) -> Packet
             size,
             extension,
             address,
-        } => with_double(&[RES, 0xFF, *size, *extension], *address),
+        } => with_double(&[RES, 0xFF, *size, *extension], *address, order),
         Reply::DaqListMode {
             mode,
             event,
             prescaler,
             priority,
-        } => with_word(&[RES, *mode, 0, 0], *event, &[*prescaler, *priority]),
+        } => with_word(&[RES, *mode, 0, 0], *event, &[*prescaler, *priority], order),
         Reply::FirstPid(pid) => packet_of(&[RES, *pid]),
-        Reply::DaqInfo { lists, events } => daq_info(*lists, *events),
+        Reply::DaqInfo { lists, events } => daq_info(*lists, *events, order),
         Reply::DaqResolution { greatest } => {
             packet_of(&[RES, 0x01, *greatest, 0x01, 0, 0, 0, 0])
         }

@@ -3,7 +3,6 @@ use Rattle.std.proofs.Common.{◌≡◌, ℕ, ◌-◌, ◌<◌, ◌≤◌, lengt
 use Rattle.arrayvec.specs.ArrayVec.{ArrayVec}
 use Rattle.xcp_packet.specs.Layout.{layout, data_length}
 use Rattle.xcp_packet.proofs.LayoutLemmas.{layout_fits, layout_filled}
-use Rattle.xcp_packet.specs.declared.Order.TheVariants.{Intel}
 use Rattle.xcp_packet.specs.declared.Command.{Command}
 use Rattle.xcp_packet.specs.declared.Refuse.{Refuse}
 use Rattle.xcp_packet.specs.declared.Refuse.TheVariants as refuses
@@ -25,13 +24,13 @@ use Rattle.xcp_slave.proofs.ReplyLemmas.{reply-data, refusal-data}
 abbrev Holds : SlaveValue → ArrayVec ℕ → Type 0
 Holds v p = (0 < length p.items) × (length p.items ≤ (layout_of v).max_cto)
 
-sent-length : (v : SlaveValue) (reply : Reply) (p : ArrayVec ℕ) → IsLayout (layout_of v) → data_length reply < (layout_of v).max_cto → answers.Packet p ≡ answers.Packet (record { items = layout Intel reply }) → Holds v p
+sent-length : (v : SlaveValue) (reply : Reply) (p : ArrayVec ℕ) → IsLayout (layout_of v) → data_length reply < (layout_of v).max_cto → answers.Packet p ≡ answers.Packet (record { items = layout (layout_of v).order reply }) → Holds v p
 sent-length v reply p l d e =
-    let same : p ≡ record { items = layout Intel reply } = cc in
-    let is : p.items ≡ layout Intel reply = ap (λ (q : ArrayVec ℕ). q.items) same in
-    (rw is (layout_filled Intel reply), rw is (layout_fits Intel reply (layout_of v).max_cto l.cto_least d))
+    let same : p ≡ record { items = layout (layout_of v).order reply } = cc in
+    let is : p.items ≡ layout (layout_of v).order reply = ap (λ (q : ArrayVec ℕ). q.items) same in
+    (rw is (layout_filled (layout_of v).order reply), rw is (layout_fits (layout_of v).order reply (layout_of v).max_cto l.cto_least d))
 
-answered : (v : SlaveValue) (o : Option Reply) (p : ArrayVec ℕ) → IsLayout (layout_of v) → ((reply : Reply) → o ≡ Some reply → data_length reply < (layout_of v).max_cto) → answers.Packet p ≡ answer_of o → Holds v p
+answered : (v : SlaveValue) (o : Option Reply) (p : ArrayVec ℕ) → IsLayout (layout_of v) → ((reply : Reply) → o ≡ Some reply → data_length reply < (layout_of v).max_cto) → answers.Packet p ≡ answer_of (layout_of v).order o → Holds v p
 answered v None p l d e = cc
 answered v (Some reply) p l d e = sent-length v reply p l (d reply refl) e
 

@@ -3,7 +3,7 @@ use Rattle.std.proofs.Common.{◌≡◌, ℕ, ◌+◌, length, ◌==◌, ◌&&�
 use Rattle.std.specs.Prelude.{if◌then◌else◌}
 use Rattle.arrayvec.specs.ArrayVec.{ArrayVec}
 use Rattle.xcp_packet.specs.Layout.{layout}
-use Rattle.xcp_packet.specs.declared.Order.TheVariants.{Intel}
+use Rattle.xcp_packet.specs.declared.Order.{Order}
 use Rattle.xcp_packet.specs.declared.Command.{Command}
 use Rattle.xcp_packet.specs.declared.Command.TheVariants as commands
 use Rattle.xcp_packet.specs.declared.Refuse.{Refuse}
@@ -34,50 +34,50 @@ ff-fe : (xs ys : List ℕ) → 0xFF ∷ xs ≡ 0xFE ∷ ys → ⊥
 ff-fe xs ys e = differ 0xFF 0xFE refl refl (ap (λ (zs : List ℕ). slice_index zs 0) e)
 
 -- a reply whose bytes begin with FF is no error packet
-positive : (x reply : Reply) (xs rest : List ℕ) → Some x ≡ Some reply → layout Intel x ≡ 0xFF ∷ xs → layout Intel reply ≡ 0xFE ∷ rest → ⊥
-positive x reply xs rest s f e = let same : x ≡ reply = cc in ff-fe xs rest (sym f ∙ ap (layout Intel) same ∙ e)
+positive : (order : Order) (x reply : Reply) (xs rest : List ℕ) → Some x ≡ Some reply → layout order x ≡ 0xFF ∷ xs → layout order reply ≡ 0xFE ∷ rest → ⊥
+positive order x reply xs rest s f e = let same : x ≡ reply = cc in ff-fe xs rest (sym f ∙ ap (layout order) same ∙ e)
 
-chosen : (t : Bool) (reply : Reply) (rest : List ℕ) → (if t then Some replies.Done else None) ≡ Some reply → layout Intel reply ≡ 0xFE ∷ rest → ⊥
-chosen true reply rest s e = positive replies.Done reply [] rest s refl e
-chosen false reply rest s e = cc
+chosen : (order : Order) (t : Bool) (reply : Reply) (rest : List ℕ) → (if t then Some replies.Done else None) ≡ Some reply → layout order reply ≡ 0xFE ∷ rest → ⊥
+chosen order true reply rest s e = positive order replies.Done reply [] rest s refl e
+chosen order false reply rest s e = cc
 
-next-positive : (o : Option BlockValue) (remaining : ℕ) (bytes : List ℕ) (t : TransferValue) (reply : Reply) (rest : List ℕ) → (next_row o remaining bytes t).reply ≡ Some reply → layout Intel reply ≡ 0xFE ∷ rest → ⊥
-next-positive None remaining bytes t reply rest s e = cc
-next-positive (Some b) remaining bytes t reply rest s e = chosen _ reply rest s e
+next-positive : (order : Order) (o : Option BlockValue) (remaining : ℕ) (bytes : List ℕ) (t : TransferValue) (reply : Reply) (rest : List ℕ) → (next_row o remaining bytes t).reply ≡ Some reply → layout order reply ≡ 0xFE ∷ rest → ⊥
+next-positive order None remaining bytes t reply rest s e = cc
+next-positive order (Some b) remaining bytes t reply rest s e = chosen order _ reply rest s e
 
-info-positive : (t : Bool) (word pages : ℕ) (reply : Reply) (rest : List ℕ) → Some (if t then replies.SegmentWord word else replies.SegmentStandard pages) ≡ Some reply → layout Intel reply ≡ 0xFE ∷ rest → ⊥
-info-positive true word pages reply rest s e = positive (replies.SegmentWord word) reply _ rest s refl e
-info-positive false word pages reply rest s e = positive (replies.SegmentStandard pages) reply _ rest s refl e
+info-positive : (order : Order) (t : Bool) (word pages : ℕ) (reply : Reply) (rest : List ℕ) → Some (if t then replies.SegmentWord word else replies.SegmentStandard pages) ≡ Some reply → layout order reply ≡ 0xFE ∷ rest → ⊥
+info-positive order true word pages reply rest s e = positive order (replies.SegmentWord word) reply _ rest s refl e
+info-positive order false word pages reply rest s e = positive order (replies.SegmentStandard pages) reply _ rest s refl e
 
-entry-positive : (o : Option Element) (reply : Reply) (rest : List ℕ) → Some (told_entry o) ≡ Some reply → layout Intel reply ≡ 0xFE ∷ rest → ⊥
-entry-positive None reply rest s e = positive (replies.DaqEntry 0 0 0) reply _ rest s refl e
-entry-positive (Some x) reply rest s e = positive (told_entry (Some x)) reply _ rest s refl e
+entry-positive : (order : Order) (o : Option Element) (reply : Reply) (rest : List ℕ) → Some (told_entry o) ≡ Some reply → layout order reply ≡ 0xFE ∷ rest → ⊥
+entry-positive order None reply rest s e = positive order (replies.DaqEntry 0 0 0) reply _ rest s refl e
+entry-positive order (Some x) reply rest s e = positive order (told_entry (Some x)) reply _ rest s refl e
 
 -- A row that replies with an error packet changes nothing. It is SYNCH's.
-row-error : (c : Command) (v : SlaveValue) (reply : Reply) (rest : List ℕ) → (row c (found_by c v)).reply ≡ Some reply → layout Intel reply ≡ 0xFE ∷ rest → (row c (found_by c v)).after ≡ noblock v
-row-error (commands.DownloadNext remaining bytes) v reply rest s e = absurd (next-positive v.transfer.block remaining bytes.items v.transfer reply rest s e)
+row-error : (c : Command) (v : SlaveValue) (reply : Reply) (rest : List ℕ) → (row c (found_by c v)).reply ≡ Some reply → layout (layout_of v).order reply ≡ 0xFE ∷ rest → (row c (found_by c v)).after ≡ noblock v
+row-error (commands.DownloadNext remaining bytes) v reply rest s e = absurd (next-positive (layout_of v).order v.transfer.block remaining bytes.items v.transfer reply rest s e)
 row-error (commands.Synch) v reply rest s e = refl
-row-error (commands.Download n bytes) v reply rest s e = absurd (chosen _ reply rest s e)
-row-error (commands.GetSegmentInfo mode segment info mapping) v reply rest s e = absurd (info-positive (mode == 0) _ _ reply rest s e)
-row-error commands.ReadDaq v reply rest s e = absurd (entry-positive (read_daq_reply v.daq) reply rest s e)
-row-error _ v reply rest s e = absurd (positive _ reply _ rest s refl e)
+row-error (commands.Download n bytes) v reply rest s e = absurd (chosen (layout_of v).order _ reply rest s e)
+row-error (commands.GetSegmentInfo mode segment info mapping) v reply rest s e = absurd (info-positive (layout_of v).order (mode == 0) _ _ reply rest s e)
+row-error commands.ReadDaq v reply rest s e = absurd (entry-positive (layout_of v).order (read_daq_reply v.daq) reply rest s e)
+row-error _ v reply rest s e = absurd (positive (layout_of v).order _ reply _ rest s refl e)
 
 items_of : Answer → List ℕ
 items_of (answers.Packet p) = p.items
 items_of _ = []
 
 -- the reply that an error packet shows
-shown : (o : Option Reply) (a : Answer) (r : IsErrorPacket a) → a ≡ answer_of o → (reply : Reply) × (o ≡ Some reply) × (layout Intel reply ≡ 0xFE ∷ r.code ∷ r.rest)
+shown : (order : Order) (o : Option Reply) (a : Answer) (r : IsErrorPacket a) → a ≡ answer_of order o → (reply : Reply) × (o ≡ Some reply) × (layout order reply ≡ 0xFE ∷ r.code ∷ r.rest)
 unfolding items_of
-shown None a r h = let e : answers.Silent ≡ answers.Packet (record { items = 0xFE ∷ r.code ∷ r.rest }) = sym h ∙ r.packet in absurd (let z : ⊥ = cc in z)
-shown (Some reply) a r h = (reply, refl, ap items_of (sym h ∙ r.packet))
+shown order None a r h = let e : answers.Silent ≡ answers.Packet (record { items = 0xFE ∷ r.code ∷ r.rest }) = sym h ∙ r.packet in absurd (let z : ⊥ = cc in z)
+shown order (Some reply) a r h = (reply, refl, ap items_of (sym h ∙ r.packet))
 
-meets-error : (c : Command) (v : SlaveValue) (x : Result (Option Reply) Reply) (w : SlaveValue) (reply : Reply) (rest : List ℕ) → Meets (row c (found_by c v)) (noblock v) x w → sent_reply x ≡ Some reply → layout Intel reply ≡ 0xFE ∷ rest → w ≡ noblock v
+meets-error : (c : Command) (v : SlaveValue) (x : Result (Option Reply) Reply) (w : SlaveValue) (reply : Reply) (rest : List ℕ) → Meets (row c (found_by c v)) (noblock v) x w → sent_reply x ≡ Some reply → layout (layout_of v).order reply ≡ 0xFE ∷ rest → w ≡ noblock v
 meets-error c v (Ok o) w reply rest h s e = h.2 ∙ row-error c v reply rest (sym h.1 ∙ s) e
 meets-error c v (Err code) w reply rest h s e = h.1
 
 executes-error : (c : Command) (v : SlaveValue) (a : Answer) (w : SlaveValue) → IsErrorPacket a → Executes c v a w → w ≡ noblock v
-executes-error c v a w r k = let s = shown (sent_reply k.0) a r k.2 in meets-error c v k.0 w s.0 (r.code ∷ r.rest) k.1 s.1 s.2
+executes-error c v a w r k = let s = shown (layout_of v).order (sent_reply k.0) a r k.2 in meets-error c v k.0 w s.0 (r.code ∷ r.rest) k.1 s.1 s.2
 
 silent-error : (a : Answer) (R : Type 0) → IsErrorPacket a → a ≡ answers.Silent → R
 silent-error a R r h = let e : answers.Silent ≡ answers.Packet (record { items = 0xFE ∷ r.code ∷ r.rest }) = sym h ∙ r.packet in cc
@@ -92,12 +92,12 @@ pub error-leaves : (v : SlaveValue) (packet : ArrayVec ℕ) (a : Answer) (w : Sl
 error-leaves v packet a w h r = heeds-error v h.0 a w h.2 r
 
 -- nothing that is sent says that nothing was done
-sent-refusal : (o : Option Reply) (R : Type 0) → IsRefusal (answer_of o) → R
-sent-refusal None R r = absurd r
-sent-refusal (Some reply) R r = absurd r
+sent-refusal : (order : Order) (o : Option Reply) (R : Type 0) → IsRefusal (answer_of order o) → R
+sent-refusal order None R r = absurd r
+sent-refusal order (Some reply) R r = absurd r
 
 heeds-refusal : (v : SlaveValue) (d : Result Command Refuse) (a : Answer) (w : SlaveValue) → Heeds v d a w → IsRefusal a → w ≡ v
-heeds-refusal v (Ok c) a w h r = either (v.connected || is_connect c) _ _ _ h (λ k. sent-refusal (sent_reply k.0) _ (subst IsRefusal k.2 r)) (λ k. k.1)
+heeds-refusal v (Ok c) a w h r = either (v.connected || is_connect c) _ _ _ h (λ k. sent-refusal (layout_of v).order (sent_reply k.0) _ (subst IsRefusal k.2 r)) (λ k. k.1)
 heeds-refusal v (Err refuses.Empty) a w h r = h.1
 heeds-refusal v (Err refuses.Unknown) a w h r = either v.connected _ _ _ h (λ k. absurd (subst IsRefusal k.0 r)) (λ k. k.1)
 heeds-refusal v (Err refuses.Short) a w h r = either v.connected _ _ _ h (λ k. absurd (subst IsRefusal k.0 r)) (λ k. k.1)

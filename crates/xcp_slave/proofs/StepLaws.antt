@@ -3,7 +3,7 @@ use Rattle.std.proofs.Common.{◌≡◌, ℕ, ◌+◌, Bool, true, false, List, 
 use Rattle.std.specs.Prelude.{MatchBool}
 use Rattle.std.proofs.lemmas.Option.{none-some}
 use Rattle.xcp_packet.proofs.Deciding.{decodes_once, decodes_total}
-use Rattle.xcp_packet.specs.declared.Order.TheVariants.{Intel}
+use Rattle.xcp_packet.specs.declared.Order.{Order}
 use Rattle.xcp_packet.specs.declared.Command.{Command}
 use Rattle.xcp_packet.specs.declared.Refuse.{Refuse}
 use Rattle.xcp_packet.specs.declared.Refuse.TheVariants as refuses
@@ -47,19 +47,19 @@ meets-some : (r : Row SlaveValue) (left : SlaveValue) (o : Option Reply) → fir
 meets-some r left None h = (Ok r.reply, r.after, (h, refl, refl))
 meets-some r left (Some e) h = (Err e, left, (h, refl))
 
-sent : Result (Option Reply) Reply → Answer
-sent r = answer_of (sent_reply r)
+sent : Order → Result (Option Reply) Reply → Answer
+sent order r = answer_of order (sent_reply r)
 
 executes-single : (c : Command) (v : SlaveValue) (a b : Answer) (w u : SlaveValue) → Executes c v a w → Executes c v b u → (a ≡ b) × (w ≡ u)
 unfolding sent
 executes-single c v a b w u h k =
     let e = meets-single (row c (found_by c v)) (noblock v) h.0 k.0 w u h.1 k.1 in
-    (h.2 ∙ ap sent e.0 ∙ sym k.2, e.1)
+    (h.2 ∙ ap (sent (layout_of v).order) e.0 ∙ sym k.2, e.1)
 
 executes-some : (c : Command) (v : SlaveValue) → (a : Answer) × (w : SlaveValue) × Executes c v a w
 executes-some c v =
     let r = meets-some (row c (found_by c v)) (noblock v) (first_holding (row c (found_by c v)).refusals) refl in
-    (answer_of (sent_reply r.0), r.1, (r.0, r.2, refl))
+    (answer_of (layout_of v).order (sent_reply r.0), r.1, (r.0, r.2, refl))
 
 ignores-single : (v : SlaveValue) (a b : Answer) (w u : SlaveValue) → Ignores v a w → Ignores v b u → (a ≡ b) × (w ≡ u)
 ignores-single v a b w u h k = (h.0 ∙ sym k.0, h.1 ∙ sym k.1)
@@ -71,7 +71,7 @@ ignores-some : (v : SlaveValue) → (a : Answer) × (w : SlaveValue) × Ignores 
 ignores-some v = (answers.Silent, v, (refl, refl))
 
 refuses-some : (v : SlaveValue) (e : Code) → (a : Answer) × (w : SlaveValue) × Refuses v e a w
-refuses-some v e = (answer_of (Some (replies.Error e)), noblock v, (refl, refl))
+refuses-some v e = (answer_of (layout_of v).order (Some (replies.Error e)), noblock v, (refl, refl))
 
 heeds-single : (v : SlaveValue) (d : Result Command Refuse) (a b : Answer) (w u : SlaveValue) → Heeds v d a w → Heeds v d b u → (a ≡ b) × (w ≡ u)
 heeds-single v (Ok c) a b w u h k = both (v.connected || is_connect c) _ _ _ _ _ h k (executes-single c v a b w u) (ignores-single v a b w u)
@@ -142,7 +142,7 @@ fires-some channel signals v =
 
 pub answers-single : (v : SlaveValue) (q : Request) (a b : Answer) (w u : SlaveValue) → Answers v q a w → Answers v q b u → (a ≡ b) × (w ≡ u)
 answers-single v (requests.Command p) a b w u h k =
-    let s = decodes_once Intel p.items k.0 h.0 k.1 h.1 in
+    let s = decodes_once (layout_of v).order p.items k.0 h.0 k.1 h.1 in
     heeds-single v h.0 a b w u h.2 (subst (λ (d : Result Command Refuse). Heeds v d b u) s k.2)
 answers-single v (requests.Event channel signals) a b w u h k = fires-single channel signals.items v a b w u h k
 answers-single v requests.Drain a b w u h k = drains-single v.outbox v a b w u h k
@@ -151,7 +151,7 @@ answers-single v requests.Hangup a b w u h k = settled answers.Silent (ended v) 
 
 pub answers-some : (v : SlaveValue) (q : Request) → (a : Answer) × (w : SlaveValue) × Answers v q a w
 answers-some v (requests.Command p) =
-    let d = decodes_total Intel p.items in
+    let d = decodes_total (layout_of v).order p.items in
     let r = heeds-some v d.0 in
     (r.0, r.1, (d.0, d.1, r.2))
 answers-some v (requests.Event channel signals) = fires-some channel signals.items v

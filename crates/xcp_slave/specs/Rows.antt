@@ -1,5 +1,7 @@
 -- The row of each command: why it is refused, and else its reply and its effect.
 use Rattle.std.specs.Prelude.{ℕ, ◌+◌, true, [], ◌∷◌, Option, Some, None, Result, not, ◌==◌, if◌then◌else◌}
+use Rattle.xcp_packet.specs.Order.{byte_order}
+use Rattle.xcp_packet.specs.declared.Order.{Order}
 use Rattle.xcp_packet.specs.declared.Command.{Command}
 use Rattle.xcp_packet.specs.declared.Command.TheVariants as commands
 use Rattle.xcp_packet.specs.declared.Reply.{Reply}
@@ -28,13 +30,19 @@ of_transfer v r = row_within (λ t. record v { transfer = t }) r
 abbrev pub status_of : SlaveValue → ℕ
 status_of v = (if v.store then 0x01 else 0) + (if any_running v.daq then 0x40 else 0)
 
+-- COMM_MODE_BASIC: bit 7, optional information can be had; bit 0, the byte order. The address granularity is one byte, and
+-- there is no slave block mode.
+-- (ASAM MCD-1 XCP, protocol layer, description of commands: CONNECT.)
+abbrev pub comm_mode_basic : Order → ℕ
+comm_mode_basic order = 0x80 + byte_order order
+
 -- The row of a command for a slave v. (ASAM MCD-1 XCP, protocol layer, description of commands; which error comes when, and
 -- in which order, is this slave's choice.)
 abbrev pub row : Command → SlaveValue → Row SlaveValue
--- CONNECT: the mode isn't looked at. COMM_MODE_BASIC has bit 7, optional information.
+-- CONNECT: the mode isn't looked at.
 row (commands.Connect mode) v = record {
   refusals = [];
-  reply = Some (replies.Connect 0x80 (layout_of v).max_cto (layout_of v).max_dto);
+  reply = Some (replies.Connect (comm_mode_basic (layout_of v).order) (layout_of v).max_cto (layout_of v).max_dto);
   after = record v { connected = true; transfer = record v.transfer { mta = Nowhere; block = None } };
 }
 -- DISCONNECT ends the session.

@@ -3,7 +3,7 @@ use Rattle.std.specs.Prelude.{◌≡◌, ℕ, ◌+◌, Bool, true, false, ◌&&�
 use Rattle.arrayvec.specs.ArrayVec.{ArrayVec}
 use Rattle.xcp_packet.specs.Refusal.{Decodes}
 use Rattle.xcp_packet.specs.Layout.{layout}
-use Rattle.xcp_packet.specs.declared.Order.TheVariants.{Intel}
+use Rattle.xcp_packet.specs.declared.Order.{Order}
 use Rattle.xcp_packet.specs.declared.Command.{Command}
 use Rattle.xcp_packet.specs.declared.Command.TheVariants as commands
 use Rattle.xcp_packet.specs.declared.Refuse.{Refuse}
@@ -22,10 +22,10 @@ use Rattle.xcp_slave.specs.declared.answer.Answer.TheVariants as answers
 use Rattle.xcp_slave.specs.Value.{SlaveValue, layout_of, noblock, ended}
 use Rattle.xcp_slave.specs.Rows.{row}
 
--- the answer to a reply: its packet, or nothing where nothing is sent
-abbrev pub answer_of : Option Reply → Answer
-answer_of None = answers.Silent
-answer_of (Some reply) = answers.Packet (record { items = layout Intel reply })
+-- the answer to a reply: its packet in this byte order, or nothing where nothing is sent
+abbrev pub answer_of : Order → Option Reply → Answer
+answer_of order None = answers.Silent
+answer_of order (Some reply) = answers.Packet (record { items = layout order reply })
 
 -- the reply that is sent: of a refused command, its error packet
 abbrev pub sent_reply : Result (Option Reply) Reply → Option Reply
@@ -38,7 +38,7 @@ Ignores v a w = (a ≡ answers.Silent) × (w ≡ v)
 
 -- the packet is refused with this code, and nothing has changed but that a block under way is given up
 abbrev pub Refuses : SlaveValue → Code → Answer → SlaveValue → Type 0
-Refuses v e a w = (a ≡ answer_of (Some (replies.Error e))) × (w ≡ noblock v)
+Refuses v e a w = (a ≡ answer_of (layout_of v).order (Some (replies.Error e))) × (w ≡ noblock v)
 
 -- The slave as a command finds it: any command but DOWNLOAD_NEXT gives a block under way up.
 abbrev pub found_by : Command → SlaveValue → SlaveValue
@@ -47,7 +47,7 @@ found_by _ v = noblock v
 
 -- The command's row is met at the slave that it finds, and its reply or its error is sent. A refusal leaves no block.
 abbrev pub Executes : Command → SlaveValue → Answer → SlaveValue → Type 0
-Executes c v a w = (r : Result (Option Reply) Reply) × Meets (row c (found_by c v)) (noblock v) r w × (a ≡ answer_of (sent_reply r))
+Executes c v a w = (r : Result (Option Reply) Reply) × Meets (row c (found_by c v)) (noblock v) r w × (a ≡ answer_of (layout_of v).order (sent_reply r))
 
 abbrev pub is_connect : Command → Bool
 is_connect (commands.Connect mode) = true
@@ -62,9 +62,9 @@ Heeds v (Err refuses.Empty) a w = Ignores v a w
 Heeds v (Err refuses.Unknown) a w = MatchBool v.connected (Refuses v CmdUnknown a w) (Ignores v a w)
 Heeds v (Err refuses.Short) a w = MatchBool v.connected (Refuses v CmdSyntax a w) (Ignores v a w)
 
--- what a command packet of these bytes does
+-- what a command packet of these bytes does, which are read in the layout's byte order
 abbrev pub AnswersPacket : SlaveValue → List ℕ → Answer → SlaveValue → Type 0
-AnswersPacket v bytes a w = (d : Result Command Refuse) × Decodes Intel bytes d × Heeds v d a w
+AnswersPacket v bytes a w = (d : Result Command Refuse) × Decodes (layout_of v).order bytes d × Heeds v d a w
 
 -- Drain answers the first packet that waits and takes it out; the others stay in order.
 -- (ASAM MCD-1 XCP, protocol layer: event packets, data packets.)

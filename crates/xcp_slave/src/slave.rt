@@ -20,7 +20,7 @@ use std::alloc::{AllocError, Global};
 use std::marker::Model;
 use xcp_daq::Daq;
 use xcp_memory::{Layout, Pages};
-use xcp_packet::{Code, Command, Packet, Refuse, Reply, commands, decode, encode_reply};
+use xcp_packet::{Code, Command, Order, Packet, Refuse, Reply, commands, decode, encode_reply};
 use xcp_transfer::{Mta, Transfer};
 
 /// What comes of a command: the reply, or none where nothing is sent, or the error packet.
@@ -207,6 +207,12 @@ impl Slave {
         self.transfer.pages().layout()
     }
 
+    fn order(&self) -> Order
+        ensures { result ≡ (layout_of self.now).order }
+    {
+        self.layout().order()
+    }
+
     /// Writes the ECU image out: the ECU pages of the segments in order, then zeros.
     pub fn image(&self, out: &mut [u8; 2040])
         ensures { out.new ≡ ecu_image self.now.transfer.pages }
@@ -235,9 +241,10 @@ impl Slave {
         requires { length bytes.now ≤ 255 }
         ensures { AnswersPacket self.old bytes.now result self.new }
     {
-        match decode(bytes) {
+        let order = self.order();
+        match decode(bytes, order) {
             Err(Refuse::Empty) => Answer::Silent,
-            Ok(Command::Connect { mode }) => sent(self.connect(mode)),
+            Ok(Command::Connect { mode }) => sent(self.connect(mode), order),
             _ if !self.connected => Answer::Silent,
             Ok(command) => self.obey(&command),
             Err(Refuse::Unknown) => self.refuse(Code::CmdUnknown),
@@ -248,8 +255,9 @@ impl Slave {
     fn obey(&mut self, command: &Command) -> Answer
         ensures { Executes command.now self.old result self.new }
     {
+        let order = self.order();
         self.find(command);
-        sent(self.execute(command))
+        sent(self.execute(command), order)
     }
 
     /// Any command but DOWNLOAD_NEXT gives a block under way up.
@@ -263,11 +271,12 @@ impl Slave {
     }
 
     fn refuse(&mut self, code: Code) -> Answer
-        ensures answer { result ≡ answer_of (Some (Reply.Error code)) }
+        ensures answer { result ≡ answer_of (layout_of self.old).order (Some (Reply.Error code)) }
         ensures left { self.new ≡ noblock self.old }
     {
+        let order = self.order();
         self.transfer.give_up_block();
-        sent(Err(Reply::Error(code)))
+        sent(Err(Reply::Error(code)), order)
     }
 
     #[tactic(auto, unfolding(crate::specs::Rows::MeetsRow))]
@@ -290,12 +299,12 @@ impl Slave {
 }
 
 /// What is sent of an outcome.
-fn sent(outcome: Outcome) -> Answer
+fn sent(outcome: Outcome, order: Order) -> Answer
     requires { FitsPacket outcome }
-    ensures { result ≡ answer_of (sent_reply outcome) }
+    ensures { result ≡ answer_of order (sent_reply outcome) }
 {
     match outcome {
         Ok(None) => Answer::Silent,
-        Ok(Some(reply)) | Err(reply) => Answer::Packet(encode_reply(&reply)),
+        Ok(Some(reply)) | Err(reply) => Answer::Packet(encode_reply(&reply, order)),
     }
 }

@@ -1,7 +1,6 @@
 -- The rows of the commands by which a tool writes.
 use Rattle.std.specs.Prelude.{ℕ, ◌-◌, ◌*◌, ◌^◌, ◌%◌, true, not, ◌||◌, List, [], ◌∷◌, ◌++◌, length, take, Option, Some, None, nat_le, nat_lt, min, ◌==◌, if◌then◌else◌, bit_and, bit_xor}
 use Rattle.std.specs.Int.{bit_not, w16, w32}
-use Rattle.xcp_packet.specs.declared.Order.TheVariants.{Intel}
 use Rattle.xcp_packet.specs.Order.{double_at, double_bytes}
 use Rattle.xcp_packet.specs.declared.Reply.TheVariants.{Done, Error, ErrorCount}
 use Rattle.xcp_packet.specs.declared.Code.TheVariants.{CmdSyntax, OutOfRange, Sequence}
@@ -115,14 +114,14 @@ shifted s x = x * 2 ^ s % 2 ^ 32
 abbrev pub modified : ℕ → ℕ → ℕ → ℕ → ℕ
 modified s ma mx a = bit_xor (bit_and a (bit_not w32 (shifted s (bit_not w16 ma)))) (shifted s mx)
 
--- MODIFY_BITS changes bits of the double word at the MTA, which stays. The shift is 0 to 31.
+-- MODIFY_BITS changes bits of the double word at the MTA, in the layout's byte order. The MTA stays. The shift is 0 to 31.
 -- (ASAM MCD-1 XCP, protocol layer, description of commands: MODIFY_BITS.)
 abbrev pub modify_bits_row : ℕ → ℕ → ℕ → TransferValue → Row TransferValue
 modify_bits_row s ma mx v = record {
   refusals = (nat_lt 31 s, Error OutOfRange) ∷ refused (write_refusal_at v.pages v.mta 4);
   reply = Some Done;
   after = record v {
-    pages = written_at v.pages v.mta (double_bytes Intel (modified s ma mx (double_at Intel 0 (bytes_at v.pages v.mta 4))));
+    pages = written_at v.pages v.mta (double_bytes v.pages.layout.order (modified s ma mx (double_at v.pages.layout.order 0 (bytes_at v.pages v.mta 4))));
     block = None;
   };
 }

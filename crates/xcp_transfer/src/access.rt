@@ -6,9 +6,8 @@ ghost use Rattle.xcp_transfer.specs.Value.{text_of, IsText, IsMta};
 ghost use Rattle.xcp_transfer.specs.Words.{is_readable, is_summable, sum_at, bytes_at, write_refusal_at, written_at, moved};
 
 use crate::{Mta, TextId};
-use byteorder::{ByteOrder, LittleEndian};
 use xcp_memory::{Layout, Pages};
-use xcp_packet::{Code, Data, Order};
+use xcp_packet::{Code, Data};
 
 /// Reads n bytes from an MTA on: the bytes, and the MTA behind them. `AccessDenied` where they
 /// don't lie in one area, or a text has fewer left.
@@ -153,22 +152,22 @@ pub(crate) fn write_allowed(pages: &mut Pages, address: u32, bytes: &[u8]) -> Mt
     Mta::Memory(address + bytes.len() as u32)
 }
 
-/// The double word at an address, where four bytes may be written.
+/// The double word at an address, where four bytes may be written, in the layout's byte order.
 pub(crate) fn read_double(pages: &Pages, address: u32) -> u32
     requires { write_refusal pages.now address 4 ≡ None }
-    ensures { result ≡ double_at Order.Intel 0 (tool_bytes pages.now address 4) }
+    ensures { result ≡ double_at pages.now.layout.order 0 (tool_bytes pages.now address 4) }
 {
     let mut bytes = [0; 4];
     let _ = pages.read_xcp(address, &mut bytes);
-    LittleEndian::read_u32(&bytes)
+    pages.layout().order().double_at(&bytes, 0)
 }
 
-/// Makes a double word stand at an address, where four bytes may be written.
+/// Makes a double word stand at an address, where four bytes may be written, in the layout's byte
+/// order.
 pub(crate) fn write_double(pages: &mut Pages, address: u32, value: u32)
     requires { write_refusal pages.old address 4 ≡ None }
-    ensures { pages.new ≡ pages_written pages.old address (double_bytes Order.Intel value) }
+    ensures { pages.new ≡ pages_written pages.old address (double_bytes pages.old.layout.order value) }
 {
-    let mut bytes = [0; 4];
-    LittleEndian::write_u32(&mut bytes, value);
+    let bytes = pages.layout().order().double_bytes(value);
     let _ = pages.write_xcp(address, &bytes);
 }

@@ -6,7 +6,7 @@ use std::alloc::Global;
 use std::process::Abort;
 use std::test::Fail;
 use xcp_memory::{EventPart, Layout, Pages, Parts, SegmentPart};
-use xcp_packet::{Code, Command, Packet, Reply, decode, encode_reply};
+use xcp_packet::{Code, Command, Order, Packet, Reply, decode, encode_reply};
 
 /// Transfers over segment 0 at 0x1000 with these bytes, segment 1 at 0x2000 with 8 bytes AA, 8
 /// bytes of signals at 0x8000, the identification `ECU1` and the event `10ms`.
@@ -32,6 +32,7 @@ fn transfer(alloc: Global, max_cto: i64, checksum: i64, bytes: &[u8]) -> Result<
         max_cto,
         max_dto: 64,
         checksum,
+        order: Order::Intel,
         segments,
         signals_address: 0x8000,
         signals_length: 8,
@@ -122,14 +123,14 @@ fn sent(transfer: &mut Transfer, bytes: &[u8]) -> Packet {
     if bytes.len() > 255 {
         return Packet::new();
     }
-    let Ok(command) = decode(bytes) else {
+    let Ok(command) = decode(bytes, Order::Intel) else {
         return Packet::new();
     };
     match execute(transfer, command) {
         Ok(None) => Packet::new(),
         Ok(Some(reply)) | Err(reply) => {
             if reply.fits() {
-                encode_reply(&reply)
+                encode_reply(&reply, Order::Intel)
             } else {
                 Packet::new()
             }

@@ -6,6 +6,7 @@ use std::alloc::Global;
 use std::io::{self, Read, Write};
 use std::test::Fail;
 use xcp_memory::{EventPart, Layout, Parts, SegmentPart};
+use xcp_packet::Order;
 use xcp_slave::Slave;
 
 /// MAX_CTO 32 and MAX_DTO 64, segment 0 at 0x1000 with the bytes 00 to 0F, segment 1 at 0x2000 with
@@ -32,6 +33,7 @@ fn layout(alloc: Global) -> Result<Layout, Fail> {
         max_cto: 32,
         max_dto: 64,
         checksum: 3,
+        order: Order::Intel,
         segments,
         signals_address: 0x8000,
         signals_length: 8,

@@ -9,8 +9,8 @@ use crate::SessionStatus;
 use xcp_packet::{Code, Command, Reply};
 use xcp_transfer::Mta;
 
-/// COMM_MODE_BASIC of CONNECT: optional information can be had (bit 7); Intel byte order,
-/// address granularity of one byte, no slave block mode.
+/// COMM_MODE_BASIC of CONNECT but for the byte order, which is bit 0: optional information can be
+/// had (bit 7), address granularity of one byte, no slave block mode.
 const COMM_MODE_BASIC: u8 = 0x80;
 
 impl Slave {
@@ -22,7 +22,7 @@ impl Slave {
         self.transfer.give_up_block();
         self.transfer.set_mta(Mta::Nowhere);
         Ok(Some(Reply::Connect {
-            basic: COMM_MODE_BASIC,
+            basic: COMM_MODE_BASIC + self.order().bit(),
             max_cto: self.layout().max_cto(),
             max_dto: u16::from(self.layout().max_dto()),
         }))

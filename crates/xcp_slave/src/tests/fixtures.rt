@@ -5,7 +5,7 @@ use std::alloc::Global;
 use std::process::Abort;
 use std::test::Fail;
 use xcp_memory::{EventPart, Layout, Parts, SegmentPart};
-use xcp_packet::Packet;
+use xcp_packet::{Order, Packet};
 
 /// The bytes of both segments: 00 to 0F at 0x1000, eight bytes AA at 0x2000.
 pub(super) fn example() -> [u8; 24] {
@@ -101,6 +101,7 @@ pub(super) fn slave_with(
         max_cto,
         max_dto,
         checksum,
+        order: Order::Intel,
         segments: Vec::from_array(alloc, [first, second])?,
         signals_address: 0x8000,
         signals_length: 8,

@@ -12,7 +12,7 @@ use xcp_packet::{Code, Reply};
 const DOUBLE: u8 = 4;
 
 impl Transfer {
-    /// MODIFY_BITS: in the double word at the MTA, clears the bits that are 0 in the AND mask
+    /// MODIFY_BITS: in the double word at the MTA, in the layout's byte order, clears the bits that are 0 in the AND mask
     /// `ma`, and then changes those that are 1 in the XOR mask `mx`, both masks shifted up by s, 0
     /// to 31. The MTA stays.
     ///
