@@ -14,6 +14,3 @@ mod values;
 
 pub use config_error::ConfigError;
 pub use reading::read_layout;
-
-#[cfg(test)]
-mod tests;

@@ -6,8 +6,6 @@
 
 mod allocation;
 mod daq;
-#[cfg(test)]
-mod daq_tests;
 mod element;
 mod list_flags;
 mod mode;

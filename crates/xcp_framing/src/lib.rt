@@ -42,8 +42,6 @@ pub use stream::{
     any_cutting_gives_the_same_frames, each_stream_has_its_frames, plain_frames,
     the_wire_gives_its_packets_back,
 };
+pub use telling::push_text;
 pub use watched::{Watched, WriteFailed};
 pub use wire::{FRAME_SIZE, frame};
-
-#[cfg(test)]
-mod tests;

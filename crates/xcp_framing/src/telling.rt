@@ -10,7 +10,7 @@ const HEX_DIGITS: [u8; 16] = *b"0123456789ABCDEF";
 
 /// Appends the line of an answer. After an `Err` a front of it may have been appended.
 #[tactic(auto, unfolding(crate::specs::Told::text_of))]
-pub(crate) fn push_text(texts: &mut Vec<u8>, answer: &Answer) -> Result<(), AllocError>
+pub fn push_text(texts: &mut Vec<u8>, answer: &Answer) -> Result<(), AllocError>
     ensures { OnOk result (texts.new.items ≡ texts.old.items ++ text_of answer.now) }
 {
     match answer {

@@ -13,13 +13,9 @@ mod extent;
 mod key;
 mod layout;
 mod layout_laws;
-#[cfg(test)]
-mod layout_tests;
 mod limits;
 mod page_set;
 mod pages;
-#[cfg(test)]
-mod pages_tests;
 mod parts;
 mod segment;
 mod segment_mode;

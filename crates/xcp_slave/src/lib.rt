@@ -24,6 +24,3 @@ pub use page_properties::PageProperties;
 pub use request::Request;
 pub use slave::Slave;
 pub use status::SessionStatus;
-
-#[cfg(test)]
-mod tests;

@@ -9,8 +9,6 @@ mod access;
 mod block;
 mod laws;
 mod mta;
-#[cfg(test)]
-mod tests;
 mod transfer;
 
 pub use laws::{

@@ -1,17 +1,15 @@
 //! A desk over a small slave, and readers and writers that give and take little, or fail.
 ghost use Rattle.std.specs.Prelude.{◌≡◌, [], IfOk};
 
-use crate::Desk;
-use std::alloc::Global;
+use std::alloc::{AllocError, Global};
 use std::io::{self, Read, Write};
 use std::test::Fail;
+use xcp_framing::Desk;
 use xcp_memory::{EventPart, Layout, Parts, SegmentPart};
 use xcp_packet::Order;
 use xcp_slave::Slave;
 
-/// MAX_CTO 32 and MAX_DTO 64, segment 0 at 0x1000 with the bytes 00 to 0F, segment 1 at 0x2000 with
-/// 8 bytes AA, 8 bytes of signals at 0x8000, and one event channel.
-fn layout(alloc: Global) -> Result<Layout, Fail> {
+fn segments(alloc: Global) -> Result<Vec<SegmentPart>, AllocError> {
     let mut segments = Vec::new(alloc);
     segments.push(SegmentPart {
         address: 0x1000,
@@ -21,23 +19,28 @@ fn layout(alloc: Global) -> Result<Layout, Fail> {
         address: 0x2000,
         bytes: [0xAA; 8].to_vec(alloc)?,
     })?;
-    let mut events = Vec::new(alloc);
-    events.push(EventPart {
+    Ok(segments)
+}
+
+/// MAX_CTO 32 and MAX_DTO 64, segment 0 at 0x1000 with the bytes 00 to 0F, segment 1 at 0x2000 with
+/// 8 bytes AA, 8 bytes of signals at 0x8000, and one event channel.
+fn layout(alloc: Global) -> Result<Layout, Fail> {
+    let event = EventPart {
         name: b"10ms".to_vec(alloc)?,
         cycle: 10,
         unit: 6,
         priority: 0,
-    })?;
+    };
     Ok(Layout::new(Parts {
         id: b"ECU1".to_vec(alloc)?,
         max_cto: 32,
         max_dto: 64,
         checksum: 3,
         order: Order::Intel,
-        segments,
+        segments: segments(alloc)?,
         signals_address: 0x8000,
         signals_length: 8,
-        events,
+        events: Vec::from_array(alloc, [event])?,
     })?)
 }
 

@@ -1,7 +1,7 @@
-//! Layouts that are accepted, and each fault in its order.
-use crate::{Area, ChecksumKind, EventPart, Key, Layout, LayoutFault, Parts, SegmentPart};
+//! Each fault of a layout, in its order.
 use std::alloc::{AllocError, Global};
 use std::test::Fail;
+use xcp_memory::{Area, EventPart, Key, Layout, LayoutFault, Parts, SegmentPart};
 use xcp_packet::Order;
 
 /// The parts of a layout: the segments by address and number of bytes, the events by name and numbers.
@@ -287,106 +287,18 @@ static ROWS: [Row; 28] = [
     },
 ];
 
+/// The first row whose fault isn't the one that is found.
+fn first_wrong(alloc: Global) -> Result<Option<usize>, AllocError> {
+    for (number, row) in ROWS.iter().enumerate() {
+        if Layout::new(parts(alloc, row)?).err() != row.fault {
+            return Ok(Some(number));
+        }
+    }
+    Ok(None)
+}
+
 #[test]
 fn faults_come_in_order(rt: HostRuntime) -> Result<(), Fail> {
-    for row in &ROWS {
-        let fault = Layout::new(parts(rt.alloc(), row)?).err();
-        assert_eq!(rt; fault, row.fault);
-    }
-    Ok(())
-}
-
-/// A layout with two segments, signals and an event channel.
-fn example(alloc: Global) -> Result<Parts, AllocError> {
-    let mut segments = Vec::new(alloc);
-    let counted = [0, 1, 2, 3, 4, 5, 6, 7, 8, 9, 10, 11, 12, 13, 14, 15].to_vec(alloc)?;
-    segments.push(SegmentPart {
-        address: 0x1000,
-        bytes: counted,
-    })?;
-    segments.push(SegmentPart {
-        address: 0x2000,
-        bytes: vec![in alloc; 0xAA; 8]?,
-    })?;
-    let mut events = Vec::new(alloc);
-    events.push(EventPart {
-        name: b"10ms".to_vec(alloc)?,
-        cycle: 10,
-        unit: 6,
-        priority: 0,
-    })?;
-    Ok(Parts {
-        id: b"ECU1".to_vec(alloc)?,
-        max_cto: 32,
-        max_dto: 64,
-        checksum: 3,
-        order: Order::Motorola,
-        segments,
-        signals_address: 0x8000,
-        signals_length: 8,
-        events,
-    })
-}
-
-#[test]
-fn layout_has_its_values(rt: HostRuntime) -> Result<(), Fail> {
-    let layout = Layout::new(example(rt.alloc())?)?;
-    layout.audit();
-    assert_eq!(rt; layout.id(), b"ECU1".as_slice());
-    assert_eq!(rt; (layout.max_cto(), layout.max_dto()), (32, 64));
-    assert_eq!(rt; layout.checksum(), ChecksumKind::Add14);
-    assert_eq!(rt; layout.checksum().number(), 3);
-    assert_eq!(rt; layout.order(), Order::Motorola);
-    assert_eq!(rt; layout.segment_count(), 2);
-    assert_eq!(rt;
-        (layout.segment_address(0), layout.segment_size(0)),
-        (0x1000, 16)
-    );
-    assert_eq!(rt;
-        (layout.segment_address(1), layout.segment_size(1)),
-        (0x2000, 8)
-    );
-    assert_eq!(rt; layout.segment_bytes(0).last(), Some(&15));
-    assert_eq!(rt; layout.segment_bytes(1).last(), Some(&0xAA));
-    assert_eq!(rt;
-        (layout.signals_address(), layout.signals_length()),
-        (0x8000, 8)
-    );
-    assert_eq!(rt; layout.event_count(), 1);
-    assert_eq!(rt; layout.event_name(0), b"10ms".as_slice());
-    assert_eq!(rt;
-        (
-            layout.event_cycle(0),
-            layout.event_unit(0),
-            layout.event_priority(0)
-        ),
-        (10, 6, 0)
-    );
-    Ok(())
-}
-
-#[test]
-fn ranges_lie_in_areas(rt: HostRuntime) -> Result<(), Fail> {
-    let layout = Layout::new(example(rt.alloc())?)?;
-    assert_eq!(rt; layout.segment_of(0x1000, 16), Some(0));
-    assert_eq!(rt; layout.segment_of(0x100F, 1), Some(0));
-    assert_eq!(rt; layout.segment_of(0x1001, 16), None);
-    assert_eq!(rt; layout.segment_of(0x2007, 1), Some(1));
-    assert_eq!(rt; layout.segment_of(0xFFFF_FFFF, 0xFFFF_FFFF), None);
-    assert!(rt; layout.is_in_signals(0x8000, 8));
-    assert!(rt; !layout.is_in_signals(0x8001, 8));
-    assert!(rt; !layout.is_in_signals(0x7FFF, 1));
-    Ok(())
-}
-
-#[test]
-fn faults_have_texts(rt: HostRuntime) -> Result<(), Fail> {
-    let range = format!(in rt.alloc(); "{}", LayoutFault::Range(Key::Address(0)))?;
-    assert_eq!(rt; range.as_str(), "Address(0) is out of its range");
-    let overlap = LayoutFault::Overlap(Area::Segment(0), Area::Signals);
-    let overlap = format!(in rt.alloc(); "{}", overlap)?;
-    assert_eq!(rt; overlap.as_str(), "Segment(0) and Signals share an address");
-    let many = format!(in rt.alloc(); "{}", LayoutFault::TooMany(Key::Data(1)))?;
-    assert_eq!(rt; many.as_str(), "too many: Data(1)");
+    assert_eq!(rt; first_wrong(rt.alloc())?, None);
     Ok(())
 }

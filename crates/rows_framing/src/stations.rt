@@ -2,7 +2,7 @@
 ghost use Rattle.std.specs.Prelude.{◌≡◌, ◌⊎◌};
 ghost use Rattle.xcp_framing.specs.declared.station.StationError.TheVariants as refusals;
 
-use crate::{Desk, Station, StationError};
+use xcp_framing::{Desk, Station, StationError};
 use xcp_packet::Packet;
 use xcp_slave::{Answer, Exchange, Request};
 

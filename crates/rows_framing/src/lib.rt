@@ -1,0 +1,23 @@
+//! Worked rows of lines, scripts and frames, and streams that fail, each through public items alone.
+#![tactic(auto)]
+
+#[cfg(test)]
+mod fakes;
+#[cfg(test)]
+mod feeds;
+#[cfg(test)]
+mod frames;
+#[cfg(test)]
+mod lines;
+#[cfg(test)]
+mod replay_rows;
+#[cfg(test)]
+mod replays;
+#[cfg(test)]
+mod serve_rows;
+#[cfg(test)]
+mod serves;
+#[cfg(test)]
+mod stations;
+#[cfg(test)]
+mod texts;

@@ -1,0 +1,168 @@
+//! What lines say, and the lines of a text.
+use arrayvec::ArrayVec;
+use std::alloc::{AllocError, Global};
+use std::test::Fail;
+use xcp_framing::{LINE_BYTES, Line, parse_line, plain_lines};
+use xcp_slave::Request;
+
+const MAX_CTO: u8 = 32;
+
+/// What a line says.
+#[derive(Clone, Copy)]
+enum Says {
+    Skip,
+    Faulty,
+    Drain,
+    Store,
+    Hangup,
+    Command(&'static [u8]),
+    Event(u16, &'static [u8]),
+}
+
+fn bytes<const N: usize>(from: &[u8]) -> ArrayVec<u8, N> {
+    let mut bytes = ArrayVec::new();
+    let _ = bytes.try_extend_from_slice(from);
+    bytes
+}
+
+fn line_of(says: Says) -> Line {
+    match says {
+        Says::Skip => Line::Skip,
+        Says::Faulty => Line::Faulty,
+        Says::Drain => Line::Ask(Request::Drain),
+        Says::Store => Line::Ask(Request::FinishStore),
+        Says::Hangup => Line::Ask(Request::Hangup),
+        Says::Command(packet) => Line::Ask(Request::Command(bytes(packet))),
+        Says::Event(channel, signals) => Line::Ask(Request::Event(channel, bytes(signals))),
+    }
+}
+
+fn is_said(line: &[u8], says: Says) -> bool {
+    parse_line(MAX_CTO, line) == line_of(says)
+}
+
+static ASKING: [(&[u8], Says); 12] = [
+    (b"", Says::Skip),
+    (b"#", Says::Skip),
+    (b"# F5 04", Says::Skip),
+    (b"drain", Says::Drain),
+    (b"store", Says::Store),
+    (b"hangup", Says::Hangup),
+    (b"FF00", Says::Command(&[0xFF, 0])),
+    (b"f5 04", Says::Command(&[0xF5, 4])),
+    (b" F 50 4  ", Says::Command(&[0xF5, 4])),
+    (b"event 0 00", Says::Event(0, &[0])),
+    (b"event 00065535 00", Says::Event(65535, &[0])),
+    (b"event 12 aB01", Says::Event(12, &[0xAB, 1])),
+];
+
+static FAULTY: [&[u8]; 25] = [
+    b"F5 0",
+    b"   ",
+    b"FG",
+    b"F5\t04",
+    b"FF00\r",
+    b" # F5 04",
+    b"Drain",
+    b"drain ",
+    b" drain",
+    b"store x",
+    b"hangup ",
+    b"event",
+    b"event ",
+    b"event 0",
+    b"event 0 ",
+    b"event  0 00",
+    b"event 0  00",
+    b"event 0 0",
+    b"event 0 00 00",
+    b"event 0 0G",
+    b"event 65536 00",
+    b"event 99999999999999999999 00",
+    b"event -1 00",
+    b"event +1 00",
+    b"event 0x1 00",
+];
+
+#[test]
+fn lines_that_ask(rt: HostRuntime) {
+    for (line, says) in &ASKING {
+        assert!(rt; is_said(line, *says), "{line:?}");
+    }
+}
+
+#[test]
+fn lines_that_are_faulty(rt: HostRuntime) {
+    for line in &FAULTY {
+        assert!(rt; is_said(line, Says::Faulty), "{line:?}");
+    }
+}
+
+/// A line that begins so, and then has the same byte up to its length.
+fn long_line(alloc: Global, start: &[u8], byte: u8, length: usize) -> Result<Vec<u8>, AllocError> {
+    let mut line = start.to_vec(alloc)?;
+    for _ in line.len()..length {
+        line.push(byte)?;
+    }
+    Ok(line)
+}
+
+/// Each line is its start, then so many digits 0.
+static LONG: [(&[u8], usize, Says); 8] = [
+    (b"#", LINE_BYTES, Says::Skip),
+    (b"#", LINE_BYTES + 1, Says::Faulty),
+    (b"", 2, Says::Command(&[0; 1])),
+    (b"", 64, Says::Command(&[0; 32])),
+    (b"", 66, Says::Faulty),
+    (b"", LINE_BYTES, Says::Faulty),
+    (b"event 3 ", 8 + 128, Says::Event(3, &[0; 64])),
+    (b"event 3 ", 8 + 130, Says::Faulty),
+];
+
+#[test]
+fn lines_at_a_limit(rt: HostRuntime) -> Result<(), Fail> {
+    for (start, length, says) in &LONG {
+        let line = long_line(rt.alloc(), start, b'0', *length)?;
+        assert!(rt; is_said(&line, *says), "{length}");
+    }
+    let spaced = long_line(rt.alloc(), b"F5 04", b' ', LINE_BYTES)?;
+    assert!(rt; is_said(&spaced, Says::Command(&[0xF5, 4])));
+    Ok(())
+}
+
+/// The lines of a text, with a bar behind each.
+fn barred_lines(alloc: Global, text: &[u8]) -> Result<Vec<u8>, AllocError> {
+    let mut barred = Vec::new(alloc);
+    for line in &plain_lines(alloc, text)? {
+        barred.extend_from_slice(line)?;
+        barred.push(b'|')?;
+    }
+    Ok(barred)
+}
+
+static TEXTS: [(&[u8], &[u8]); 8] = [
+    (b"", b""),
+    (b"\n", b"|"),
+    (b"a", b"a|"),
+    (b"a\n", b"a|"),
+    (b"a\nb", b"a|b|"),
+    (b"a\r\nb\r", b"a|b\r|"),
+    (b"a\r\r\n\r\nb\rc\n", b"a\r||b\rc|"),
+    (b"\n\nx", b"||x|"),
+];
+
+/// The first text whose lines aren't those that are found.
+fn first_wrong_text(alloc: Global) -> Result<Option<usize>, AllocError> {
+    for (number, (text, wanted)) in TEXTS.iter().enumerate() {
+        if barred_lines(alloc, text)?.as_slice() != *wanted {
+            return Ok(Some(number));
+        }
+    }
+    Ok(None)
+}
+
+#[test]
+fn lines_of_a_text(rt: HostRuntime) -> Result<(), Fail> {
+    assert_eq!(rt; first_wrong_text(rt.alloc())?, None);
+    Ok(())
+}

@@ -1,0 +1,121 @@
+//! Streams of frames, what they run over, and what is wanted of them.
+use crate::fakes::Full;
+use xcp_framing::{ServeError, Served};
+
+/// A frame of LEN 0, and CONNECT.
+pub const CONNECT: &[u8] = &[0, 0, 7, 0, 2, 0, 8, 0, 0xFF, 0];
+
+/// The answer to CONNECT, in its frame.
+pub const CONNECTED: &[u8] = &[8, 0, 0, 0, 0xFF, 5, 0x80, 0x20, 0x40, 0, 1, 1];
+
+/// A stream, what it runs over, and what is wanted of it.
+#[derive(Drop)]
+pub struct Row<'a> {
+    pub stream: &'a [u8],
+    pub most: usize,
+    pub good_reads: usize,
+    pub room: usize,
+    pub full: Full,
+    pub turns: u32,
+    pub result: Result<Served, ServeError>,
+    pub written: &'a [u8],
+}
+
+pub const GOOD: Row = Row {
+    stream: CONNECT,
+    most: 512,
+    good_reads: 1000,
+    room: 1000,
+    full: Full::Fails,
+    turns: 1000,
+    result: Ok(Served { frames: 1, sent: 1 }),
+    written: CONNECTED,
+};
+
+pub static ROWS: [(&str, Row); 11] = [
+    ("the worked row", GOOD),
+    ("byte by byte", Row { most: 1, ..GOOD }),
+    (
+        "a LEN above MAX_CTO behind it",
+        Row {
+            stream: &[0, 0, 7, 0, 2, 0, 8, 0, 0xFF, 0, 0x21, 0],
+            result: Err(ServeError::BadLength(33)),
+            ..GOOD
+        },
+    ),
+    (
+        "the end inside a frame",
+        Row {
+            stream: &[2, 0, 0],
+            result: Err(ServeError::Truncated),
+            written: &[],
+            ..GOOD
+        },
+    ),
+    (
+        "no bytes",
+        Row {
+            stream: &[],
+            result: Ok(Served { frames: 0, sent: 0 }),
+            written: &[],
+            ..GOOD
+        },
+    ),
+    (
+        "LEN 33 before CONNECT",
+        Row {
+            stream: &[33, 0, 2, 0, 8, 0, 0xFF, 0],
+            result: Err(ServeError::BadLength(33)),
+            written: &[],
+            ..GOOD
+        },
+    ),
+    (
+        "LEN 256 before CONNECT",
+        Row {
+            stream: &[0, 1, 2, 0, 8, 0, 0xFF, 0],
+            result: Err(ServeError::BadLength(256)),
+            written: &[],
+            ..GOOD
+        },
+    ),
+    (
+        "LEN 65,535 before CONNECT",
+        Row {
+            stream: &[0xFF, 0xFF, 2, 0, 8, 0, 0xFF, 0],
+            result: Err(ServeError::BadLength(65_535)),
+            written: &[],
+            ..GOOD
+        },
+    ),
+    (
+        "commands of which some are silent",
+        Row {
+            stream: &[1, 0, 0, 0, 0xFC, 2, 0, 0, 0, 0xFF, 0, 1, 0, 9, 9, 0xFC],
+            result: Ok(Served { frames: 3, sent: 2 }),
+            written: &[
+                8, 0, 0, 0, 0xFF, 5, 0x80, 0x20, 0x40, 0, 1, 1, 2, 0, 1, 0, 0xFE, 0,
+            ],
+            ..GOOD
+        },
+    ),
+    (
+        "all turns spent",
+        Row {
+            most: 5,
+            turns: 2,
+            result: Err(ServeError::TurnsSpent),
+            ..GOOD
+        },
+    ),
+    (
+        "a writer that takes nothing",
+        Row {
+            room: 3,
+            full: Full::TakesNothing,
+            result: Err(ServeError::Write),
+            written: &[8, 0, 0],
+            ..GOOD
+        },
+    ),
+];

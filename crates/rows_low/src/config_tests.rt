@@ -1,0 +1,226 @@
+//! Layouts of documents: the worked one, and the faults of others.
+use crate::config_rows::{OF_SEGMENTS, OF_SIGNALS_AND_EVENTS, OF_THE_SLAVE, Row};
+use std::alloc::{AllocError, Global};
+use std::test::Fail;
+use xcp_config::{ConfigError, read_layout};
+use xcp_memory::{ChecksumKind, Key, Layout};
+
+/// The document that the rows change: one line for each line of it.
+static LINES: [&str; 16] = [
+    "id = \"ECU1\"",
+    "max_cto = 32",
+    "max_dto = 64",
+    "[[segment]]",
+    "address = 0x1000",
+    "data = \"000102030405060708090A0B0C0D0E0F\"",
+    "[[segment]]",
+    "address = 0x2000",
+    "data = \"AAAAAAAAAAAAAAAA\"",
+    "[signals]",
+    "address = 0x8000",
+    "length = 8",
+    "[[event]]",
+    "name = \"10ms\"",
+    "cycle = 10",
+    "unit = 6",
+];
+
+/// The document with one line in the place of another; an empty one drops it.
+fn changed(alloc: Global, place: usize, line: &str) -> Result<String, AllocError> {
+    let mut text = String::new(alloc);
+    for (i, old) in LINES.iter().enumerate() {
+        text.push_str(if i == place { line } else { *old })?;
+        text.push_str("\n")?;
+    }
+    Ok(text)
+}
+
+/// Whether this is the layout of the document.
+fn is_documents(layout: &Layout) -> bool {
+    let numbers = [
+        layout.max_cto() as usize,
+        layout.max_dto() as usize,
+        layout.segment_count(),
+        layout.signals_address() as usize,
+        layout.signals_length(),
+        layout.event_count(),
+    ];
+    layout.id() == b"ECU1".as_slice()
+        && layout.checksum() == ChecksumKind::Add14
+        && numbers == [32, 64, 2, 0x8000, 8, 1]
+}
+
+/// Whether a text is read as the document's layout; none where memory was refused.
+fn reads_the_document(alloc: Global, text: &str) -> Result<Option<bool>, Fail> {
+    match read_layout(alloc, text) {
+        Ok(layout) => Ok(Some(is_documents(&layout))),
+        Err(ConfigError::Memory) => Ok(None),
+        Err(fault) => Err(fault.into()),
+    }
+}
+
+#[test]
+fn the_layout_of_the_document(rt: HostRuntime) -> Result<(), Fail> {
+    let text = changed(rt.alloc(), LINES.len(), "")?;
+    assert_eq!(rt; reads_the_document(rt.alloc(), text.as_str())?, Some(true));
+    Ok(())
+}
+
+// Passes whichever allocation is refused (`rt try --test --fail-alloc N`): the refusal is told as `Memory` and not as
+// another fault, and the same text is then read as with ample memory.
+#[test]
+fn refused_memory_is_told(rt: HostRuntime) -> Result<(), Fail> {
+    let text = match changed(rt.alloc(), LINES.len(), "") {
+        Ok(text) => text,
+        Err(_) => changed(rt.alloc(), LINES.len(), "")?,
+    };
+    let read = match reads_the_document(rt.alloc(), text.as_str())? {
+        None => reads_the_document(rt.alloc(), text.as_str())?,
+        read => read,
+    };
+    assert_eq!(rt; read, Some(true));
+    Ok(())
+}
+
+/// The fault of a text.
+fn fault(alloc: Global, text: &str) -> Option<ConfigError> {
+    read_layout(alloc, text).err()
+}
+
+/// The first row whose fault isn't the one that is found.
+fn wrong(alloc: Global, rows: &[Row]) -> Result<Option<usize>, AllocError> {
+    for (i, (place, line, wanted)) in rows.iter().enumerate() {
+        let text = changed(alloc, *place, line)?;
+        if fault(alloc, text.as_str()) != *wanted {
+            return Ok(Some(i));
+        }
+    }
+    Ok(None)
+}
+
+#[test]
+fn values_of_the_slave_itself(rt: HostRuntime) -> Result<(), Fail> {
+    assert_eq!(rt; wrong(rt.alloc(), &OF_THE_SLAVE)?, None);
+    Ok(())
+}
+
+#[test]
+fn segments(rt: HostRuntime) -> Result<(), Fail> {
+    assert_eq!(rt; wrong(rt.alloc(), &OF_SEGMENTS)?, None);
+    Ok(())
+}
+
+#[test]
+fn signals_and_events(rt: HostRuntime) -> Result<(), Fail> {
+    assert_eq!(rt; wrong(rt.alloc(), &OF_SIGNALS_AND_EVENTS)?, None);
+    Ok(())
+}
+
+/// Texts with two faults or more, and the first in the order of the checks.
+static FIRST: [(&str, ConfigError); 9] = [
+    ("max_cto = 7", ConfigError::Missing(Key::Id)),
+    ("id = 5\nmax_cto = \"\"", ConfigError::Kind(Key::Id)),
+    ("id = \"E\"\nmax_cto = 7", ConfigError::Range(Key::MaxCto)),
+    (
+        "id = \"E\"\nmax_cto = 8\nmax_dto = 8\nchecksum = 1\nbyte_order = \"\"",
+        ConfigError::Range(Key::ByteOrder),
+    ),
+    (
+        "id = \"E\"\nmax_cto = 8\nmax_dto = 8",
+        ConfigError::Missing(Key::Segment),
+    ),
+    (
+        "id = \"E\"\nmax_cto = 8\nmax_dto = 8\nsegment = 1",
+        ConfigError::Kind(Key::Segment),
+    ),
+    (
+        "id = \"E\"\nmax_cto = 8\nmax_dto = 8\nsegment = [{}, 1, {}, {}, {}]",
+        ConfigError::Kind(Key::Segment),
+    ),
+    (
+        "id = \"E\"\nmax_cto = 8\nmax_dto = 8\nsegment = []",
+        ConfigError::Range(Key::Segment),
+    ),
+    (
+        "id = \"E\"\nmax_cto = 8\nmax_dto = 8\nsegment = [{}, {}, {}, {}, {}]",
+        ConfigError::TooMany(Key::Segment),
+    ),
+];
+
+/// The first text whose fault isn't the one that is found.
+fn wrong_text(alloc: Global) -> Option<usize> {
+    for (i, (text, wanted)) in FIRST.iter().enumerate() {
+        if fault(alloc, text) != Some(*wanted) {
+            return Some(i);
+        }
+    }
+    None
+}
+
+/// More segments and events than there may be; that is told before any fault of theirs.
+static MANY: [Row; 2] = [
+    (
+        6,
+        "[[segment]]\naddress = 0\ndata = \"\"\n[[segment]]\n[[segment]]\n[[segment]]",
+        Some(ConfigError::TooMany(Key::Segment)),
+    ),
+    (
+        12,
+        "[[event]]\n[[event]]\n[[event]]\n[[event]]\n[[event]]\n[[event]]\n[[event]]\n[[event]]\n[[event]]",
+        Some(ConfigError::TooMany(Key::Event)),
+    ),
+];
+
+#[test]
+fn the_first_fault_is_told(rt: HostRuntime) -> Result<(), Fail> {
+    assert_eq!(rt; wrong_text(rt.alloc()), None);
+    assert_eq!(rt; wrong(rt.alloc(), &MANY)?, None);
+    Ok(())
+}
+
+/// A segment of so many bytes, at an address.
+fn push_segment(text: &mut String, address: &str, bytes: usize) -> Result<(), AllocError> {
+    text.push_str("[[segment]]\naddress = ")?;
+    text.push_str(address)?;
+    text.push_str("\ndata = \"")?;
+    for _ in 0..bytes {
+        text.push_str("5A")?;
+    }
+    text.push_str("\"\n")
+}
+
+/// The fault of two segments, of 1,020 bytes and of so many.
+fn fault_of_two(
+    alloc: Global,
+    bytes: usize,
+    address: &str,
+) -> Result<Option<ConfigError>, AllocError> {
+    let mut text = String::from_str(alloc, "id = \"E\"\nmax_cto = 8\nmax_dto = 8\n")?;
+    push_segment(&mut text, "0", 1020)?;
+    push_segment(&mut text, address, bytes)?;
+    text.push_str("[signals]\naddress = 0x8000\nlength = 1\n[[event]]\nname = \"e\"\n")?;
+    Ok(fault(alloc, text.as_str()))
+}
+
+/// 2,040 bytes in all are the most; the limit stands before the segment's last address.
+#[test]
+fn bytes_in_all(rt: HostRuntime) -> Result<(), Fail> {
+    let rows = [
+        (1020, "0x1000", None),
+        (1021, "0x1000", Some(ConfigError::TooMany(Key::Data(1)))),
+        (1021, "0xFFFFFFFE", Some(ConfigError::TooMany(Key::Data(1)))),
+        (
+            1020,
+            "0xFFFFFFFE",
+            Some(ConfigError::Range(Key::Address(1))),
+        ),
+    ];
+    for (bytes, address, wanted) in rows {
+        assert_eq!(rt;
+            fault_of_two(rt.alloc(), bytes, address)?,
+            wanted,
+            "{address}"
+        );
+    }
+    Ok(())
+}

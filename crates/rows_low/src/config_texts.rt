@@ -1,0 +1,44 @@
+//! The numbers and texts of faults.
+use std::alloc::{AllocError, Global};
+use std::test::Fail;
+use xcp_config::ConfigError;
+use xcp_memory::{Area, Key};
+
+static FAULTS: [(ConfigError, u8, &str); 7] = [
+    (ConfigError::Text, 1, "the text is no TOML document"),
+    (ConfigError::Missing(Key::Id), 2, "Id is missing"),
+    (
+        ConfigError::Kind(Key::Address(1)),
+        3,
+        "Address(1) is of the wrong type",
+    ),
+    (
+        ConfigError::Range(Key::MaxCto),
+        4,
+        "MaxCto is out of its range",
+    ),
+    (
+        ConfigError::Overlap(Area::Segment(0), Area::Signals),
+        5,
+        "Segment(0) and Signals share an address",
+    ),
+    (ConfigError::TooMany(Key::Event), 6, "too many: Event"),
+    (ConfigError::Memory, 7, "out of memory"),
+];
+
+/// The first fault with another number or text.
+fn wrong(alloc: Global) -> Result<Option<usize>, AllocError> {
+    for (i, (fault, number, wanted)) in FAULTS.iter().enumerate() {
+        let text = format!(in alloc; "{fault}")?;
+        if fault.number() != *number || text.as_str() != *wanted {
+            return Ok(Some(i));
+        }
+    }
+    Ok(None)
+}
+
+#[test]
+fn faults_have_numbers_and_texts(rt: HostRuntime) -> Result<(), Fail> {
+    assert_eq!(rt; wrong(rt.alloc())?, None);
+    Ok(())
+}

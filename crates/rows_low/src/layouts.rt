@@ -1,0 +1,67 @@
+//! The layout that the rows are about.
+use std::alloc::{AllocError, Global};
+use std::test::Fail;
+use xcp_memory::{EventPart, Layout, Pages, Parts, SegmentPart};
+use xcp_packet::Order;
+
+/// The bytes of the first segment.
+pub const COUNTED: [u8; 16] = [0, 1, 2, 3, 4, 5, 6, 7, 8, 9, 10, 11, 12, 13, 14, 15];
+
+/// What differs from one layout to another.
+#[derive(Clone, Copy)]
+pub struct Kind<'a> {
+    pub max_cto: i64,
+    pub max_dto: i64,
+    pub checksum: i64,
+    pub order: Order,
+    pub first: &'a [u8],
+    pub second: &'a [u8],
+}
+
+/// MAX_CTO 32, MAX_DTO 64, checksums of type ADD_14, Intel byte order, the bytes 00 to 0F and eight bytes AA.
+pub const USUAL: Kind = Kind {
+    max_cto: 32,
+    max_dto: 64,
+    checksum: 3,
+    order: Order::Intel,
+    first: &COUNTED,
+    second: &[0xAA; 8],
+};
+
+fn segment(alloc: Global, address: i64, bytes: &[u8]) -> Result<SegmentPart, AllocError> {
+    Ok(SegmentPart {
+        address,
+        bytes: bytes.to_vec(alloc)?,
+    })
+}
+
+fn event(alloc: Global) -> Result<EventPart, AllocError> {
+    Ok(EventPart {
+        name: b"10ms".to_vec(alloc)?,
+        cycle: 10,
+        unit: 6,
+        priority: 0,
+    })
+}
+
+/// The identification `ECU1`, a segment at 0x1000, one at 0x2000, 8 bytes of signals at 0x8000, and
+/// the event channel `10ms`.
+pub fn layout(alloc: Global, kind: Kind) -> Result<Layout, Fail> {
+    let first = segment(alloc, 0x1000, kind.first)?;
+    let second = segment(alloc, 0x2000, kind.second)?;
+    Ok(Layout::new(Parts {
+        id: b"ECU1".to_vec(alloc)?,
+        max_cto: kind.max_cto,
+        max_dto: kind.max_dto,
+        checksum: kind.checksum,
+        order: kind.order,
+        segments: Vec::from_array(alloc, [first, second])?,
+        signals_address: 0x8000,
+        signals_length: 8,
+        events: Vec::from_array(alloc, [event(alloc)?])?,
+    })?)
+}
+
+pub fn pages(alloc: Global, kind: Kind) -> Result<Pages, Fail> {
+    Ok(Pages::new(alloc, layout(alloc, kind)?)?)
+}

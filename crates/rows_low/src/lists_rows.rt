@@ -1,0 +1,198 @@
+//! What rows ask of acquisition lists: each command by its name, and an event by its channel.
+//! Addresses have four bytes in an answer, lists, events and counts of them two, the high one first.
+use crate::answers::{answer, byte, refused, told};
+use crate::layouts::{Kind, USUAL, pages};
+use crate::rows::{Subject, words};
+use arrayvec::ArrayVec;
+use std::alloc::Global;
+use std::test::Fail;
+use xcp_daq::{Daq, ListMode};
+use xcp_memory::Pages;
+use xcp_packet::{Code, Packet};
+
+/// Lists, and the pages that they sample.
+#[derive(Drop)]
+pub struct Lists {
+    pub pages: Pages,
+    pub daq: Daq,
+}
+
+/// No lists yet, over pages whose signals are 1 to 8.
+pub fn opened_lists(alloc: Global, max_dto: i64) -> Result<Lists, Fail> {
+    let mut pages = pages(alloc, Kind { max_dto, ..USUAL })?;
+    if pages.layout().signals_length() == 8 {
+        pages.set_signals(&[1, 2, 3, 4, 5, 6, 7, 8]);
+    }
+    let daq = Daq::new();
+    Ok(Lists { pages, daq })
+}
+
+fn byte_of(number: u32) -> Option<u8> {
+    u8::try_from(number).ok()
+}
+
+fn word_of(number: u32) -> Option<u16> {
+    u16::try_from(number).ok()
+}
+
+fn allocate(daq: &mut Daq, verb: &str, numbers: &[u32]) -> Option<Packet> {
+    let outcome = match (verb, numbers) {
+        ("free_daq", []) => {
+            daq.free_daq();
+            Ok(())
+        }
+        ("alloc_daq", [count]) => daq.alloc_daq(word_of(*count)?),
+        ("alloc_odt", [list, count]) => daq.alloc_odt(word_of(*list)?, byte_of(*count)?),
+        ("alloc_odt_entry", [list, odt, count]) => {
+            daq.alloc_odt_entry(word_of(*list)?, byte_of(*odt)?, byte_of(*count)?)
+        }
+        _ => return None,
+    };
+    Some(answer(outcome, &[]))
+}
+
+fn write_daq(lists: &mut Lists, numbers: &[u32]) -> Option<Result<(), Code>> {
+    let [offset, size, extension, address] = numbers else {
+        return None;
+    };
+    let (offset, size, extension) = (byte_of(*offset)?, byte_of(*size)?, byte_of(*extension)?);
+    let layout = lists.pages.layout();
+    Some(
+        lists
+            .daq
+            .write_daq(layout, offset, size, extension, *address),
+    )
+}
+
+fn set_daq_list_mode(lists: &mut Lists, numbers: &[u32]) -> Option<Result<(), Code>> {
+    let [mode, list, event, prescaler, priority] = numbers else {
+        return None;
+    };
+    Some(
+        lists.daq.set_daq_list_mode(
+            lists.pages.layout(),
+            byte_of(*mode)?,
+            word_of(*list)?,
+            word_of(*event)?,
+            byte_of(*prescaler)?,
+            byte_of(*priority)?,
+        ),
+    )
+}
+
+fn configure(lists: &mut Lists, verb: &str, numbers: &[u32]) -> Option<Packet> {
+    let outcome = match (verb, numbers) {
+        ("clear_daq_list", [list]) => lists.daq.clear_daq_list(word_of(*list)?),
+        ("set_daq_ptr", [list, odt, entry]) => {
+            lists
+                .daq
+                .set_daq_ptr(word_of(*list)?, byte_of(*odt)?, byte_of(*entry)?)
+        }
+        ("write_daq", _) => write_daq(lists, numbers)?,
+        ("set_daq_list_mode", _) => set_daq_list_mode(lists, numbers)?,
+        ("start_stop_synch", [mode]) => {
+            lists
+                .daq
+                .start_stop_synch(lists.pages.layout(), byte_of(*mode)?)
+        }
+        _ => return None,
+    };
+    Some(answer(outcome, &[]))
+}
+
+/// The element under the pointer: its size and address, nothing where none is written.
+fn read_daq(daq: &mut Daq) -> Packet {
+    match daq.read_daq() {
+        Ok(Some(element)) => {
+            let [a, b, c, d] = element.address.to_be_bytes();
+            told(&[element.size, a, b, c, d])
+        }
+        Ok(None) => told(&[]),
+        Err(code) => refused(code),
+    }
+}
+
+fn list_mode(outcome: Result<ListMode, Code>) -> Packet {
+    match outcome {
+        Ok(told_mode) => {
+            let [high, low] = told_mode.event.to_be_bytes();
+            told(&[
+                told_mode.mode,
+                high,
+                low,
+                told_mode.prescaler,
+                told_mode.priority,
+            ])
+        }
+        Err(code) => refused(code),
+    }
+}
+
+fn event_info(lists: &Lists, channel: u16) -> Packet {
+    match Daq::event_info(lists.pages.layout(), channel) {
+        Ok(event) => told(&[event.name_length, event.cycle, event.unit, event.priority]),
+        Err(code) => refused(code),
+    }
+}
+
+fn processor_info(lists: &Lists) -> Packet {
+    let info = lists.daq.processor_info(lists.pages.layout());
+    let [a, b] = info.lists.to_be_bytes();
+    let [c, d] = info.events.to_be_bytes();
+    told(&[a, b, c, d])
+}
+
+/// The packets of an event, each behind its length.
+fn event(lists: &mut Lists, channel: u16) -> Option<Packet> {
+    let mut packets = ArrayVec::new();
+    lists.daq.sample(channel, &lists.pages, &mut packets);
+    let mut joined = told(&[]);
+    for packet in &packets {
+        let length = u8::try_from(packet.len()).ok()?;
+        joined.try_push(length).ok()?;
+        joined.try_extend_from_slice(packet.as_slice()).ok()?;
+    }
+    Some(joined)
+}
+
+fn ask(lists: &mut Lists, verb: &str, numbers: &[u32]) -> Option<Packet> {
+    match (verb, numbers) {
+        ("start_stop_daq_list", [mode, list]) => {
+            let layout = lists.pages.layout();
+            let (mode, list) = (byte_of(*mode)?, word_of(*list)?);
+            Some(byte(lists.daq.start_stop_daq_list(layout, mode, list)))
+        }
+        ("event", [channel]) => event(lists, word_of(*channel)?),
+        ("read_daq", []) => Some(read_daq(&mut lists.daq)),
+        ("any_running", []) => Some(told(&[u8::from(lists.daq.any_running())])),
+        ("get_daq_list_mode", [list]) => Some(list_mode(lists.daq.daq_list_mode(word_of(*list)?))),
+        ("get_daq_event_info", [channel]) => Some(event_info(lists, word_of(*channel)?)),
+        ("get_daq_processor_info", []) => Some(processor_info(lists)),
+        ("get_daq_resolution_info", []) => {
+            Some(told(&[Daq::resolution_info(lists.pages.layout())]))
+        }
+        ("reset", []) => {
+            lists.daq.reset();
+            Some(told(&[]))
+        }
+        _ => None,
+    }
+}
+
+impl Subject for Lists {
+    fn told(&mut self, question: &str) -> Option<Packet> {
+        let (verb, numbers) = words(question)?;
+        match verb {
+            "free_daq" | "alloc_daq" | "alloc_odt" | "alloc_odt_entry" => {
+                allocate(&mut self.daq, verb, &numbers)
+            }
+            "clear_daq_list"
+            | "set_daq_ptr"
+            | "write_daq"
+            | "set_daq_list_mode"
+            | "start_stop_synch" => configure(self, verb, &numbers),
+            "switch" | "write" => self.pages.told(question),
+            _ => ask(self, verb, &numbers),
+        }
+    }
+}

@@ -1,0 +1,190 @@
+//! Rows of the commands of acquisition lists, and of events.
+use crate::layouts::{Kind, USUAL, connected};
+use crate::rows::{first_wrong, first_wrong_again, first_wrong_of, first_wrong_of_new};
+use std::alloc::Global;
+use std::test::Fail;
+
+/// The outbox takes 64 packets: so many events are sampled, and the next overruns.
+fn first_wrong_of_64(alloc: Global, rows: [&str; 3]) -> Result<Option<u32>, Fail> {
+    let [opening, event, rest] = rows;
+    let mut slave = connected(alloc, USUAL)?;
+    Ok(match first_wrong_again(&mut slave, opening, 64, event) {
+        None => first_wrong(&mut slave, rest),
+        wrong => wrong,
+    })
+}
+
+#[test]
+fn a_list_is_sampled_until_there_is_no_room(rt: HostRuntime) -> Result<(), Fail> {
+    let rows = [
+        "
+            D5 00 01 00 > FE 29
+            D6 > FF
+            D5 00 11 00 > FE 30
+            D5 00 01 00 > FF
+            D3 00 00 00 00 01 > FE 29
+            D4 00 00 00 01 > FF
+            D3 00 00 00 00 01 > FF
+            E2 00 00 00 00 00 > FF
+            E1 FF 02 00 00 80 00 00 > FF
+            E1 FF 02 00 00 80 00 00 > FE 2A
+            E0 00 00 00 00 00 01 00 > FF
+            DE 01 00 00 > FF 00
+            FD > FF 40 00 00 00 00
+            event 0 01 02 03 04 05 06 07 08 > sampled 1
+            drain > 00 01 02
+        ",
+        "event 0 01 02 03 04 05 06 07 08 > sampled 1",
+        "
+            event 0 01 02 03 04 05 06 07 08 > overrun
+            drain > 00 01 02
+            event 0 01 02 03 04 05 06 07 08 > sampled 1
+        ",
+    ];
+    assert_eq!(rt; first_wrong_of_64(rt.alloc(), rows)?, None);
+    Ok(())
+}
+
+/// Behind these a list of one ODT samples two bytes of the signals.
+const ALLOCATED: &str = "
+    D6 > FF
+    D5 00 01 00 > FF
+    D4 00 00 00 01 > FF
+    D3 00 00 00 00 01 > FF
+    E2 00 00 00 00 00 > FF
+    E1 FF 02 00 00 80 00 00 > FF
+";
+
+/// The first row that a slave answers otherwise behind those.
+fn first_wrong_behind(alloc: Global, rows: &str) -> Result<Option<u32>, Fail> {
+    let mut slave = connected(alloc, USUAL)?;
+    Ok(first_wrong_again(&mut slave, ALLOCATED, 1, rows))
+}
+
+#[test]
+fn a_prescaler_leaves_events_out(rt: HostRuntime) -> Result<(), Fail> {
+    let rows = [
+        "
+            E0 00 00 00 00 00 01 00 > FF
+            DE 01 00 00 > FF 00
+            event 0 01 02 03 04 05 06 07 08 > sampled 1
+            event 0 01 02 03 04 05 06 07 08 > sampled 1
+            event 0 01 02 03 04 05 06 07 08 > sampled 1
+            event 0 01 02 03 04 05 06 07 08 > sampled 1
+        ",
+        "
+            E0 00 00 00 00 00 02 00 > FF
+            DE 01 00 00 > FF 00
+            event 0 01 02 03 04 05 06 07 08 > sampled 1
+            event 0 01 02 03 04 05 06 07 08 > sampled 0
+            event 0 01 02 03 04 05 06 07 08 > sampled 1
+            event 0 01 02 03 04 05 06 07 08 > sampled 0
+        ",
+        "
+            E0 00 00 00 00 00 03 00 > FF
+            DE 01 00 00 > FF 00
+            event 0 01 02 03 04 05 06 07 08 > sampled 1
+            event 0 01 02 03 04 05 06 07 08 > sampled 0
+            event 0 01 02 03 04 05 06 07 08 > sampled 0
+            event 0 01 02 03 04 05 06 07 08 > sampled 1
+        ",
+    ];
+    for (row, prescaler) in rows.iter().zip(1..4) {
+        assert_eq!(rt; first_wrong_behind(rt.alloc(), row)?, None, "{prescaler}");
+    }
+    Ok(())
+}
+
+#[test]
+fn a_selected_list_samples_the_controllers_page(rt: HostRuntime) -> Result<(), Fail> {
+    let rows = "
+        D6 > FF
+        D5 00 02 00 > FF
+        D4 00 00 00 02 > FF
+        D4 00 01 00 01 > FF
+        D3 00 01 00 00 01 > FF
+        E2 00 01 00 00 00 > FF
+        E1 FF 02 00 00 10 00 00 > FF
+        E0 00 01 00 00 00 01 00 > FF
+        DE 02 01 00 > FF 02
+        DF 00 01 00 > FF 01 00 00 00 00 01 00
+        DD 01 > FF
+        DF 00 01 00 > FF 40 00 00 00 00 01 00
+        event 0 01 02 03 04 05 06 07 08 > sampled 1
+        drain > 02 00 01
+        EB 02 00 01 > FF
+        F6 00 00 00 00 10 00 00 > FF
+        F0 02 AB CD > FF
+        event 0 01 02 03 04 05 06 07 08 > sampled 1
+        drain > 02 00 01
+        EB 01 00 01 > FF
+        event 0 01 02 03 04 05 06 07 08 > sampled 1
+        drain > 02 AB CD
+        E2 00 01 00 00 00 > FF
+        E1 FF 02 00 00 10 00 00 > FE 11
+        DB > FF FF 02 00 00 10 00 00
+        DB > FE 2A
+        event 1 01 02 03 04 05 06 07 08 > no channel
+        event 0 01 02 03 04 05 06 07 > bad signals
+    ";
+    assert_eq!(rt; first_wrong_of(rt.alloc(), USUAL, rows)?, None);
+    Ok(())
+}
+
+#[test]
+fn events_and_lists_are_told(rt: HostRuntime) -> Result<(), Fail> {
+    let rows = "
+        FA 00 > FF 00 00 00 04 00 00 00
+        F5 04 > FF 45 43 55 31
+        D7 00 00 00 > FF 04 10 04 0A 06 00
+        F5 04 > FF 31 30 6D 73
+        D7 00 01 00 > FE 22
+        DA > FF 03 00 00 01 00 00 00
+        D9 > FF 01 3F 01 00 00 00 00
+    ";
+    assert_eq!(rt; first_wrong_of(rt.alloc(), USUAL, rows)?, None);
+    Ok(())
+}
+
+#[test]
+fn an_odt_that_a_packet_does_not_hold(rt: HostRuntime) -> Result<(), Fail> {
+    let rows = "
+        FF 00 > FF 05 80 20 08 00 01 01
+        D6 > FF
+        D5 00 01 00 > FF
+        D4 00 00 00 01 > FF
+        D3 00 00 00 00 02 > FF
+        E2 00 00 00 00 00 > FF
+        E1 FF 08 00 00 80 00 00 > FE 22
+        E1 FF 04 00 00 80 00 00 > FF
+        E1 FF 04 00 04 80 00 00 > FF
+        DE 01 00 00 > FE 2A
+        DE 02 00 00 > FE 2A
+        DE 00 00 00 > FF 00
+        DE 03 00 00 > FE 27
+    ";
+    let kind = Kind {
+        max_dto: 8,
+        ..USUAL
+    };
+    assert_eq!(rt; first_wrong_of_new(rt.alloc(), kind, rows)?, None);
+    Ok(())
+}
+
+#[test]
+fn a_sessions_end_takes_its_lists(rt: HostRuntime) -> Result<(), Fail> {
+    let rows = "
+        D6 > FF
+        D5 00 01 00 > FF
+        FF 00 > FF 05 80 20 40 00 01 01
+        DA > FF 03 01 00 01 00 00 00
+        hangup > -
+        event 0 01 02 03 04 05 06 07 08 > sampled 0
+        FF 00 > FF 05 80 20 40 00 01 01
+        DA > FF 03 00 00 01 00 00 00
+        D5 00 01 00 > FE 29
+        F4 02 00 00 00 80 00 00 > FF 01 02
+    ";
+    assert_eq!(rt; first_wrong_of(rt.alloc(), USUAL, rows)?, None);
+    Ok(())
+}

@@ -1,0 +1,72 @@
+//! The slaves that the rows are about.
+use std::alloc::{AllocError, Global};
+use std::test::Fail;
+use xcp_memory::{EventPart, Layout, Parts, SegmentPart};
+use xcp_packet::{Order, Packet};
+use xcp_slave::{Request, Slave};
+
+/// What differs from one slave's layout to another's.
+#[derive(Clone, Copy)]
+pub struct Kind {
+    pub max_cto: i64,
+    pub max_dto: i64,
+    pub checksum: i64,
+    pub order: Order,
+}
+
+/// MAX_CTO 32, MAX_DTO 64, checksums of type ADD_14, Intel byte order.
+pub const USUAL: Kind = Kind {
+    max_cto: 32,
+    max_dto: 64,
+    checksum: 3,
+    order: Order::Intel,
+};
+
+fn segments(alloc: Global) -> Result<Vec<SegmentPart>, AllocError> {
+    let mut segments = Vec::new(alloc);
+    segments.push(SegmentPart {
+        address: 0x1000,
+        bytes: [0, 1, 2, 3, 4, 5, 6, 7, 8, 9, 10, 11, 12, 13, 14, 15].to_vec(alloc)?,
+    })?;
+    segments.push(SegmentPart {
+        address: 0x2000,
+        bytes: [0xAA; 8].to_vec(alloc)?,
+    })?;
+    Ok(segments)
+}
+
+/// The identification `ECU1`, 00 to 0F at 0x1000, eight bytes AA at 0x2000, 8 bytes of signals at
+/// 0x8000, and the event channel `10ms`.
+fn layout(alloc: Global, kind: Kind) -> Result<Layout, Fail> {
+    let event = EventPart {
+        name: b"10ms".to_vec(alloc)?,
+        cycle: 10,
+        unit: 6,
+        priority: 0,
+    };
+    Ok(Layout::new(Parts {
+        id: b"ECU1".to_vec(alloc)?,
+        max_cto: kind.max_cto,
+        max_dto: kind.max_dto,
+        checksum: kind.checksum,
+        order: kind.order,
+        segments: segments(alloc)?,
+        signals_address: 0x8000,
+        signals_length: 8,
+        events: Vec::from_array(alloc, [event])?,
+    })?)
+}
+
+/// A slave that was just made.
+pub fn slave(alloc: Global, kind: Kind) -> Result<Slave, Fail> {
+    Ok(Slave::new(alloc, layout(alloc, kind)?)?)
+}
+
+/// A slave behind CONNECT.
+pub fn connected(alloc: Global, kind: Kind) -> Result<Slave, Fail> {
+    let mut slave = slave(alloc, kind)?;
+    let mut connect = Packet::new();
+    let _ = connect.try_extend_from_slice(&[0xFF, 0]);
+    let _ = slave.submit(&Request::Command(connect));
+    Ok(slave)
+}

@@ -1,0 +1,30 @@
+//! Command packets of one byte.
+use crate::layouts::{USUAL, connected};
+use crate::rows::{answer, first_wrong_of};
+use std::alloc::Global;
+use std::test::Fail;
+use xcp_packet::Packet;
+use xcp_slave::Request;
+
+/// How many of the 256 packets of one byte are answered so, each behind CONNECT.
+fn answered(alloc: Global, text: &str) -> Result<u32, Fail> {
+    let said = answer(text);
+    let mut count = 0u32;
+    for first in 0..=255u8 {
+        let mut slave = connected(alloc, USUAL)?;
+        let mut packet = Packet::new();
+        let _ = packet.try_push(first);
+        if Some(slave.submit(&Request::Command(packet))) == said {
+            count = count.wrapping_add(1);
+        }
+    }
+    Ok(count)
+}
+
+#[test]
+fn packets_of_one_byte(rt: HostRuntime) -> Result<(), Fail> {
+    assert_eq!(rt; answered(rt.alloc(), "FE 20")?, 217);
+    assert_eq!(rt; answered(rt.alloc(), "FE 21")?, 30);
+    assert_eq!(rt; first_wrong_of(rt.alloc(), USUAL, "DB > FE 2A")?, None);
+    Ok(())
+}

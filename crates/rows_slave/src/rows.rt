@@ -1,0 +1,133 @@
+//! Rows as texts. A line is what is asked of a slave, a `>`, and what it answers: packets in hex,
+//! `event C HEX`, `drain`, `store`, `hangup`, or `image` of its first 24 bytes; `-` where nothing is
+//! sent. Empty lines and comments (`#`) are skipped.
+use crate::layouts::{Kind, connected, slave};
+use arrayvec::ArrayVec;
+use std::alloc::Global;
+use std::test::Fail;
+use xcp_packet::Packet;
+use xcp_slave::{Answer, Request, Slave};
+
+/// The bytes of a text, if all its words are bytes.
+pub fn bytes<const N: usize>(text: &str) -> Option<ArrayVec<u8, N>> {
+    let mut bytes = ArrayVec::new();
+    for word in text.split_whitespace() {
+        let byte = u8::from_str_radix(word, 16).ok()?;
+        bytes.try_push(byte).ok()?;
+    }
+    Some(bytes)
+}
+
+fn request(text: &str) -> Option<Request> {
+    match text {
+        "drain" => return Some(Request::Drain),
+        "store" => return Some(Request::FinishStore),
+        "hangup" => return Some(Request::Hangup),
+        _ => {}
+    }
+    let Some(event) = text.strip_prefix("event ") else {
+        return Some(Request::Command(bytes(text)?));
+    };
+    let (channel, signals) = event.split_once(' ')?;
+    let channel = u16::from_str_radix(channel, 16).ok()?;
+    Some(Request::Event(channel, bytes(signals)?))
+}
+
+fn counted(text: &str) -> Option<Answer> {
+    let (word, count) = text.split_once(' ')?;
+    let count = count.parse::<u8>().ok()?;
+    match word {
+        "sampled" => Some(Answer::Sampled(count)),
+        "stored" => Some(Answer::Stored(count)),
+        _ => None,
+    }
+}
+
+pub fn answer(text: &str) -> Option<Answer> {
+    match text {
+        "-" => Some(Answer::Silent),
+        "overrun" => Some(Answer::Overrun),
+        "no channel" => Some(Answer::NoChannel),
+        "bad signals" => Some(Answer::BadSignals),
+        "nothing" => Some(Answer::Nothing),
+        "no store" => Some(Answer::NoStore),
+        "later" => Some(Answer::Later),
+        "" => None,
+        _ => match bytes(text) {
+            Some(packet) => Some(Answer::Packet(packet)),
+            None => counted(text),
+        },
+    }
+}
+
+/// The controller's image of 24 bytes, if all is 0 behind them.
+fn image(slave: &Slave) -> Option<Answer> {
+    let mut image = [0xFF; 2040];
+    slave.image(&mut image);
+    let (bytes, rest) = image.split_at(24);
+    if !rest.iter().all(|byte| *byte == 0) {
+        return None;
+    }
+    let mut packet = Packet::new();
+    packet.try_extend_from_slice(bytes).ok()?;
+    Some(Answer::Packet(packet))
+}
+
+/// What is answered; none where the question has no meaning.
+fn told(slave: &mut Slave, question: &str) -> Option<Answer> {
+    if question == "image" {
+        image(slave)
+    } else {
+        Some(slave.submit(&request(question)?))
+    }
+}
+
+/// Whether a line's question is answered as it says.
+fn holds(slave: &mut Slave, line: &str) -> bool {
+    let Some((question, said)) = line.split_once('>') else {
+        return false;
+    };
+    match (told(slave, question.trim()), answer(said.trim())) {
+        (Some(told), Some(said)) => told == said,
+        _ => false,
+    }
+}
+
+/// The first line, counted from 1, that isn't answered as it says; 0 where no line asks.
+pub fn first_wrong(slave: &mut Slave, rows: &str) -> Option<u32> {
+    let mut number = 0u32;
+    let mut asked = false;
+    for line in rows.lines() {
+        number = number.wrapping_add(1);
+        let line = line.trim();
+        if line.is_empty() || line.starts_with('#') {
+            continue;
+        }
+        if !holds(slave, line) {
+            return Some(number);
+        }
+        asked = true;
+    }
+    if asked { None } else { Some(0) }
+}
+
+/// The first line that a slave answers otherwise that was just made.
+pub fn first_wrong_of_new(alloc: Global, kind: Kind, rows: &str) -> Result<Option<u32>, Fail> {
+    Ok(first_wrong(&mut slave(alloc, kind)?, rows))
+}
+
+/// The first line that a connected slave answers otherwise.
+pub fn first_wrong_of(alloc: Global, kind: Kind, rows: &str) -> Result<Option<u32>, Fail> {
+    Ok(first_wrong(&mut connected(alloc, kind)?, rows))
+}
+
+/// The same of some rows, and then of others so many times.
+pub fn first_wrong_again(slave: &mut Slave, rows: &str, times: u32, again: &str) -> Option<u32> {
+    let mut wrong = first_wrong(slave, rows);
+    for _ in 0..times {
+        if wrong.is_none() {
+            wrong = first_wrong(slave, again);
+        }
+    }
+    wrong
+}

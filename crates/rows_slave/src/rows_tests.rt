@@ -1,0 +1,48 @@
+//! The reader of rows hides no failure.
+use crate::layouts::USUAL;
+use crate::rows::{answer, first_wrong_of};
+use std::test::Fail;
+use xcp_slave::Answer;
+
+#[test]
+fn wrong_rows_are_found(rt: HostRuntime) -> Result<(), Fail> {
+    let rows = [
+        ("", Some(0)),
+        ("\n  \n# FC > FE 01\n", Some(0)),
+        ("FC > FE 00\n\n# a comment\ndrain > nothing", None),
+        ("FC > FE 00\nFC > FE 01\nFC > FE 00", Some(2)),
+        ("FC > FE", Some(1)),
+        ("FC > FE 00 00", Some(1)),
+        ("FC > -", Some(1)),
+        ("FC >", Some(1)),
+        ("FC FE 00", Some(1)),
+        ("FC > FE 00 > FE 00", Some(1)),
+        ("G > FE 00", Some(1)),
+        ("FC > G", Some(1)),
+        ("drained > nothing", Some(1)),
+        ("drain > no store", Some(1)),
+        ("event 0 > bad signals", Some(1)),
+        ("event 0 00 > sampled 0", Some(1)),
+        ("event 0 00 > bad signals", None),
+        ("event 1 00 > no channel", None),
+    ];
+    for (text, wrong) in rows {
+        assert_eq!(rt; first_wrong_of(rt.alloc(), USUAL, text)?, wrong, "{text}");
+    }
+    Ok(())
+}
+
+#[test]
+fn answers_have_words(rt: HostRuntime) {
+    let rows = [
+        ("sampled 3", Some(Answer::Sampled(3))),
+        ("stored 2", Some(Answer::Stored(2))),
+        ("overrun", Some(Answer::Overrun)),
+        ("later", Some(Answer::Later)),
+        ("sampled", None),
+        ("sampled 256", None),
+    ];
+    for (text, meant) in rows {
+        assert!(rt; answer(text) == meant, "{text}");
+    }
+}

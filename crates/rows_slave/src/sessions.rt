@@ -1,0 +1,62 @@
+//! Rows of the begin and the end of a session.
+use crate::layouts::{Kind, USUAL, slave};
+use crate::rows::{first_wrong_of, first_wrong_of_new};
+use std::alloc::Global;
+use std::test::Fail;
+use xcp_packet::Order;
+
+/// MAX_CTO and MAX_DTO of a slave.
+fn limits(alloc: Global) -> Result<(u8, u8), Fail> {
+    let slave = slave(alloc, USUAL)?;
+    Ok((slave.max_cto(), slave.layout().max_dto()))
+}
+
+#[test]
+fn a_slave_that_is_not_connected_heeds_a_whole_connect_alone(rt: HostRuntime) -> Result<(), Fail> {
+    let rows = "
+        FD > -
+        77 > -
+        FF > -
+        # A packet of no bytes.
+        > -
+        F5 04 > -
+        FF 00 > FF 05 80 20 40 00 01 01
+    ";
+    assert_eq!(rt; first_wrong_of_new(rt.alloc(), USUAL, rows)?, None);
+    assert_eq!(rt; limits(rt.alloc())?, (32, 64));
+    Ok(())
+}
+
+#[test]
+fn a_motorola_slave_has_the_highest_byte_first(rt: HostRuntime) -> Result<(), Fail> {
+    let kind = Kind {
+        order: Order::Motorola,
+        ..USUAL
+    };
+    let rows = "
+        FF 00 > FF 05 81 20 00 40 01 01
+        EB 02 00 01 > FF
+        F6 00 00 00 00 00 10 00 > FF
+        EC 08 FF FE 00 02 > FF
+        F5 04 > FF 00 01 00 03
+    ";
+    assert_eq!(rt; first_wrong_of_new(rt.alloc(), kind, rows)?, None);
+    Ok(())
+}
+
+#[test]
+fn a_session_ends_and_keeps_what_was_written(rt: HostRuntime) -> Result<(), Fail> {
+    let rows = "
+        EB 02 00 01 > FF
+        F6 00 00 00 00 10 00 00 > FF
+        F0 01 55 > FF
+        hangup > -
+        F5 01 > -
+        FF 00 > FF 05 80 20 40 00 01 01
+        F5 01 > FE 24
+        F6 00 00 00 00 10 00 00 > FF
+        F5 02 > FF 55 01
+    ";
+    assert_eq!(rt; first_wrong_of(rt.alloc(), USUAL, rows)?, None);
+    Ok(())
+}

@@ -1,0 +1,103 @@
+//! Rows of the commands that freeze segments and have their pages stored.
+use crate::layouts::{Kind, USUAL, connected};
+use crate::rows::{first_wrong, first_wrong_again, first_wrong_of};
+use std::alloc::Global;
+use std::test::Fail;
+
+#[test]
+fn freeze_modes_are_set_and_told(rt: HostRuntime) -> Result<(), Fail> {
+    let rows = "
+        E6 01 00 > FF
+        E5 00 00 > FF 00 01
+        E5 00 01 > FF 00 00
+        E6 00 00 > FF
+        E5 00 00 > FF 00 00
+        E6 02 00 > FE 27
+        E6 01 07 > FE 28
+        E5 00 02 > FE 28
+        F9 02 00 00 > FE 22
+    ";
+    assert_eq!(rt; first_wrong_of(rt.alloc(), USUAL, rows)?, None);
+    Ok(())
+}
+
+#[test]
+fn a_working_page_is_stored(rt: HostRuntime) -> Result<(), Fail> {
+    let rows = "
+        EB 02 00 01 > FF
+        F6 00 00 00 00 10 00 00 > FF
+        F0 01 55 > FF
+        E6 01 00 > FF
+        F9 01 00 00 > FF
+        FD > FF 01 00 00 00 00
+        store > stored 1
+        FD > FF 00 00 00 00 00
+        drain > FD 03
+        drain > nothing
+        EB 02 00 00 > FF
+        F4 02 00 00 00 10 00 00 > FF 55 01
+        store > no store
+    ";
+    assert_eq!(rt; first_wrong_of(rt.alloc(), USUAL, rows)?, None);
+    Ok(())
+}
+
+#[test]
+fn a_block_goes_on_behind_a_store(rt: HostRuntime) -> Result<(), Fail> {
+    let rows = "
+        EB 83 00 01 > FF
+        F6 00 00 00 00 10 00 00 > FF
+        F0 08 01 02 03 04 05 06 > -
+        store > no store
+        drain > nothing
+        EF 02 07 08 > FF
+        F6 00 00 00 00 10 00 00 > FF
+        F5 02 > FF 01 02
+    ";
+    let kind = Kind {
+        max_cto: 8,
+        ..USUAL
+    };
+    assert_eq!(rt; first_wrong_of(rt.alloc(), kind, rows)?, None);
+    Ok(())
+}
+
+#[test]
+fn a_store_outlives_its_session(rt: HostRuntime) -> Result<(), Fail> {
+    let rows = "
+        F9 01 00 00 > FF
+        hangup > -
+        store > stored 0
+        drain > nothing
+    ";
+    assert_eq!(rt; first_wrong_of(rt.alloc(), USUAL, rows)?, None);
+    Ok(())
+}
+
+/// The outbox takes 64 event packets.
+fn first_wrong_behind_64(alloc: Global, store: &str, rest: &str) -> Result<Option<u32>, Fail> {
+    let mut slave = connected(alloc, USUAL)?;
+    Ok(match first_wrong_again(&mut slave, store, 63, store) {
+        None => first_wrong(&mut slave, rest),
+        wrong => wrong,
+    })
+}
+
+#[test]
+fn a_store_waits_for_room(rt: HostRuntime) -> Result<(), Fail> {
+    let store = "
+        F9 01 00 00 > FF
+        store > stored 0
+    ";
+    let rest = "
+        F9 01 00 00 > FF
+        store > later
+        FD > FF 01 00 00 00 00
+        drain > FD 03
+        store > stored 0
+        FE > FF
+        drain > nothing
+    ";
+    assert_eq!(rt; first_wrong_behind_64(rt.alloc(), store, rest)?, None);
+    Ok(())
+}

@@ -1,0 +1,135 @@
+//! Rows of sessions, uploads, downloads, blocks and checksums.
+use crate::layouts::{Kind, USUAL};
+use crate::rows::first_wrong_of;
+use std::test::Fail;
+
+/// Each is a fresh start behind CONNECT.
+const ROWS: [&str; 14] = [
+    "
+    FD > FF 00 00 00 00 00
+",
+    "
+    FC > FE 00
+    F8 00 00 > FE 20
+    F6 00 > FE 21
+",
+    "
+    FB > FF 00 01 00 08 00 00 10
+",
+    "
+    F6 00 00 01 00 10 00 00 > FE 22
+",
+    "
+    F6 00 00 00 00 10 00 00 > FF
+    F5 04 > FF 00 01 02 03
+    F5 04 > FF 04 05 06 07
+",
+    "
+    F5 01 > FE 24
+    F6 00 00 00 0C 10 00 00 > FF
+    F5 05 > FE 24
+    F5 04 > FF 0C 0D 0E 0F
+    F5 00 > FE 22
+    F5 20 > FE 22
+",
+    "
+    F6 00 00 00 00 10 00 00 > FF
+    F0 01 55 > FE 23
+    F0 02 55 > FE 21
+    F0 00 > FE 22
+",
+    "
+    FA 00 > FF 00 00 00 04 00 00 00
+    F5 04 > FF 45 43 55 31
+    FA 01 > FF 00 00 00 00 00 00 00
+    F5 01 > FE 24
+    F0 01 09 > FE 23
+",
+    "
+    EB 02 00 01 > FF
+    F6 00 00 00 00 10 00 00 > FF
+    EC 08 FE FF 02 00 > FF
+    F5 04 > FF 00 02 02 03
+    EC 20 00 00 00 00 > FE 22
+",
+    "
+    F6 00 00 00 00 10 00 00 > FF
+    F3 00 00 00 10 00 00 00 > FF 03 00 00 78 00 00 00
+    F5 01 > FE 24
+",
+    "
+    F6 00 00 00 00 20 00 00 > FF
+    F3 00 00 00 08 00 00 00 > FF 03 00 00 50 05 00 00
+",
+    "
+    EB 02 00 01 > FF
+    ED 02 00 00 00 10 00 00 11 22 > FF
+    F5 02 > FF 02 03
+",
+    "
+    EB 02 00 01 > FF
+    F6 00 00 00 00 10 00 00 > FF
+    EE EE EE EE EE EE EE EE EE EE EE EE EE EE EE EE EE EE EE EE EE EE EE EE EE EE EE EE EE EE EE > FE 21
+    EE EE EE EE EE EE EE EE EE EE EE EE EE EE EE EE EE EE EE EE EE EE EE EE EE EE EE EE EE EE EE EE > FE 24
+",
+    "
+    FE > FF
+    F5 01 > -
+",
+];
+
+#[test]
+fn sessions_and_transfers(rt: HostRuntime) -> Result<(), Fail> {
+    for (number, rows) in ROWS.iter().enumerate() {
+        assert_eq!(rt; first_wrong_of(rt.alloc(), USUAL, rows)?, None, "{number}");
+    }
+    Ok(())
+}
+
+#[test]
+fn blocks(rt: HostRuntime) -> Result<(), Fail> {
+    let rows = "
+        EB 02 00 01 > FF
+        F6 00 00 00 00 10 00 00 > FF
+        F0 08 D1 D2 D3 D4 D5 D6 > -
+        EF 02 D7 D8 > FF
+        F0 08 E1 E2 E3 E4 E5 E6 > -
+        EF 03 E7 E8 > FE 29 02
+        EF 02 E7 E8 > FE 29 00
+        F4 02 00 00 08 10 00 00 > FF 08 09
+        F6 00 00 00 00 10 00 00 > FF
+        F0 08 01 02 03 04 05 06 > -
+        FC > FE 00
+        EF 02 07 08 > FE 29 00
+        F5 02 > FF D1 D2
+    ";
+    let kind = Kind {
+        max_cto: 8,
+        ..USUAL
+    };
+    assert_eq!(rt; first_wrong_of(rt.alloc(), kind, rows)?, None);
+    Ok(())
+}
+
+#[test]
+fn types_of_checksums(rt: HostRuntime) -> Result<(), Fail> {
+    let rows = [
+        "
+            F6 00 00 00 00 20 00 00 > FF
+            F3 00 00 00 08 00 00 00 > FF 01 00 00 50 00 00 00
+        ",
+        "
+            F6 00 00 00 00 20 00 00 > FF
+            F3 00 00 00 08 00 00 00 > FF 02 00 00 50 05 00 00
+        ",
+        "
+            F6 00 00 00 00 20 00 00 > FF
+            F3 00 00 00 08 00 00 00 > FF 03 00 00 50 05 00 00
+        ",
+    ];
+    for (rows, checksum) in rows.iter().zip(1..4) {
+        let kind = Kind { checksum, ..USUAL };
+        assert_eq!(rt; first_wrong_of(rt.alloc(), kind, rows)?, None, "{checksum}");
+    }
+    Ok(())
+}
