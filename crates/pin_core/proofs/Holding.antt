@@ -36,11 +36,11 @@ module _ (W : ℕ) (s t : PinState) (a : Seen) (r b p : ℕ) (law : Lawful W s) 
   -- as long as it doesn't unpin, it holds the same
   pub stays_held : (e : Event) → ((last : Bool) → e ≢ Unpin r last) → Steps W s e a t → (reader t r).held ≡ Some (b, p)
   stays_held (Look q) none h = subst (λ (v : PinState). (reader v r).held ≡ Some (b, p)) (sym h.2)
-      (let n = law.sizes.seats in let c = h.0.0 in others_hold q (looking s (reader s q)) (omega arith) (λ e. subst (λ (i : ℕ). (reader s i).held ≡ Some (b, p)) (sym e) held))
+      (let n = law.sizes.seats in let c = h.0.0 in others_hold q (looking s.index (published s) (reader s q)) (omega arith) (λ e. subst (λ (i : ℕ). (reader s i).held ≡ Some (b, p)) (sym e) held))
   stays_held (Unpin q last) none h = subst (λ (v : PinState). (reader v r).held ≡ Some (b, p)) (sym h.4)
       (let n = law.sizes.seats in let c = h.2.0 in others_hold q (leaving last (reader s q)) (omega arith) (λ e. absurd (none last (ap (λ (i : ℕ). Unpin i last) e))))
   stays_held (Pin q) none h = subst (λ (v : PinState). (reader v r).held ≡ Some (b, p)) (sym h.2)
-      (let n = law.sizes.seats in let c = h.0.0 in others_hold q (pinning s (reader s q)) (omega arith)
+      (let n = law.sizes.seats in let c = h.0.0 in others_hold q (pinning s.index (published s) (reader s q)) (omega arith)
       (λ e. absurd (none-some (b, p) (sym h.0.2 ∙ subst (λ (i : ℕ). (reader s i).held ≡ Some (b, p)) (sym e) held))))
   stays_held (Read q k) none h = ap (λ (v : PinState). (reader v r).held) h.4 ∙ held
   stays_held (Scan c) none h = ap (λ (v : PinState). (reader v r).held) h.2 ∙ held
@@ -90,7 +90,7 @@ pins_last W s t a r law h =
     let inside : r < length s.readers = omega arith in
     let some = law.latest.some in
     let most = (law.seen r).most in
-    (published s - 1, ap (λ (v : PinState). (reader v r).held) h.2 ∙ ap (λ (x : Reader). x.held) (get_or-set_same s.readers r (pinning s (reader s r)) newcomer inside), omega arith, omega arith)
+    (published s - 1, ap (λ (v : PinState). (reader v r).held) h.2 ∙ ap (λ (x : Reader). x.held) (get_or-set_same s.readers r (pinning s.index (published s) (reader s r)) newcomer inside), omega arith, omega arith)
 
 -- a change of one reader that does not come to hold b
 gains_none : (rs : List Reader) (q b : ℕ) (x : Reader) → q < length rs → at_buffer b x.held ≤ at_buffer b (get_or rs q newcomer).held → holders b (set rs q x) ≤ holders b rs
@@ -99,13 +99,13 @@ gains_none rs q b x inside le = let s = sum_by-set (λ (y : Reader). at_buffer b
 -- only the current buffer gains holders
 pub only_current : (W : ℕ) (s t : PinState) (e : Event) (a : Seen) (b : ℕ) → Lawful W s → Steps W s e a t → b ≢ s.index → holders b t.readers ≤ holders b s.readers
 only_current W s t (Look q) a b law h ne = subst (λ (v : PinState). holders b v.readers ≤ holders b s.readers) (sym h.2)
-    (let n = law.sizes.seats in let c = h.0.0 in gains_none s.readers q b (looking s (reader s q)) (omega arith) (omega arith))
+    (let n = law.sizes.seats in let c = h.0.0 in gains_none s.readers q b (looking s.index (published s) (reader s q)) (omega arith) (omega arith))
 only_current W s t (Unpin q last) a b law h ne = subst (λ (v : PinState). holders b v.readers ≤ holders b s.readers) (sym h.4)
     (let n = law.sizes.seats in let c = h.2.0 in gains_none s.readers q b (leaving last (reader s q)) (omega arith) (omega arith))
 only_current W s t (Pin q) a b law h ne = subst (λ (v : PinState). holders b v.readers ≤ holders b s.readers) (sym h.2)
     (let n = law.sizes.seats in let c = h.0.0 in
     let other : at_buffer b (Some (s.index, published s - 1)) ≡ 0 = at_other s.index b (published s - 1) (λ e. ne (sym e)) in
-    gains_none s.readers q b (pinning s (reader s q)) (omega arith) (omega arith))
+    gains_none s.readers q b (pinning s.index (published s) (reader s q)) (omega arith) (omega arith))
 only_current W s t (Read q k) a b law h ne = subst (λ (v : PinState). holders b v.readers ≤ holders b s.readers) (sym h.4) (omega arith)
 only_current W s t (Scan c) a b law h ne = subst (λ (v : PinState). holders b v.readers ≤ holders b s.readers) (sym h.2) (omega arith)
 only_current W s t (Reset c) a b law h ne = subst (λ (v : PinState). holders b v.readers ≤ holders b s.readers) (sym h.2) (omega arith)

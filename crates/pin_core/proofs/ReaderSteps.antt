@@ -31,7 +31,7 @@ module _ (s : PinState) (n : ℕ) (ls : List ℕ) (rs : List Reader) where
 pub look_keeps : (W : ℕ) (s : PinState) (r : ℕ) → Lawful W s → CanLook s r → Lawful W (after_look s r)
 look_keeps W s r law can =
     let inside : r < length s.readers = (let l = law.sizes.seats in let c = can.0 in omega arith) in
-    let x : Reader = looking s (reader s r) in
+    let x : Reader = looking s.index (published s) (reader s r) in
     let rs : List Reader = set s.readers r x in
     let same_holders : (b : ℕ) → holders b rs ≡ holders b s.readers = λ b. same_sum (λ (y : Reader). at_buffer b y.held) s.readers r x inside refl in
     let same_gone : departed rs ≡ departed s.readers = same_sum left_for_good s.readers r x inside refl in
@@ -60,7 +60,7 @@ look_keeps W s r law can =
 pub pin_keeps : (W : ℕ) (s : PinState) (r : ℕ) → Lawful W s → CanPin s r → Lawful W (after_pin s r)
 pin_keeps W s r law can =
     let inside : r < length s.readers = (let l = law.sizes.seats in let c = can.0 in omega arith) in
-    let x : Reader = pinning s (reader s r) in
+    let x : Reader = pinning s.index (published s) (reader s r) in
     let rs : List Reader = set s.readers r x in
     let some = law.latest.some in
     let free : (b : ℕ) → at_buffer b (reader s r).held ≡ 0 = λ b. ap (at_buffer b) can.2 in

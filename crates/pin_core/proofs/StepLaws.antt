@@ -91,11 +91,11 @@ fewer s q x inside le r = at_each (λ j y. (reader s j).seen ≤ y.seen) s.reade
 
 pub step_seen : (W : ℕ) (s t : PinState) (e : Event) (a : Seen) (r : ℕ) → Lawful W s → Steps W s e a t → (reader s r).seen ≤ (reader t r).seen
 step_seen W s t (Look q) a r law h = subst (λ (v : PinState). (reader s r).seen ≤ (reader v r).seen) (sym h.2)
-    (let n = law.sizes.seats in let c = h.0.0 in fewer s q (looking s (reader s q)) (omega arith) (law.seen q).most r)
+    (let n = law.sizes.seats in let c = h.0.0 in fewer s q (looking s.index (published s) (reader s q)) (omega arith) (law.seen q).most r)
 step_seen W s t (Unpin q last) a r law h = subst (λ (v : PinState). (reader s r).seen ≤ (reader v r).seen) (sym h.4)
     (let n = law.sizes.seats in let c = h.2.0 in fewer s q (leaving last (reader s q)) (omega arith) (omega arith) r)
 step_seen W s t (Pin q) a r law h = subst (λ (v : PinState). (reader s r).seen ≤ (reader v r).seen) (sym h.2)
-    (let n = law.sizes.seats in let c = h.0.0 in fewer s q (pinning s (reader s q)) (omega arith) (law.seen q).most r)
+    (let n = law.sizes.seats in let c = h.0.0 in fewer s q (pinning s.index (published s) (reader s q)) (omega arith) (law.seen q).most r)
 step_seen W s t (Read q k) a r law h = subst (λ (v : PinState). (reader s r).seen ≤ (reader v r).seen) (sym h.4) (omega arith)
 step_seen W s t (Scan b) a r law h = subst (λ (v : PinState). (reader s r).seen ≤ (reader v r).seen) (sym h.2) (omega arith)
 step_seen W s t (Reset b) a r law h = subst (λ (v : PinState). (reader s r).seen ≤ (reader v r).seen) (sym h.2) (omega arith)

@@ -1,6 +1,7 @@
 // What one reader knows, and how its own events change that.
 ghost use Rattle.std.specs.Prelude.{◌≡◌, ◌≢◌, ◌↔◌, ◌⊎◌, ◌-◌, ◌<◌, ◌||◌, true, IsTrue, if◌then◌else◌, Some, None};
 ghost use Rattle.pin_core.specs.State.{newcomer};
+ghost use Rattle.pin_core.specs.Effects.{looking, pinning, leaving};
 ghost use Rattle.pin_core.specs.Lawful.{at_buffer};
 
 use std::marker::Model;
@@ -65,7 +66,7 @@ impl Reader {
 
     /// This reader once it has seen the current buffer, with so many publications.
     pub(crate) fn looking(&self, index: u8, published: usize) -> Reader
-        ensures { result ≡ record self.now { looked = index; seen = published } }
+        ensures { result ≡ looking index published self.now }
     {
         Reader {
             held: self.held,
@@ -78,12 +79,7 @@ impl Reader {
     /// This reader once it holds the current buffer, with the last of so many publications.
     pub(crate) fn pinning(&self, index: u8, published: usize) -> Reader
         requires { 0 < published }
-        ensures { result ≡ record {
-          held = Some (index, published - 1);
-          looked = index;
-          seen = published;
-          gone = self.now.gone;
-        } }
+        ensures { result ≡ pinning index published self.now }
     {
         Reader {
             held: Some((index, published - 1)),
@@ -95,7 +91,7 @@ impl Reader {
 
     /// This reader once it holds nothing, and where this was its last event, is gone.
     pub(crate) fn leaving(&self, last: bool) -> Reader
-        ensures { result ≡ record self.now { held = None; gone = self.now.gone || last } }
+        ensures { result ≡ leaving last self.now }
     {
         Reader {
             held: None,

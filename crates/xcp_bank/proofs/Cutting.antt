@@ -7,7 +7,7 @@ use Rattle.atomic_table.specs.Table.{Splits}
 use Rattle.atomic_table.proofs.Lists.{at_set}
 use Rattle.pin_core.specs.State.{PinState, reader, published}
 use Rattle.xcp_bank.specs.Known.{Writing, Known, one_reader, starting, waiting, everybody}
-use Rattle.xcp_bank.specs.Rule.{Stands, StandsForAll, Leads, Banked}
+use Rattle.xcp_bank.specs.Rule.{RecordsAll, Stands, StandsForAll, Leads, Banked}
 use Rattle.xcp_bank.specs.Cuts.{without_first, only_first}
 use Rattle.xcp_bank.proofs.Frame.{stands_still, all_still}
 
@@ -47,7 +47,7 @@ cut_splits W id n words t b at =
     (λ h. subst (λ (z : ℕ × Known). StandsForAll s own' z.0 z.1.readers) (λ i. (sym h.0 i, h.1 i)) (waiting_still s b.own id n m n words (omega arith) below mine.1))
     (λ h. all_still s s b.own own' (λ i l. refl) below j j u.readers (λ q o. (refl, moved_else b.own n m q (λ e'. h.0 (sym o ∙ (ap b.own e' ∙ here.mine))) ∙ o)) (b.readers j u h.1))
     (at_set t.views id j (everybody n words) u e) in
-    let led : (j : ℕ) (u : Known) (w : Writing) → get_elem? (set t.views id (everybody n words)) j ≡ some u → u.writer ≡ Some w → (b.desk ≡ j) × Leads s w = λ j u w e is.
+    let led : (j : ℕ) (u : Known) (w : Writing) → get_elem? (set t.views id (everybody n words)) j ≡ some u → u.writer ≡ Some w → (b.writer_seat ≡ j) × Leads s w = λ j u w e is.
     ⊎_elim {A = (j ≡ id) × (everybody n words ≡ u)} {B = (j ≢ id) × (get_elem? t.views j ≡ some u)}
     (λ h. let l = b.writer id (everybody (suc n) words) w at (ap (λ (z : Known). z.writer) h.1 ∙ is) in (l.0 ∙ sym h.0, l.1))
     (λ h. b.writer j u w h.1 is)
@@ -55,10 +55,28 @@ cut_splits W id n words t b at =
     record {
       core = s;
       own = own';
-      desk = b.desk;
+      writer_seat = b.writer_seat;
       lawful = b.lawful;
       shows = b.shows;
       numbered = b.numbered;
+      first = b.first;
+      wide = b.wide;
+      history = b.history;
+      run = b.run;
+      recorded = λ j u e. (let c = b.recorded id (everybody (suc n) words) at in ⊎_elim {A = (j < m) × (get_elem? (set t.views id (everybody n words)) j ≡ some u)} {B = (j ≡ m) × (one_reader n (starting words) ≡ u)}
+          (λ h. ⊎_elim {A = (j ≡ id) × (everybody n words ≡ u)} {B = (j ≢ id) × (get_elem? t.views j ≡ some u)}
+          (λ g. subst (λ (z : Known). RecordsAll b.history z.readers) g.1 c.1)
+          (λ g. b.recorded j u g.1)
+          (at_set t.views id j (everybody n words) u h.1))
+          (λ h. subst (λ (z : Known). RecordsAll b.history z.readers) h.1 (c.0, tt))
+          (at_end (set t.views id (everybody n words)) (one_reader n (starting words)) u j e));
+      noted = λ j u w e is. ⊎_elim {A = (j < m) × (get_elem? (set t.views id (everybody n words)) j ≡ some u)} {B = (j ≡ m) × (one_reader n (starting words) ≡ u)}
+          (λ h. ⊎_elim {A = (j ≡ id) × (everybody n words ≡ u)} {B = (j ≢ id) × (get_elem? t.views j ≡ some u)}
+          (λ g. b.noted id (everybody (suc n) words) w at (ap (λ (z : Known). z.writer) g.1 ∙ is))
+          (λ g. b.noted j u w g.1 is)
+          (at_set t.views id j (everybody n words) u h.1))
+          (λ h. absurd (none-some w (ap (λ (z : Known). z.writer) h.1 ∙ is)))
+          (at_end (set t.views id (everybody n words)) (one_reader n (starting words)) u j e);
       readers = λ j u e. ⊎_elim {A = (j < m) × (get_elem? (set t.views id (everybody n words)) j ≡ some u)} {B = (j ≡ m) × (one_reader n (starting words) ≡ u)}
           (λ h. kept j u h.1)
           (λ h. subst (λ (z : ℕ × Known). StandsForAll s own' z.0 z.1.readers) (λ i. (sym h.0 i, h.1 i))

@@ -1,11 +1,16 @@
 -- A step of one seat leaves what the others stand for.
-use Rattle.std.proofs.Common.{◌≡◌, ◌≢◌, ℕ, ◌<◌, ◌≤◌, List, [], ◌∷◌, take, set, sym, ap, ◌∙◌, subst, arith, Some, ⊎_elim}
+use Rattle.std.proofs.Common.{◌≡◌, ◌≢◌, ℕ, suc, ◌<◌, ◌≤◌, ◌++◌, List, [], ◌∷◌, take, set, sym, ap, ◌∙◌, subst, arith, Some, ⊎_elim}
 use mathlib.Core.Option.{some}
 use lib.ListN.{get_elem?}
 use Rattle.atomic_table.specs.Table.{State}
 use Rattle.atomic_table.proofs.Lists.{at_set}
 use Rattle.pin_core.specs.State.{Reader, PinState, reader, published, publication}
 use Rattle.pin_core.specs.Lawful.{Lawful}
+use Rattle.pin_core.specs.Steps.{Steps}
+use Rattle.pin_core.specs.State.{opening}
+use Rattle.xcp_bank.specs.Deeds.{Deed, doer, Grows}
+use Rattle.xcp_bank.specs.Rule.{RecordsAll}
+use Rattle.xcp_bank.proofs.History.{runs_more, records_still, grows_else}
 use Rattle.xcp_bank.specs.Known.{Reading, Writing, Known}
 use Rattle.xcp_bank.specs.Rule.{Shows, IsNumbered, Stands, StandsForAll, Leads, Banked}
 
@@ -29,15 +34,29 @@ module _ (W : ℕ) (t : State (Unit {0}) Known) (b : Banked W t) where
   pub seat_step : (id : ℕ) (v : Known) (ws : List ℕ) (s : PinState) → Lawful W s → Shows W ws s
       → ((p : ℕ) → p < published s → IsNumbered W p (publication s p))
       → StandsForAll s b.own id v.readers
-      → ((w : Writing) → v.writer ≡ Some w → (b.desk ≡ id) × Leads s w)
+      → ((w : Writing) → v.writer ≡ Some w → (b.writer_seat ≡ id) × Leads s w)
       → ((q : ℕ) → b.own q ≢ id → reader s q ≡ reader b.core q)
       → ((n : ℕ) → n ≤ published b.core → take n s.writer.publications ≡ take n b.core.writer.publications)
-      → (b.desk ≢ id → (w : Writing) → Leads b.core w → Leads s w)
+      → (b.writer_seat ≢ id → (w : Writing) → Leads b.core w → Leads s w)
+      → (d : Deed) → Steps W b.core d.0 d.1 s → RecordsAll (b.history ++ d ∷ []) v.readers → ((q : ℕ) → b.own q ≢ id → suc q ≢ doer d.0)
+      → ((w : Writing) → v.writer ≡ Some w → Grows 0 w.history (b.history ++ d ∷ []) []) → (b.writer_seat ≢ id → 0 ≢ doer d.0)
       → Banked W record { words = ws; homes = t.homes; views = set t.views id v }
-  seat_step id v ws s law shows numbered mine lead others grow leads = record {
+  seat_step id v ws s law shows numbered mine lead others grow leads d step records none notes apart = record {
+    first = b.first;
+    wide = b.wide;
+    history = b.history ++ d ∷ [];
+    run = runs_more W (opening b.first) b.core s b.history d b.run step;
+    recorded = λ j u e. ⊎_elim {A = (j ≡ id) × (v ≡ u)} {B = (j ≢ id) × (get_elem? t.views j ≡ some u)}
+        (λ h. subst (λ (z : Known). RecordsAll (b.history ++ d ∷ []) z.readers) h.1 records)
+        (λ h. records_still b.history d b.core b.own j u.readers (b.readers j u h.1) (b.recorded j u h.1) (λ q o. none q (λ same. h.0 (sym o ∙ same))))
+        (at_set t.views id j v u e);
+    noted = λ j u w e is. ⊎_elim {A = (j ≡ id) × (v ≡ u)} {B = (j ≢ id) × (get_elem? t.views j ≡ some u)}
+        (λ h. notes w (ap (λ (z : Known). z.writer) h.1 ∙ is))
+        (λ h. grows_else 0 w.history b.history [] d (apart (λ same. h.0 (sym (b.writer j u w h.1 is).0 ∙ same))) (b.noted j u w h.1 is))
+        (at_set t.views id j v u e);
     core = s;
     own = b.own;
-    desk = b.desk;
+    writer_seat = b.writer_seat;
     lawful = law;
     shows = shows;
     numbered = numbered;

@@ -7,8 +7,10 @@ use Rattle.atomic_table.specs.Table.{opening as table_opening}
 use Rattle.pin_core.specs.State.{PinState, newcomer, publication, opening}
 use Rattle.pin_core.specs.Lawful.{Lawful}
 use Rattle.pin_core.proofs.Start.{opening_lawful, alike, within, none_there}
+use Rattle.xcp_bank.specs.Deeds.{Grows}
+use Rattle.xcp_bank.proofs.History.{grows_none}
 use Rattle.xcp_bank.specs.Known.{Writing, Known, beginning, waiting, everybody}
-use Rattle.xcp_bank.specs.Rule.{IsNumbered, StandsForAll, Leads, Banked}
+use Rattle.xcp_bank.specs.Rule.{RecordsAll, IsNumbered, StandsForAll, Leads, Banked}
 
 module _ (W : ℕ) (image ws : List ℕ) (wide : length image ≡ W) (more : 0 < W) (few : W ≤ 256) (last : get_or image (W - 1) 0 ≡ 0) (size : length ws ≡ 9 + 8 * W)
     (front : (i : ℕ) → i < 9 → get_or ws i 0 ≡ 0) (words : (k : ℕ) → k < W → get_or ws (9 + k) 0 ≡ get_or image k 0) (rest : (i : ℕ) → 9 + W ≤ i → get_or ws i 0 ≡ 0) where
@@ -33,7 +35,7 @@ module _ (W : ℕ) (image ws : List ℕ) (wide : length image ≡ W) (more : 0 <
   opening_banked = record {
     core = s;
     own = λ _. 0;
-    desk = 0;
+    writer_seat = 0;
     lawful = subst (λ (n : ℕ). Lawful n s) wide (opening_lawful image (omega arith) (omega arith));
     shows = record {
       size = size;
@@ -42,6 +44,12 @@ module _ (W : ℕ) (image ws : List ℕ) (wide : length image ≡ W) (more : 0 <
       image = buffers;
     };
     numbered = first_numbered;
+    first = image;
+    wide = wide;
+    history = [];
+    run = (refl, refl);
+    recorded = λ id v e. records id v e;
+    noted = notes;
     readers = all;
     writer = led;
   }
@@ -49,6 +57,18 @@ module _ (W : ℕ) (image ws : List ℕ) (wide : length image ≡ W) (more : 0 <
       first_numbered : (p : ℕ) → p < 1 → IsNumbered W p (publication s p)
       first_numbered zero l = record { size = wide; number = last }
       first_numbered (suc p) l = absurd (omega arith)
+
+      none_yet : (n : ℕ) → RecordsAll [] (waiting n image)
+      none_yet zero = tt
+      none_yet (suc n) = (record { grows = grows_none (suc n) []; heard = ([], refl) }, none_yet n)
+
+      records : (id : ℕ) (v : Known) → get_elem? (everybody 6 image ∷ []) id ≡ some v → RecordsAll [] v.readers
+      records zero v e = subst (λ (u : Known). RecordsAll [] u.readers) (some-injective (everybody 6 image) v e) (none_yet 6)
+      records (suc id) v e = absurd (some-ne-none v (sym e))
+
+      notes : (id : ℕ) (v : Known) (w : Writing) → get_elem? (everybody 6 image ∷ []) id ≡ some v → v.writer ≡ Some w → Grows 0 w.history [] []
+      notes zero v w e is = subst (λ (z : Writing). Grows 0 z.history [] []) (same_Some (beginning image) w (ap (λ (u : Known). u.writer) (some-injective (everybody 6 image) v e) ∙ is)) (grows_none 0 [])
+      notes (suc id) v w e is = absurd (some-ne-none v (sym e))
 
       all : (id : ℕ) (v : Known) → get_elem? (everybody 6 image ∷ []) id ≡ some v → StandsForAll s (λ _. 0) id v.readers
       all zero v e = subst (λ (u : Known). StandsForAll s (λ _. 0) 0 u.readers) (some-injective (everybody 6 image) v e) (wait 6 (omega arith))

@@ -15,8 +15,13 @@ use Rattle.pin_core.proofs.Idle.{some_idle}
 use Rattle.xcp_bank.specs.Known.{Writing, Known, the_writer}
 use Rattle.xcp_bank.specs.Rule.{Shows, IsNumbered, Leads, Banked}
 use Rattle.xcp_bank.specs.ReaderSteps.{Seat}
-use Rattle.xcp_bank.specs.WriterSteps.{writer_plays, Scanned, writing_after_scan, Reset, writing_after_reset, Written, writing_after_write, Published, writing_after_publish}
+use Rattle.xcp_bank.specs.WriterSteps.{writer_plays, Scanned, writing_after_scan, WasReset, writing_after_reset, Written, writing_after_write, Published, writing_after_publish}
 use Rattle.xcp_bank.proofs.Frame.{seat_step}
+use Rattle.pin_core.specs.declared.events.Seen.TheVariants as an
+use Rattle.pin_core.specs.Steps.{Steps}
+use Rattle.xcp_bank.specs.Deeds.{Deed, doer, Grows, has_scanned, has_reset, has_written, has_published}
+use Rattle.xcp_bank.proofs.History.{grows_none, runs_more}
+use Rattle.pin_core.specs.State.{opening}
 use Rattle.xcp_bank.proofs.ReaderLemmas.{few}
 
 -- two places in buffers of W words
@@ -35,29 +40,39 @@ module _ (W : ℕ) (t : State (Unit {0}) Known) (b : Banked W t) (id : ℕ) (w :
   leads : Leads b.core w
   leads = (b.writer id (the_writer w) w at refl).1
 
-  at_desk : b.desk ≡ id
-  at_desk = (b.writer id (the_writer w) w at refl).0
+  at_seat : b.writer_seat ≡ id
+  at_seat = (b.writer id (the_writer w) w at refl).0
+
+  none_else : (q : ℕ) → suc q ≡ 0 → ⊥
+  none_else q e = absurd (omega arith)
+
+  grows : Grows 0 w.history b.history []
+  grows = b.noted id (the_writer w) w at refl
 
   -- a step of the writer, which leaves the readers
   writer_step : (ws : List ℕ) (u : PinState) (w' : Writing) → Lawful W u → Shows W ws u → ((p : ℕ) → p < published u → IsNumbered W p (publication u p)) → Leads u w' → u.readers ≡ b.core.readers
       → ((n : ℕ) → n ≤ published b.core → take n u.writer.publications ≡ take n b.core.writer.publications)
+      → (d : Deed) → Steps W b.core d.0 d.1 u → doer d.0 ≡ 0 → w'.history ≡ b.history ++ d ∷ []
       → Banked W record { words = ws; homes = t.homes; views = set t.views id (the_writer w') }
-  writer_step ws u w' law shows numbered lead same grow =
+  writer_step ws u w' law shows numbered lead same grow d step doer_is history =
       seat_step W t b id (the_writer w') ws u law shows numbered tt
-      (λ v e. (at_desk, subst (Leads u) (same_Some w' v e) lead))
+      (λ v e. (at_seat, subst (Leads u) (same_Some w' v e) lead))
       (λ q other. ap (λ (l : List Reader). get_or l q newcomer) same)
       grow
-      (λ other v k. absurd (other at_desk))
+      (λ other v k. absurd (other at_seat))
+      d step tt (λ q other e. none_else q (e ∙ doer_is))
+      (λ v e. subst (λ (z : Writing). Grows 0 z.history (b.history ++ d ∷ []) []) (same_Some w' v e) (subst (λ (h : List Deed). Grows 0 h (b.history ++ d ∷ []) []) (sym history) (grows_none 0 (b.history ++ d ∷ []))))
+      (λ other e. other at_seat)
 
   pub scan_step : (c : ℕ) → c < 8 → c ≢ w.current → w.pins.building ≡ None
-      → (let n : ℕ = get_or t.words (1 + c) 0 in Banked W record { words = set t.words (1 + c) n; homes = t.homes; views = set t.views id (the_writer (writing_after_scan c n w)) } × Scanned c w n (writing_after_scan c n w))
+      → (let n : ℕ = get_or t.words (1 + c) 0 in Banked W record { words = set t.words (1 + c) n; homes = t.homes; views = set t.views id (the_writer (writing_after_scan c n b.history w)) } × Scanned c w n (writing_after_scan c n b.history w))
   scan_step c low apart none =
       let n : ℕ = get_or t.words (1 + c) 0 in
       let k = leads in
       let here : n ≡ leavings_of s c = b.shows.left c low in
       let can : CanScan s c = (low, (λ e. apart (e ∙ k.current)), ap (λ (z : Writer). z.building) k.pins ∙ none) in
       let starts : started_of s c ≡ get_or w.pins.started c 0 = ap (λ (z : Writer). get_or z.started c 0) k.pins in (
-        writer_step (set t.words (1 + c) n) (after_scan s c) (writing_after_scan c n w) (scan_keeps W s c b.lawful can)
+        writer_step (set t.words (1 + c) n) (after_scan s c) (writing_after_scan c n b.history w) (scan_keeps W s c b.lawful can)
             (subst (λ (ws : List ℕ). Shows W ws (after_scan s c)) (sym (set-get_or t.words (1 + c) 0)) record { size = b.shows.size; head = b.shows.head; left = b.shows.left; image = b.shows.image })
             b.numbered
             record {
@@ -67,22 +82,24 @@ module _ (W : ℕ) (t : State (Unit {0}) Known) (b : Banked W t) (id : ℕ) (w :
               apart = k.apart;
               unheld = k.unheld;
             }
-            refl (λ m l. refl),
+            refl (λ m l. refl) (has_scanned c n) (can, ap an.Leavings here, refl) refl refl,
         record {
+          before = b.history;
+          grows = grows;
           is = refl;
           found = λ e. (let o = (b.lawful.others c low can.1).exact in let z : holders c s.readers ≡ 0 = ap (λ (q : ℕ). holders q s.readers) e ∙ k.unheld in omega arith);
         },
       )
 
   pub reset_step : (c : ℕ) → c < 8 → w.pins.quiet ≡ Some c
-      → Banked W record { words = set t.words (1 + c) 0; homes = t.homes; views = set t.views id (the_writer (writing_after_reset c w)) }
+      → Banked W record { words = set t.words (1 + c) 0; homes = t.homes; views = set t.views id (the_writer (writing_after_reset c b.history w)) }
   reset_step c low quiet =
       let k = leads in
       let can : CanReset s c = (low, ap (λ (z : Writer). z.quiet) k.pins ∙ quiet) in
       let size = b.shows.size in
       let there : 1 + c < length t.words = omega arith in
       let low' : c < length s.leavings = (let n = b.lawful.sizes.counters in omega arith) in
-      writer_step (set t.words (1 + c) 0) (after_reset s c) (writing_after_reset c w) (reset_keeps W s c b.lawful can)
+      writer_step (set t.words (1 + c) 0) (after_reset s c) (writing_after_reset c b.history w) (reset_keeps W s c b.lawful can)
       record {
         size = length-set t.words (1 + c) 0 ∙ b.shows.size;
         head = get_or-set_other t.words (1 + c) 0 0 0 (λ e. omega arith) ∙ b.shows.head;
@@ -100,10 +117,10 @@ module _ (W : ℕ) (t : State (Unit {0}) Known) (b : Banked W t) (id : ℕ) (w :
         apart = k.apart;
         unheld = k.unheld;
       }
-      refl (λ m l. refl)
+      refl (λ m l. refl) (has_reset c) (can, refl, refl) refl refl
 
   pub write_step : (c x : ℕ) → w.pins.building ≡ Some c → length w.pins.written < W
-      → Banked W record { words = set t.words (9 + (c * W + length w.pins.written)) x; homes = t.homes; views = set t.views id (the_writer (writing_after_write x w)) }
+      → Banked W record { words = set t.words (9 + (c * W + length w.pins.written)) x; homes = t.homes; views = set t.views id (the_writer (writing_after_write x b.history w)) }
   write_step c x building room =
       let k = leads in
       let n : ℕ = length w.pins.written in
@@ -118,7 +135,7 @@ module _ (W : ℕ) (t : State (Unit {0}) Known) (b : Banked W t) (id : ℕ) (w :
       let low' : c < length s.words = (let l = b.lawful.sizes.buffers in let g = built.buffer in omega arith) in
       let wide : length (words_of s c) ≡ W = b.lawful.sizes.widths c built.buffer in
       let inside : n < length (words_of s c) = omega arith in
-      writer_step (set t.words (9 + place) x) (after_write s n x c) (writing_after_write x w) (write_keeps W s n x c b.lawful can)
+      writer_step (set t.words (9 + place) x) (after_write s n x c) (writing_after_write x b.history w) (write_keeps W s n x c b.lawful can)
       record {
         size = length-set t.words (9 + place) x ∙ b.shows.size;
         head = get_or-set_other t.words (9 + place) 0 x 0 (λ e. omega arith) ∙ b.shows.head;
@@ -142,7 +159,7 @@ module _ (W : ℕ) (t : State (Unit {0}) Known) (b : Banked W t) (id : ℕ) (w :
         apart = k.apart;
         unheld = k.unheld;
       }
-      refl (λ m l. refl)
+      refl (λ m l. refl) (has_written n x) (c, can, refl, refl) refl refl
 
   -- what was written is numbered, and the publications before are as they were
   numbered_more : (c : ℕ) → length w.pins.written ≡ W → get_or w.pins.written (W - 1) 0 ≡ length w.pins.publications % 18446744073709551616
@@ -158,7 +175,7 @@ module _ (W : ℕ) (t : State (Unit {0}) Known) (b : Banked W t) (id : ℕ) (w :
       (λ ne. (let low : p < published s = omega arith in subst (IsNumbered W p) (sym (get_or_append_left s.writer.publications (s.writer.written ∷ []) [] p low)) (b.numbered p low)))
 
   pub publish_step : (c : ℕ) → w.pins.building ≡ Some c → length w.pins.written ≡ W → get_or w.pins.written (W - 1) 0 ≡ length w.pins.publications % 18446744073709551616
-      → (u : Writing) × Banked W record { words = set t.words 0 (c * 4294967296); homes = t.homes; views = set t.views id (the_writer u) } × Published c w (get_or t.words 0 0) u
+      → (u : Writing) × Banked W record { words = set t.words 0 (c * 4294967296); homes = t.homes; views = set t.views id (the_writer u) } × Published W c w (get_or t.words 0 0) u
   publish_step c building full last =
       let k = leads in
       let can : CanPublish W s c = (ap (λ (z : Writer). z.building) k.pins ∙ building, ap (λ (z : Writer). length z.written) k.pins ∙ full) in
@@ -166,7 +183,7 @@ module _ (W : ℕ) (t : State (Unit {0}) Known) (b : Banked W t) (id : ℕ) (w :
       let idle = some_idle W (after_publish s c) law in
       let size = b.shows.size in
       let first : 0 < length t.words = omega arith in
-      let u = writing_after_publish c s.count idle.0 w in (
+      let u = writing_after_publish c s.count idle.0 b.history w in (
         u,
         writer_step (set t.words 0 (c * 4294967296)) (after_publish s c) u law
             record {
@@ -184,8 +201,25 @@ module _ (W : ℕ) (t : State (Unit {0}) Known) (b : Banked W t) (id : ℕ) (w :
               unheld = idle.1.2;
             }
             refl
-            (λ m l. take-append-le m s.writer.publications (s.writer.written ∷ []) l),
-        record { count = s.count; idle = idle.0; found = b.shows.head ∙ ap (λ (i : ℕ). i * 4294967296 + s.count) k.current; few = few W t b; is = refl; low = idle.1.0; apart = idle.1.1 },
+            (λ m l. take-append-le m s.writer.publications (s.writer.written ∷ []) l)
+            has_published (c, can, refl, refl) refl refl,
+        record {
+          count = s.count;
+          idle = idle.0;
+          before = b.history;
+          grows = grows;
+          found = b.shows.head ∙ ap (λ (i : ℕ). i * 4294967296 + s.count) k.current;
+          few = few W t b;
+          is = refl;
+          low = idle.1.0;
+          apart = idle.1.1;
+          up_to_date = record {
+            state = after_publish s c;
+            ran = (b.first, b.wide, runs_more W (opening b.first) s (after_publish s c) b.history has_published b.run (c, can, refl, refl));
+            index = refl;
+            pins = (λ i. record { started = set (k.pins i).started (k.current i) s.count; quiet = None; building = None; written = []; publications = (k.pins i).publications ++ (k.pins i).written ∷ [] });
+          };
+        },
       )
 
 -- what the writer owes of each state
@@ -208,30 +242,22 @@ module _ (W slots id : ℕ) (w : Writing) (i : ℕ) (f : ℕ → ℕ) (after : W
 pub scan_allowed : (W slots id : ℕ) (w : Writing) (me : Seat) (c : ℕ) → me.0 ≡ the_writer w → c < 8 → c ≢ w.current → w.pins.building ≡ None → (st : Step (Unit {0}))
     → Allows (Banked W) slots id me (1 + c) (λ n. n) (writer_plays (Scanned c) st me)
 scan_allowed W slots id w me c is low apart none st = lets W slots id w (1 + c) (λ n. n) (Scanned c) me is
-    (λ t b at. let p = scan_step W t b id w at c low apart none in (writing_after_scan c (get_or t.words (1 + c) 0) w, p.0, p.1)) st
+    (λ t b at. let p = scan_step W t b id w at c low apart none in (writing_after_scan c (get_or t.words (1 + c) 0) b.history w, p.0, p.1)) st
 
 pub publish_allowed : (W slots id : ℕ) (w : Writing) (me : Seat) (c : ℕ) → me.0 ≡ the_writer w → w.pins.building ≡ Some c → length w.pins.written ≡ W → get_or w.pins.written (W - 1) 0 ≡ length w.pins.publications % 18446744073709551616 → (st : Step (Unit {0}))
-    → Allows (Banked W) slots id me 0 (λ _. c * 4294967296) (writer_plays (Published c) st me)
-publish_allowed W slots id w me c is building full last st = lets W slots id w 0 (λ _. c * 4294967296) (Published c) me is (λ t b at. publish_step W t b id w at c building full last) st
+    → Allows (Banked W) slots id me 0 (λ _. c * 4294967296) (writer_plays (Published W c) st me)
+publish_allowed W slots id w me c is building full last st = lets W slots id w 0 (λ _. c * 4294967296) (Published W c) me is (λ t b at. publish_step W t b id w at c building full last) st
 
 pub reset_allowed : (W slots id : ℕ) (w : Writing) (me : Seat) (c : ℕ) → me.0 ≡ the_writer w → c < 8 → w.pins.quiet ≡ Some c → (st : Step (Unit {0}))
-    → Allows (Banked W) slots id me (1 + c) (λ _. 0) (λ n. writer_plays (Reset c) st me 0)
-reset_allowed W slots id w me c is low quiet st = subst (λ (v : Known). Allows (Banked W) slots id (v, me.1) (1 + c) (λ _. 0) (λ n. writer_plays (Reset c) st (v, me.1) 0)) (sym is)
-    (λ t b homes at fits. (
-      the_writer (writing_after_reset c w),
-      keeps,
-      tt,
-      reset_step W t b id w at c low quiet,
-      λ v e. let same = same_Some w v (ap (λ (z : Known). z.writer) e) in (writing_after_reset c v, ap (λ (z : Writing). (the_writer (writing_after_reset c z), me.1)) same, refl),
-    ))
+    → Allows (Banked W) slots id me (1 + c) (λ _. 0) (λ n. writer_plays (WasReset c) st me 0)
+reset_allowed W slots id w me c is low quiet st = lets W slots id w (1 + c) (λ _. 0) (λ v n u. WasReset c v 0 u) me is
+    (λ t b at. (writing_after_reset c b.history w, reset_step W t b id w at c low quiet, record { before = b.history; grows = grows W t b id w at; is = refl })) st
 
 pub write_allowed : (W slots id : ℕ) (w : Writing) (me : Seat) (c k x : ℕ) → me.0 ≡ the_writer w → w.pins.building ≡ Some c → length w.pins.written ≡ k → k < W → (st : Step (Unit {0}))
     → Allows (Banked W) slots id me (9 + (c * W + k)) (λ _. x) (λ n. writer_plays (Written x) st me x)
-write_allowed W slots id w me c k x is building at_k room st = subst (λ (v : Known). Allows (Banked W) slots id (v, me.1) (9 + (c * W + k)) (λ _. x) (λ n. writer_plays (Written x) st (v, me.1) x)) (sym is)
-    (λ t b homes at fits. (
-      the_writer (writing_after_write x w),
-      keeps,
-      tt,
-      subst (λ (m : ℕ). Banked W record { words = set t.words (9 + (c * W + m)) x; homes = t.homes; views = set t.views id (the_writer (writing_after_write x w)) }) at_k (write_step W t b id w at c x building (let r = room in omega arith)),
-      λ v e. let same = same_Some w v (ap (λ (z : Known). z.writer) e) in (writing_after_write x v, ap (λ (z : Writing). (the_writer (writing_after_write x z), me.1)) same, refl),
-    ))
+write_allowed W slots id w me c k x is building at_k room st = lets W slots id w (9 + (c * W + k)) (λ _. x) (λ v n u. Written x v x u) me is
+    (λ t b at. (
+      writing_after_write x b.history w,
+      subst (λ (m : ℕ). Banked W record { words = set t.words (9 + (c * W + m)) x; homes = t.homes; views = set t.views id (the_writer (writing_after_write x b.history w)) }) at_k (write_step W t b id w at c x building (let r = room in omega arith)),
+      record { before = b.history; grows = grows W t b id w at; is = refl },
+    )) st

@@ -1,5 +1,7 @@
 -- What a seat knows that is cut in two, or joined with another.
-use Rattle.std.specs.Prelude.{ℕ, ◌+◌, List, [], ◌∷◌, length, Option, Some, None}
+use Rattle.std.specs.Prelude.{ℕ, List, [], ◌∷◌, ◌++◌, length, Option, Some, None}
+use Rattle.pin_core.specs.Effects.{looking}
+use Rattle.xcp_bank.specs.Deeds.{looked_at}
 use Rattle.xcp_bank.specs.Known.{Reading, Writing, Known}
 
 -- The first reader is cut off.
@@ -18,35 +20,36 @@ without_first v = record { readers = others_of v.readers; writer = v.writer }
 abbrev pub only_first : Known → Known
 only_first v = record { readers = first_of v.readers; writer = None }
 
--- A reader is joined with the writer, which is a Look: it has seen all that is published, and what it had seen before is past.
+-- A reader is joined with the writer, which is a Look: it has seen all that is published, what it had seen before is past, and it has
+-- heard the writer's history.
 
-abbrev pub told : Writing → Reading → Reading
-told w x = record {
-  pins = record { held = x.pins.held; looked = w.current; seen = length w.pins.publications; gone = x.pins.gone };
+abbrev pub told : Writing → ℕ → Reading → Reading
+told w r x = record {
+  pins = looking w.current (length w.pins.publications) x.pins;
   list = w.pins.publications;
   past = x.list ∷ x.past;
-  steps = x.steps + 1;
-  looks = x.looks + 1;
-  since = 0;
+  history = x.history;
+  pending = x.pending ++ looked_at r w.current ∷ [];
+  heard = w.history;
 }
 
 -- And it is cut off again, which is a Look too. Between the two nothing is published.
 
-abbrev pub told_again : Writing → Reading → Reading
-told_again w x = record {
-  pins = record { held = x.pins.held; looked = w.current; seen = length w.pins.publications; gone = x.pins.gone };
+abbrev pub told_again : Writing → ℕ → Reading → Reading
+told_again w r x = record {
+  pins = looking w.current (length w.pins.publications) x.pins;
   list = w.pins.publications;
   past = x.past;
-  steps = x.steps + 1;
-  looks = x.looks + 1;
-  since = 0;
+  history = x.history;
+  pending = x.pending ++ looked_at r w.current ∷ [];
+  heard = w.history;
 }
 
-abbrev pub each_by : (Reading → Reading) → List (ℕ × Reading) → List (ℕ × Reading)
+abbrev pub each_by : (ℕ → Reading → Reading) → List (ℕ × Reading) → List (ℕ × Reading)
 each_by f [] = []
-each_by f (y ∷ ys) = (y.0, f y.1) ∷ each_by f ys
+each_by f (y ∷ ys) = (y.0, f y.0 y.1) ∷ each_by f ys
 
-abbrev pub by_writer : (Writing → Reading → Reading) → Option Writing → List (ℕ × Reading) → List (ℕ × Reading)
+abbrev pub by_writer : (Writing → ℕ → Reading → Reading) → Option Writing → List (ℕ × Reading) → List (ℕ × Reading)
 by_writer f None ys = ys
 by_writer f (Some w) ys = each_by (f w) ys
 

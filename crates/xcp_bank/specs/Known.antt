@@ -1,10 +1,11 @@
 -- What a seat of the bank knows. Nobody else changes it.
-use Rattle.std.specs.Prelude.{◌≡◌, ℕ, List, [], ◌∷◌, ◌++◌, Option, Some, None, replicate, zero, suc}
-use Rattle.pin_core.specs.State.{Reader, Writer, newcomer}
+use Rattle.std.specs.Prelude.{◌≡◌, ℕ, List, [], ◌∷◌, ◌++◌, Option, Some, None, zero, suc}
+use Rattle.pin_core.specs.State.{Reader, Writer, newcomer, opening}
+use Rattle.xcp_bank.specs.Deeds.{Deed}
 
 -- The new list begins with the old one.
-abbrev pub Begins : List (List ℕ) → List (List ℕ) → Type 0
-Begins old new = (rest : List (List ℕ)) × (new ≡ old ++ rest)
+abbrev pub Begins : {A : Type 0} → List A → List A → Type 0
+Begins {A} old new = (rest : List A) × (new ≡ old ++ rest)
 
 -- It begins with each of these.
 abbrev pub AllBegin : List (List (List ℕ)) → List (List ℕ) → Type 0
@@ -19,10 +20,12 @@ pub record Reading : Type 0 where
   pub list : List (List ℕ)
   -- the lists that it had seen when it was told, since its own last Look or Pin
   pub past : List (List (List ℕ))
-  -- how many steps it has made, how many of them were Looks and Pins, and how many came since the last of these
-  pub steps : ℕ
-  pub looks : ℕ
-  pub since : ℕ
+  -- all that happened in the core up to its own last step, this the last; and what it did since (each time it was told, two
+  -- Looks), whose place in the history it learns at its next step
+  pub history : List Deed
+  pub pending : List Deed
+  -- the writer's history when it last told this reader, which its own begins with from its next step on
+  pub heard : List Deed
 
 -- The writer of the bank.
 pub record Writing : Type 0 where
@@ -32,11 +35,8 @@ pub record Writing : Type 0 where
   pub current : ℕ
   -- a buffer that the last publication left without a holder, not the current one. It stays so until the next publication.
   pub idle : ℕ
-  -- how many steps of each kind it has made
-  pub scans : ℕ
-  pub resets : ℕ
-  pub writes : ℕ
-  pub publishes : ℕ
+  -- all that happened in the core up to its own last step, this the last
+  pub history : List Deed
 
 -- A seat stands for these readers, by number, and for the writer or not.
 pub record Known : Type 0 where
@@ -55,18 +55,15 @@ the_writer w = record { readers = []; writer = Some w }
 
 -- a reader that has made no step, where these words are published
 abbrev pub starting : List ℕ → Reading
-starting words = record { pins = newcomer; list = words ∷ []; past = []; steps = 0; looks = 0; since = 0 }
+starting words = record { pins = newcomer; list = words ∷ []; past = []; history = []; pending = []; heard = [] }
 
 -- the writer that has made no step
 abbrev pub beginning : List ℕ → Writing
 beginning words = record {
-  pins = record { started = replicate 8 0; quiet = None; building = None; written = []; publications = words ∷ [] };
+  pins = (opening words).writer;
   current = 0;
   idle = 1;
-  scans = 0;
-  resets = 0;
-  writes = 0;
-  publishes = 0;
+  history = [];
 }
 
 -- the readers below n, none of which has made a step

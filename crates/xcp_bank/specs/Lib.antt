@@ -1,9 +1,12 @@
 pub mod Images
+pub mod Deeds
 pub mod Known
 pub mod Rule
+pub mod Laws
 pub mod ReaderSteps
 pub mod WriterSteps
 pub mod Cuts
 pub mod Seats
+pub mod BankId
 pub mod Ends
 pub mod Fields

@@ -1,36 +1,40 @@
 -- A seat of the bank, for the contracts of its steps.
-use Rattle.std.specs.Prelude.{◌≡◌, ◌≢◌, ℕ, ◌+◌, ◌-◌, ◌<◌, ◌≤◌, List, [], ◌∷◌, ◌++◌, length, false, Option, Some, None}
+use Rattle.std.specs.Prelude.{◌≡◌, ◌≢◌, ℕ, suc, ◌+◌, ◌-◌, ◌<◌, ◌≤◌, List, [], ◌∷◌, ◌++◌, length, slice_index, slice_index_or, false, Option, Some, None}
 use Rattle.atomic_table.specs.Seated.{TableId}
 use Rattle.atomic_table.specs.declared.shared.Seat.{Seat}
 use Rattle.xcp_bank.specs.declared.taken.Taken.{Taken}
 use Rattle.xcp_bank.specs.declared.taken.Taken.TheVariants.{Same, Newer}
-use Rattle.xcp_bank.specs.ReaderSteps.{Looked, Pinned}
+use Rattle.xcp_bank.specs.Deeds.{Deed, Grows, Does, Ends, AllScans, looked_at, pinned_at, given_up, has_reset, has_published, reads_of, writes_of}
+use Rattle.xcp_bank.specs.ReaderSteps.{Reaches, Looked, Pinned, UpToDate, Follows, reading_after_read}
+use Rattle.xcp_bank.specs.Rule.{IsNumbered}
+use Rattle.xcp_bank.specs.WriterSteps.{WriterUpToDate}
 use Rattle.xcp_bank.specs.Known.{Begins, AllBegin, Reading, Writing, Known, one_reader, the_writer, everybody}
 
 -- The seat is of this bank, and stands for the reader r, which is as x says.
-pub record Sits (seat : Seat (Unit {0}) Known) (bank : TableId) (r : ℕ) (x : Reading) : Type 0 where
+pub record IsReaderSeat (seat : Seat (Unit {0}) Known) (bank : TableId) (r : ℕ) (x : Reading) : Type 0 where
   pub bank_is : seat.table_id ≡ bank
   pub wide : bank.words ≡ 2057
   pub me : seat.me ≡ (one_reader r x, [])
 
 -- The first seat, while it stands for the readers below n too.
-pub record IsFirst (seat : Seat (Unit {0}) Known) (bank : TableId) (n : ℕ) (words : List ℕ) : Type 0 where
+pub record IsFirstSeat (seat : Seat (Unit {0}) Known) (bank : TableId) (n : ℕ) (words : List ℕ) : Type 0 where
   pub bank_is : seat.table_id ≡ bank
   pub wide : bank.words ≡ 2057
   pub me : seat.me ≡ (everybody n words, [])
+  pub size : length words ≡ 256
 
 -- The seat is of this bank, and stands for the writer, which is as w says.
-pub record Desks (seat : Seat (Unit {0}) Known) (bank : TableId) (w : Writing) : Type 0 where
+pub record IsWriterSeat (seat : Seat (Unit {0}) Known) (bank : TableId) (w : Writing) : Type 0 where
   pub bank_is : seat.table_id ≡ bank
   pub wide : bank.words ≡ 2057
   pub me : seat.me ≡ (the_writer w, [])
 
 -- One step or more of a reader's seat, or of the writer's.
-abbrev pub Reads : (Reading → Reading → Type 0) → Seat (Unit {0}) Known → Seat (Unit {0}) Known → TableId → Type 0
-Reads after old new bank = (r : ℕ) (x : Reading) → Sits old bank r x → (y : Reading) × Sits new bank r y × after x y
+abbrev pub ReaderMoves : (ℕ → Reading → Reading → Type 0) → Seat (Unit {0}) Known → Seat (Unit {0}) Known → TableId → Type 0
+ReaderMoves after old new bank = (r : ℕ) (x : Reading) → IsReaderSeat old bank r x → (y : Reading) × IsReaderSeat new bank r y × after r x y
 
-abbrev pub Writes : (Writing → Writing → Type 0) → Seat (Unit {0}) Known → Seat (Unit {0}) Known → TableId → Type 0
-Writes after old new bank = (w : Writing) → Desks old bank w → (u : Writing) × Desks new bank u × after w u
+abbrev pub WriterMoves : (Writing → Writing → Type 0) → Seat (Unit {0}) Known → Seat (Unit {0}) Known → TableId → Type 0
+WriterMoves after old new bank = (w : Writing) → IsWriterSeat old bank w → (u : Writing) × IsWriterSeat new bank u × after w u
 
 abbrev pub buffer_of : Option (ℕ × ℕ) → Option ℕ
 buffer_of None = None
@@ -42,14 +46,28 @@ buffer_held x = buffer_of x.pins.held
 
 -- A Look, or a Pin, that told this buffer.
 
-abbrev pub LookedAt : ℕ → Reading → Reading → Type 0
-LookedAt buffer x y = (n : ℕ) × (k : Looked x n y) × (buffer ≡ k.index)
+abbrev pub LookedAt : ℕ → ℕ → Reading → Reading → Type 0
+LookedAt buffer r x y = (n : ℕ) × (k : Looked 256 r x n y) × (buffer ≡ k.index)
 
-abbrev pub PinnedAt : ℕ → Reading → Reading → Type 0
-PinnedAt buffer x y = (n : ℕ) × (k : Pinned x n y) × (buffer ≡ k.index)
+abbrev pub PinnedAt : ℕ → ℕ → Reading → Reading → Type 0
+PinnedAt buffer r x y = (n : ℕ) × (k : Pinned 256 r x n y) × (buffer ≡ k.index)
+
+-- A Read of word k of the publication p, which is held: it was answered `word`.
+pub record WordRead (k p word : ℕ) (r : ℕ) (x y : Reading) : Type 0 where
+  pub before : List Deed
+  pub reaches : Reaches r x before
+  pub is : y ≡ reading_after_read r k word before x
+  pub follows : Follows 256 r y
+  pub value : word ≡ slice_index (slice_index_or x.list p []) k
+  pub numbered : IsNumbered 256 p (slice_index_or x.list p [])
+  pub pasts : AllBegin x.past x.list
+
+-- A Read of word k of the held buffer.
+abbrev pub WordReadAt : ℕ → ℕ → ℕ → ℕ → Reading → Reading → Type 0
+WordReadAt buffer k word r x y = (p : ℕ) → x.pins.held ≡ Some (buffer, p) → WordRead k p word r x y
 
 -- What a reader knows after it has acquired: it holds the last of the publications that it has seen then.
-pub record Acquired (taken : Taken) (buffer : ℕ) (x y : Reading) : Type 0 where
+pub record Acquired (taken : Taken) (buffer : ℕ) (r : ℕ) (x y : Reading) : Type 0 where
   pub low : buffer < 8
   pub some : 0 < length y.list
   pub begins : Begins x.list y.list
@@ -58,33 +76,56 @@ pub record Acquired (taken : Taken) (buffer : ℕ) (x y : Reading) : Type 0 wher
   pub held : y.pins.held ≡ Some (buffer, length y.list - 1)
   pub looked : y.pins.looked ≡ buffer
   pub here : y.pins.gone ≡ false
-  pub since : y.since ≡ 0
-  pub looks : x.looks < y.looks
-  pub moved : x.steps < y.steps
-  pub steps : y.steps ≤ x.steps + 3
-  pub once : taken ≡ Same → y.steps ≡ x.steps + 1
-  pub first : x.pins.held ≡ None → y.steps ≡ x.steps + 1
+  pub placed : y.pending ≡ []
+  pub heard_is : y.heard ≡ x.heard
+  pub heard : Begins x.heard y.history
+  pub up_to_date : UpToDate 256 r y
+  pub deeds : List Deed
+  pub did : Does (suc r) x.history x.pending y.history y.pending deeds
+  pub once : taken ≡ Same → (deeds ≡ looked_at r buffer ∷ []) × Ends y.history (looked_at r buffer)
+  pub first : x.pins.held ≡ None → deeds ≡ pinned_at r buffer ∷ []
+  pub other : taken ≡ Newer → (b p : ℕ) → x.pins.held ≡ Some (b, p) → (i : ℕ) × (i ≢ b) × (deeds ≡ looked_at r i ∷ given_up r false ∷ pinned_at r buffer ∷ [])
+  pub last : taken ≡ Newer → Ends y.history (pinned_at r buffer)
   pub same : taken ≡ Same → x.pins.held ≡ Some (buffer, length y.list - 1)
   pub newer : taken ≡ Newer → (b p : ℕ) → x.pins.held ≡ Some (b, p) → p + 1 < length y.list
 
+-- Reads of n words from word k on, of the publication p that is held: nothing changes but the history, which is a run if it was one.
+-- With one Read at least the publication is known to be whole, and what was told before to begin what is there now.
+pub record HasRead (k n p : ℕ) (r : ℕ) (x y : Reading) : Type 0 where
+  pub pins : y.pins ≡ x.pins
+  pub list : y.list ≡ x.list
+  pub past : y.past ≡ x.past
+  pub heard_is : y.heard ≡ x.heard
+  pub follows : Follows 256 r x → Follows 256 r y
+  pub numbered : 0 < n → IsNumbered 256 p (slice_index_or x.list p [])
+  pub pasts : 0 < n → AllBegin x.past x.list
+  pub heard : 0 < n → Begins x.heard y.history
+  pub did : Does (suc r) x.history x.pending y.history y.pending (reads_of r (slice_index_or x.list p []) k n)
+
 -- Scans, up to the buffer `next`, of which none has found the idle buffer.
-abbrev pub scanned_to : Option ℕ → ℕ → Writing → Writing
-scanned_to quiet scans w = record w { pins = record w.pins { quiet = quiet }; scans = scans }
+abbrev pub scanned_to : Option ℕ → List Deed → Writing → Writing
+scanned_to quiet history w = record w { pins = record w.pins { quiet = quiet }; history = history }
 
 pub record Searched (next : ℕ) (w u : Writing) : Type 0 where
   pub quiet : Option ℕ
-  pub scans : ℕ
-  pub is : u ≡ scanned_to quiet scans w
-  pub most : scans ≤ w.scans + next
-  pub fewer : w.current < next → scans + 1 ≤ w.scans + next
+  pub history : List Deed
+  pub is : u ≡ scanned_to quiet history w
+  pub scans : List Deed
+  pub grows : Grows 0 w.history history scans
+  pub only : AllScans scans
+  pub most : length scans ≤ next
+  pub fewer : w.current < next → length scans + 1 ≤ next
   pub not_yet : next ≤ w.idle
 
 -- Scans, of which the last found buffer b quiet.
 pub record FoundQuiet (b : ℕ) (w u : Writing) : Type 0 where
-  pub scans : ℕ
+  pub history : List Deed
   pub low : b < 8
-  pub is : u ≡ scanned_to (Some b) scans w
-  pub most : scans ≤ w.scans + 7
+  pub is : u ≡ scanned_to (Some b) history w
+  pub scans : List Deed
+  pub grows : Grows 0 w.history history scans
+  pub only : AllScans scans
+  pub most : length scans ≤ 7
 
 -- What the writer knows between two publications.
 pub record Rests (current : ℕ) (started : List ℕ) (w : Writing) : Type 0 where
@@ -96,13 +137,16 @@ pub record Rests (current : ℕ) (started : List ℕ) (w : Writing) : Type 0 whe
   pub apart : w.idle ≢ w.current
 
 -- the writer after it has written these words
-abbrev pub filled : List ℕ → ℕ → Writing → Writing
-filled words writes w = record w { pins = record w.pins { written = words }; writes = writes }
+abbrev pub filled : List ℕ → List Deed → Writing → Writing
+filled words history w = record w { pins = record w.pins { written = words }; history = history }
 
 -- The words were published, by at most 7 Scans, one Reset, 256 Writes and one Publish.
 pub record Publishes (words : List ℕ) (w u : Writing) : Type 0 where
   pub list : u.pins.publications ≡ w.pins.publications ++ words ∷ []
-  pub scans : u.scans ≤ w.scans + 7
-  pub resets : u.resets ≡ w.resets + 1
-  pub writes : u.writes ≡ w.writes + 256
-  pub publishes : u.publishes ≡ w.publishes + 1
+  pub scans : List Deed
+  pub buffer : ℕ
+  pub only : AllScans scans
+  pub most : length scans ≤ 7
+  pub grows : Grows 0 w.history u.history (scans ++ has_reset buffer ∷ (writes_of words (length words) ++ has_published ∷ []))
+  pub last : Ends u.history has_published
+  pub up_to_date : WriterUpToDate 256 u

@@ -1,7 +1,11 @@
--- What each step of the writer tells its seat: from what it knew, by the number found, to what it knows then.
-use Rattle.std.specs.Prelude.{◌≡◌, ◌≢◌, ℕ, ◌+◌, ◌<◌, ◌≤◌, [], ◌∷◌, ◌++◌, slice_index, slice_set, Some, None, ◌==◌, if◌then◌else◌}
+-- What each step of the writer tells its seat: from what it knew, by the number found, to what it knows then. `before` is all that has
+-- happened in the core, of which nothing since the writer's last step is its own: what it has then is that and one deed more, the step's.
+use Rattle.std.specs.Prelude.{◌≡◌, ◌≢◌, ℕ, ◌<◌, ◌≤◌, List, [], ◌∷◌, ◌++◌, length, slice_index}
 use Rattle.atomic_table.specs.Table.{Step}
 use Rattle.pin_core.specs.Head.{head_of}
+use Rattle.pin_core.specs.State.{PinState}
+use Rattle.pin_core.specs.Effects.{scanning, resetting, writing, publishing}
+use Rattle.xcp_bank.specs.Deeds.{Deed, Grows, Ran, has_scanned, has_reset, has_written, has_published}
 use Rattle.xcp_bank.specs.Known.{Writing, the_writer}
 use Rattle.xcp_bank.specs.ReaderSteps.{Seat}
 
@@ -9,45 +13,58 @@ use Rattle.xcp_bank.specs.ReaderSteps.{Seat}
 abbrev pub writer_plays : (Writing → ℕ → Writing → Type 0) → Step (Unit {0}) → Seat → ℕ → Seat → Type 0
 writer_plays after st m n m' = (w : Writing) → m.0 ≡ the_writer w → (u : Writing) × (m' ≡ (the_writer u, m.1)) × after w n u
 
-abbrev pub writing_after_scan : ℕ → ℕ → Writing → Writing
-writing_after_scan b n w = record w { pins = record w.pins { quiet = if slice_index w.pins.started b == n then Some b else None }; scans = w.scans + 1 }
+abbrev pub writing_after_scan : ℕ → ℕ → List Deed → Writing → Writing
+writing_after_scan b n before w = record w { pins = scanning b n w.pins; history = before ++ has_scanned b n ∷ [] }
 
 -- Scan of buffer b: it is quiet where as many have left it as started. The idle buffer is.
 pub record Scanned (b : ℕ) (w : Writing) (n : ℕ) (u : Writing) : Type 0 where
-  pub is : u ≡ writing_after_scan b n w
+  pub before : List Deed
+  pub grows : Grows 0 w.history before []
+  pub is : u ≡ writing_after_scan b n before w
   pub found : b ≡ w.idle → slice_index w.pins.started b ≡ n
 
-abbrev pub writing_after_reset : ℕ → Writing → Writing
-writing_after_reset b w = record w { pins = record w.pins { started = slice_set w.pins.started b 0; building = Some b; written = [] }; resets = w.resets + 1 }
+abbrev pub writing_after_reset : ℕ → List Deed → Writing → Writing
+writing_after_reset b before w = record w { pins = resetting b w.pins; history = before ++ has_reset b ∷ [] }
 
 -- Reset of buffer b, which is being built then.
-abbrev pub Reset : ℕ → Writing → ℕ → Writing → Type 0
-Reset b w n u = u ≡ writing_after_reset b w
+pub record WasReset (b : ℕ) (w : Writing) (n : ℕ) (u : Writing) : Type 0 where
+  pub before : List Deed
+  pub grows : Grows 0 w.history before []
+  pub is : u ≡ writing_after_reset b before w
 
-abbrev pub writing_after_write : ℕ → Writing → Writing
-writing_after_write x w = record w { pins = record w.pins { written = w.pins.written ++ x ∷ [] }; writes = w.writes + 1 }
+abbrev pub writing_after_write : ℕ → List Deed → Writing → Writing
+writing_after_write x before w = record w { pins = writing x w.pins; history = before ++ has_written (length w.pins.written) x ∷ [] }
 
 -- Write of the next word, x.
-abbrev pub Written : ℕ → Writing → ℕ → Writing → Type 0
-Written x w n u = u ≡ writing_after_write x w
+pub record Written (x : ℕ) (w : Writing) (n : ℕ) (u : Writing) : Type 0 where
+  pub before : List Deed
+  pub grows : Grows 0 w.history before []
+  pub is : u ≡ writing_after_write x before w
 
-abbrev pub writing_after_publish : ℕ → ℕ → ℕ → Writing → Writing
-writing_after_publish b count idle w = record {
-  pins = record { started = slice_set w.pins.started w.current count; quiet = None; building = None; written = []; publications = w.pins.publications ++ w.pins.written ∷ [] };
+abbrev pub writing_after_publish : ℕ → ℕ → ℕ → List Deed → Writing → Writing
+writing_after_publish b count idle before w = record {
+  pins = publishing w.current count w.pins;
   current = b;
   idle = idle;
-  scans = w.scans;
-  resets = w.resets;
-  writes = w.writes;
-  publishes = w.publishes + 1;
+  history = before ++ has_published ∷ [];
 }
 
+-- What the writer knows is true of the state that its history ends in.
+pub record WriterUpToDate (W : ℕ) (u : Writing) : Type 0 where
+  pub state : PinState
+  pub ran : Ran W u.history state
+  pub index : state.index ≡ u.current
+  pub pins : state.writer ≡ u.pins
+
 -- Publish of buffer b: the number found tells the pins that the old current buffer got, and some buffer is idle then.
-pub record Published (b : ℕ) (w : Writing) (n : ℕ) (u : Writing) : Type 0 where
+pub record Published (W b : ℕ) (w : Writing) (n : ℕ) (u : Writing) : Type 0 where
   pub count : ℕ
   pub idle : ℕ
+  pub before : List Deed
+  pub grows : Grows 0 w.history before []
   pub found : n ≡ head_of w.current count
   pub few : count ≤ 6
-  pub is : u ≡ writing_after_publish b count idle w
+  pub is : u ≡ writing_after_publish b count idle before w
   pub low : idle < 8
   pub apart : idle ≢ b
+  pub up_to_date : WriterUpToDate W u

@@ -1,11 +1,9 @@
 //! What is left of a reader.
-ghost use Rattle.std.specs.Prelude.{◌≡◌};
+ghost use Rattle.std.specs.Prelude.{◌≡◌, Some};
 ghost use Rattle.std.specs.Arc.{arc_value};
-ghost use Rattle.std.specs.Prelude.{Some};
 ghost use Rattle.xcp_bank.specs.Fields.{shown_reader};
 
-use crate::rule::{Board, View};
-use atomic_table::Seat;
+use crate::table::{Board, Token};
 use std::marker::Model;
 use std::sync::Arc;
 
@@ -13,7 +11,7 @@ use std::sync::Arc;
 #[derive(Drop)]
 pub struct Left {
     board: Arc<Board>,
-    seat: Seat<(), View>,
+    seat: Token,
 }
 
 impl Model for Left {
@@ -24,12 +22,12 @@ impl Model for Left {
 
     ghost Value = { ReaderEnd };
 
-    ghost view = { λ l. shown_reader (arc_value l.board).shared.table_id (Some l.seat) };
+    ghost view = { λ l. shown_reader (arc_value l.board) (Some l.seat) };
 }
 
 impl Left {
-    pub(crate) fn new(board: Arc<Board>, seat: Seat<(), View>) -> Left
-        ensures { result ≡ shown_reader (arc_value board).shared.table_id (Some seat) }
+    pub(crate) fn new(board: Arc<Board>, seat: Token) -> Left
+        ensures { result ≡ shown_reader (arc_value board) (Some seat) }
     {
         Left { board, seat }
     }

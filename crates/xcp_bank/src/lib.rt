@@ -1,30 +1,25 @@
 //! The bank of images: one writer publishes images, and six readers take whole ones, without a lock and
 //! without waiting.
 //!
-//! All share one table of words. Its rule says that they show a lawful state of the core of pins, and
-//! each step of a writer or reader is one event of that core.
+//! All share one table of words. Its rule says that they show a lawful state of the core of pins, and that
+//! there is one history: a run of the core to that state, of which each end knows the beginning up to its own
+//! last step. Each step of a writer or reader is one event of that run.
 #![tactic(auto)]
 
 mod acquiring;
 mod bank;
-mod cuts;
+mod laws;
 mod left;
 mod publishing;
 mod reader;
-mod reader_steps;
 mod reading;
-mod rule;
+mod table;
 mod taken;
-mod telling;
-#[cfg(test)]
-mod tests;
-#[cfg(test)]
-mod thread_tests;
 mod words;
 mod writer;
-mod writer_steps;
 
 pub use bank::Bank;
+pub use laws::one_history;
 pub use left::Left;
 pub use reader::Reader;
 pub use taken::Taken;

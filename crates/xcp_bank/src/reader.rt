@@ -1,19 +1,18 @@
 //! A reader of the bank.
-ghost use Rattle.std.specs.Prelude.{◌≡◌, ◌↔◌, ℕ, ◌+◌, ◌-◌, ◌%◌, ◌<◌, ◌≤◌, List, [], ◌∷◌, length, take, drop, Some, None, IsTrue};
+ghost use Rattle.std.specs.Prelude.{◌≡◌, ◌↔◌, ℕ, ◌+◌, ◌-◌, ◌/◌, ◌%◌, ◌<◌, ◌≤◌, List, [], ◌∷◌, length, take, drop, Some, None, IsTrue};
 ghost use Rattle.std.specs.Arc.{arc_value};
+ghost use Rattle.xcp_bank.specs.Deeds.{looked_at};
 ghost use Rattle.xcp_bank.specs.Known.{Begins, AllBegin, starting};
-ghost use Rattle.xcp_bank.specs.Seats.{Sits};
-ghost use Rattle.xcp_bank.specs.Ends.{Holds, HoldsNumber, image_held, words_in, steps_later, after_leave, reader_end};
+ghost use Rattle.xcp_bank.specs.Seats.{IsReaderSeat};
+ghost use Rattle.xcp_bank.specs.Ends.{Holds, HoldsNumber, image_held, words_in, reader_end, IsRun, AcquireDoes, ReadDoes, ReaderDoes, LeavesBy};
 
 use crate::IMAGE_BYTES;
 use crate::acquiring::acquire_at;
 use crate::left::Left;
-use crate::reader_steps::{read_word, unpin_for_good};
 use crate::reading::read_at;
-use crate::rule::{Board, IMAGE_WORDS, View};
+use crate::table::{Board, IMAGE_WORDS, Token, read_word, unpin_for_good};
 use crate::taken::Taken;
 use crate::writer::Writer;
-use atomic_table::Seat;
 use std::marker::Model;
 use std::sync::Arc;
 
@@ -24,7 +23,7 @@ use std::sync::Arc;
 pub struct Reader {
     board: Arc<Board>,
     // (There is one, but while `tell` joins it with the writer's.)
-    seat: Option<Seat<(), View>>,
+    seat: Option<Token>,
     held: Option<usize>,
 }
 
@@ -35,16 +34,16 @@ impl Model for Reader {
 
     ghost Value = { ReaderEnd };
 
-    ghost view = { λ r. shown_reader (arc_value r.board).shared.table_id r.seat };
+    ghost view = { λ r. shown_reader (arc_value r.board) r.seat };
 
-    ghost invariant = { λ r. ReaderKept (arc_value r.board).shared.table_id r.held r.seat };
+    ghost invariant = { λ r. ReaderKept (arc_value r.board) r.held r.seat };
 }
 
 impl Reader {
     /// The reader for which this seat stands. It holds nothing.
-    pub(crate) fn new(board: Arc<Board>, seat: Seat<(), View>) -> Reader
-        requires { (r : ℕ) × (words : List ℕ) × Sits seat (arc_value board).shared.table_id r (starting words) }
-        ensures { (r : ℕ) (words : List ℕ) → Sits seat (arc_value board).shared.table_id r (starting words) → result ≡ reader_end (arc_value board).shared.table_id r (starting words) }
+    pub(crate) fn new(board: Arc<Board>, seat: Token) -> Reader
+        requires { (r : ℕ) × (words : List ℕ) × (length words ≡ 256) × IsReaderSeat seat (arc_value board) r (starting words) }
+        ensures { (r : ℕ) (words : List ℕ) → IsReaderSeat seat (arc_value board) r (starting words) → result ≡ reader_end (arc_value board) r (starting words) }
     {
         Reader {
             board,
@@ -63,19 +62,16 @@ impl Reader {
         ensures seen { Begins self.old.seen self.new.seen }
         ensures past { AllBegin self.old.past self.new.seen }
         ensures settled { self.new.past ≡ [] }
+        ensures heard { (self.new.heard ≡ self.old.heard) × Begins self.old.heard self.new.history }
         ensures same { result ≡ Taken.Same ↔ HoldsNumber self.old (length self.new.seen - 1) }
         ensures newer { result ≡ Taken.Newer ↔ ((b p : ℕ) → self.old.held ≡ Some (b, p) → p < length self.new.seen - 1) }
-        ensures last_step { (self.new.since ≡ 0) × ((b p : ℕ) → self.new.held ≡ Some (b, p) → b ≡ self.new.looked) }
-        ensures looks { self.old.looks < self.new.looks }
-        ensures some_step { self.old.steps < self.new.steps }
-        ensures few_steps { self.new.steps ≤ self.old.steps + 3 }
-        ensures once { result ≡ Taken.Same → self.new.steps ≡ self.old.steps + 1 }
-        ensures first { self.old.held ≡ None → self.new.steps ≡ self.old.steps + 1 }
+        ensures looked { (b p : ℕ) → self.new.held ≡ Some (b, p) → b ≡ self.new.looked }
+        ensures does { AcquireDoes result self.old self.new }
     {
         let Some(seat) = &mut self.seat else {
             unreachable!()
         };
-        let (taken, buffer) = acquire_at(&self.board.shared, seat, self.held);
+        let (taken, buffer) = acquire_at(&self.board, seat, self.held);
         self.held = Some(buffer);
         taken
     }
@@ -87,14 +83,21 @@ impl Reader {
         self.held.is_some()
     }
 
-    /// Reads the bytes of the held image from `at` on, as many as `out` has: one step for each word of
-    /// 8 bytes that they lie in, so 255 for the whole image. What it holds and has seen stays.
+    /// Reads the bytes of the held image from `at` on, as many as `out` has. What it holds and has seen stays.
+    ///
+    /// One step for each word of 8 bytes that they lie in, so 255 for the whole image; for no bytes one step
+    /// where `at` is inside a word, and else none.
     pub fn read(&mut self, at: usize, out: &mut [u8])
         requires holds { Holds self.old }
         requires inside { at + length out.old ≤ IMAGE_BYTES }
         ensures bytes { out.new ≡ take (length out.old) (drop at (image_held self.old)) }
-        ensures steps { self.new ≡ steps_later (words_in at (length out.old)) self.old }
+        ensures same_reader { (self.new.bank ≡ self.old.bank) × (self.new.place ≡ self.old.place) }
+        ensures same { (self.new.held ≡ self.old.held) × (self.new.seen ≡ self.old.seen) }
+        ensures does { ReadDoes (at / 8) (words_in at (length out.old)) self.old self.new }
+        ensures run { IsRun self.new }
         ensures past { 0 < length out.old → AllBegin self.old.past self.new.seen }
+        ensures heard { 0 < length out.old → Begins self.old.heard self.new.history }
+        ensures whole { 0 < length out.old → length (image_held self.old) ≡ IMAGE_BYTES }
     {
         let Some(seat) = &mut self.seat else {
             unreachable!()
@@ -102,15 +105,21 @@ impl Reader {
         let Some(buffer) = self.held else {
             unreachable!()
         };
-        read_at(&self.board.shared, seat, buffer, at, out);
+        read_at(&self.board, seat, buffer, at, out);
     }
 
     /// The number of the held publication, from 0, modulo 2^64: one step.
     pub fn number(&mut self) -> u64
         requires { Holds self.old }
         ensures number { (b p : ℕ) → self.old.held ≡ Some (b, p) → result ≡ p % 18446744073709551616 }
-        ensures step { self.new ≡ steps_later 1 self.old }
+        ensures same_reader { (self.new.bank ≡ self.old.bank) × (self.new.place ≡ self.old.place) }
+        ensures same { (self.new.held ≡ self.old.held) × (self.new.seen ≡ self.old.seen) }
+        ensures does { ReadDoes 255 1 self.old self.new }
+        ensures run { IsRun self.new }
         ensures past { AllBegin self.old.past self.new.seen }
+        ensures heard { Begins self.old.heard self.new.history }
+        ensures known { (b p : ℕ) → self.old.held ≡ Some (b, p) → p < length self.new.seen }
+        ensures whole { length (image_held self.old) ≡ IMAGE_BYTES }
     {
         let Some(seat) = &mut self.seat else {
             unreachable!()
@@ -118,12 +127,13 @@ impl Reader {
         let Some(buffer) = self.held else {
             unreachable!()
         };
-        read_word(&self.board.shared, seat, buffer, IMAGE_WORDS)
+        read_word(&self.board, seat, buffer, IMAGE_WORDS)
     }
 
     /// Tells this reader all that was published: two steps, both Looks. What it holds stays.
     ///
-    /// That all begins with what it had seen is known to its next step.
+    /// That this begins with what it had seen, and that its history begins with the writer's, is known to its
+    /// next step.
     pub fn tell(&mut self, writer: &mut Writer)
         requires { self.old.bank ≡ writer.old.bank }
         ensures same_reader { (self.new.bank ≡ self.old.bank) × (self.new.place ≡ self.old.place) }
@@ -132,9 +142,9 @@ impl Reader {
         ensures past { self.new.past ≡ self.old.seen ∷ self.old.past }
         ensures held { self.new.held ≡ self.old.held }
         ensures looked { self.new.looked ≡ writer.old.current }
-        ensures last_step { self.new.since ≡ 0 }
-        ensures steps { self.new.steps ≡ self.old.steps + 2 }
-        ensures looks { self.new.looks ≡ self.old.looks + 2 }
+        ensures history { self.new.history ≡ self.old.history }
+        ensures heard { self.new.heard ≡ writer.old.history }
+        ensures does { ReaderDoes self.old self.new (looked_at self.old.place writer.old.current ∷ looked_at self.old.place writer.old.current ∷ []) }
     {
         let Some(seat) = self.seat.take() else {
             unreachable!()
@@ -142,16 +152,17 @@ impl Reader {
         self.seat = Some(writer.tell_seat(seat));
     }
 
-    /// Gives back what it holds, for good: its buffer may be written again.
+    /// Gives back what it holds, for good, in one step: its buffer may be written again. Where nothing is held
+    /// nothing happens.
     pub fn leave(self) -> Left
-        ensures { result ≡ after_leave self }
+        ensures { LeavesBy self.held self result }
     {
         let Reader { board, seat, held } = self;
         let Some(mut seat) = seat else { unreachable!() };
         let Some(buffer) = held else {
             return Left::new(board, seat);
         };
-        unpin_for_good(&board.shared, &mut seat, buffer);
+        unpin_for_good(&board, &mut seat, buffer);
         Left::new(board, seat)
     }
 }

@@ -1,33 +1,24 @@
 //! A reader reads bytes of what it holds.
 ghost use Rattle.std.specs.Prelude.{◌≡◌, ◌≢◌, ℕ, ◌+◌, ◌-◌, ◌*◌, ◌/◌, ◌%◌, ◌<◌, ◌≤◌, [], length, take, drop, slice_index, slice_index_or, Some};
 ghost use Rattle.std.specs.Int.{w64, to_le_bytes};
-ghost use Rattle.xcp_bank.specs.Known.{AllBegin, Reading};
+ghost use Rattle.xcp_bank.specs.Known.{Reading};
 ghost use Rattle.xcp_bank.specs.Images.{image_of};
-ghost use Rattle.xcp_bank.specs.ReaderSteps.{reading_after_reads};
-ghost use Rattle.xcp_bank.specs.Seats.{Sits};
+ghost use Rattle.xcp_bank.specs.Seats.{IsReaderSeat, HasRead};
 ghost use Rattle.xcp_bank.specs.Ends.{words_in};
 
 use crate::IMAGE_BYTES;
-use crate::reader_steps::read_word;
-use crate::rule::{Store, View};
-use atomic_table::Seat;
+use crate::table::{Board, Token, read_word};
 use pin_core::BUFFERS;
 
 /// Reads the bytes of the held image from `at` on, each word that they lie in once.
-pub(crate) fn read_at(
-    store: &Store,
-    seat: &mut Seat<(), View>,
-    buffer: usize,
-    at: usize,
-    out: &mut [u8],
-)
+pub(crate) fn read_at(board: &Board, token: &mut Token, buffer: usize, at: usize, out: &mut [u8])
     requires buffer { buffer < BUFFERS }
     requires inside { at + length out.old ≤ IMAGE_BYTES }
-    requires seat { (r : ℕ) × (x : Reading) × Sits seat.old store.now.table_id r x × (p : ℕ) × (x.pins.held ≡ Some (buffer, p)) }
-    ensures { (r : ℕ) (x : Reading) → Sits seat.old store.now.table_id r x → (p : ℕ) → x.pins.held ≡ Some (buffer, p) → Sits seat.new store.now.table_id r (reading_after_reads (words_in at (length out.old)) x) × (out.new ≡ take (length out.old) (drop at (image_of (slice_index_or x.list p [])))) × (0 < length out.old → AllBegin x.past x.list) }
+    requires seat { (r : ℕ) × (x : Reading) × IsReaderSeat token.old board.now r x × (p : ℕ) × (x.pins.held ≡ Some (buffer, p)) }
+    ensures { (r : ℕ) (x : Reading) → IsReaderSeat token.old board.now r x → (p : ℕ) → x.pins.held ≡ Some (buffer, p) → (y : Reading) × IsReaderSeat token.new board.now r y × HasRead (at / 8) (words_in at (length out.old)) p r x y × (out.new ≡ take (length out.old) (drop at (image_of (slice_index_or x.list p [])))) }
 {
     for k in at / 8..(at + out.len() + 7) / 8 {
-        let word = read_word(store, seat, buffer, k);
+        let word = read_word(board, token, buffer, k);
         put_word(word, k, at, out);
     }
 }

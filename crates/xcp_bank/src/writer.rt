@@ -1,17 +1,16 @@
 //! The writer of the bank.
 ghost use Rattle.std.specs.Prelude.{◌≡◌, ℕ, ◌+◌, ◌%◌, ◌≤◌, List, [], ◌∷◌, ◌++◌, length, false};
-ghost use Rattle.std.specs.Arc.{arc_value};
 ghost use Rattle.xcp_bank.specs.Known.{Reading, Writing, beginning};
+ghost use Rattle.std.specs.Arc.{arc_value};
 ghost use Rattle.xcp_bank.specs.Cuts.{told, told_again};
-ghost use Rattle.xcp_bank.specs.Seats.{Sits, Desks};
-ghost use Rattle.xcp_bank.specs.Ends.{writer_end};
+ghost use Rattle.xcp_bank.specs.Seats.{IsReaderSeat, IsWriterSeat};
+ghost use Rattle.xcp_bank.specs.Images.{image_of};
+ghost use Rattle.xcp_bank.specs.Ends.{writer_end, PublishDoes};
 
 use crate::IMAGE_BYTES;
 use crate::publishing::publish_at;
-use crate::rule::{Board, View};
-use crate::telling::tell_at;
+use crate::table::{Board, Token, tell_at};
 use crate::words::words_of;
-use atomic_table::Seat;
 use pin_core::BUFFERS;
 use std::marker::Model;
 use std::sync::Arc;
@@ -22,7 +21,7 @@ use std::sync::Arc;
 #[derive(Drop)]
 pub struct Writer {
     board: Arc<Board>,
-    seat: Seat<(), View>,
+    seat: Token,
     current: usize,
     started: [u64; BUFFERS],
     count: u64,
@@ -35,16 +34,16 @@ impl Model for Writer {
 
     ghost Value = { WriterEnd };
 
-    ghost view = { λ w. shown_writer (arc_value w.board).shared.table_id w.seat };
+    ghost view = { λ w. shown_writer (arc_value w.board) w.seat };
 
-    ghost invariant = { λ w. WriterKept (arc_value w.board).shared.table_id w.current w.started w.count w.seat };
+    ghost invariant = { λ w. WriterKept (arc_value w.board) w.current w.started w.count w.seat };
 }
 
 impl Writer {
     /// The writer for which this seat stands. It has made no step.
-    pub(crate) fn new(board: Arc<Board>, seat: Seat<(), View>) -> Writer
-        requires { (words : List ℕ) × Desks seat (arc_value board).shared.table_id (beginning words) }
-        ensures { (words : List ℕ) → Desks seat (arc_value board).shared.table_id (beginning words) → result ≡ writer_end (arc_value board).shared.table_id (beginning words) }
+    pub(crate) fn new(board: Arc<Board>, seat: Token) -> Writer
+        requires { (words : List ℕ) × IsWriterSeat seat (arc_value board) (beginning words) }
+        ensures { (words : List ℕ) → IsWriterSeat seat (arc_value board) (beginning words) → result ≡ writer_end (arc_value board) (beginning words) }
     {
         Writer {
             board,
@@ -61,14 +60,11 @@ impl Writer {
     pub fn publish(&mut self, image: &[u8; IMAGE_BYTES])
         ensures same_bank { self.new.bank ≡ self.old.bank }
         ensures appended { self.new.publications ≡ self.old.publications ++ image.now ∷ [] }
-        ensures scans { self.new.scans ≤ self.old.scans + 7 }
-        ensures resets { self.new.resets ≡ self.old.resets + 1 }
-        ensures writes { self.new.writes ≡ self.old.writes + 256 }
-        ensures publishes { self.new.publishes ≡ self.old.publishes + 1 }
+        ensures does { (words : List ℕ) × (image_of words ≡ image.now) × PublishDoes words self.old self.new }
     {
         let words = words_of(image, self.count);
         publish_at(
-            &self.board.shared,
+            &self.board,
             &mut self.seat,
             &mut self.current,
             &mut self.started,
@@ -85,11 +81,11 @@ impl Writer {
     }
 
     /// Tells the reader for which this seat stands all that was published. Nothing changes for the writer.
-    pub(crate) fn tell_seat(&mut self, reader: Seat<(), View>) -> Seat<(), View>
-        requires { (r : ℕ) × (x : Reading) × Sits reader self.old.bank r x × (x.pins.gone ≡ false) }
+    pub(crate) fn tell_seat(&mut self, reader: Token) -> Token
+        requires { (r : ℕ) × (x : Reading) × IsReaderSeat reader self.old.bank.table r x × (x.pins.gone ≡ false) }
         ensures same { self.new ≡ self.old }
-        ensures told { (w : Writing) × (writer_end self.old.bank w ≡ self.old) × ((r : ℕ) (x : Reading) → Sits reader self.old.bank r x → Sits result self.old.bank r (told_again w (told w x))) }
+        ensures told { (w : Writing) × (writer_end self.old.bank.table w ≡ self.old) × ((r : ℕ) (x : Reading) → IsReaderSeat reader self.old.bank.table r x → IsReaderSeat result self.old.bank.table r (told_again w r (told w r x))) }
     {
-        tell_at(&self.board.shared, &mut self.seat, reader)
+        tell_at(&self.board, &mut self.seat, reader)
     }
 }

@@ -11,7 +11,7 @@ loop-buffer-init c = λ w d. (w, d, searched_none w)
 pub loop-buffer-preserved-then-buffer-current : goal.loop-buffer-preserved-then-buffer-current
 loop-buffer-preserved-then-buffer-current c = λ w d.
     let f = c.requires in
-    let r : Rests c.args.current c.args.started.now w = subst (Rests c.args.current c.args.started.now) (desks_one c.args.seat.now c.args.store.now.table_id f.0 w f.1 d) f.2 in
+    let r : Rests c.args.current c.args.started.now w = subst (Rests c.args.current c.args.started.now) (desks_one c.args.token.now c.args.board.now f.0 w f.1 d) f.2 in
     let i = c.loop-buffer.invariant w d in
     (i.0, i.1, searched_skip w c.args.current c.args.started.now r c.loop-buffer.buffer i.0 i.2 c.if-buffer-current.true)
 
@@ -24,7 +24,7 @@ scan-requires-clause-seat c =
 pub returns-then-scan-started : goal.returns-then-scan-started
 returns-then-scan-started c = λ w d.
     let f = c.requires in
-    let r : Rests c.args.current c.args.started.now w = subst (Rests c.args.current c.args.started.now) (desks_one c.args.seat.now c.args.store.now.table_id f.0 w f.1 d) f.2 in
+    let r : Rests c.args.current c.args.started.now w = subst (Rests c.args.current c.args.started.now) (desks_one c.args.token.now c.args.board.now f.0 w f.1 d) f.2 in
     let i = c.loop-buffer.invariant w d in
     let g = c.scan.ensures i.0 i.1 in
     (g.0, g.1, searched_found w c.args.current c.args.started.now r c.loop-buffer.buffer i.0 i.2 c.if-buffer-current.false c.loop-buffer-test.true c.scan.result g.0 g.2 c.if-scan-started.true)
@@ -32,7 +32,7 @@ returns-then-scan-started c = λ w d.
 pub loop-buffer-preserved : goal.loop-buffer-preserved
 loop-buffer-preserved c = λ w d.
     let f = c.requires in
-    let r : Rests c.args.current c.args.started.now w = subst (Rests c.args.current c.args.started.now) (desks_one c.args.seat.now c.args.store.now.table_id f.0 w f.1 d) f.2 in
+    let r : Rests c.args.current c.args.started.now w = subst (Rests c.args.current c.args.started.now) (desks_one c.args.token.now c.args.board.now f.0 w f.1 d) f.2 in
     let i = c.loop-buffer.invariant w d in
     let g = c.scan.ensures i.0 i.1 in
     (g.0, g.1, searched_more w c.args.current c.args.started.now r c.loop-buffer.buffer i.0 i.2 c.if-buffer-current.false c.loop-buffer-test.true c.scan.result g.0 g.2 c.if-scan-started.false)

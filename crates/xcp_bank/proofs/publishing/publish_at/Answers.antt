@@ -1,4 +1,4 @@
-use Rattle.std.proofs.Common.{◌≡◌, ℕ, ◌+◌, ◌%◌, List, length, arith, ap, ◌∙◌, sym, subst}
+use Rattle.std.proofs.Common.{◌≡◌, ℕ, ◌%◌, List, length, arith, ap, ◌∙◌, sym, subst}
 use Rattle.xcp_bank.specs.Known.{Writing}
 use Rattle.xcp_bank.specs.Seats.{Rests, filled}
 use Rattle.xcp_bank.proofs.Desking.{desks_one}
@@ -17,7 +17,7 @@ write_all-requires-clause-buffer c = let f = c.requires in (c.find_quiet-buffer.
 pub write_all-requires-clause-seat : goal.write_all-requires-clause-seat
 write_all-requires-clause-seat c =
     let f = c.requires in let q = c.find_quiet-buffer.ensures f.0 f.1 in let r = c.reset.ensures q.0 q.1 in
-    (r.0, r.1, ap (λ (z : Writing). z.pins.building) r.2, ap (λ (z : Writing). z.pins.written) r.2)
+    (r.0, r.1, ap (λ (z : Writing). z.pins.building) r.2.is, ap (λ (z : Writing). z.pins.written) r.2.is)
 
 pub swap_in-pins-requires-clause-buffer : goal.swap_in-pins-requires-clause-buffer
 swap_in-pins-requires-clause-buffer c = let f = c.requires in (c.find_quiet-buffer.ensures f.0 f.1).2.low
@@ -25,10 +25,10 @@ swap_in-pins-requires-clause-buffer c = let f = c.requires in (c.find_quiet-buff
 pub swap_in-pins-requires-clause-seat : goal.swap_in-pins-requires-clause-seat
 swap_in-pins-requires-clause-seat c =
     let f = c.requires in let q = c.find_quiet-buffer.ensures f.0 f.1 in let r = c.reset.ensures q.0 q.1 in let d = c.write_all.ensures r.0 r.1 in
-    let same : r.0.pins.publications ≡ f.0.pins.publications = ap (λ (z : Writing). z.pins.publications) r.2 ∙ ap (λ (z : Writing). z.pins.publications) q.2.is in
-    let at : r.0.current ≡ f.0.current = ap (λ (z : Writing). z.current) r.2 ∙ ap (λ (z : Writing). z.current) q.2.is in
+    let same : r.0.pins.publications ≡ f.0.pins.publications = ap (λ (z : Writing). z.pins.publications) r.2.is ∙ ap (λ (z : Writing). z.pins.publications) q.2.is in
+    let at : r.0.current ≡ f.0.current = ap (λ (z : Writing). z.current) r.2.is ∙ ap (λ (z : Writing). z.current) q.2.is in
     let low = f.2.low in
-    (filled c.args.words.now (r.0.writes + 256) r.0, d, ap (λ (z : Writing). z.pins.building) r.2, c.told-words, f.3 ∙ ap (λ (l : List (List ℕ)). length l % 18446744073709551616) (sym same), omega arith)
+    (filled c.args.words.now d.0 r.0, d.1, ap (λ (z : Writing). z.pins.building) r.2.is, c.told-words, f.3 ∙ ap (λ (l : List (List ℕ)). length l % 18446744073709551616) (sym same), omega arith)
 
 pub offset_bounds-started-buffer : goal.offset_bounds-started-buffer
 offset_bounds-started-buffer c = let f = c.requires in let l = (c.find_quiet-buffer.ensures f.0 f.1).2.low in omega arith
@@ -39,12 +39,12 @@ bounds-started-buffer c = let f = c.requires in (c.find_quiet-buffer.ensures f.0
 pub returns : goal.returns
 returns c = λ w d.
     let f = c.requires in
-    let k : Rests c.args.current.now c.args.started.now w = subst (Rests c.args.current.now c.args.started.now) (desks_one c.args.seat.now c.args.store.now.table_id f.0 w f.1 d) f.2 in
+    let k : Rests c.args.current.now c.args.started.now w = subst (Rests c.args.current.now c.args.started.now) (desks_one c.args.token.now c.args.board.now f.0 w f.1 d) f.2 in
     let q = c.find_quiet-buffer.ensures w d in let r = c.reset.ensures q.0 q.1 in let a = c.write_all.ensures r.0 r.1 in
-    let p = c.swap_in-pins.ensures (filled c.args.words.now (r.0.writes + 256) r.0) a in
+    let p = c.swap_in-pins.ensures (filled c.args.words.now a.0 r.0) a.1 in
     let b : ℕ = c.find_quiet-buffer.result in (
       p.0,
       p.1,
-      rests_again w c.args.current.now c.args.started.now k b c.args.words.now q.0 r.0 p.0 p.2.0 c.swap_in-pins.result q.2 r.2 p.2.1 p.2.2,
-      published_now w c.args.current.now c.args.started.now k b c.args.words.now q.0 r.0 p.0 p.2.0 c.swap_in-pins.result q.2 r.2 p.2.1 p.2.2,
+      rests_again w c.args.current.now c.args.started.now k b c.args.words.now q.0 r.0 p.0 a.0 p.2.0 c.swap_in-pins.result q.2 r.2 a.2 p.2.1 p.2.2,
+      published_now w c.args.current.now c.args.started.now k b c.args.words.now q.0 r.0 p.0 a.0 p.2.0 c.swap_in-pins.result q.2 r.2 a.2 p.2.1 p.2.2,
     )

@@ -1,7 +1,8 @@
-use Rattle.std.proofs.Common.{◌+◌, take}
+use Rattle.std.proofs.Common.{List, take}
+use Rattle.xcp_bank.specs.Deeds.{Deed, Grows, writes_of}
 use Rattle.xcp_bank.specs.Known.{Writing}
-use Rattle.xcp_bank.specs.Seats.{Desks, filled}
+use Rattle.xcp_bank.specs.Seats.{IsWriterSeat, filled}
 use Rattle.xcp_bank.proofs.publishing.write_all.Given as goal
 
 abbrev pub invariant-loop-k : goal.invariant-loop-k
-invariant-loop-k l = (w : Writing) → Desks l.fn.seat l.store.table_id w → Desks l.seat l.store.table_id (filled (take l.k l.words) (w.writes + l.k) w)
+invariant-loop-k l = (w : Writing) → IsWriterSeat l.fn.token l.board w → (history : List Deed) × IsWriterSeat l.token l.board (filled (take l.k l.words) history w) × Grows 0 w.history history (writes_of l.words l.k)

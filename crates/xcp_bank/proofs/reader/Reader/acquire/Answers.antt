@@ -1,7 +1,7 @@
 use Rattle.std.proofs.Common.{◌≡◌, ℕ, sym, ap, ◌∙◌, subst, Some}
 use Rattle.std.specs.Arc.{arc_value}
 use Rattle.xcp_bank.specs.Known.{Reading}
-use Rattle.xcp_bank.specs.Seats.{Sits, Acquired}
+use Rattle.xcp_bank.specs.Seats.{IsReaderSeat, Acquired}
 use Rattle.xcp_bank.specs.Ends.{ReaderEnd, reader_end}
 use Rattle.xcp_bank.specs.Fields.{reader_in, shown_reader}
 use Rattle.xcp_bank.proofs.Kept.{sits_at, sits_here}
@@ -9,32 +9,30 @@ use Rattle.xcp_bank.proofs.EndLemmas.{shown_is, acquired_kept, AcquiredEnd, acqu
 use Rattle.xcp_bank.proofs.reader.Reader.acquire.Goals as goal
 
 -- what the reader knows then
-made : (c : goal.After-self-2-1) → (y : Reading) × Sits c.acquire_at-taken.new.seat (arc_value c.self.inside.board).shared.table_id (reader_in c.self.inside.seat).0 y
-    × Acquired c.acquire_at-taken.result.0 c.acquire_at-taken.result.1 (reader_in c.self.inside.seat).1 y
+made : (c : goal.After-self-2-1) → (y : Reading) × IsReaderSeat c.acquire_at-taken.new.token (arc_value c.self.inside.board) (reader_in c.self.inside.seat).0 y
+    × Acquired c.acquire_at-taken.result.0 c.acquire_at-taken.result.1 (reader_in c.self.inside.seat).0 (reader_in c.self.inside.seat).1 y
 made c =
-    let bank = (arc_value c.self.inside.board).shared.table_id in
-    let r : ℕ = (reader_in c.self.inside.seat).0 in
-    let x : Reading = (reader_in c.self.inside.seat).1 in
-    let T : c.deref.result.now.shared.table_id ≡ bank = ap (λ z. z.shared.table_id) c.deref.ensures in
-    let d = c.acquire_at-taken.ensures r x (sits_at c.in-Some.seat r x (sym T) (sits_here bank c.self.inside.held c.self.inside.seat c.self.invariant c.in-Some.seat c.in-Some.is)) in
-    (d.0, sits_at c.acquire_at-taken.new.seat r d.0 T d.1, d.2)
+    let r : ℕ = (reader_in c.self.inside.seat).0 in let x : Reading = (reader_in c.self.inside.seat).1 in
+    let s = sits_here (arc_value c.self.inside.board) c.self.inside.held c.self.inside.seat c.self.invariant c.in-Some.seat c.in-Some.is in
+    let d = c.acquire_at-taken.ensures r x (sits_at c.in-Some.seat r x (sym c.deref.ensures) s) in
+    (d.0, sits_at c.acquire_at-taken.new.token r d.0 c.deref.ensures d.1, d.2)
 
 pub invariant_of-self : goal.invariant_of-self
 invariant_of-self c =
     let m = made c in
-    acquired_kept c.acquire_at-taken.new.seat (arc_value c.self.inside.board).shared.table_id (reader_in c.self.inside.seat).0 c.acquire_at-taken.result.1 (reader_in c.self.inside.seat).1 m.0 c.acquire_at-taken.result.0 m.1 m.2
+    acquired_kept c.acquire_at-taken.new.token (arc_value c.self.inside.board) (reader_in c.self.inside.seat).0 c.acquire_at-taken.result.1 (reader_in c.self.inside.seat).1 m.0 c.acquire_at-taken.result.0 m.1 m.2
 
-shows : (c : goal.After-self-2-1) → shown_reader (arc_value c.self.inside.board).shared.table_id (Some c.acquire_at-taken.new.seat) ≡ reader_end (arc_value c.self.inside.board).shared.table_id (reader_in c.self.inside.seat).0 (made c).0
-shows c = let m = made c in shown_is c.acquire_at-taken.new.seat (arc_value c.self.inside.board).shared.table_id (reader_in c.self.inside.seat).0 m.0 m.1
+shows : (c : goal.After-self-2-1) → shown_reader (arc_value c.self.inside.board) (Some c.acquire_at-taken.new.token) ≡ reader_end (arc_value c.self.inside.board) (reader_in c.self.inside.seat).0 (made c).0
+shows c = let m = made c in shown_is c.acquire_at-taken.new.token (arc_value c.self.inside.board) (reader_in c.self.inside.seat).0 m.0 m.1
 
 -- and what contracts see of it
-said : (c : goal.After-self-2-1) → AcquiredEnd c.acquire_at-taken.result.0 c.args.self.now (shown_reader (arc_value c.self.inside.board).shared.table_id (Some c.acquire_at-taken.new.seat))
+said : (c : goal.After-self-2-1) → AcquiredEnd c.acquire_at-taken.result.0 c.args.self.now (shown_reader (arc_value c.self.inside.board) (Some c.acquire_at-taken.new.token))
 said c =
-    let bank = (arc_value c.self.inside.board).shared.table_id in
+    let bank = arc_value c.self.inside.board in
     let r : ℕ = (reader_in c.self.inside.seat).0 in
     let x : Reading = (reader_in c.self.inside.seat).1 in
     let m = made c in
-    subst (λ (z : ReaderEnd). AcquiredEnd c.acquire_at-taken.result.0 z (shown_reader bank (Some c.acquire_at-taken.new.seat))) c.self.view_is
+    subst (λ (z : ReaderEnd). AcquiredEnd c.acquire_at-taken.result.0 z (shown_reader bank (Some c.acquire_at-taken.new.token))) c.self.view_is
     (subst (λ (z : ReaderEnd). AcquiredEnd c.acquire_at-taken.result.0 (reader_end bank r x) z) (sym (shows c)) (acquired_end bank r x m.0 c.acquire_at-taken.result.0 c.acquire_at-taken.result.1 m.2))
 
 pub returns-clause-same_reader : goal.returns-clause-same_reader
@@ -55,26 +53,17 @@ returns-clause-past c = (said c).past
 pub returns-clause-settled : goal.returns-clause-settled
 returns-clause-settled c = (said c).settled
 
+pub returns-clause-heard : goal.returns-clause-heard
+returns-clause-heard c = (said c).heard
+
 pub returns-clause-same : goal.returns-clause-same
 returns-clause-same c = (said c).same
 
 pub returns-clause-newer : goal.returns-clause-newer
 returns-clause-newer c = (said c).newer
 
-pub returns-clause-last_step : goal.returns-clause-last_step
-returns-clause-last_step c = (said c).last_step
+pub returns-clause-looked : goal.returns-clause-looked
+returns-clause-looked c = (said c).looked
 
-pub returns-clause-looks : goal.returns-clause-looks
-returns-clause-looks c = (said c).looks
-
-pub returns-clause-some_step : goal.returns-clause-some_step
-returns-clause-some_step c = (said c).some_step
-
-pub returns-clause-few_steps : goal.returns-clause-few_steps
-returns-clause-few_steps c = (said c).few_steps
-
-pub returns-clause-once : goal.returns-clause-once
-returns-clause-once c = (said c).once
-
-pub returns-clause-first : goal.returns-clause-first
-returns-clause-first c = (said c).first
+pub returns-clause-does : goal.returns-clause-does
+returns-clause-does c = (said c).does

@@ -1,62 +1,70 @@
-use Rattle.std.proofs.Common.{◌≡◌, ℕ, ◌%◌, List, map, sym, ap, ◌∙◌, subst, Some}
-use Rattle.std.specs.Arc.{arc_value}
+use Rattle.std.proofs.Common.{◌≡◌, ℕ, ◌%◌, sym, refl, ap, ◌∙◌, subst, Some, arith}
 use Rattle.std.proofs.lemmas.Option.{same_Some}
-use Rattle.xcp_bank.specs.Images.{images}
-use Rattle.xcp_bank.specs.Known.{AllBegin, Reading}
-use Rattle.xcp_bank.specs.ReaderSteps.{reading_after_reads}
-use Rattle.xcp_bank.specs.Ends.{ReaderEnd, steps_later}
-use Rattle.xcp_bank.specs.Fields.{reader_in}
+use Rattle.std.specs.Arc.{arc_value}
+use Rattle.xcp_bank.specs.Known.{Reading}
+use Rattle.xcp_bank.specs.Seats.{IsReaderSeat, HasRead}
+use Rattle.xcp_bank.specs.Ends.{ReaderEnd, reader_end}
+use Rattle.xcp_bank.specs.Fields.{reader_in, shown_reader}
+use Rattle.xcp_bank.proofs.Seating.{read_none, read_more}
 use Rattle.xcp_bank.proofs.Kept.{sits_at}
-use Rattle.xcp_bank.proofs.EndLemmas.{holding, reads_kept, reads_shown, images_all}
+use Rattle.xcp_bank.proofs.EndLemmas.{holding, reads_kept, ReadEnd, read_end, shown_is}
 use Rattle.xcp_bank.proofs.reader.Reader.number.Goals as goal
 
 pub read_word-requires-clause-seat : goal.read_word-requires-clause-seat
 read_word-requires-clause-seat c =
-    let bank = (arc_value c.self.inside.board).shared.table_id in
-    let T : c.deref.result.now.shared.table_id ≡ bank = ap (λ z. z.shared.table_id) c.deref.ensures in
-    let h = holding bank c.deref.result.now.shared.table_id c.self.inside.held c.self.inside.seat c.self.invariant c.in-Some.seat c.in-Some-held.buffer c.in-Some.is c.in-Some-held.is T in
+    let h = holding (arc_value c.self.inside.board) c.deref.result.now c.self.inside.held c.self.inside.seat c.self.invariant c.in-Some.seat c.in-Some-held.buffer c.in-Some.is c.in-Some-held.is c.deref.ensures in
     ((reader_in c.self.inside.seat).0, (reader_in c.self.inside.seat).1, h.0, h.1, h.2)
 
+-- what the reader knows then
+made : (c : goal.After-read_word) → (y : Reading) × IsReaderSeat c.read_word.new.token (arc_value c.self.inside.board) (reader_in c.self.inside.seat).0 y
+    × (p : ℕ) × ((reader_in c.self.inside.seat).1.pins.held ≡ Some (c.in-Some-held.buffer, p)) × HasRead 255 1 p (reader_in c.self.inside.seat).0 (reader_in c.self.inside.seat).1 y
+made c =
+    let r : ℕ = (reader_in c.self.inside.seat).0 in let x : Reading = (reader_in c.self.inside.seat).1 in
+    let h = holding (arc_value c.self.inside.board) c.deref.result.now c.self.inside.held c.self.inside.seat c.self.invariant c.in-Some.seat c.in-Some-held.buffer c.in-Some.is c.in-Some-held.is c.deref.ensures in
+    let e = c.read_word.ensures r x h.0 in
+    (e.0, sits_at c.read_word.new.token r e.0 c.deref.ensures e.1, h.1, h.2, read_more r x x e.0 255 0 1 h.1 255 c.read_word.result (read_none r x 255 0 h.1 refl) (e.2 h.1 h.2) (omega arith) (omega arith))
+
 pub invariant_of-self : goal.invariant_of-self
-invariant_of-self c =
-    let bank = (arc_value c.self.inside.board).shared.table_id in
-    let T : c.deref.result.now.shared.table_id ≡ bank = ap (λ z. z.shared.table_id) c.deref.ensures in
-    let h = holding bank c.deref.result.now.shared.table_id c.self.inside.held c.self.inside.seat c.self.invariant c.in-Some.seat c.in-Some-held.buffer c.in-Some.is c.in-Some-held.is T in
-    let e = c.read_word.ensures (reader_in c.self.inside.seat).0 (reader_in c.self.inside.seat).1 h.0 h.1 h.2 in
-    let n : ℕ = 1 in
-    reads_kept bank c.self.inside.held c.self.inside.seat c.self.invariant c.read_word.new.seat n (sits_at c.read_word.new.seat (reader_in c.self.inside.seat).0 (reading_after_reads n (reader_in c.self.inside.seat).1) T e.0)
+invariant_of-self c = let m = made c in reads_kept (arc_value c.self.inside.board) c.self.inside.held c.self.inside.seat c.self.invariant c.read_word.new.token 255 1 m.2 m.0 m.1 m.4
+
+-- and what contracts see of it
+said : (c : goal.After-read_word) → ReadEnd 255 1 c.args.self.now (shown_reader (arc_value c.self.inside.board) (Some c.read_word.new.token))
+said c =
+    let bank = arc_value c.self.inside.board in
+    let r : ℕ = (reader_in c.self.inside.seat).0 in let x : Reading = (reader_in c.self.inside.seat).1 in
+    let m = made c in
+    subst (λ (z : ReaderEnd). ReadEnd 255 1 z (shown_reader bank (Some c.read_word.new.token))) c.self.view_is
+    (subst (ReadEnd 255 1 (reader_end bank r x)) (sym (shown_is c.read_word.new.token bank r m.0 m.1)) (read_end bank r 255 1 c.in-Some-held.buffer m.2 x m.0 m.3 c.self.invariant.follows m.4))
 
 pub returns-clause-number : goal.returns-clause-number
 returns-clause-number c =
-    let bank = (arc_value c.self.inside.board).shared.table_id in
     let r : ℕ = (reader_in c.self.inside.seat).0 in let x : Reading = (reader_in c.self.inside.seat).1 in
-    let T : c.deref.result.now.shared.table_id ≡ bank = ap (λ z. z.shared.table_id) c.deref.ensures in
-    let h = holding bank c.deref.result.now.shared.table_id c.self.inside.held c.self.inside.seat c.self.invariant c.in-Some.seat c.in-Some-held.buffer c.in-Some.is c.in-Some-held.is T in
-    let e = c.read_word.ensures r x h.0 h.1 h.2 in
-    let n : ℕ = 1 in
+    let h = holding (arc_value c.self.inside.board) c.deref.result.now c.self.inside.held c.self.inside.seat c.self.invariant c.in-Some.seat c.in-Some-held.buffer c.in-Some.is c.in-Some-held.is c.deref.ensures in
+    let w = (c.read_word.ensures r x h.0).2 h.1 h.2 in
     λ b p holds.
-    let v = c.self.view_is in
-    let same : ◌≡◌ {A = ℕ × ℕ} (c.in-Some-held.buffer, h.1) (b, p) = same_Some (c.in-Some-held.buffer, h.1) (b, p) (sym h.2 ∙ (ap (λ (z : ReaderEnd). z.held) v ∙ holds)) in
-    e.1 ∙ (e.2.number ∙ ap (λ (q : ℕ × ℕ). q.1 % 18446744073709551616) same)
+    let same : ◌≡◌ {A = ℕ × ℕ} (c.in-Some-held.buffer, h.1) (b, p) = same_Some (c.in-Some-held.buffer, h.1) (b, p) (sym h.2 ∙ (ap (λ (z : ReaderEnd). z.held) c.self.view_is ∙ holds)) in
+    w.value ∙ (w.numbered.number ∙ ap (λ (q : ℕ × ℕ). q.1 % 18446744073709551616) same)
 
-pub returns-clause-step : goal.returns-clause-step
-returns-clause-step c =
-    let bank = (arc_value c.self.inside.board).shared.table_id in
-    let r : ℕ = (reader_in c.self.inside.seat).0 in let x : Reading = (reader_in c.self.inside.seat).1 in
-    let T : c.deref.result.now.shared.table_id ≡ bank = ap (λ z. z.shared.table_id) c.deref.ensures in
-    let h = holding bank c.deref.result.now.shared.table_id c.self.inside.held c.self.inside.seat c.self.invariant c.in-Some.seat c.in-Some-held.buffer c.in-Some.is c.in-Some-held.is T in
-    let e = c.read_word.ensures r x h.0 h.1 h.2 in
-    let n : ℕ = 1 in
-    reads_shown bank c.self.inside.seat c.read_word.new.seat n (sits_at c.read_word.new.seat r (reading_after_reads n x) T e.0) ∙ ap (steps_later 1) c.self.view_is
+pub returns-clause-same_reader : goal.returns-clause-same_reader
+returns-clause-same_reader c = (said c).same_reader
+
+pub returns-clause-same : goal.returns-clause-same
+returns-clause-same c = (said c).same
+
+pub returns-clause-does : goal.returns-clause-does
+returns-clause-does c = (said c).does
+
+pub returns-clause-run : goal.returns-clause-run
+returns-clause-run c = (said c).run
 
 pub returns-clause-past : goal.returns-clause-past
-returns-clause-past c =
-    let bank = (arc_value c.self.inside.board).shared.table_id in
-    let r : ℕ = (reader_in c.self.inside.seat).0 in let x : Reading = (reader_in c.self.inside.seat).1 in
-    let T : c.deref.result.now.shared.table_id ≡ bank = ap (λ z. z.shared.table_id) c.deref.ensures in
-    let h = holding bank c.deref.result.now.shared.table_id c.self.inside.held c.self.inside.seat c.self.invariant c.in-Some.seat c.in-Some-held.buffer c.in-Some.is c.in-Some-held.is T in
-    let e = c.read_word.ensures r x h.0 h.1 h.2 in
-    let n : ℕ = 1 in
-    let s = reads_shown bank c.self.inside.seat c.read_word.new.seat n (sits_at c.read_word.new.seat r (reading_after_reads n x) T e.0) in
-    subst (λ (z : ReaderEnd). AllBegin z.past (images (reader_in (Some c.read_word.new.seat)).1.list)) c.self.view_is
-    (subst (λ (l : List (List ℕ)). AllBegin (map images x.past) l) (sym (ap (λ (z : ReaderEnd). z.seen) s)) (images_all x.past x.list e.3))
+returns-clause-past c = (said c).past (omega arith)
+
+pub returns-clause-heard : goal.returns-clause-heard
+returns-clause-heard c = (said c).heard (omega arith)
+
+pub returns-clause-known : goal.returns-clause-known
+returns-clause-known c = (said c).known (omega arith)
+
+pub returns-clause-whole : goal.returns-clause-whole
+returns-clause-whole c = (said c).whole (omega arith)

@@ -1,58 +1,62 @@
-use Rattle.std.proofs.Common.{◌≡◌, ℕ, List, length, map, take, drop, sym, ap, ◌∙◌, subst, Some}
+use Rattle.std.proofs.Common.{ℕ, ◌/◌, ◌<◌, List, length, take, drop, sym, ap, ◌∙◌, subst, Some, arith}
 use Rattle.std.specs.Arc.{arc_value}
-use Rattle.xcp_bank.specs.Images.{images}
-use Rattle.xcp_bank.specs.Known.{AllBegin, Reading}
-use Rattle.xcp_bank.specs.ReaderSteps.{reading_after_reads}
-use Rattle.xcp_bank.specs.Ends.{ReaderEnd, steps_later, image_held, words_in}
-use Rattle.xcp_bank.specs.Fields.{reader_in}
+use Rattle.xcp_bank.specs.Known.{Reading}
+use Rattle.xcp_bank.specs.Ends.{ReaderEnd, reader_end, image_held, words_in}
+use Rattle.xcp_bank.specs.Fields.{reader_in, shown_reader}
 use Rattle.xcp_bank.proofs.Kept.{sits_at}
-use Rattle.xcp_bank.proofs.EndLemmas.{holding, reads_kept, reads_shown, image_held_is, images_all}
+use Rattle.xcp_bank.proofs.EndLemmas.{holding, reads_kept, ReadEnd, read_end, shown_is, image_held_is}
 use Rattle.xcp_bank.proofs.reader.Reader.read.Goals as goal
 
 pub read_at-requires-clause-seat : goal.read_at-requires-clause-seat
 read_at-requires-clause-seat c =
-    let bank = (arc_value c.self.inside.board).shared.table_id in
-    let T : c.deref.result.now.shared.table_id ≡ bank = ap (λ z. z.shared.table_id) c.deref.ensures in
-    let h = holding bank c.deref.result.now.shared.table_id c.self.inside.held c.self.inside.seat c.self.invariant c.in-Some.seat c.in-Some-held.buffer c.in-Some.is c.in-Some-held.is T in
+    let h = holding (arc_value c.self.inside.board) c.deref.result.now c.self.inside.held c.self.inside.seat c.self.invariant c.in-Some.seat c.in-Some-held.buffer c.in-Some.is c.in-Some-held.is c.deref.ensures in
     ((reader_in c.self.inside.seat).0, (reader_in c.self.inside.seat).1, h.0, h.1, h.2)
 
 pub invariant_of-self : goal.invariant_of-self
 invariant_of-self c =
-    let bank = (arc_value c.self.inside.board).shared.table_id in
-    let T : c.deref.result.now.shared.table_id ≡ bank = ap (λ z. z.shared.table_id) c.deref.ensures in
-    let h = holding bank c.deref.result.now.shared.table_id c.self.inside.held c.self.inside.seat c.self.invariant c.in-Some.seat c.in-Some-held.buffer c.in-Some.is c.in-Some-held.is T in
-    let e = c.read_at.ensures (reader_in c.self.inside.seat).0 (reader_in c.self.inside.seat).1 h.0 h.1 h.2 in
-    let n : ℕ = words_in c.args.at (length c.args.out.now) in
-    reads_kept bank c.self.inside.held c.self.inside.seat c.self.invariant c.read_at.new.seat n (sits_at c.read_at.new.seat (reader_in c.self.inside.seat).0 (reading_after_reads n (reader_in c.self.inside.seat).1) T e.0)
+    let r : ℕ = (reader_in c.self.inside.seat).0 in let x : Reading = (reader_in c.self.inside.seat).1 in
+    let h = holding (arc_value c.self.inside.board) c.deref.result.now c.self.inside.held c.self.inside.seat c.self.invariant c.in-Some.seat c.in-Some-held.buffer c.in-Some.is c.in-Some-held.is c.deref.ensures in
+    let e = c.read_at.ensures r x h.0 h.1 h.2 in
+    reads_kept (arc_value c.self.inside.board) c.self.inside.held c.self.inside.seat c.self.invariant c.read_at.new.token (c.args.at / 8) (words_in c.args.at (length c.args.out.now)) h.1 e.0 (sits_at c.read_at.new.token r e.0 c.deref.ensures e.1) e.2
 
 pub returns-clause-bytes : goal.returns-clause-bytes
 returns-clause-bytes c =
-    let bank = (arc_value c.self.inside.board).shared.table_id in
     let r : ℕ = (reader_in c.self.inside.seat).0 in let x : Reading = (reader_in c.self.inside.seat).1 in
-    let T : c.deref.result.now.shared.table_id ≡ bank = ap (λ z. z.shared.table_id) c.deref.ensures in
-    let h = holding bank c.deref.result.now.shared.table_id c.self.inside.held c.self.inside.seat c.self.invariant c.in-Some.seat c.in-Some-held.buffer c.in-Some.is c.in-Some-held.is T in
+    let h = holding (arc_value c.self.inside.board) c.deref.result.now c.self.inside.held c.self.inside.seat c.self.invariant c.in-Some.seat c.in-Some-held.buffer c.in-Some.is c.in-Some-held.is c.deref.ensures in
     let e = c.read_at.ensures r x h.0 h.1 h.2 in
-    let n : ℕ = words_in c.args.at (length c.args.out.now) in
-    e.1 ∙ ap (λ (l : List ℕ). take (length c.args.out.now) (drop c.args.at l)) (sym (image_held_is bank r x c.in-Some-held.buffer h.1 h.2) ∙ ap image_held c.self.view_is)
+    e.3 ∙ ap (λ (l : List ℕ). take (length c.args.out.now) (drop c.args.at l)) (sym (image_held_is (arc_value c.self.inside.board) r x c.in-Some-held.buffer h.1 h.2) ∙ ap image_held c.self.view_is)
 
-pub returns-clause-steps : goal.returns-clause-steps
-returns-clause-steps c =
-    let bank = (arc_value c.self.inside.board).shared.table_id in
+-- what contracts see of the reader then
+said : (c : goal.After-slice_known-2-1) → ReadEnd (c.args.at / 8) (words_in c.args.at (length c.args.out.now)) c.args.self.now (shown_reader (arc_value c.self.inside.board) (Some c.read_at.new.token))
+said c =
+    let bank = arc_value c.self.inside.board in
     let r : ℕ = (reader_in c.self.inside.seat).0 in let x : Reading = (reader_in c.self.inside.seat).1 in
-    let T : c.deref.result.now.shared.table_id ≡ bank = ap (λ z. z.shared.table_id) c.deref.ensures in
-    let h = holding bank c.deref.result.now.shared.table_id c.self.inside.held c.self.inside.seat c.self.invariant c.in-Some.seat c.in-Some-held.buffer c.in-Some.is c.in-Some-held.is T in
+    let h = holding (arc_value c.self.inside.board) c.deref.result.now c.self.inside.held c.self.inside.seat c.self.invariant c.in-Some.seat c.in-Some-held.buffer c.in-Some.is c.in-Some-held.is c.deref.ensures in
     let e = c.read_at.ensures r x h.0 h.1 h.2 in
-    let n : ℕ = words_in c.args.at (length c.args.out.now) in
-    reads_shown bank c.self.inside.seat c.read_at.new.seat n (sits_at c.read_at.new.seat r (reading_after_reads n x) T e.0) ∙ ap (steps_later n) c.self.view_is
+    let k : ℕ = c.args.at / 8 in let n : ℕ = words_in c.args.at (length c.args.out.now) in
+    subst (λ (z : ReaderEnd). ReadEnd k n z (shown_reader bank (Some c.read_at.new.token))) c.self.view_is
+    (subst (ReadEnd k n (reader_end bank r x)) (sym (shown_is c.read_at.new.token bank r e.0 (sits_at c.read_at.new.token r e.0 c.deref.ensures e.1))) (read_end bank r k n c.in-Some-held.buffer h.1 x e.0 h.2 c.self.invariant.follows e.2))
+
+some_words : (at n : ℕ) → 0 < n → 0 < words_in at n
+some_words at n some = omega arith
+
+pub returns-clause-same_reader : goal.returns-clause-same_reader
+returns-clause-same_reader c = (said c).same_reader
+
+pub returns-clause-same : goal.returns-clause-same
+returns-clause-same c = (said c).same
+
+pub returns-clause-does : goal.returns-clause-does
+returns-clause-does c = (said c).does
+
+pub returns-clause-run : goal.returns-clause-run
+returns-clause-run c = (said c).run
 
 pub returns-clause-past : goal.returns-clause-past
-returns-clause-past c = λ some.
-    let bank = (arc_value c.self.inside.board).shared.table_id in
-    let r : ℕ = (reader_in c.self.inside.seat).0 in let x : Reading = (reader_in c.self.inside.seat).1 in
-    let T : c.deref.result.now.shared.table_id ≡ bank = ap (λ z. z.shared.table_id) c.deref.ensures in
-    let h = holding bank c.deref.result.now.shared.table_id c.self.inside.held c.self.inside.seat c.self.invariant c.in-Some.seat c.in-Some-held.buffer c.in-Some.is c.in-Some-held.is T in
-    let e = c.read_at.ensures r x h.0 h.1 h.2 in
-    let n : ℕ = words_in c.args.at (length c.args.out.now) in
-    let s = reads_shown bank c.self.inside.seat c.read_at.new.seat n (sits_at c.read_at.new.seat r (reading_after_reads n x) T e.0) in
-    subst (λ (z : ReaderEnd). AllBegin z.past (images (reader_in (Some c.read_at.new.seat)).1.list)) c.self.view_is
-    (subst (λ (l : List (List ℕ)). AllBegin (map images x.past) l) (sym (ap (λ (z : ReaderEnd). z.seen) s)) (images_all x.past x.list (e.2 some)))
+returns-clause-past c = λ some. (said c).past (some_words c.args.at (length c.args.out.now) some)
+
+pub returns-clause-heard : goal.returns-clause-heard
+returns-clause-heard c = λ some. (said c).heard (some_words c.args.at (length c.args.out.now) some)
+
+pub returns-clause-whole : goal.returns-clause-whole
+returns-clause-whole c = λ some. (said c).whole (some_words c.args.at (length c.args.out.now) some)

@@ -1,7 +1,7 @@
-use Rattle.std.proofs.Common.{◌≡◌, ◌+◌, ◌%◌, sym, ap, subst}
+use Rattle.std.proofs.Common.{◌≡◌, ◌+◌, ◌%◌, sym, subst}
 use Rattle.std.specs.Arc.{arc_value}
 use Rattle.xcp_bank.specs.Known.{Writing}
-use Rattle.xcp_bank.specs.Seats.{Desks, Rests, Publishes}
+use Rattle.xcp_bank.specs.Seats.{IsWriterSeat, Rests, Publishes}
 use Rattle.xcp_bank.specs.Ends.{WriterEnd, writer_end}
 use Rattle.xcp_bank.specs.Fields.{writer_in, shown_writer}
 use Rattle.xcp_bank.proofs.Kept.{desks_at, writer_kept_by}
@@ -9,41 +9,32 @@ use Rattle.xcp_bank.proofs.WriterEndLemmas.{writer_shown, PublishedEnd, publishe
 use Rattle.xcp_bank.proofs.writer.Writer.publish.Goals as goal
 
 -- what the writer knows then
-made : (c : goal.After-self-1) → (u : Writing) × Desks c.publish_at.new.seat (arc_value c.self.inside.board).shared.table_id u × Rests c.publish_at.new.current c.publish_at.new.started u
+made : (c : goal.After-self-1) → (u : Writing) × IsWriterSeat c.publish_at.new.token (arc_value c.self.inside.board) u × Rests c.publish_at.new.current c.publish_at.new.started u
     × Publishes c.words_of-words.result (writer_in c.self.inside.seat) u
 made c =
-    let bank = (arc_value c.self.inside.board).shared.table_id in
+    let bank = arc_value c.self.inside.board in
     let w : Writing = writer_in c.self.inside.seat in
-    let T : c.deref.result.now.shared.table_id ≡ bank = ap (λ z. z.shared.table_id) c.deref.ensures in
+    let T : c.deref.result.now ≡ bank = c.deref.ensures in
     let e = c.publish_at.ensures w (desks_at c.self.inside.seat w (sym T) c.self.invariant.desks) in
-    (e.0, desks_at c.publish_at.new.seat e.0 T e.1, e.2, e.3)
+    (e.0, desks_at c.publish_at.new.token e.0 T e.1, e.2, e.3)
 
 pub invariant_of-self : goal.invariant_of-self
 invariant_of-self c =
     let m = made c in
-    writer_kept_by c.publish_at.new.seat (arc_value c.self.inside.board).shared.table_id m.0 c.publish_at.new.current c.publish_at.new.started ((c.self.inside.count + 1) % 18446744073709551616) m.1 m.2
+    writer_kept_by c.publish_at.new.token (arc_value c.self.inside.board) m.0 c.publish_at.new.current c.publish_at.new.started ((c.self.inside.count + 1) % 18446744073709551616) m.1 m.2
     (counted_more c.words_of-words.result (writer_in c.self.inside.seat) m.0 c.self.inside.count m.3 c.self.invariant.counted)
 
 -- and what contracts see of it
-said : (c : goal.After-self-1) → PublishedEnd c.args.image.now c.args.self.now (shown_writer (arc_value c.self.inside.board).shared.table_id c.publish_at.new.seat)
+said : (c : goal.After-self-1) → PublishedEnd c.args.image.now c.args.self.now (shown_writer (arc_value c.self.inside.board) c.publish_at.new.token)
 said c =
-    let bank = (arc_value c.self.inside.board).shared.table_id in
+    let bank = arc_value c.self.inside.board in
     let w : Writing = writer_in c.self.inside.seat in
     let m = made c in
-    subst (λ (z : WriterEnd). PublishedEnd c.args.image.now z (shown_writer bank c.publish_at.new.seat)) c.self.view_is
-    (subst (PublishedEnd c.args.image.now (writer_end bank w)) (sym (writer_shown c.publish_at.new.seat bank m.0 m.1)) (published_end bank c.args.image.now c.words_of-words.result w m.0 c.words_of-words.ensures.bytes m.3))
+    subst (λ (z : WriterEnd). PublishedEnd c.args.image.now z (shown_writer bank c.publish_at.new.token)) c.self.view_is
+    (subst (PublishedEnd c.args.image.now (writer_end bank w)) (sym (writer_shown c.publish_at.new.token bank m.0 m.1)) (published_end bank c.args.image.now c.words_of-words.result w m.0 c.words_of-words.ensures.bytes m.3))
 
 pub returns-clause-appended : goal.returns-clause-appended
 returns-clause-appended c = (said c).appended
 
-pub returns-clause-scans : goal.returns-clause-scans
-returns-clause-scans c = (said c).scans
-
-pub returns-clause-resets : goal.returns-clause-resets
-returns-clause-resets c = (said c).resets
-
-pub returns-clause-writes : goal.returns-clause-writes
-returns-clause-writes c = (said c).writes
-
-pub returns-clause-publishes : goal.returns-clause-publishes
-returns-clause-publishes c = (said c).publishes
+pub returns-clause-does : goal.returns-clause-does
+returns-clause-does c = (said c).does

@@ -1,9 +1,9 @@
 use Rattle.std.proofs.Common.{◌≡◌, ℕ, sym, ap, ◌∙◌}
-use Rattle.std.specs.Arc.{arc_value}
 use Rattle.atomic_table.specs.Seated.{TableId}
+use Rattle.std.specs.Arc.{arc_value}
 use Rattle.xcp_bank.specs.Known.{Reading, Writing}
 use Rattle.xcp_bank.specs.Cuts.{told, told_again}
-use Rattle.xcp_bank.specs.Seats.{Desks, Sits}
+use Rattle.xcp_bank.specs.Seats.{IsWriterSeat, IsReaderSeat}
 use Rattle.xcp_bank.specs.Ends.{WriterEnd, writer_end}
 use Rattle.xcp_bank.specs.Fields.{writer_in}
 use Rattle.xcp_bank.proofs.Kept.{sits_at, desks_at, writer_kept_by}
@@ -11,29 +11,29 @@ use Rattle.xcp_bank.proofs.WriterEndLemmas.{writer_shown}
 use Rattle.xcp_bank.proofs.writer.Writer.tell_seat.Goals as goal
 
 -- the two seats before and after
-made : (c : goal.After-tell_at) → (r : ℕ) (x : Reading) → Sits c.args.reader c.args.self.now.bank r x
-    → Desks c.tell_at.new.writer (arc_value c.self.inside.board).shared.table_id (writer_in c.self.inside.seat)
-    × Sits c.tell_at.result c.args.self.now.bank r (told_again (writer_in c.self.inside.seat) (told (writer_in c.self.inside.seat) x))
+made : (c : goal.After-tell_at) → (r : ℕ) (x : Reading) → IsReaderSeat c.args.reader c.args.self.now.bank.table r x
+    → IsWriterSeat c.tell_at.new.writer (arc_value c.self.inside.board) (writer_in c.self.inside.seat)
+    × IsReaderSeat c.tell_at.result c.args.self.now.bank.table r (told_again (writer_in c.self.inside.seat) r (told (writer_in c.self.inside.seat) r x))
 made c = λ r x s.
-    let bank = (arc_value c.self.inside.board).shared.table_id in
+    let bank = arc_value c.self.inside.board in
     let w : Writing = writer_in c.self.inside.seat in
-    let T : c.deref.result.now.shared.table_id ≡ bank = ap (λ z. z.shared.table_id) c.deref.ensures in
-    let B : bank ≡ c.args.self.now.bank = ap (λ (z : WriterEnd). z.bank) c.self.view_is in
+    let T : c.deref.result.now ≡ bank = c.deref.ensures in
+    let B : bank ≡ c.args.self.now.bank.table = ap (λ (z : WriterEnd). z.bank.table) c.self.view_is in
     let e = c.tell_at.ensures w r x (desks_at c.self.inside.seat w (sym T) c.self.invariant.desks) (sits_at c.args.reader r x (sym (T ∙ B)) s) in
-    (desks_at c.tell_at.new.writer w T e.0, sits_at c.tell_at.result r (told_again w (told w x)) (T ∙ B) e.1)
+    (desks_at c.tell_at.new.writer w T e.0, sits_at c.tell_at.result r (told_again w r (told w r x)) (T ∙ B) e.1)
 
 pub invariant_of-self : goal.invariant_of-self
 invariant_of-self c =
     let f = c.requires in
-    writer_kept_by c.tell_at.new.writer (arc_value c.self.inside.board).shared.table_id (writer_in c.self.inside.seat) c.self.inside.current c.self.inside.started c.self.inside.count
+    writer_kept_by c.tell_at.new.writer (arc_value c.self.inside.board) (writer_in c.self.inside.seat) c.self.inside.current c.self.inside.started c.self.inside.count
     (made c f.0 f.1 f.2).0 c.self.invariant.rests c.self.invariant.counted
 
 pub returns-clause-same : goal.returns-clause-same
 returns-clause-same c =
     let f = c.requires in
-    writer_shown c.tell_at.new.writer (arc_value c.self.inside.board).shared.table_id (writer_in c.self.inside.seat) (made c f.0 f.1 f.2).0 ∙ c.self.view_is
+    writer_shown c.tell_at.new.writer (arc_value c.self.inside.board) (writer_in c.self.inside.seat) (made c f.0 f.1 f.2).0 ∙ c.self.view_is
 
 pub returns-clause-told : goal.returns-clause-told
 returns-clause-told c =
     let w : Writing = writer_in c.self.inside.seat in
-    (w, ap (λ (z : TableId). writer_end z w) (sym (ap (λ (z : WriterEnd). z.bank) c.self.view_is)) ∙ c.self.view_is, λ r x s. (made c r x s).1)
+    (w, ap (λ (z : TableId). writer_end z w) (sym (ap (λ (z : WriterEnd). z.bank.table) c.self.view_is)) ∙ c.self.view_is, λ r x s. (made c r x s).1)

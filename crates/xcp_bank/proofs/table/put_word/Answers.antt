@@ -1,0 +1,13 @@
+use Rattle.std.proofs.Common.{subst}
+use Rattle.atomic_table.specs.Seated.{TableId}
+use Rattle.atomic_table.specs.declared.shared.Seat.{Seat as Seated}
+use Rattle.xcp_bank.specs.Known.{Known}
+use Rattle.xcp_bank.specs.WriterSteps.{Written}
+use Rattle.xcp_bank.specs.Seats.{WriterMoves}
+use Rattle.xcp_bank.proofs.table.put_word.Goals as goal
+
+-- what the step says of the seat and the table inside, said of the sealed ones
+pub returns : goal.returns
+returns c =
+    subst (λ (z : Seated (Unit {0}) Known × TableId). WriterMoves (λ w u. Written c.args.word w c.args.word u) z.0 c.put_word.new.seat z.1)
+    (λ i. (c.token.view_is i, c.board.view_is i)) c.put_word.ensures

@@ -1,0 +1,13 @@
+use Rattle.std.proofs.Common.{false, subst}
+use Rattle.atomic_table.specs.Seated.{TableId}
+use Rattle.atomic_table.specs.declared.shared.Seat.{Seat as Seated}
+use Rattle.xcp_bank.specs.Known.{Known}
+use Rattle.xcp_bank.specs.ReaderSteps.{GivesUp}
+use Rattle.xcp_bank.specs.Seats.{ReaderMoves}
+use Rattle.xcp_bank.proofs.table.unpin.Goals as goal
+
+-- what the step says of the seat and the table inside, said of the sealed ones
+pub returns : goal.returns
+returns c =
+    subst (λ (z : Seated (Unit {0}) Known × TableId). ReaderMoves (GivesUp 256 false) z.0 c.unpin.new.seat z.1)
+    (λ i. (c.token.view_is i, c.board.view_is i)) c.unpin.ensures

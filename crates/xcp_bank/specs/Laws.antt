@@ -1,0 +1,22 @@
+-- What the rule alone says of a step, whatever body makes it and whatever it leaves in words and view.
+use Rattle.std.specs.Prelude.{◌≡◌, ◌≢◌, ℕ, suc, List, [], ◌∷◌, slice_set, Some}
+use mathlib.Core.Option.{some}
+use lib.ListN.{get_elem?}
+use Rattle.atomic_table.specs.Table.{State}
+use Rattle.xcp_bank.specs.Deeds.{Does, Ends, looked_at}
+use Rattle.xcp_bank.specs.Known.{Reading, Writing, Known, one_reader}
+use Rattle.xcp_bank.specs.Rule.{Banked}
+
+-- the table after a step of the seat `id`, which leaves these words and this view
+abbrev pub stepped : State (Unit {0}) Known → ℕ → List ℕ → Known → State (Unit {0}) Known
+stepped t id words v = record { words = words; homes = t.homes; views = slice_set t.views id v }
+
+-- A Look can't be noted that didn't look. Where a step of a reader that was told nothing since its last one leaves a Look as its only
+-- new deed, and that is the last of its history, the answer noted is the buffer that is current: the one that the writer knows.
+abbrev pub NotedLooksLook : Type 0
+NotedLooksLook = (W : ℕ) (t : State (Unit {0}) Known) → Banked W t
+    → (id r : ℕ) (x : Reading) → get_elem? t.views id ≡ some (one_reader r x) → x.pending ≡ []
+    → (j : ℕ) (v : Known) (w : Writing) → j ≢ id → get_elem? t.views j ≡ some v → v.writer ≡ Some w
+    → (words : List ℕ) (y : Reading) (i : ℕ) → Banked W (stepped t id words (one_reader r y))
+    → Does (suc r) x.history x.pending y.history y.pending (looked_at r i ∷ []) → y.pending ≡ [] → Ends y.history (looked_at r i)
+    → i ≡ w.current

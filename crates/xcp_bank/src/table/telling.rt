@@ -1,0 +1,41 @@
+//! A reader is told what was published.
+ghost use Rattle.std.specs.Prelude.{◌≡◌, ℕ, false};
+ghost use Rattle.xcp_bank.specs.Known.{Reading, Writing};
+ghost use Rattle.xcp_bank.specs.Cuts.{told, told_again};
+ghost use Rattle.xcp_bank.specs.Seats.{IsReaderSeat, IsWriterSeat};
+
+use super::rule::{Store, View};
+use atomic_table::{Join, Seat, Split};
+
+struct Telling;
+
+impl Join<View> for Telling {
+    ghost use Rattle.xcp_bank.specs.Known.{nobody};
+    ghost use Rattle.xcp_bank.specs.Cuts.{together};
+
+    ghost both = { together };
+
+    ghost spent = { nobody };
+}
+
+impl Split<View> for Telling {
+    ghost use Rattle.xcp_bank.specs.Cuts.{writer_alone, readers_apart};
+
+    ghost left = { writer_alone };
+
+    ghost right = { readers_apart };
+}
+
+/// Joins the reader's seat with the writer's, and cuts it off again: both are Looks of the reader.
+pub(super) fn tell_at(
+    store: &Store,
+    writer: &mut Seat<(), View>,
+    reader: Seat<(), View>,
+) -> Seat<(), View>
+    requires writer { (w : Writing) × IsWriterSeat writer.old store.now.table_id w }
+    requires reader { (r : ℕ) × (x : Reading) × IsReaderSeat reader store.now.table_id r x × (x.pins.gone ≡ false) }
+    ensures { (w : Writing) (r : ℕ) (x : Reading) → IsWriterSeat writer.old store.now.table_id w → IsReaderSeat reader store.now.table_id r x → IsWriterSeat writer.new store.now.table_id w × IsReaderSeat result store.now.table_id r (told_again w r (told w r x)) }
+{
+    store.join_seat::<Telling>(writer, reader);
+    store.split_seat::<Telling>(writer)
+}

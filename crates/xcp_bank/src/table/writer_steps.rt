@@ -1,0 +1,83 @@
+//! The steps of the writer, each on one word of the table.
+ghost use Rattle.std.specs.Prelude.{◌≡◌, ◌≢◌, ℕ, ◌+◌, ◌*◌, ◌%◌, ◌<◌, length, slice_index, Some, None};
+ghost use Rattle.xcp_bank.specs.Known.{Writing};
+ghost use Rattle.xcp_bank.specs.WriterSteps.{Scanned, WasReset, Written, Published};
+ghost use Rattle.xcp_bank.specs.Seats.{IsWriterSeat, WriterMoves};
+
+use super::rule::{BUFFER_WORDS, Store, View};
+use atomic_table::{Play, Seat};
+use pin_core::{BUFFERS, head, parts};
+
+struct ScanPlay;
+
+impl Play<(), View> for ScanPlay {
+    ghost use Rattle.std.specs.Prelude.{◌-◌};
+    ghost use Rattle.xcp_bank.specs.WriterSteps.{Scanned, writer_plays};
+
+    ghost then = { λ st. writer_plays (Scanned (st.word - 1)) st };
+}
+
+struct ResetPlay;
+
+impl Play<(), View> for ResetPlay {
+    ghost use Rattle.std.specs.Prelude.{◌-◌};
+    ghost use Rattle.xcp_bank.specs.WriterSteps.{WasReset, writer_plays};
+
+    ghost then = { λ st m n. writer_plays (WasReset (st.word - 1)) st m 0 };
+}
+
+struct WritePlay;
+
+impl Play<(), View> for WritePlay {
+    ghost use Rattle.xcp_bank.specs.WriterSteps.{Written, writer_plays};
+
+    ghost then = { λ st m n. writer_plays (Written st.first) st m st.first };
+}
+
+struct PublishPlay;
+
+impl Play<(), View> for PublishPlay {
+    ghost use Rattle.std.specs.Prelude.{◌/◌};
+    ghost use Rattle.xcp_bank.specs.WriterSteps.{Published, writer_plays};
+
+    ghost then = { λ st. writer_plays (Published 256 (st.first / 4294967296)) st };
+}
+
+/// Scan: how many pins of a buffer were given back.
+pub(super) fn scan(store: &Store, seat: &mut Seat<(), View>, buffer: usize) -> u64
+    requires buffer { buffer < BUFFERS }
+    requires seat { (w : Writing) × IsWriterSeat seat.old store.now.table_id w × (w.pins.building ≡ None) × (buffer ≢ w.current) }
+    ensures { WriterMoves (λ w u. Scanned buffer w result u) seat.old seat.new store.now.table_id }
+{
+    store.load::<ScanPlay>(seat, 1 + buffer)
+}
+
+/// Reset: the quiet buffer is built from now on.
+pub(super) fn reset(store: &Store, seat: &mut Seat<(), View>, buffer: usize)
+    requires buffer { buffer < BUFFERS }
+    requires seat { (w : Writing) × IsWriterSeat seat.old store.now.table_id w × (w.pins.quiet ≡ Some buffer) }
+    ensures { WriterMoves (λ w u. WasReset buffer w 0 u) seat.old seat.new store.now.table_id }
+{
+    store.store::<ResetPlay>(seat, 1 + buffer, 0);
+}
+
+/// Write: the next word of the buffer that is built.
+pub(super) fn put_word(store: &Store, seat: &mut Seat<(), View>, buffer: usize, k: usize, word: u64)
+    requires buffer { buffer < BUFFERS }
+    requires word { k < BUFFER_WORDS }
+    requires seat { (w : Writing) × IsWriterSeat seat.old store.now.table_id w × (w.pins.building ≡ Some buffer) × (length w.pins.written ≡ k) }
+    ensures { WriterMoves (λ w u. Written word w word u) seat.old seat.new store.now.table_id }
+{
+    store.store::<WritePlay>(seat, 9 + (buffer * BUFFER_WORDS + k), word);
+}
+
+/// Publish: the buffer that was built is current from now on. Answers how many pins the old current one got.
+pub(super) fn swap_in(store: &Store, seat: &mut Seat<(), View>, buffer: usize) -> u64
+    requires buffer { buffer < BUFFERS }
+    requires seat { (w : Writing) × IsWriterSeat seat.old store.now.table_id w × (w.pins.building ≡ Some buffer) × (length w.pins.written ≡ BUFFER_WORDS) × (slice_index w.pins.written 255 ≡ length w.pins.publications % 18446744073709551616) × (w.current < BUFFERS) }
+    ensures { WriterMoves (λ w u. (n : ℕ) × (p : Published 256 buffer w n u) × (result ≡ p.count)) seat.old seat.new store.now.table_id }
+{
+    let found = store.swap::<PublishPlay>(seat, 0, head(buffer as u8, 0));
+    let (_old, pins) = parts(found);
+    u64::from(pins)
+}
