@@ -25,7 +25,7 @@ run() { # name, lines, program and words: the best of nine runs
 }
 "$top/bin/xcpd" replay --config "$top/crates/xcpd/data/L.toml" </dev/null
 for lines in 100000 1000000; do
-  run xcpd "$lines" "$top/crates/xcpd/out/xcpd" replay --config "$top/crates/xcpd/data/L.toml"
+  run xcpd "$lines" "$top/out/xcpd" replay --config "$top/crates/xcpd/data/L.toml"
   run plain "$lines" "$work/plain"
   cmp "$work/out.xcpd.$lines" "$work/out.plain.$lines" && echo "both wrote the same"
 done

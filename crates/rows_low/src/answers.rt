@@ -2,7 +2,7 @@
 use xcp_packet::{Code, Packet};
 
 /// FF and these bytes.
-pub fn told(bytes: &[u8]) -> Packet {
+pub(crate) fn told(bytes: &[u8]) -> Packet {
     let mut packet = Packet::new();
     let _ = packet.try_push(0xFF);
     let _ = packet.try_extend_from_slice(bytes);
@@ -10,7 +10,7 @@ pub fn told(bytes: &[u8]) -> Packet {
 }
 
 /// FE and the number of the error.
-pub fn refused(code: Code) -> Packet {
+pub(crate) fn refused(code: Code) -> Packet {
     let mut packet = Packet::new();
     let _ = packet.try_push(0xFE);
     let _ = packet.try_push(code.number());
@@ -18,7 +18,7 @@ pub fn refused(code: Code) -> Packet {
 }
 
 /// A call that tells these bytes where it isn't refused.
-pub fn answer(outcome: Result<(), Code>, bytes: &[u8]) -> Packet {
+pub(crate) fn answer(outcome: Result<(), Code>, bytes: &[u8]) -> Packet {
     match outcome {
         Ok(()) => told(bytes),
         Err(code) => refused(code),
@@ -26,7 +26,7 @@ pub fn answer(outcome: Result<(), Code>, bytes: &[u8]) -> Packet {
 }
 
 /// A call that tells a byte.
-pub fn byte(outcome: Result<u8, Code>) -> Packet {
+pub(crate) fn byte(outcome: Result<u8, Code>) -> Packet {
     match outcome {
         Ok(byte) => told(&[byte]),
         Err(code) => refused(code),

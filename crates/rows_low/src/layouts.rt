@@ -46,7 +46,7 @@ fn event(alloc: Global) -> Result<EventPart, AllocError> {
 
 /// The identification `ECU1`, a segment at 0x1000, one at 0x2000, 8 bytes of signals at 0x8000, and
 /// the event channel `10ms`.
-pub fn layout(alloc: Global, kind: Kind) -> Result<Layout, Fail> {
+pub(crate) fn layout(alloc: Global, kind: Kind) -> Result<Layout, Fail> {
     let first = segment(alloc, 0x1000, kind.first)?;
     let second = segment(alloc, 0x2000, kind.second)?;
     Ok(Layout::new(Parts {
@@ -62,6 +62,6 @@ pub fn layout(alloc: Global, kind: Kind) -> Result<Layout, Fail> {
     })?)
 }
 
-pub fn pages(alloc: Global, kind: Kind) -> Result<Pages, Fail> {
+pub(crate) fn pages(alloc: Global, kind: Kind) -> Result<Pages, Fail> {
     Ok(Pages::new(alloc, layout(alloc, kind)?)?)
 }

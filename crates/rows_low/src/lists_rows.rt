@@ -18,7 +18,7 @@ pub struct Lists {
 }
 
 /// No lists yet, over pages whose signals are 1 to 8.
-pub fn opened_lists(alloc: Global, max_dto: i64) -> Result<Lists, Fail> {
+pub(crate) fn opened_lists(alloc: Global, max_dto: i64) -> Result<Lists, Fail> {
     let mut pages = pages(alloc, Kind { max_dto, ..USUAL })?;
     if pages.layout().signals_length() == 8 {
         pages.set_signals(&[1, 2, 3, 4, 5, 6, 7, 8]);

@@ -23,13 +23,13 @@ fn numbers(text: &str) -> Option<Numbers> {
 }
 
 /// A question's first word, and the numbers behind it.
-pub fn words(question: &str) -> Option<(&str, Numbers)> {
+pub(crate) fn words(question: &str) -> Option<(&str, Numbers)> {
     let (verb, rest) = question.split_once(' ').unwrap_or((question, ""));
     Some((verb, numbers(rest)?))
 }
 
 /// The bytes of a text, if all its words are bytes.
-pub fn packet(text: &str) -> Option<Packet> {
+pub(crate) fn packet(text: &str) -> Option<Packet> {
     let mut packet = Packet::new();
     for word in text.split_whitespace() {
         let byte = u8::from_str_radix(word, 16).ok()?;
@@ -63,7 +63,7 @@ fn holds<S: Subject>(subject: &mut S, line: &str) -> bool {
 }
 
 /// The first line, counted from 1, that isn't answered as it says; 0 where no line asks.
-pub fn first_wrong<S: Subject>(subject: &mut S, rows: &str) -> Option<u32> {
+pub(crate) fn first_wrong<S: Subject>(subject: &mut S, rows: &str) -> Option<u32> {
     let mut number = 0u32;
     let mut asked = false;
     for line in rows.lines() {

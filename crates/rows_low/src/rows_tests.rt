@@ -12,27 +12,29 @@ impl Subject for Echo {
     }
 }
 
+/// Texts, and their first wrong line.
+static TEXTS: [(&str, Option<u32>); 16] = [
+    ("", Some(0)),
+    ("\n  \n# 1 > 2\n", Some(0)),
+    ("1 2 > 01 02", None),
+    ("# a comment\n\n1 > 1\n2 > 2\n", None),
+    ("1 > 1\n2 > 3\n4 > 4", Some(2)),
+    ("1 2 > 1", Some(1)),
+    ("1 > 1 2", Some(1)),
+    ("1 > -", Some(1)),
+    ("> -", None),
+    ("1 >", Some(1)),
+    (">", Some(1)),
+    ("1 1", Some(1)),
+    ("1 > 1 > 1", Some(1)),
+    ("1 > 1\n1 > G", Some(2)),
+    ("G > 1", Some(1)),
+    ("100 > 100", Some(1)),
+];
+
 #[test]
 fn wrong_rows_are_found(rt: HostRuntime) {
-    let rows = [
-        ("", Some(0)),
-        ("\n  \n# 1 > 2\n", Some(0)),
-        ("1 2 > 01 02", None),
-        ("# a comment\n\n1 > 1\n2 > 2\n", None),
-        ("1 > 1\n2 > 3\n4 > 4", Some(2)),
-        ("1 2 > 1", Some(1)),
-        ("1 > 1 2", Some(1)),
-        ("1 > -", Some(1)),
-        ("> -", None),
-        ("1 >", Some(1)),
-        (">", Some(1)),
-        ("1 1", Some(1)),
-        ("1 > 1 > 1", Some(1)),
-        ("1 > 1\n1 > G", Some(2)),
-        ("G > 1", Some(1)),
-        ("100 > 100", Some(1)),
-    ];
-    for (text, wrong) in rows {
-        assert_eq!(rt; first_wrong(&mut Echo, text), wrong, "{text}");
+    for (text, wrong) in &TEXTS {
+        assert_eq!(rt; first_wrong(&mut Echo, text), *wrong, "{text}");
     }
 }

@@ -11,7 +11,7 @@ use xcp_transfer::{Mta, Transfer};
 type Answered = Result<Option<Reply>, Reply>;
 
 /// Transfers with such a MAX_CTO.
-pub fn transfer(alloc: Global, max_cto: i64) -> Result<Transfer, Fail> {
+pub(crate) fn transfer(alloc: Global, max_cto: i64) -> Result<Transfer, Fail> {
     Ok(Transfer::new(pages(alloc, Kind { max_cto, ..USUAL })?))
 }
 
@@ -89,7 +89,7 @@ fn execute(transfer: &mut Transfer, command: Command) -> Option<Answered> {
 }
 
 /// What is sent for a command packet: no bytes where nothing is sent.
-pub fn sent(transfer: &mut Transfer, bytes: &Packet) -> Option<Packet> {
+pub(crate) fn sent(transfer: &mut Transfer, bytes: &Packet) -> Option<Packet> {
     let order = transfer.pages().layout().order();
     let command = decode(bytes, order).ok()?;
     match execute(transfer, command)? {

@@ -58,12 +58,12 @@ fn layout(alloc: Global, kind: Kind) -> Result<Layout, Fail> {
 }
 
 /// A slave that was just made.
-pub fn slave(alloc: Global, kind: Kind) -> Result<Slave, Fail> {
+pub(crate) fn slave(alloc: Global, kind: Kind) -> Result<Slave, Fail> {
     Ok(Slave::new(alloc, layout(alloc, kind)?)?)
 }
 
 /// A slave behind CONNECT.
-pub fn connected(alloc: Global, kind: Kind) -> Result<Slave, Fail> {
+pub(crate) fn connected(alloc: Global, kind: Kind) -> Result<Slave, Fail> {
     let mut slave = slave(alloc, kind)?;
     let mut connect = Packet::new();
     let _ = connect.try_extend_from_slice(&[0xFF, 0]);

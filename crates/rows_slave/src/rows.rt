@@ -9,7 +9,7 @@ use xcp_packet::Packet;
 use xcp_slave::{Answer, Request, Slave};
 
 /// The bytes of a text, if all its words are bytes.
-pub fn bytes<const N: usize>(text: &str) -> Option<ArrayVec<u8, N>> {
+pub(crate) fn bytes<const N: usize>(text: &str) -> Option<ArrayVec<u8, N>> {
     let mut bytes = ArrayVec::new();
     for word in text.split_whitespace() {
         let byte = u8::from_str_radix(word, 16).ok()?;
@@ -43,7 +43,7 @@ fn counted(text: &str) -> Option<Answer> {
     }
 }
 
-pub fn answer(text: &str) -> Option<Answer> {
+pub(crate) fn answer(text: &str) -> Option<Answer> {
     match text {
         "-" => Some(Answer::Silent),
         "overrun" => Some(Answer::Overrun),
@@ -94,7 +94,7 @@ fn holds(slave: &mut Slave, line: &str) -> bool {
 }
 
 /// The first line, counted from 1, that isn't answered as it says; 0 where no line asks.
-pub fn first_wrong(slave: &mut Slave, rows: &str) -> Option<u32> {
+pub(crate) fn first_wrong(slave: &mut Slave, rows: &str) -> Option<u32> {
     let mut number = 0u32;
     let mut asked = false;
     for line in rows.lines() {
@@ -112,17 +112,26 @@ pub fn first_wrong(slave: &mut Slave, rows: &str) -> Option<u32> {
 }
 
 /// The first line that a slave answers otherwise that was just made.
-pub fn first_wrong_of_new(alloc: Global, kind: Kind, rows: &str) -> Result<Option<u32>, Fail> {
+pub(crate) fn first_wrong_of_new(
+    alloc: Global,
+    kind: Kind,
+    rows: &str,
+) -> Result<Option<u32>, Fail> {
     Ok(first_wrong(&mut slave(alloc, kind)?, rows))
 }
 
 /// The first line that a connected slave answers otherwise.
-pub fn first_wrong_of(alloc: Global, kind: Kind, rows: &str) -> Result<Option<u32>, Fail> {
+pub(crate) fn first_wrong_of(alloc: Global, kind: Kind, rows: &str) -> Result<Option<u32>, Fail> {
     Ok(first_wrong(&mut connected(alloc, kind)?, rows))
 }
 
 /// The same of some rows, and then of others so many times.
-pub fn first_wrong_again(slave: &mut Slave, rows: &str, times: u32, again: &str) -> Option<u32> {
+pub(crate) fn first_wrong_again(
+    slave: &mut Slave,
+    rows: &str,
+    times: u32,
+    again: &str,
+) -> Option<u32> {
     let mut wrong = first_wrong(slave, rows);
     for _ in 0..times {
         if wrong.is_none() {

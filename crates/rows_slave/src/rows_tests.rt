@@ -4,30 +4,32 @@ use crate::rows::{answer, first_wrong_of};
 use std::test::Fail;
 use xcp_slave::Answer;
 
+/// Texts, and their first wrong line.
+static TEXTS: [(&str, Option<u32>); 18] = [
+    ("", Some(0)),
+    ("\n  \n# FC > FE 01\n", Some(0)),
+    ("FC > FE 00\n\n# a comment\ndrain > nothing", None),
+    ("FC > FE 00\nFC > FE 01\nFC > FE 00", Some(2)),
+    ("FC > FE", Some(1)),
+    ("FC > FE 00 00", Some(1)),
+    ("FC > -", Some(1)),
+    ("FC >", Some(1)),
+    ("FC FE 00", Some(1)),
+    ("FC > FE 00 > FE 00", Some(1)),
+    ("G > FE 00", Some(1)),
+    ("FC > G", Some(1)),
+    ("drained > nothing", Some(1)),
+    ("drain > no store", Some(1)),
+    ("event 0 > bad signals", Some(1)),
+    ("event 0 00 > sampled 0", Some(1)),
+    ("event 0 00 > bad signals", None),
+    ("event 1 00 > no channel", None),
+];
+
 #[test]
 fn wrong_rows_are_found(rt: HostRuntime) -> Result<(), Fail> {
-    let rows = [
-        ("", Some(0)),
-        ("\n  \n# FC > FE 01\n", Some(0)),
-        ("FC > FE 00\n\n# a comment\ndrain > nothing", None),
-        ("FC > FE 00\nFC > FE 01\nFC > FE 00", Some(2)),
-        ("FC > FE", Some(1)),
-        ("FC > FE 00 00", Some(1)),
-        ("FC > -", Some(1)),
-        ("FC >", Some(1)),
-        ("FC FE 00", Some(1)),
-        ("FC > FE 00 > FE 00", Some(1)),
-        ("G > FE 00", Some(1)),
-        ("FC > G", Some(1)),
-        ("drained > nothing", Some(1)),
-        ("drain > no store", Some(1)),
-        ("event 0 > bad signals", Some(1)),
-        ("event 0 00 > sampled 0", Some(1)),
-        ("event 0 00 > bad signals", None),
-        ("event 1 00 > no channel", None),
-    ];
-    for (text, wrong) in rows {
-        assert_eq!(rt; first_wrong_of(rt.alloc(), USUAL, text)?, wrong, "{text}");
+    for (text, wrong) in &TEXTS {
+        assert_eq!(rt; first_wrong_of(rt.alloc(), USUAL, text)?, *wrong, "{text}");
     }
     Ok(())
 }

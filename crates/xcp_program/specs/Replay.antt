@@ -1,0 +1,47 @@
+-- How a replay of a script ends, by a configuration text and the script.
+use Rattle.std.specs.Prelude.{◌≡◌, ◌⊎◌, ℕ, List, Option, Result, Ok, Err}
+use Rattle.xcp_memory.specs.Layout.{LayoutValue}
+use Rattle.xcp_slave.specs.Value.{SlaveValue, opening}
+use Rattle.xcp_slave.specs.Run.{Run, requests_of}
+use Rattle.xcp_slave.specs.declared.Exchange.{Exchange}
+use Rattle.xcp_framing.specs.Replay.{OfLines, Replayed, Tells}
+use Rattle.xcp_framing.specs.Told.{told}
+use Rattle.xcp_framing.specs.declared.ReplayError.{ReplayError}
+use Rattle.xcp_framing.specs.declared.ReplayError.TheVariants as errors
+use Rattle.xcp_config.specs.declared.ConfigError.{ConfigError}
+use Rattle.xcp_config.specs.declared.ConfigError.TheVariants.{Text}
+use Rattle.xcp_config.specs.ConfigError.{number_of}
+use Rattle.xcp_config.specs.Text.{HasFault, HasLayout, IsNoDocument}
+use Rattle.xcp_program.specs.declared.fault.Fault.{Fault}
+use Rattle.xcp_program.specs.declared.fault.Fault.TheVariants as faults
+
+-- A slave of this layout was run from its opening: its exchanges are of the requests of the script's lines, and the text of
+-- its answers was written, as a replay that ends so has it. The script is the bytes that the reader had; old and new are
+-- those that the writer held and holds; each where it is known.
+pub record AnswersScript (layout : LayoutValue) (script old new : Option (List ℕ)) (ended : Result ℕ ReplayError) : Type 0 where
+  pub exchanges : List Exchange
+  pub slave : SlaveValue
+  pub run : Run (opening layout) exchanges slave
+  pub asked : OfLines script (λ lines. Replayed layout.max_cto lines ended (requests_of exchanges))
+  pub written : Tells ended old new (told exchanges)
+
+-- the same, for the layout that the configuration describes
+pub record Replays (config : List ℕ) (script old new : Option (List ℕ)) (ended : Result ℕ ReplayError) : Type 0 where
+  pub layout : LayoutValue
+  pub described : HasLayout config layout
+  pub answers : AnswersScript layout script old new ended
+
+-- the configuration has a fault of this number: 1 where its text is no document, else that of the first check that fails
+pub record IsFaulty (config : List ℕ) (n : ℕ) : Type 0 where
+  pub fault : ConfigError
+  pub number : n ≡ number_of fault
+  pub found : ((fault ≡ Text) × IsNoDocument config) ⊎ HasFault config fault
+
+-- What a replay did, by what it returned. Configuration(n): the configuration has the fault of that number, and nothing was
+-- written. Memory may be wanting before a slave stands: then nothing was written either.
+abbrev pub Ends : List ℕ → Option (List ℕ) → Option (List ℕ) → Option (List ℕ) → Result ℕ Fault → Type 0
+Ends config script old new (Ok n) = Replays config script old new (Ok n)
+Ends config script old new (Err (faults.Configuration n)) = IsFaulty config n × (new ≡ old)
+Ends config script old new (Err (faults.Line k)) = Replays config script old new (Err (errors.Line k))
+Ends config script old new (Err (faults.Stream n)) = ((n ≡ 1) × Replays config script old new (Err errors.Read)) ⊎ ((n ≡ 2) × Replays config script old new (Err errors.Write))
+Ends config script old new (Err faults.Memory) = (new ≡ old) ⊎ Replays config script old new (Err errors.Memory)

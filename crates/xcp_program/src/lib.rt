@@ -1,0 +1,23 @@
+//! The XCP slave's program, but for its `main`: the words of its command line, its faults with their statuses, the
+//! reading of the layout file, and a replay of a script on the slave that this file describes.
+//!
+//! `specs/CommandLine.antt` has the command line, `specs/Replay.antt` what a replay promises, `specs/Fault.antt` the
+//! statuses.
+#![tactic(auto)]
+
+mod command_line;
+mod fault;
+mod purpose;
+mod replaying;
+mod source;
+mod words;
+
+pub use command_line::options;
+pub use fault::Fault;
+pub use purpose::{Options, OptionsFault};
+pub use replaying::replay;
+pub use source::{read_text, read_whole};
+pub use words::{Unasked, asked};
+
+#[cfg(test)]
+mod tests;

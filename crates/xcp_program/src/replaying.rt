@@ -1,0 +1,63 @@
+//! A replay: a script of requests on a slave of a configured layout.
+ghost use Rattle.std.specs.Prelude.{◌≡◌, ◌<◌, ◌+◌, ◌⊎◌};
+ghost use Rattle.xcp_program.specs.Replay.{AnswersScript, Ends};
+
+use crate::fault::Fault;
+use std::alloc::Global;
+use std::io::{Read, Write};
+use xcp_config::{ConfigError, read_layout};
+use xcp_framing::{Desk, ReplayError, Watched, replay_on};
+use xcp_memory::Layout;
+use xcp_slave::Slave;
+
+/// Answers the lines of a script, one line each, on a new slave of the layout that the
+/// configuration describes, and returns the number of requests. The reader is read at most so
+/// many times as there are turns; the answers of the lines that a read made whole are written
+/// before the next.
+///
+/// Faults: `Configuration` first, 1 to 6, where the text describes no layout; `Line` of the first
+/// faulty line, once the lines before it are answered; `Stream(1)` where a read failed or the
+/// turns are spent, `Stream(2)` where a write failed; `Memory` at any place.
+pub fn replay<R: Read, W: Write>(
+    alloc: Global,
+    config: &str,
+    reader: &mut Watched<R>,
+    writer: &mut Watched<W>,
+    turns: u32,
+) -> Result<u64, Fault>
+    ensures ends { Ends config.now (R.remaining reader.old.inner) (W.contents writer.old.inner) (W.contents writer.new.inner) result }
+    ensures read { result ≡ Err (Fault.Stream 1) → (reader.old.failures < reader.new.failures) ⊎ (reader.new.calls ≡ reader.old.calls + turns) }
+    ensures write { result ≡ Err (Fault.Stream 2) → writer.old.failures < writer.new.failures }
+{
+    let layout = match read_layout(alloc, config) {
+        Ok(layout) => layout,
+        Err(ConfigError::Memory) => return Err(Fault::Memory),
+        Err(fault) => return Err(Fault::Configuration(fault.number())),
+    };
+    match answer_script(alloc, layout, reader, writer, turns) {
+        Ok(requests) => Ok(requests),
+        Err(ReplayError::Line(number)) => Err(Fault::Line(number)),
+        Err(ReplayError::Read) => Err(Fault::Stream(1)),
+        Err(ReplayError::Write) => Err(Fault::Stream(2)),
+        Err(ReplayError::Memory) => Err(Fault::Memory),
+    }
+}
+
+/// Answers a script on a new slave of this layout.
+fn answer_script<R: Read, W: Write>(
+    alloc: Global,
+    layout: Layout,
+    reader: &mut Watched<R>,
+    writer: &mut Watched<W>,
+    turns: u32,
+) -> Result<u64, ReplayError>
+    ensures answered { AnswersScript layout (R.remaining reader.old.inner) (W.contents writer.old.inner) (W.contents writer.new.inner) result }
+    ensures read { result ≡ Err ReplayError.Read → (reader.old.failures < reader.new.failures) ⊎ (reader.new.calls ≡ reader.old.calls + turns) }
+    ensures write { result ≡ Err ReplayError.Write → writer.old.failures < writer.new.failures }
+{
+    let Ok(slave) = Slave::new(alloc, layout) else {
+        return Err(ReplayError::Memory);
+    };
+    let mut desk = Desk::new(alloc, slave);
+    replay_on(alloc, &mut desk, reader, writer, turns)
+}

@@ -1,0 +1,100 @@
+//! The layout files that the tests read.
+use std::alloc::{AllocError, Global};
+
+/// The document that the rows change: one line for each line of it.
+static LINES: [&str; 16] = [
+    "id = \"ECU1\"",
+    "max_cto = 32",
+    "max_dto = 64",
+    "[[segment]]",
+    "address = 0x1000",
+    "data = \"000102030405060708090A0B0C0D0E0F\"",
+    "[[segment]]",
+    "address = 0x2000",
+    "data = \"AAAAAAAAAAAAAAAA\"",
+    "[signals]",
+    "address = 0x8000",
+    "length = 8",
+    "[[event]]",
+    "name = \"10ms\"",
+    "cycle = 10",
+    "unit = 6",
+];
+
+/// The document with one line in the place of another.
+pub fn changed(alloc: Global, place: usize, line: &str) -> Result<String, AllocError> {
+    let mut text = String::new(alloc);
+    for (i, old) in LINES.iter().enumerate() {
+        text.push_str(if i == place { line } else { *old })?;
+        text.push_str("\n")?;
+    }
+    Ok(text)
+}
+
+/// The document as it stands.
+pub fn document(alloc: Global) -> Result<String, AllocError> {
+    changed(alloc, LINES.len(), "")
+}
+
+/// The document `data/engine.toml` of the program.
+pub const ENGINE: &str = r#"# The controller of a four-cylinder engine, as it left the factory.
+
+# What GET_ID tells: 1 to 64 printable characters of ASCII.
+id = "ENGINE-4CYL 2.1.0"
+
+# The longest command packet and the longest data packet, in bytes: 8 to 255 each.
+max_cto = 64
+max_dto = 128
+
+# Optional: the order of the bytes of a word. "intel", the lowest first, is the only one so far.
+byte_order = "intel"
+
+# Optional: how BUILD_CHECKSUM adds bytes, into one (ADD_11), two (ADD_12) or four (ADD_14, where none is given).
+checksum = "ADD_12"
+
+# Segment 0: ignition angles in half degrees, four loads by eight speeds.
+# Long data goes over several lines between three quotes; a backslash takes away the line's end and the blanks behind it.
+[[segment]]
+address = 0x0008_0000
+data = """\
+    1416181A1C1E2022\
+    12141618181A1C1E\
+    1012141414161818\
+    0C0E101010121414"""
+
+# Segment 1: injection times in units of 4 microseconds, eight words.
+[[segment]]
+address = 0x0008_0100
+data = "E803B0047805400608070808D008980A"
+
+# Segment 2: the idle controller: speed, and proportional, integral and differential parts, a word each.
+[[segment]]
+address = 0x0008_0200
+data = "5203400012000800"
+
+# Segment 3: limits: highest speed, and temperatures of coolant and oil in degrees.
+[[segment]]
+address = 0x0008_0300
+data = "64197882"
+
+# What the engine measures: speed, load, angle, lambda and so on, 24 bytes that each event brings anew.
+[signals]
+address = 0x2000_0000
+length = 24
+
+# The event channels, by number from 0. Time cycle and unit are told to the tool as they stand (unit 6: a millisecond).
+[[event]]
+name = "crank sync"
+priority = 255
+
+[[event]]
+name = "10 ms"
+cycle = 10
+unit = 6
+priority = 128
+
+[[event]]
+name = "100 ms"
+cycle = 100
+unit = 6
+"#;

@@ -1,0 +1,23 @@
+//! The reading of a layout file.
+use crate::fault::Fault;
+use crate::source::{read_text, read_whole};
+use std::test::Fail;
+
+#[test]
+fn a_file_has_at_most_65_536_bytes(rt: HostRuntime) -> Result<(), Fail> {
+    let bytes = vec![in rt.alloc(); 7u8; 65_537]?;
+    let most = read_whole(rt.alloc(), &bytes[..65_536]).map(|all| all.len());
+    assert_eq!(rt; most, Ok(65_536));
+    let more = read_whole(rt.alloc(), bytes.as_slice()).map(|all| all.len());
+    assert_eq!(rt; more, Err(Fault::Configuration(0)));
+    Ok(())
+}
+
+#[test]
+fn a_file_that_is_no_text(rt: HostRuntime) -> Result<(), Fail> {
+    let good = read_text(rt.alloc(), &b"id"[..]).map(|text| text.len());
+    assert_eq!(rt; good, Ok(2));
+    let bad = read_text(rt.alloc(), &b"id\xFF"[..]).map(|text| text.len());
+    assert_eq!(rt; bad, Err(Fault::Configuration(1)));
+    Ok(())
+}
