@@ -45,7 +45,7 @@ fn layout(alloc: Global) -> Result<Layout, Fail> {
 }
 
 /// A desk over a slave of this layout.
-pub fn desk(alloc: Global) -> Result<Desk, Fail>
+pub(crate) fn desk(alloc: Global) -> Result<Desk, Fail>
     ensures { IfOk result (λ d. d.exchanges ≡ []) }
 {
     let slave = Slave::new(alloc, layout(alloc)?)?;
@@ -72,7 +72,7 @@ impl Read for Pieces<'_> {
 }
 
 /// What a full writer answers.
-#[derive(Clone, Copy, Debug, PartialEq, Eq)]
+#[derive(Clone, Copy)]
 pub enum Full {
     Fails,
     TakesNothing,

@@ -190,18 +190,20 @@ fn ctr_starts_anew(rt: HostRuntime) -> Result<(), Fail> {
     Ok(())
 }
 
+/// In the order of their numbers, from 1 on.
+static ERRORS: [ServeError; 7] = [
+    ServeError::Read,
+    ServeError::Write,
+    ServeError::BadLength(33),
+    ServeError::Truncated,
+    ServeError::Memory,
+    ServeError::TurnsSpent,
+    ServeError::JournalFull,
+];
+
 #[test]
 fn numbers(rt: HostRuntime) {
-    let errors = [
-        ServeError::Read,
-        ServeError::Write,
-        ServeError::BadLength(33),
-        ServeError::Truncated,
-        ServeError::Memory,
-        ServeError::TurnsSpent,
-        ServeError::JournalFull,
-    ];
-    for (index, error) in errors.iter().enumerate() {
-        assert_eq!(rt; error.number() as usize, index + 1);
+    for (error, number) in ERRORS.iter().zip(1..8) {
+        assert!(rt; error.number() == number, "{number}");
     }
 }

@@ -8,10 +8,10 @@ use Rattle.xcp_bank.specs.Deeds.{Deed, events_of, answers_of, doer, deeds_by, Gr
 use Rattle.xcp_bank.specs.Known.{Begins, Reading}
 use Rattle.xcp_bank.specs.Rule.{RecordsAll, StandsForAll}
 
-head_same : (a b : Seen) (l m : List Seen) → a ∷ l ≡ b ∷ m → a ≡ b
+pub head_same : (a b : Seen) (l m : List Seen) → a ∷ l ≡ b ∷ m → a ≡ b
 head_same a b l m e = cc
 
-tail_same : (a b : Seen) (l m : List Seen) → a ∷ l ≡ b ∷ m → l ≡ m
+pub tail_same : (a b : Seen) (l m : List Seen) → a ∷ l ≡ b ∷ m → l ≡ m
 tail_same a b l m e = cc
 
 pub runs_more : (W : ℕ) (s t u : PinState) (ds : List Deed) (d : Deed) → Runs W s (events_of ds) (answers_of ds) t → Steps W t d.0 d.1 u → Runs W s (events_of (ds ++ d ∷ [])) (answers_of (ds ++ d ∷ [])) u

@@ -14,7 +14,7 @@ use Rattle.pin_core.specs.Steps.{Steps, Runs}
 use Rattle.xcp_bank.specs.Deeds.{Deed, events_of, answers_of, doer, deeds_by, Does, looked_at}
 use Rattle.xcp_bank.specs.Known.{Reading, Writing, Known, one_reader}
 use Rattle.xcp_bank.specs.Rule.{Banked}
-use Rattle.xcp_bank.proofs.History.{by_app}
+use Rattle.xcp_bank.proofs.History.{by_app, head_same, tail_same}
 
 head_is : (a b : Deed) (l m : List Deed) → a ∷ l ≡ b ∷ m → a ≡ b
 head_is a b l m e = cc
@@ -55,10 +55,7 @@ none_right (d ∷ l) m e = absurd (not_empty d (l ++ m) e)
 -- a run of two parts
 runs_split : (W : ℕ) (s t : PinState) (ds es : List Deed) → Runs W s (events_of (ds ++ es)) (answers_of (ds ++ es)) t → (u : PinState) × Runs W u (events_of es) (answers_of es) t
 runs_split W s t [] es r = (s, r)
-runs_split W s t (d ∷ ds) es r = runs_split W r.1 t ds es (subst (λ (l : List Seen). Runs W r.1 (events_of (ds ++ es)) l t) (sym (rest_is d.1 r.0 (answers_of (ds ++ es)) r.2 r.3)) r.5)
-  where
-    rest_is : (a b : Seen) (l m : List Seen) → a ∷ l ≡ b ∷ m → l ≡ m
-    rest_is a b l m e = cc
+runs_split W s t (d ∷ ds) es r = runs_split W r.1 t ds es (subst (λ (l : List Seen). Runs W r.1 (events_of (ds ++ es)) l t) (sym (tail_same d.1 r.0 (answers_of (ds ++ es)) r.2 r.3)) r.5)
 
 -- a reader's step leaves the current buffer, and so do steps of readers alone
 index_step : (W : ℕ) (s t : PinState) (e : Event) (a : Seen) → doer e ≢ 0 → Steps W s e a t → t.index ≡ s.index
@@ -78,25 +75,16 @@ index_kept : (W : ℕ) (s t : PinState) (ds : List Deed) → deeds_by 0 ds ≡ [
 index_kept W s t [] none r = ap (λ (z : PinState). z.index) r.1
 index_kept W s t (d ∷ ds) none r =
     let none' : deeds_by 0 (d ∷ []) ++ deeds_by 0 ds ≡ [] = sym (by_app 0 (d ∷ []) ds) ∙ none in
-    index_kept W r.1 t ds (none_right (deeds_by 0 (d ∷ [])) (deeds_by 0 ds) none') (subst (λ (l : List Seen). Runs W r.1 (events_of ds) l t) (sym (rest_is d.1 r.0 (answers_of ds) r.2 r.3)) r.5)
-    ∙ index_step W s r.1 d.0 d.1 (not_mine d ds none) (subst (λ (z : Seen). Steps W s d.0 z r.1) (sym (first_is d.1 r.0 (answers_of ds) r.2 r.3)) r.4)
-  where
-    rest_is : (a b : Seen) (l m : List Seen) → a ∷ l ≡ b ∷ m → l ≡ m
-    rest_is a b l m e = cc
-
-    first_is : (a b : Seen) (l m : List Seen) → a ∷ l ≡ b ∷ m → a ≡ b
-    first_is a b l m e = cc
+    index_kept W r.1 t ds (none_right (deeds_by 0 (d ∷ [])) (deeds_by 0 ds) none') (subst (λ (l : List Seen). Runs W r.1 (events_of ds) l t) (sym (tail_same d.1 r.0 (answers_of ds) r.2 r.3)) r.5)
+    ∙ index_step W s r.1 d.0 d.1 (not_mine d ds none) (subst (λ (z : Seen). Steps W s d.0 z r.1) (sym (head_same d.1 r.0 (answers_of ds) r.2 r.3)) r.4)
 
 -- a Look and what follows without the writer: it was answered by the buffer that is current at the end
 look_tells_the_end : (W : ℕ) (s t : PinState) (r i : ℕ) (ds : List Deed) → deeds_by 0 (looked_at r i ∷ ds) ≡ [] → Runs W s (events_of (looked_at r i ∷ ds)) (answers_of (looked_at r i ∷ ds)) t → i ≡ t.index
 look_tells_the_end W s t r i ds none k =
-    let answer : an.Index i ≡ an.Index s.index = first_is (an.Index i) k.0 (answers_of ds) k.2 k.3 ∙ k.4.1 in
+    let answer : an.Index i ≡ an.Index s.index = head_same (an.Index i) k.0 (answers_of ds) k.2 k.3 ∙ k.4.1 in
     let same : i ≡ s.index = cc in
     let kept : t.index ≡ s.index = index_kept W s t (looked_at r i ∷ ds) none k in
     same ∙ sym kept
-  where
-    first_is : (a b : Seen) (l m : List Seen) → a ∷ l ≡ b ∷ m → a ≡ b
-    first_is a b l m e = cc
 
 module _ (W : ℕ) (t : State (Unit {0}) Known) (b : Banked W t) (id r : ℕ) (x : Reading) (at : get_elem? t.views id ≡ some (one_reader r x)) (none : x.pending ≡ [])
     (j : ℕ) (v : Known) (w : Writing) (other : j ≢ id) (there : get_elem? t.views j ≡ some v) (leads : v.writer ≡ Some w)

@@ -34,10 +34,10 @@ stands_begins s own id r x mine =
     let rest : List (List ℕ) = drop x.pins.seen s.writer.publications in
     (rest, sym (ap (λ (l : List (List ℕ)). l ++ rest) mine.list ∙ take-append-drop x.pins.seen s.writer.publications))
 
-same_suc : (q r : ℕ) → suc q ≡ suc r → q ≡ r
+pub same_suc : (q r : ℕ) → suc q ≡ suc r → q ≡ r
 same_suc q r e = omega arith
 
-writes_none : (r : ℕ) → 0 ≡ suc r → ⊥
+pub writes_none : (r : ℕ) → 0 ≡ suc r → ⊥
 writes_none r e = absurd (omega arith)
 
 module _ (W : ℕ) (t : State (Unit {0}) Known) (b : Banked W t) (id r : ℕ) (x : Reading) (at : get_elem? t.views id ≡ some (one_reader r x)) where

@@ -14,7 +14,7 @@ use Rattle.xcp_bank.specs.Known.{Begins, AllBegin, Reading, Writing, Known, one_
 use Rattle.xcp_bank.specs.Rule.{Shows, Stands, StandsForAll, Leads, Banked}
 use Rattle.xcp_bank.specs.Cuts.{told, told_again, together, writer_alone, readers_apart, both_of}
 use Rattle.xcp_bank.proofs.Beginnings.{all_again}
-use Rattle.xcp_bank.proofs.ReaderLemmas.{stands_begins}
+use Rattle.xcp_bank.proofs.ReaderLemmas.{stands_begins, same_suc, writes_none}
 use Rattle.xcp_bank.proofs.Frame.{all_still}
 use Rattle.pin_core.specs.declared.events.Seen.TheVariants as an
 use Rattle.pin_core.specs.State.{opening}
@@ -22,12 +22,6 @@ use Rattle.xcp_bank.specs.Deeds.{Deed, looked_at}
 use Rattle.xcp_bank.specs.Rule.{RecordsAll}
 use Rattle.xcp_bank.proofs.History.{runs_more, records_still, grows_own, grows_else, begins_whole}
 use Rattle.xcp_bank.proofs.Cutting.{at_end, moved_to, moved_here, moved_else}
-
-same_suc : (q r : ℕ) → suc q ≡ suc r → q ≡ r
-same_suc q r e = omega arith
-
-writes_none : (r : ℕ) → 0 ≡ suc r → ⊥
-writes_none r e = absurd (omega arith)
 
 -- a Look of the reader r, whose seat is then m
 module _ (W : ℕ) (t : State (Unit {0}) Known) (b : Banked W t) (id r m : ℕ) (x : Reading) (w : Writing) (mine : Stands b.core b.own id r x) (here : x.pins.gone ≡ false) (leads : Leads b.core w) where

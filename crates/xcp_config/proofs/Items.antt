@@ -1,5 +1,5 @@
 -- Arrays of tables.
-use Rattle.std.proofs.Common.{◌≡◌, ℕ, ◌+◌, ◌<◌, drop, get_or, true, List, [], ◌∷◌, ◌&&◌, length, map, Option, Some, None, refl, ap, nat_le, is_some, if◌then◌else◌}
+use Rattle.std.proofs.Common.{◌≡◌, ℕ, ◌+◌, ◌<◌, drop, get_or, true, List, [], ◌∷◌, ◌&&◌, length, map, Option, Some, refl, ap, nat_le, is_some}
 use Rattle.std.specs.Option.{option_and_then}
 use Rattle.std.specs.List.{list_all}
 use Rattle.toml.specs.Data.{Data, as_array}
@@ -7,8 +7,9 @@ use Rattle.toml.specs.View.{items_of, view}
 use Rattle.toml.specs.declared.value.Value.{Value}
 use Rattle.xcp_memory.specs.declared.Key.{Key}
 use Rattle.xcp_config.specs.declared.config_error.ConfigError.TheVariants.{Kind, Range, TooMany}
-use Rattle.xcp_config.specs.Check.{first_failed}
+use Rattle.xcp_packet.specs.Rows.{first_holding, must}
 use Rattle.xcp_config.specs.Values.{list_of, members_of, is_table}
+use Rattle.xcp_memory.specs.Limits.{count_limits}
 use Rattle.xcp_config.specs.Table.{array_checks}
 use Rattle.xcp_config.proofs.CheckLemmas.{drop_here}
 
@@ -31,6 +32,6 @@ pub has_members : (v : Option Data) (d : Data) (ds : List Data) → v ≡ Some d
 has_members v d ds e f = rw e (record { there = refl; array = rw f refl; members = rw f (list_of_items ds) })
 
 -- the checks of an array with these members
-pub counted : (k : Key) (most : ℕ) (v : Option Data) (ds : List Data) → HasMembers v ds → first_failed (array_checks k most v) ≡ (if list_all is_table ds then (if nat_le 1 (length ds) then (if nat_le (length ds) most then None else Some (TooMany k)) else Some (Range k)) else Some (Kind k))
+pub counted : (k : Key) (most : ℕ) (v : Option Data) (ds : List Data) → HasMembers v ds → first_holding (array_checks k (count_limits most k) v) ≡ first_holding (must (list_all is_table ds) (Kind k) ∷ must (nat_le 1 (length ds)) (Range k) ∷ must (nat_le (length ds) most) (TooMany k) ∷ [])
 unfolding array_checks
 counted k most v ds h = rw (h.there, h.array, h.members) refl

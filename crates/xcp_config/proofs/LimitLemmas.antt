@@ -1,5 +1,5 @@
 -- Parts that were read of a table that passes its checks keep the limits of parts, but perhaps those of overlapping areas.
-use Rattle.std.proofs.Common.{◌≡◌, ℕ, ℤ, ◌+◌, Bool, true, false, List, length, map, ◌++◌, ◌∷◌, [], take, Some, None, Option, refl, sym, ◌∙◌, ap, sum_by, is_some, nat_le, codes, if◌then◌else◌}
+use Rattle.std.proofs.Common.{◌≡◌, not, ℕ, ◌+◌, Bool, true, false, List, length, map, ◌++◌, ◌∷◌, [], take, Some, None, Option, refl, sym, ◌∙◌, ap, sum_by, is_some, nat_le, codes, if◌then◌else◌}
 use Rattle.std.specs.List.{flat_map, enumerate_from, fold}
 use Rattle.std.proofs.lemmas.List.{take-map, length-map}
 use Rattle.std.proofs.lemmas.Simd.{map-map}
@@ -12,47 +12,38 @@ use Rattle.xcp_memory.specs.declared.SegmentPart.{SegmentPart}
 use Rattle.xcp_memory.specs.declared.EventPart.{EventPart}
 use Rattle.xcp_memory.specs.Parts.{number, size, layout_of, areas, segment_of_part, event_of_part}
 use Rattle.xcp_memory.specs.Layout.{SegmentValue, EventValue}
-use Rattle.xcp_memory.specs.Limits.{Limit, first_broken, first_fault as first_limit, own_limits, segment_limits, segments_limits, limits_in, signals_limits, event_limits, events_limits, apart_limits, is_within, is_text, is_address, is_byte, ends_in_time}
+use Rattle.xcp_memory.specs.Limits.{Limit, first_fault as first_limit, own_limits, segment_limits, segments_limits, limits_in, signals_limits, event_limits, events_limits, apart_limits, is_within, is_text, is_address, ends_in_time, text_limit, number_limit, least_limit, count_limits, id_limit, max_cto_limit, max_dto_limit, segment_counts, address_limit, data_limit, signals_address_limit, signals_length_limit, event_counts, name_limit, cycle_limit, unit_limit, priority_limit}
 use Rattle.xcp_memory.specs.declared.LayoutFault.{LayoutFault}
 use Rattle.xcp_config.specs.declared.config_error.ConfigError.{ConfigError}
 use Rattle.xcp_config.specs.declared.config_error.ConfigError.TheVariants as error
-use Rattle.xcp_config.specs.Check.{first_failed}
+use Rattle.xcp_packet.specs.Rows.{first_holding}
 use Rattle.xcp_config.specs.ConfigError.{error_of}
 use Rattle.xcp_config.specs.Values.{text_of, integer_of, bytes_of, members_of, is_array_of_tables, is_byte_order, is_checksum}
 use Rattle.xcp_config.specs.Layout.{layout_in, byte_order_of, checksum_of, segments_of, signals_of, events_of, address_of, size_of, length_of, setting, segment_in, event_in}
 use Rattle.xcp_config.specs.Seen.{Reads, Segment, Event, segment_read, segment_written, event_read, event_written}
-use Rattle.xcp_config.specs.Table.{text_checks, integer_checks, data_checks, array_checks, table_checks, own_checks, size_checks, segment_checks, checks_in, segments_checks, end_checks, place_checks, signals_checks, event_checks, events_checks, overlap_check}
-use Rattle.xcp_config.proofs.CheckLemmas.{passed_both}
-
--- where all limits are kept, the first broken one is that of the limits behind
-kept_left : (xs ys : List Limit) → first_broken xs ≡ None → first_broken (xs ++ ys) ≡ first_broken ys
-kept_left [] ys h = refl
-kept_left (x ∷ xs) ys h =
-    elim x.kept as (λ b. (if b then first_broken xs else Some x.fault) ≡ None → (if b then first_broken (xs ++ ys) else Some x.fault) ≡ first_broken ys) [
-      | true ↦ λ k. kept_left xs ys k
-      | false ↦ λ k. cc
-    ] h
+use Rattle.xcp_config.specs.Table.{text_checks, name_checks, integer_checks, data_checks, array_checks, table_checks, own_checks, size_checks, segment_checks, checks_in, segments_checks, end_checks, place_checks, signals_checks, event_checks, events_checks, limit_check}
+use Rattle.xcp_packet.proofs.TestLemmas.{none_both, none_left}
 
 -- three limits that are kept, and four
-three_kept : (a b c : Bool) (e f g : LayoutFault) → a ≡ true → b ≡ true → c ≡ true → (if a then (if b then (if c then None else Some g) else Some f) else Some e) ≡ None
+three_kept : (a b c : Bool) (e f g : LayoutFault) → a ≡ true → b ≡ true → c ≡ true → (if not a then Some e else (if not b then Some f else (if not c then Some g else None))) ≡ None
 three_kept a b c e f g h i j = rw (h, i, j) refl
 
-four_kept : (a b c d : Bool) (e f g k : LayoutFault) → a ≡ true → b ≡ true → c ≡ true → d ≡ true → (if a then (if b then (if c then (if d then None else Some k) else Some g) else Some f) else Some e) ≡ None
+four_kept : (a b c d : Bool) (e f g k : LayoutFault) → a ≡ true → b ≡ true → c ≡ true → d ≡ true → (if not a then Some e else (if not b then Some f else (if not c then Some g else (if not d then Some k else None)))) ≡ None
 four_kept a b c d e f g k h i j l = rw (h, i, j, l) refl
 
 -- two limits on how many there are, and those of each
-counted_kept : (a b : Bool) (e f : LayoutFault) (r : Option LayoutFault) → a ≡ true → b ≡ true → r ≡ None → (if a then (if b then r else Some f) else Some e) ≡ None
+counted_kept : (a b : Bool) (e f : LayoutFault) (r : Option LayoutFault) → a ≡ true → b ≡ true → r ≡ None → (if not a then Some e else (if not b then Some f else r)) ≡ None
 counted_kept a b e f r h i j = rw (h, i, j) refl
 
 -- where three checks pass, the third does
-third_passes : (a b c : Bool) (e f g : ConfigError) → (if a then (if b then (if c then None else Some g) else Some f) else Some e) ≡ None → c ≡ true
+third_passes : (a b c : Bool) (e f g : ConfigError) → (if not a then Some e else (if not b then Some f else (if not c then Some g else None))) ≡ None → c ≡ true
 third_passes true true true e f g h = refl
 third_passes true true false e f g h = cc
 third_passes true false c e f g h = cc
 third_passes false b c e f g h = cc
 
 -- where four checks pass, the third and the fourth do
-last_pass : (a b c d : Bool) (e f g i : ConfigError) → (if a then (if b then (if c then (if d then None else Some i) else Some g) else Some f) else Some e) ≡ None → (c ≡ true) × (d ≡ true)
+last_pass : (a b c d : Bool) (e f g i : ConfigError) → (if not a then Some e else (if not b then Some f else (if not c then Some g else (if not d then Some i else None)))) ≡ None → (c ≡ true) × (d ≡ true)
 last_pass true true true true e f g i h = (refl, refl)
 last_pass true true true false e f g i h = cc
 last_pass true true false d e f g i h = cc
@@ -60,49 +51,49 @@ last_pass true false c d e f g i h = cc
 last_pass false b c d e f g i h = cc
 
 -- where two checks pass, both do
-two_pass : (a b : Bool) (e f : ConfigError) → (if a then (if b then None else Some f) else Some e) ≡ None → (a ≡ true) × (b ≡ true)
+two_pass : (a b : Bool) (e f : ConfigError) → (if not a then Some e else (if not b then Some f else None)) ≡ None → (a ≡ true) × (b ≡ true)
 two_pass true true e f h = (refl, refl)
 two_pass true false e f h = cc
 two_pass false b e f h = cc
 
-one_passes : (a : Bool) (e : ConfigError) → (if a then None else Some e) ≡ None → a ≡ true
+one_passes : (a : Bool) (e : ConfigError) → (if not a then Some e else None) ≡ None → a ≡ true
 one_passes true e h = refl
 one_passes false e h = cc
 
 -- the range of a text, of an integer and of data that pass
-pub text_good : (k : Key) (good : List ℕ → Bool) (v : Option Data) → first_failed (text_checks k good v) ≡ None → good (text_of v) ≡ true
+pub text_good : (k : Key) (most : ℕ) (v : Option Data) → first_holding (text_checks k (text_limit most k) v) ≡ None → is_text most (text_of v) ≡ true
 unfolding text_checks
-text_good k good v h = third_passes (is_some v) (is_some (option_and_then as_str v)) (good (text_of v)) (error.Missing k) (error.Kind k) (error.Range k) h
+text_good k most v h = third_passes (is_some v) (is_some (option_and_then as_str v)) (is_text most (text_of v)) (error.Missing k) (error.Kind k) (error.Range k) h
 
-pub integer_good : (k : Key) (good : ℤ → Bool) (v : Option Data) → first_failed (integer_checks k good v) ≡ None → good (integer_of v) ≡ true
+pub integer_good : (k : Key) (least most : ℕ) (v : Option Data) → first_holding (integer_checks k (number_limit least most k) v) ≡ None → is_within least most (integer_of v) ≡ true
 unfolding integer_checks
-integer_good k good v h = third_passes (is_some v) (is_some (option_and_then as_integer v)) (good (integer_of v)) (error.Missing k) (error.Kind k) (error.Range k) h
+integer_good k least most v h = third_passes (is_some v) (is_some (option_and_then as_integer v)) (is_within least most (integer_of v)) (error.Missing k) (error.Kind k) (error.Range k) h
 
-pub data_good : (k : Key) (v : Option Data) → first_failed (data_checks k v) ≡ None → nat_le 1 (length (bytes_of v)) ≡ true
+pub data_good : (k : Key) (v : Option Data) → first_holding (data_checks k (least_limit k) v) ≡ None → nat_le 1 (length (bytes_of v)) ≡ true
 unfolding data_checks
 data_good k v h = third_passes (is_some v) (is_some (option_and_then as_str v)) (nat_le 1 (length (bytes_of v))) (error.Missing k) (error.Kind k) (error.Range k) h
 
 -- how many members an array has that passes
-array_good : (k : Key) (most : ℕ) (v : Option Data) → first_failed (array_checks k most v) ≡ None → (nat_le 1 (length (members_of v)) ≡ true) × (nat_le (length (members_of v)) most ≡ true)
+array_good : (k : Key) (most : ℕ) (v : Option Data) → first_holding (array_checks k (count_limits most k) v) ≡ None → (nat_le 1 (length (members_of v)) ≡ true) × (nat_le (length (members_of v)) most ≡ true)
 unfolding array_checks
 array_good k most v h = last_pass (is_some v) (is_array_of_tables v) (nat_le 1 (length (members_of v))) (nat_le (length (members_of v)) most) (error.Missing k) (error.Kind k) (error.Range k) (error.TooMany k) h
 
 -- the slave's own values
-own_kept : (p : Parts) (t : Data) → Reads p t → first_failed (own_checks t) ≡ None → first_broken (own_limits p) ≡ None
+own_kept : (p : Parts) (t : Data) → Reads p t → first_holding (own_checks t) ≡ None → first_holding (own_limits p) ≡ None
 unfolding own_checks
 own_kept p t r h =
-    let a = text_checks key.Id (is_text 64) (get (codes "id") t) in
-    let b = integer_checks key.MaxCto (is_within 8 255) (get (codes "max_cto") t) in
-    let c = integer_checks key.MaxDto (is_within 8 255) (get (codes "max_dto") t) in
-    let d = text_checks key.ByteOrder is_byte_order (byte_order_of t) in
-    let e = text_checks key.Checksum is_checksum (checksum_of t) in
-    let four = passed_both (a ++ b ++ c ++ d) e h in
-    let three = passed_both (a ++ b ++ c) d four.0 in
-    let two = passed_both (a ++ b) c three.0 in
-    let one = passed_both a b two.0 in
-    let id = ap (is_text 64) r.id ∙ text_good key.Id (is_text 64) (get (codes "id") t) one.0 in
-    let cto = ap (is_within 8 255) r.max_cto ∙ integer_good key.MaxCto (is_within 8 255) (get (codes "max_cto") t) one.1 in
-    let dto = ap (is_within 8 255) r.max_dto ∙ integer_good key.MaxDto (is_within 8 255) (get (codes "max_dto") t) two.1 in
+    let a = text_checks key.Id id_limit (get (codes "id") t) in
+    let b = integer_checks key.MaxCto max_cto_limit (get (codes "max_cto") t) in
+    let c = integer_checks key.MaxDto max_dto_limit (get (codes "max_dto") t) in
+    let d = name_checks key.ByteOrder is_byte_order (byte_order_of t) in
+    let e = name_checks key.Checksum is_checksum (checksum_of t) in
+    let four = none_both (a ++ b ++ c ++ d) e h in
+    let three = none_both (a ++ b ++ c) d four.0 in
+    let two = none_both (a ++ b) c three.0 in
+    let one = none_both a b two.0 in
+    let id = ap (is_text 64) r.id ∙ text_good key.Id 64 (get (codes "id") t) one.0 in
+    let cto = ap (is_within 8 255) r.max_cto ∙ integer_good key.MaxCto 8 255 (get (codes "max_cto") t) one.1 in
+    let dto = ap (is_within 8 255) r.max_dto ∙ integer_good key.MaxDto 8 255 (get (codes "max_dto") t) two.1 in
     four_kept _ _ _ _ _ _ _ _ id cto dto r.known
 
 -- the sum of what a list's elements are seen as
@@ -118,93 +109,93 @@ sums ss ds n e =
     sum_map bytes segment_read 0 (take n ss) ∙ ap (sum_by bytes) f ∙ sym (sum_map bytes segment_written 0 (take n ds))
 
 -- one segment
-segment_kept : (i m n : ℕ) (s : SegmentPart) (d : Data) → m ≡ n → segment_read s ≡ segment_written d → first_failed (segment_checks i n d) ≡ None → first_broken (segment_limits i m s) ≡ None
+segment_kept : (i m n : ℕ) (s : SegmentPart) (d : Data) → m ≡ n → segment_read s ≡ segment_written d → first_holding (segment_checks i n d) ≡ None → first_holding (segment_limits i m s) ≡ None
 unfolding segment_checks
 segment_kept i m n s d q e h =
-    let a = integer_checks (key.Address i) is_address (get (codes "address") d) in
-    let b = data_checks (key.Data i) (get (codes "data") d) in
+    let a = integer_checks (key.Address i) (address_limit i) (get (codes "address") d) in
+    let b = data_checks (key.Data i) (data_limit i) (get (codes "data") d) in
     let c = size_checks i n (address_of d) (size_of d) in
-    let two = passed_both (a ++ b) c h in
-    let one = passed_both a b two.0 in
+    let two = none_both (a ++ b) c h in
+    let one = none_both a b two.0 in
     let place = two_pass (nat_le n 2040) (ends_in_time (address_of d) (size_of d)) (error.TooMany (key.Data i)) (error.Range (key.Address i)) two.1 in
     let address : s.address ≡ address_of d = ap (λ (x : Segment). x.address) e in
     let bytes : size s ≡ size_of d = ap (λ (x : Segment). length x.bytes) e in
-    let first = ap is_address address ∙ integer_good (key.Address i) is_address (get (codes "address") d) one.0 in
+    let first = ap is_address address ∙ integer_good (key.Address i) 0 0xFFFF_FFFE (get (codes "address") d) one.0 in
     let second = ap (nat_le 1) bytes ∙ data_good (key.Data i) (get (codes "data") d) one.1 in
     let third = ap (λ k. nat_le k 2040) q ∙ place.0 in
     let fourth : ends_in_time s.address (size s) ≡ true = rw (address, bytes) place.1 in
     four_kept _ _ _ _ _ _ _ _ first second third fourth
 
 -- the segments from one of them on
-segments_from : (ss : List SegmentPart) (ds : List Data) → ((n : ℕ) → sum_by size (take n ss) ≡ sum_by size_of (take n ds)) → (i : ℕ) (xs : List SegmentPart) (ys : List Data) → map segment_read xs ≡ map segment_written ys → first_failed (flat_map (checks_in ds) (enumerate_from i ys)) ≡ None → first_broken (flat_map (limits_in ss) (enumerate_from i xs)) ≡ None
+segments_from : (ss : List SegmentPart) (ds : List Data) → ((n : ℕ) → sum_by size (take n ss) ≡ sum_by size_of (take n ds)) → (i : ℕ) (xs : List SegmentPart) (ys : List Data) → map segment_read xs ≡ map segment_written ys → first_holding (flat_map (checks_in ds) (enumerate_from i ys)) ≡ None → first_holding (flat_map (limits_in ss) (enumerate_from i xs)) ≡ None
 segments_from ss ds q i [] ys e h = refl
 segments_from ss ds q i (x ∷ xs) [] e h = cc
 segments_from ss ds q i (x ∷ xs) (y ∷ ys) e h =
     let head : segment_read x ≡ segment_written y = cc in
     let tail : map segment_read xs ≡ map segment_written ys = cc in
-    let both = passed_both (checks_in ds (i, y)) (flat_map (checks_in ds) (enumerate_from (i + 1) ys)) h in
+    let both = none_both (checks_in ds (i, y)) (flat_map (checks_in ds) (enumerate_from (i + 1) ys)) h in
     let here = segment_kept i (sum_by size (take (i + 1) ss)) (sum_by size_of (take (i + 1) ds)) x y (q (i + 1)) head both.0 in
-    kept_left (limits_in ss (i, x)) (flat_map (limits_in ss) (enumerate_from (i + 1) xs)) here ∙ segments_from ss ds q (i + 1) xs ys tail both.1
+    none_left (limits_in ss (i, x)) (flat_map (limits_in ss) (enumerate_from (i + 1) xs)) here ∙ segments_from ss ds q (i + 1) xs ys tail both.1
 
-segments_kept : (p : Parts) (t : Data) → Reads p t → first_failed (segments_checks t) ≡ None → first_broken (segments_limits p.segments.items) ≡ None
+segments_kept : (p : Parts) (t : Data) → Reads p t → first_holding (segments_checks t) ≡ None → first_holding (segments_limits p.segments.items) ≡ None
 unfolding segments_checks
 segments_kept p t r h =
     let ss = p.segments.items in
     let ds = segments_of t in
-    let both = passed_both (array_checks key.Segment 4 (get (codes "segment") t)) (flat_map (checks_in ds) (enumerate_from 0 ds)) h in
+    let both = none_both (array_checks key.Segment segment_counts (get (codes "segment") t)) (flat_map (checks_in ds) (enumerate_from 0 ds)) h in
     let counts = array_good key.Segment 4 (get (codes "segment") t) both.0 in
     let n : length ss ≡ length ds = sym (length-map ss segment_read) ∙ ap length r.segments ∙ length-map ds segment_written in
     let each = segments_from ss ds (λ k. sums ss ds k r.segments) 0 ss ds r.segments both.1 in
     counted_kept (nat_le 1 (length ss)) (nat_le (length ss) 4) _ _ _ (ap (nat_le 1) n ∙ counts.0) (ap (λ k. nat_le k 4) n ∙ counts.1) each
 
-signals_kept : (p : Parts) (t : Data) → Reads p t → first_failed (signals_checks t) ≡ None → first_broken (signals_limits p.signals_address p.signals_length) ≡ None
+signals_kept : (p : Parts) (t : Data) → Reads p t → first_holding (signals_checks t) ≡ None → first_holding (signals_limits p.signals_address p.signals_length) ≡ None
 unfolding signals_checks place_checks
 signals_kept p t r h =
     let s = signals_of t in
-    let a = integer_checks key.SignalsAddress is_address (get (codes "address") s) in
-    let b = integer_checks key.SignalsLength (is_within 1 64) (get (codes "length") s) in
+    let a = integer_checks key.SignalsAddress signals_address_limit (get (codes "address") s) in
+    let b = integer_checks key.SignalsLength signals_length_limit (get (codes "length") s) in
     let c = end_checks (address_of s) (length_of s) in
-    let both = passed_both (table_checks key.Signals (get (codes "signals") t)) (place_checks s) h in
-    let two = passed_both (a ++ b) c both.1 in
-    let one = passed_both a b two.0 in
+    let both = none_both (table_checks key.Signals (get (codes "signals") t)) (place_checks s) h in
+    let two = none_both (a ++ b) c both.1 in
+    let one = none_both a b two.0 in
     let last = one_passes (ends_in_time (address_of s) (number (length_of s))) (error.Range key.SignalsAddress) two.1 in
-    let first = ap is_address r.signals_address ∙ integer_good key.SignalsAddress is_address (get (codes "address") s) one.0 in
-    let second = ap (is_within 1 64) r.signals_length ∙ integer_good key.SignalsLength (is_within 1 64) (get (codes "length") s) one.1 in
+    let first = ap is_address r.signals_address ∙ integer_good key.SignalsAddress 0 0xFFFF_FFFE (get (codes "address") s) one.0 in
+    let second = ap (is_within 1 64) r.signals_length ∙ integer_good key.SignalsLength 1 64 (get (codes "length") s) one.1 in
     let third : ends_in_time p.signals_address (number p.signals_length) ≡ true = rw (r.signals_address, r.signals_length) last in
     three_kept _ _ _ _ _ _ first second third
 
 -- one event channel
-event_kept : (i : ℕ) (e : EventPart) (d : Data) → event_read e ≡ event_written d → first_failed (event_checks (i, d)) ≡ None → first_broken (event_limits (i, e)) ≡ None
+event_kept : (i : ℕ) (e : EventPart) (d : Data) → event_read e ≡ event_written d → first_holding (event_checks (i, d)) ≡ None → first_holding (event_limits (i, e)) ≡ None
 unfolding event_checks
 event_kept i e d q h =
-    let a = text_checks (key.Name i) (is_text 32) (get (codes "name") d) in
-    let b = integer_checks (key.Cycle i) is_byte (setting (codes "cycle") d) in
-    let c = integer_checks (key.Unit i) is_byte (setting (codes "unit") d) in
-    let f = integer_checks (key.Priority i) is_byte (setting (codes "priority") d) in
-    let three = passed_both (a ++ b ++ c) f h in
-    let two = passed_both (a ++ b) c three.0 in
-    let one = passed_both a b two.0 in
-    let name = ap (λ (x : Event). is_text 32 x.name) q ∙ text_good (key.Name i) (is_text 32) (get (codes "name") d) one.0 in
-    let cycle = ap (λ (x : Event). is_byte x.cycle) q ∙ integer_good (key.Cycle i) is_byte (setting (codes "cycle") d) one.1 in
-    let unit = ap (λ (x : Event). is_byte x.unit) q ∙ integer_good (key.Unit i) is_byte (setting (codes "unit") d) two.1 in
-    let priority = ap (λ (x : Event). is_byte x.priority) q ∙ integer_good (key.Priority i) is_byte (setting (codes "priority") d) three.1 in
+    let a = text_checks (key.Name i) (name_limit i) (get (codes "name") d) in
+    let b = integer_checks (key.Cycle i) (cycle_limit i) (setting (codes "cycle") d) in
+    let c = integer_checks (key.Unit i) (unit_limit i) (setting (codes "unit") d) in
+    let f = integer_checks (key.Priority i) (priority_limit i) (setting (codes "priority") d) in
+    let three = none_both (a ++ b ++ c) f h in
+    let two = none_both (a ++ b) c three.0 in
+    let one = none_both a b two.0 in
+    let name = ap (λ (x : Event). is_text 32 x.name) q ∙ text_good (key.Name i) 32 (get (codes "name") d) one.0 in
+    let cycle = ap (λ (x : Event). is_within 0 255 x.cycle) q ∙ integer_good (key.Cycle i) 0 255 (setting (codes "cycle") d) one.1 in
+    let unit = ap (λ (x : Event). is_within 0 255 x.unit) q ∙ integer_good (key.Unit i) 0 255 (setting (codes "unit") d) two.1 in
+    let priority = ap (λ (x : Event). is_within 0 255 x.priority) q ∙ integer_good (key.Priority i) 0 255 (setting (codes "priority") d) three.1 in
     four_kept _ _ _ _ _ _ _ _ name cycle unit priority
 
-events_from : (i : ℕ) (xs : List EventPart) (ys : List Data) → map event_read xs ≡ map event_written ys → first_failed (flat_map event_checks (enumerate_from i ys)) ≡ None → first_broken (flat_map event_limits (enumerate_from i xs)) ≡ None
+events_from : (i : ℕ) (xs : List EventPart) (ys : List Data) → map event_read xs ≡ map event_written ys → first_holding (flat_map event_checks (enumerate_from i ys)) ≡ None → first_holding (flat_map event_limits (enumerate_from i xs)) ≡ None
 events_from i [] ys e h = refl
 events_from i (x ∷ xs) [] e h = cc
 events_from i (x ∷ xs) (y ∷ ys) e h =
     let head : event_read x ≡ event_written y = cc in
     let tail : map event_read xs ≡ map event_written ys = cc in
-    let both = passed_both (event_checks (i, y)) (flat_map event_checks (enumerate_from (i + 1) ys)) h in
-    kept_left (event_limits (i, x)) (flat_map event_limits (enumerate_from (i + 1) xs)) (event_kept i x y head both.0) ∙ events_from (i + 1) xs ys tail both.1
+    let both = none_both (event_checks (i, y)) (flat_map event_checks (enumerate_from (i + 1) ys)) h in
+    none_left (event_limits (i, x)) (flat_map event_limits (enumerate_from (i + 1) xs)) (event_kept i x y head both.0) ∙ events_from (i + 1) xs ys tail both.1
 
-events_kept : (p : Parts) (t : Data) → Reads p t → first_failed (events_checks t) ≡ None → first_broken (events_limits p.events.items) ≡ None
+events_kept : (p : Parts) (t : Data) → Reads p t → first_holding (events_checks t) ≡ None → first_holding (events_limits p.events.items) ≡ None
 unfolding events_checks
 events_kept p t r h =
     let es = p.events.items in
     let ds = events_of t in
-    let both = passed_both (array_checks key.Event 8 (get (codes "event") t)) (flat_map event_checks (enumerate_from 0 ds)) h in
+    let both = none_both (array_checks key.Event event_counts (get (codes "event") t)) (flat_map event_checks (enumerate_from 0 ds)) h in
     let counts = array_good key.Event 8 (get (codes "event") t) both.0 in
     let n : length es ≡ length ds = sym (length-map es event_read) ∙ ap length r.events ∙ length-map ds event_written in
     let each = events_from 0 es ds r.events both.1 in
@@ -228,27 +219,27 @@ layout_read p t r =
     rw (r.id, r.max_cto, r.max_dto, r.checksum, r.order, segments, r.signals_address, r.signals_length, events) refl
 
 -- the areas decide, where all checks before theirs pass
-pub areas_decide : (p : Parts) (t : Data) → Reads p t → first_failed (own_checks t ++ segments_checks t ++ signals_checks t ++ events_checks t) ≡ None → first_limit p ≡ first_broken (apart_limits (areas (layout_in t)))
+pub areas_decide : (p : Parts) (t : Data) → Reads p t → first_holding (own_checks t ++ segments_checks t ++ signals_checks t ++ events_checks t) ≡ None → first_limit p ≡ first_holding (apart_limits (areas (layout_in t)))
 areas_decide p t r h =
-    let all = passed_both (own_checks t ++ segments_checks t ++ signals_checks t) (events_checks t) h in
-    let most = passed_both (own_checks t ++ segments_checks t) (signals_checks t) all.0 in
-    let some = passed_both (own_checks t) (segments_checks t) most.0 in
+    let all = none_both (own_checks t ++ segments_checks t ++ signals_checks t) (events_checks t) h in
+    let most = none_both (own_checks t ++ segments_checks t) (signals_checks t) all.0 in
+    let some = none_both (own_checks t) (segments_checks t) most.0 in
     let a = own_limits p in
     let b = segments_limits p.segments.items in
     let c = signals_limits p.signals_address p.signals_length in
     let d = events_limits p.events.items in
     let e = apart_limits (areas (layout_of p)) in
     let one = own_kept p t r some.0 in
-    let two = kept_left a b one ∙ segments_kept p t r some.1 in
-    let three = kept_left (a ++ b) c two ∙ signals_kept p t r most.1 in
-    let four = kept_left (a ++ b ++ c) d three ∙ events_kept p t r all.1 in
-    kept_left (a ++ b ++ c ++ d) e four ∙ ap (λ l. first_broken (apart_limits (areas l))) (layout_read p t r)
+    let two = none_left a b one ∙ segments_kept p t r some.1 in
+    let three = none_left (a ++ b) c two ∙ signals_kept p t r most.1 in
+    let four = none_left (a ++ b ++ c) d three ∙ events_kept p t r all.1 in
+    none_left (a ++ b ++ c ++ d) e four ∙ ap (λ l. first_holding (apart_limits (areas l))) (layout_read p t r)
 
 -- the checks of the areas tell the first broken limit of theirs
-pub overlaps : (ls : List Limit) (f : Option LayoutFault) → first_broken ls ≡ f → first_failed (map overlap_check ls) ≡ option_map error_of f
+pub overlaps : (ls : List Limit) (f : Option LayoutFault) → first_holding ls ≡ f → first_holding (map limit_check ls) ≡ option_map error_of f
 overlaps [] f h = ap (option_map error_of) h
 overlaps (l ∷ ls) f h =
-    elim l.kept as (λ b. (if b then first_broken ls else Some l.fault) ≡ f → (if b then first_failed (map overlap_check ls) else Some (error_of l.fault)) ≡ option_map error_of f) [
-      | true ↦ λ k. overlaps ls f k
-      | false ↦ λ k. ap (option_map error_of) k
+    elim l.0 as (λ b. (if b then Some l.1 else first_holding ls) ≡ f → (if b then Some (error_of l.1) else first_holding (map limit_check ls)) ≡ option_map error_of f) [
+      | true ↦ λ k. ap (option_map error_of) k
+      | false ↦ λ k. overlaps ls f k
     ] h

@@ -5,7 +5,7 @@ use Rattle.std.proofs.lemmas.List.{take_more, get_or-map, length-map}
 use Rattle.std.proofs.lemmas.List.Sums.{sum_by-append}
 use Rattle.toml.specs.Data.{Data}
 use Rattle.xcp_config.specs.declared.config_error.ConfigError.{ConfigError}
-use Rattle.xcp_config.specs.Check.{first_failed}
+use Rattle.xcp_packet.specs.Rows.{first_holding}
 use Rattle.xcp_config.specs.Layout.{size_of}
 use Rattle.xcp_config.specs.Table.{checks_in, segment_checks}
 use Rattle.xcp_config.proofs.CheckLemmas.{member_passed, member_failed}
@@ -41,12 +41,12 @@ one_more_read f g parts xs i p x h e k q =
     ∙ sym (ap (map g) (take_here xs i x h e) ∙ map_push g (take i xs) x)
 
 -- one more segment passes its checks, or one fails
-pub segment_passed : (ss : List Data) (i total : ℕ) (s : Data) → i < length ss → s ≡ get_or ss i s → total ≡ sum_by size_of (take i ss) → first_failed (segment_checks i (total + size_of s) s) ≡ None → first_failed (flat_map (checks_in ss) (enumerate_from i (drop i ss))) ≡ first_failed (flat_map (checks_in ss) (enumerate_from (i + 1) (drop (i + 1) ss)))
+pub segment_passed : (ss : List Data) (i total : ℕ) (s : Data) → i < length ss → s ≡ get_or ss i s → total ≡ sum_by size_of (take i ss) → first_holding (segment_checks i (total + size_of s) s) ≡ None → first_holding (flat_map (checks_in ss) (enumerate_from i (drop i ss))) ≡ first_holding (flat_map (checks_in ss) (enumerate_from (i + 1) (drop (i + 1) ss)))
 segment_passed ss i total s h e t k =
     let n : sum_by size_of (take (i + 1) ss) ≡ total + size_of s = sum_here size_of ss i s h e ∙ ap (λ m. m + size_of s) (sym t) in
-    member_passed (checks_in ss) ss i s h e (ap (λ m. first_failed (segment_checks i m s)) n ∙ k)
+    member_passed (checks_in ss) ss i s h e (ap (λ m. first_holding (segment_checks i m s)) n ∙ k)
 
-pub segment_failed : (ss : List Data) (i total : ℕ) (s : Data) (f : ConfigError) → i < length ss → s ≡ get_or ss i s → total ≡ sum_by size_of (take i ss) → first_failed (segment_checks i (total + size_of s) s) ≡ Some f → first_failed (flat_map (checks_in ss) (enumerate_from i (drop i ss))) ≡ Some f
+pub segment_failed : (ss : List Data) (i total : ℕ) (s : Data) (f : ConfigError) → i < length ss → s ≡ get_or ss i s → total ≡ sum_by size_of (take i ss) → first_holding (segment_checks i (total + size_of s) s) ≡ Some f → first_holding (flat_map (checks_in ss) (enumerate_from i (drop i ss))) ≡ Some f
 segment_failed ss i total s f h e t k =
     let n : sum_by size_of (take (i + 1) ss) ≡ total + size_of s = sum_here size_of ss i s h e ∙ ap (λ m. m + size_of s) (sym t) in
-    member_failed (checks_in ss) ss i s f h e (ap (λ m. first_failed (segment_checks i m s)) n ∙ k)
+    member_failed (checks_in ss) ss i s f h e (ap (λ m. first_holding (segment_checks i m s)) n ∙ k)

@@ -2,7 +2,7 @@
 ghost use Rattle.std.specs.Prelude.{◌≡◌, ◌≤◌, ◌⊎◌, length, map, Some, None, IfOk, IfErr};
 ghost use Rattle.std.specs.List.{flat_map, enumerate_from};
 ghost use Rattle.toml.specs.View.{view};
-ghost use Rattle.xcp_config.specs.Check.{first_failed};
+ghost use Rattle.xcp_packet.specs.Rows.{first_holding};
 ghost use Rattle.xcp_config.specs.Layout.{events_of};
 ghost use Rattle.xcp_config.specs.Table.{event_checks, events_checks};
 ghost use Rattle.xcp_config.specs.Seen.{event_read, event_written};
@@ -16,9 +16,9 @@ use xcp_memory::{EventPart, Key};
 
 /// The event channel that a table describes.
 fn read_event(alloc: Global, table: &Value, number: u8) -> Result<EventPart, ConfigError>
-    ensures passes { IfOk result (λ _. first_failed (event_checks (number, view table.now)) ≡ None) }
+    ensures passes { IfOk result (λ _. first_holding (event_checks (number, view table.now)) ≡ None) }
     ensures read { IfOk result (λ e. event_read e ≡ event_written (view table.now)) }
-    ensures refused { IfErr result (λ e. (e ≡ ConfigError.Memory) ⊎ (first_failed (event_checks (number, view table.now)) ≡ Some e)) }
+    ensures refused { IfErr result (λ e. (e ≡ ConfigError.Memory) ⊎ (first_holding (event_checks (number, view table.now)) ≡ Some e)) }
 {
     let name = read_text(alloc, table, "name", Key::Name(number), MAX_NAME)?;
     let cycle = read_setting(table, "cycle", Key::Cycle(number))?;
@@ -35,9 +35,9 @@ fn read_event(alloc: Global, table: &Value, number: u8) -> Result<EventPart, Con
 /// The event channels that these tables describe.
 fn read_each(alloc: Global, members: &[Value]) -> Result<Vec<EventPart>, ConfigError>
     requires { length members.now ≤ 8 }
-    ensures passes { IfOk result (λ _. first_failed (flat_map event_checks (enumerate_from 0 (map view members.now))) ≡ None) }
+    ensures passes { IfOk result (λ _. first_holding (flat_map event_checks (enumerate_from 0 (map view members.now))) ≡ None) }
     ensures read { IfOk result (λ parts. map event_read parts.items ≡ map event_written (map view members.now)) }
-    ensures refused { IfErr result (λ e. (e ≡ ConfigError.Memory) ⊎ (first_failed (flat_map event_checks (enumerate_from 0 (map view members.now))) ≡ Some e)) }
+    ensures refused { IfErr result (λ e. (e ≡ ConfigError.Memory) ⊎ (first_holding (flat_map event_checks (enumerate_from 0 (map view members.now))) ≡ Some e)) }
 {
     let mut parts = Vec::new(alloc);
     for (i, member) in members.iter().enumerate() {
@@ -49,9 +49,9 @@ fn read_each(alloc: Global, members: &[Value]) -> Result<Vec<EventPart>, ConfigE
 
 /// The event channels of a table.
 pub(crate) fn read_events(alloc: Global, table: &Value) -> Result<Vec<EventPart>, ConfigError>
-    ensures passes { IfOk result (λ _. first_failed (events_checks (view table.now)) ≡ None) }
+    ensures passes { IfOk result (λ _. first_holding (events_checks (view table.now)) ≡ None) }
     ensures read { IfOk result (λ parts. map event_read parts.items ≡ map event_written (events_of (view table.now))) }
-    ensures refused { IfErr result (λ e. (e ≡ ConfigError.Memory) ⊎ (first_failed (events_checks (view table.now)) ≡ Some e)) }
+    ensures refused { IfErr result (λ e. (e ≡ ConfigError.Memory) ⊎ (first_holding (events_checks (view table.now)) ≡ Some e)) }
 {
     let members = tables_in(table, "event", Key::Event, MAX_EVENTS)?;
     read_each(alloc, members)

@@ -1,7 +1,7 @@
 //! The layout that a text describes.
 ghost use Rattle.std.specs.Prelude.{◌≡◌, ◌⊎◌, ◌++◌, Some, None, Err, IfOk, IfErr};
 ghost use Rattle.toml.specs.View.{view};
-ghost use Rattle.xcp_config.specs.Check.{first_failed};
+ghost use Rattle.xcp_packet.specs.Rows.{first_holding};
 ghost use Rattle.xcp_config.specs.Layout.{layout_in};
 ghost use Rattle.xcp_config.specs.Seen.{Reads};
 ghost use Rattle.xcp_config.specs.Table.{events_checks, first_fault, own_checks, segments_checks, signals_checks};
@@ -35,7 +35,7 @@ pub fn read_layout(alloc: Global, text: &str) -> Result<Layout, ConfigError>
 
 /// The parts of the layout that a table has, before it is known whether areas overlap.
 fn read_parts(alloc: Global, table: &Value) -> Result<Parts, ConfigError>
-    ensures passes { IfOk result (λ _. first_failed (own_checks (view table.now) ++ segments_checks (view table.now) ++ signals_checks (view table.now) ++ events_checks (view table.now)) ≡ None) }
+    ensures passes { IfOk result (λ _. first_holding (own_checks (view table.now) ++ segments_checks (view table.now) ++ signals_checks (view table.now) ++ events_checks (view table.now)) ≡ None) }
     ensures reads { IfOk result (λ p. Reads p (view table.now)) }
     ensures refused { IfErr result (λ e. (e ≡ ConfigError.Memory) ⊎ (first_fault (view table.now) ≡ Some e)) }
 {

@@ -3,7 +3,7 @@ ghost use Rattle.std.specs.Prelude.{◌≡◌, ◌+◌, ◌≤◌, ◌⊎◌, le
 ghost use Rattle.std.specs.List.{flat_map, enumerate_from};
 ghost use Rattle.toml.specs.View.{view};
 ghost use Rattle.xcp_memory.specs.Limits.{is_address};
-ghost use Rattle.xcp_config.specs.Check.{first_failed};
+ghost use Rattle.xcp_packet.specs.Rows.{first_holding};
 ghost use Rattle.xcp_config.specs.Layout.{segments_of, size_of};
 ghost use Rattle.xcp_config.specs.Table.{checks_in, segment_checks, segments_checks, size_checks};
 ghost use Rattle.xcp_config.specs.Seen.{segment_read, segment_written};
@@ -19,9 +19,9 @@ use xcp_memory::{Key, SegmentPart};
 fn check_size(address: i64, size: usize, number: u8, before: usize) -> Result<(), ConfigError>
     requires before { before ≤ 2040 }
     requires address { is_address address ≡ true }
-    ensures passes { IfOk result (λ _. first_failed (size_checks number (before + size) address size) ≡ None) }
+    ensures passes { IfOk result (λ _. first_holding (size_checks number (before + size) address size) ≡ None) }
     ensures room { IfOk result (λ _. before + size ≤ 2040) }
-    ensures refused { IfErr result (λ e. first_failed (size_checks number (before + size) address size) ≡ Some e) }
+    ensures refused { IfErr result (λ e. first_holding (size_checks number (before + size) address size) ≡ Some e) }
 {
     if size > MAX_BYTES - before {
         return Err(ConfigError::TooMany(Key::Data(number)));
@@ -40,10 +40,10 @@ fn read_segment(
     before: usize,
 ) -> Result<SegmentPart, ConfigError>
     requires { before ≤ 2040 }
-    ensures passes { IfOk result (λ _. first_failed (segment_checks number (before + size_of (view table.now)) (view table.now)) ≡ None) }
+    ensures passes { IfOk result (λ _. first_holding (segment_checks number (before + size_of (view table.now)) (view table.now)) ≡ None) }
     ensures read { IfOk result (λ s. segment_read s ≡ segment_written (view table.now)) }
     ensures room { IfOk result (λ s. before + length s.bytes.items ≤ 2040) }
-    ensures refused { IfErr result (λ e. (e ≡ ConfigError.Memory) ⊎ (first_failed (segment_checks number (before + size_of (view table.now)) (view table.now)) ≡ Some e)) }
+    ensures refused { IfErr result (λ e. (e ≡ ConfigError.Memory) ⊎ (first_holding (segment_checks number (before + size_of (view table.now)) (view table.now)) ≡ Some e)) }
 {
     let address = read_integer(table, "address", Key::Address(number), 0, LAST_ADDRESS)?;
     let bytes = read_bytes(alloc, table, "data", Key::Data(number))?;
@@ -54,9 +54,9 @@ fn read_segment(
 /// The segments that these tables describe.
 fn read_each(alloc: Global, members: &[Value]) -> Result<Vec<SegmentPart>, ConfigError>
     requires { length members.now ≤ 4 }
-    ensures passes { IfOk result (λ _. first_failed (flat_map (checks_in (map view members.now)) (enumerate_from 0 (map view members.now))) ≡ None) }
+    ensures passes { IfOk result (λ _. first_holding (flat_map (checks_in (map view members.now)) (enumerate_from 0 (map view members.now))) ≡ None) }
     ensures read { IfOk result (λ parts. map segment_read parts.items ≡ map segment_written (map view members.now)) }
-    ensures refused { IfErr result (λ e. (e ≡ ConfigError.Memory) ⊎ (first_failed (flat_map (checks_in (map view members.now)) (enumerate_from 0 (map view members.now))) ≡ Some e)) }
+    ensures refused { IfErr result (λ e. (e ≡ ConfigError.Memory) ⊎ (first_holding (flat_map (checks_in (map view members.now)) (enumerate_from 0 (map view members.now))) ≡ Some e)) }
 {
     let mut parts = Vec::new(alloc);
     let mut total = 0;
@@ -70,9 +70,9 @@ fn read_each(alloc: Global, members: &[Value]) -> Result<Vec<SegmentPart>, Confi
 
 /// The segments of a table.
 pub(crate) fn read_segments(alloc: Global, table: &Value) -> Result<Vec<SegmentPart>, ConfigError>
-    ensures passes { IfOk result (λ _. first_failed (segments_checks (view table.now)) ≡ None) }
+    ensures passes { IfOk result (λ _. first_holding (segments_checks (view table.now)) ≡ None) }
     ensures read { IfOk result (λ parts. map segment_read parts.items ≡ map segment_written (segments_of (view table.now))) }
-    ensures refused { IfErr result (λ e. (e ≡ ConfigError.Memory) ⊎ (first_failed (segments_checks (view table.now)) ≡ Some e)) }
+    ensures refused { IfErr result (λ e. (e ≡ ConfigError.Memory) ⊎ (first_holding (segments_checks (view table.now)) ≡ Some e)) }
 {
     let members = tables_in(table, "segment", Key::Segment, MAX_SEGMENTS)?;
     read_each(alloc, members)

@@ -2,7 +2,7 @@
 ghost use Rattle.std.specs.Prelude.{◌≡◌, true, Some, None, IfOk, IfErr};
 ghost use Rattle.toml.specs.View.{view};
 ghost use Rattle.xcp_memory.specs.Limits.{is_address, is_within};
-ghost use Rattle.xcp_config.specs.Check.{first_failed};
+ghost use Rattle.xcp_packet.specs.Rows.{first_holding};
 ghost use Rattle.xcp_config.specs.Layout.{address_of, length_of, signals_of};
 ghost use Rattle.xcp_config.specs.Table.{end_checks, place_checks, signals_checks};
 
@@ -23,8 +23,8 @@ pub(crate) struct Signals {
 fn check_end(address: i64, length: i64) -> Result<(), ConfigError>
     requires address { is_address address ≡ true }
     requires length { is_within 1 64 length ≡ true }
-    ensures passes { IfOk result (λ _. first_failed (end_checks address length) ≡ None) }
-    ensures refused { IfErr result (λ e. first_failed (end_checks address length) ≡ Some e) }
+    ensures passes { IfOk result (λ _. first_holding (end_checks address length) ≡ None) }
+    ensures refused { IfErr result (λ e. first_holding (end_checks address length) ≡ Some e) }
 {
     if address as u64 + length as u64 > u64::from(LAST_ADDRESS) + 1 {
         return Err(ConfigError::Range(Key::SignalsAddress));
@@ -34,10 +34,10 @@ fn check_end(address: i64, length: i64) -> Result<(), ConfigError>
 
 /// Where the table `signals` says that they stand.
 fn read_place(signals: &Value) -> Result<Signals, ConfigError>
-    ensures passes { IfOk result (λ _. first_failed (place_checks (view signals.now)) ≡ None) }
+    ensures passes { IfOk result (λ _. first_holding (place_checks (view signals.now)) ≡ None) }
     ensures address { IfOk result (λ s. s.address ≡ address_of (view signals.now)) }
     ensures length { IfOk result (λ s. s.length ≡ length_of (view signals.now)) }
-    ensures refused { IfErr result (λ e. first_failed (place_checks (view signals.now)) ≡ Some e) }
+    ensures refused { IfErr result (λ e. first_holding (place_checks (view signals.now)) ≡ Some e) }
 {
     let address = read_integer(signals, "address", Key::SignalsAddress, 0, LAST_ADDRESS)?;
     let length = read_integer(signals, "length", Key::SignalsLength, 1, MAX_SIGNALS)?;
@@ -47,10 +47,10 @@ fn read_place(signals: &Value) -> Result<Signals, ConfigError>
 
 /// Where the signals of a table stand.
 pub(crate) fn read_signals(table: &Value) -> Result<Signals, ConfigError>
-    ensures passes { IfOk result (λ _. first_failed (signals_checks (view table.now)) ≡ None) }
+    ensures passes { IfOk result (λ _. first_holding (signals_checks (view table.now)) ≡ None) }
     ensures address { IfOk result (λ s. s.address ≡ address_of (signals_of (view table.now))) }
     ensures length { IfOk result (λ s. s.length ≡ length_of (signals_of (view table.now))) }
-    ensures refused { IfErr result (λ e. first_failed (signals_checks (view table.now)) ≡ Some e) }
+    ensures refused { IfErr result (λ e. first_holding (signals_checks (view table.now)) ≡ Some e) }
 {
     let signals = table_in(table, "signals", Key::Signals)?;
     read_place(signals)

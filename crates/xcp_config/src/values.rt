@@ -3,8 +3,8 @@ ghost use Rattle.std.specs.Prelude.{◌≡◌, ◌≤◌, ◌⊎◌, length, map
 ghost use Rattle.std.specs.List.{list_all};
 ghost use Rattle.toml.specs.Data.{get, integer};
 ghost use Rattle.toml.specs.View.{view};
-ghost use Rattle.xcp_memory.specs.Limits.{is_within, is_text, is_byte, is_printable};
-ghost use Rattle.xcp_config.specs.Check.{first_failed};
+ghost use Rattle.xcp_memory.specs.Limits.{is_within, is_text, is_printable, text_limit, number_limit, least_limit, count_limits};
+ghost use Rattle.xcp_packet.specs.Rows.{first_holding};
 ghost use Rattle.xcp_config.specs.Values.{bytes_of, integer_of, is_table, members_of, optional, text_of};
 ghost use Rattle.xcp_config.specs.Table.{array_checks, data_checks, integer_checks, table_checks, text_checks, text_there};
 
@@ -16,9 +16,9 @@ use xcp_memory::Key;
 
 /// A text, of whatever range.
 pub(crate) fn text_in<'a>(table: &'a Value, name: &str, key: Key) -> Result<&'a str, ConfigError>
-    ensures passes { IfOk result (λ _. first_failed (text_there key (get name.now (view table.now))) ≡ None) }
+    ensures passes { IfOk result (λ _. first_holding (text_there key (get name.now (view table.now))) ≡ None) }
     ensures value { IfOk result (λ s. s.now ≡ text_of (get name.now (view table.now))) }
-    ensures refused { IfErr result (λ e. first_failed (text_there key (get name.now (view table.now))) ≡ Some e) }
+    ensures refused { IfErr result (λ e. first_holding (text_there key (get name.now (view table.now))) ≡ Some e) }
 {
     let Some(value) = table.get(name) else {
         return Err(ConfigError::Missing(key));
@@ -52,9 +52,9 @@ pub(crate) fn read_text(
     key: Key,
     most: usize,
 ) -> Result<Vec<u8>, ConfigError>
-    ensures passes { IfOk result (λ _. first_failed (text_checks key (is_text most) (get name.now (view table.now))) ≡ None) }
+    ensures passes { IfOk result (λ _. first_holding (text_checks key (text_limit most key) (get name.now (view table.now))) ≡ None) }
     ensures value { IfOk result (λ bytes. bytes.items ≡ text_of (get name.now (view table.now))) }
-    ensures refused { IfErr result (λ e. (e ≡ ConfigError.Memory) ⊎ (first_failed (text_checks key (is_text most) (get name.now (view table.now))) ≡ Some e)) }
+    ensures refused { IfErr result (λ e. (e ≡ ConfigError.Memory) ⊎ (first_holding (text_checks key (text_limit most key) (get name.now (view table.now))) ≡ Some e)) }
 {
     let text = text_in(table, name, key)?;
     if !is_text(text.as_bytes(), most) {
@@ -72,10 +72,10 @@ pub(crate) fn read_integer(
     least: u32,
     most: u32,
 ) -> Result<i64, ConfigError>
-    ensures passes { IfOk result (λ _. first_failed (integer_checks key (is_within least most) (get name.now (view table.now))) ≡ None) }
+    ensures passes { IfOk result (λ _. first_holding (integer_checks key (number_limit least most key) (get name.now (view table.now))) ≡ None) }
     ensures value { IfOk result (λ n. n ≡ integer_of (get name.now (view table.now))) }
     ensures range { IfOk result (λ n. is_within least most n ≡ true) }
-    ensures refused { IfErr result (λ e. first_failed (integer_checks key (is_within least most) (get name.now (view table.now))) ≡ Some e) }
+    ensures refused { IfErr result (λ e. first_holding (integer_checks key (number_limit least most key) (get name.now (view table.now))) ≡ Some e) }
 {
     let Some(value) = table.get(name) else {
         return Err(ConfigError::Missing(key));
@@ -93,9 +93,9 @@ pub(crate) fn read_integer(
 /// An integer from 0 to 255, and 0 where the key isn't there.
 #[tactic(auto, unfolding(crate::specs::Table::integer_checks))]
 pub(crate) fn read_setting(table: &Value, name: &str, key: Key) -> Result<i64, ConfigError>
-    ensures passes { IfOk result (λ _. first_failed (integer_checks key is_byte (optional (integer (pos 0)) (get name.now (view table.now)))) ≡ None) }
+    ensures passes { IfOk result (λ _. first_holding (integer_checks key (number_limit 0 255 key) (optional (integer (pos 0)) (get name.now (view table.now)))) ≡ None) }
     ensures value { IfOk result (λ n. n ≡ integer_of (optional (integer (pos 0)) (get name.now (view table.now)))) }
-    ensures refused { IfErr result (λ e. first_failed (integer_checks key is_byte (optional (integer (pos 0)) (get name.now (view table.now)))) ≡ Some e) }
+    ensures refused { IfErr result (λ e. first_holding (integer_checks key (number_limit 0 255 key) (optional (integer (pos 0)) (get name.now (view table.now)))) ≡ Some e) }
 {
     match table.get(name) {
         None => Ok(0),
@@ -111,10 +111,10 @@ pub(crate) fn read_bytes(
     name: &str,
     key: Key,
 ) -> Result<Vec<u8>, ConfigError>
-    ensures passes { IfOk result (λ _. first_failed (data_checks key (get name.now (view table.now))) ≡ None) }
+    ensures passes { IfOk result (λ _. first_holding (data_checks key (least_limit key) (get name.now (view table.now))) ≡ None) }
     ensures value { IfOk result (λ bytes. bytes.items ≡ bytes_of (get name.now (view table.now))) }
     ensures least { IfOk result (λ bytes. 1 ≤ length bytes.items) }
-    ensures refused { IfErr result (λ e. (e ≡ ConfigError.Memory) ⊎ (first_failed (data_checks key (get name.now (view table.now))) ≡ Some e)) }
+    ensures refused { IfErr result (λ e. (e ≡ ConfigError.Memory) ⊎ (first_holding (data_checks key (least_limit key) (get name.now (view table.now))) ≡ Some e)) }
 {
     let text = text_in(table, name, key)?;
     match hex::decode(alloc, text) {
@@ -128,9 +128,9 @@ pub(crate) fn read_bytes(
 /// A table.
 #[tactic(auto, unfolding(crate::specs::Table::table_checks))]
 pub(crate) fn table_in<'a>(table: &'a Value, name: &str, key: Key) -> Result<&'a Value, ConfigError>
-    ensures passes { IfOk result (λ _. first_failed (table_checks key (get name.now (view table.now))) ≡ None) }
+    ensures passes { IfOk result (λ _. first_holding (table_checks key (get name.now (view table.now))) ≡ None) }
     ensures value { IfOk result (λ t. get name.now (view table.now) ≡ Some (view t.now)) }
-    ensures refused { IfErr result (λ e. first_failed (table_checks key (get name.now (view table.now))) ≡ Some e) }
+    ensures refused { IfErr result (λ e. first_holding (table_checks key (get name.now (view table.now))) ≡ Some e) }
 {
     match table.get(name) {
         None => Err(ConfigError::Missing(key)),
@@ -159,10 +159,10 @@ pub(crate) fn tables_in<'a>(
     key: Key,
     most: usize,
 ) -> Result<&'a [Value], ConfigError>
-    ensures passes { IfOk result (λ _. first_failed (array_checks key most (get name.now (view table.now))) ≡ None) }
+    ensures passes { IfOk result (λ _. first_holding (array_checks key (count_limits most key) (get name.now (view table.now))) ≡ None) }
     ensures value { IfOk result (λ members. map view members.now ≡ members_of (get name.now (view table.now))) }
     ensures most { IfOk result (λ members. length members.now ≤ most) }
-    ensures refused { IfErr result (λ e. first_failed (array_checks key most (get name.now (view table.now))) ≡ Some e) }
+    ensures refused { IfErr result (λ e. first_holding (array_checks key (count_limits most key) (get name.now (view table.now))) ≡ Some e) }
 {
     let Some(value) = table.get(name) else {
         return Err(ConfigError::Missing(key));

@@ -11,7 +11,7 @@ use Rattle.std.specs.Prelude.{nat_lt, if◌then◌else◌}
 use Rattle.std.specs.Prelude.{◌||◌, ◌&&◌, ◌==◌, ◌%◌, ◌^◌, not}
 use Rattle.xcp_packet.specs.declared.Code.{Code}
 use Rattle.xcp_packet.specs.declared.Code.TheVariants.{DaqConfig, DaqActive}
-use Rattle.xcp_memory.specs.Refusals.{first_refusal}
+use Rattle.xcp_packet.specs.Rows.{first_holding}
 use Rattle.xcp_daq.specs.declared.mode.Mode.{Mode}
 use Rattle.xcp_daq.specs.Configuring.{moved_on, cleared, clear_daq_list_after, has_no_pointer, pointed_list_runs}
 use Rattle.xcp_daq.specs.Starting.{stopped, started, synchronised}
@@ -294,10 +294,10 @@ pub pointer_in : (v : DaqValue) (p : Pointer) → IsDaq v → v.pointer ≡ Some
 pointer_in v p h e = subst (IsPointerOf v) e h.pointer
 
 -- nothing is refused with a pointer on a list that is stopped but for the element
-pub pointer_allowed : (v : DaqValue) (p : Pointer) (rows : List (Bool × Code)) → v.pointer ≡ Some p → (list_at v p.list).running ≡ false → first_refusal rows ≡ None → first_refusal ((has_no_pointer v.pointer, DaqConfig) ∷ (pointed_list_runs v.pointer v, DaqActive) ∷ rows) ≡ None
+pub pointer_allowed : (v : DaqValue) (p : Pointer) (rows : List (Bool × Code)) → v.pointer ≡ Some p → (list_at v p.list).running ≡ false → first_holding rows ≡ None → first_holding ((has_no_pointer v.pointer, DaqConfig) ∷ (pointed_list_runs v.pointer v, DaqActive) ∷ rows) ≡ None
 pointer_allowed v p rows e still h =
-    ap (λ (o : Option Pointer). first_refusal ((has_no_pointer o, DaqConfig) ∷ (pointed_list_runs o v, DaqActive) ∷ rows)) e
-    ∙ ap (λ b. first_refusal ((b, DaqActive) ∷ rows)) still
+    ap (λ (o : Option Pointer). first_holding ((has_no_pointer o, DaqConfig) ∷ (pointed_list_runs o v, DaqActive) ∷ rows)) e
+    ∙ ap (λ b. first_holding ((b, DaqActive) ∷ rows)) still
     ∙ h
 
 all_cons : (o : List (Option Element)) (odts : List (List (Option Element))) → odt_size o ≤ 254 → All (λ odt. odt_size odt ≤ 254) odts → All (λ odt. odt_size odt ≤ 254) (o ∷ odts)

@@ -3,7 +3,7 @@
 use Rattle.std.specs.Prelude.{ℕ, ◌+◌, ◌==◌, not, nat_lt, [], ◌∷◌, ◌++◌, length, replicate, Option, Some, None}
 use Rattle.xcp_packet.specs.declared.Code.{Code}
 use Rattle.xcp_packet.specs.declared.Code.TheVariants.{Sequence, OutOfRange, DaqActive, MemoryOverflow}
-use Rattle.xcp_memory.specs.Refusals.{first_refusal}
+use Rattle.xcp_packet.specs.Rows.{first_holding}
 use Rattle.xcp_daq.specs.declared.allocation.Allocation.TheVariants.{FreeDaq, AllocDaq, AllocOdt, AllocOdtEntry}
 use Rattle.xcp_daq.specs.Daq.{DaqValue, no_list, list_at, odt_at, lacks_list, lacks_odt, any_running, all_odts, all_entries, with_list, with_odt}
 use Rattle.xcp_daq.specs.Phase.{may_follow}
@@ -15,7 +15,7 @@ free_daq_after = record { lists = []; pointer = None; last = Some FreeDaq }
 -- when ALLOC_DAQ is refused: there are 16 lists at most
 abbrev pub alloc_daq_refusal : ℕ → DaqValue → Option Code
 alloc_daq_refusal count v =
-    first_refusal (
+    first_holding (
     (not (may_follow v.last AllocDaq), Sequence)
     ∷ (any_running v, DaqActive)
     ∷ (count == 0, OutOfRange)
@@ -29,7 +29,7 @@ alloc_daq_after count v = record v { lists = v.lists ++ replicate count no_list;
 -- when ALLOC_ODT is refused: there are 64 ODTs at most, in all lists
 abbrev pub alloc_odt_refusal : ℕ → ℕ → DaqValue → Option Code
 alloc_odt_refusal list count v =
-    first_refusal (
+    first_holding (
     (not (may_follow v.last AllocOdt), Sequence)
     ∷ (lacks_list v list, OutOfRange)
     ∷ (any_running v, DaqActive)
@@ -45,7 +45,7 @@ alloc_odt_after list count v =
 -- when ALLOC_ODT_ENTRY is refused: there are 256 entries at most, in all ODTs
 abbrev pub alloc_odt_entry_refusal : ℕ → ℕ → ℕ → DaqValue → Option Code
 alloc_odt_entry_refusal list odt count v =
-    first_refusal (
+    first_holding (
     (not (may_follow v.last AllocOdtEntry), Sequence)
     ∷ (lacks_list v list, OutOfRange)
     ∷ (lacks_odt v list odt, OutOfRange)

@@ -6,14 +6,14 @@ use Rattle.xcp_packet.specs.declared.Code.{Code}
 use Rattle.xcp_packet.specs.declared.Code.TheVariants.{OutOfRange, DaqActive, DaqConfig, AccessDenied, ModeNotValid}
 use Rattle.xcp_memory.specs.Layout.{LayoutValue}
 use Rattle.xcp_memory.specs.Words.{lies_inside}
-use Rattle.xcp_memory.specs.Refusals.{first_refusal}
+use Rattle.xcp_packet.specs.Rows.{first_holding}
 use Rattle.xcp_daq.specs.declared.element.Element.{Element}
 use Rattle.xcp_daq.specs.declared.pointer.Pointer.{Pointer}
 use Rattle.xcp_daq.specs.Daq.{DaqValue, DaqList, list_at, odt_at, lacks_list, lacks_odt, lacks_entry, greatest_size, with_list, with_odt}
 
 -- when CLEAR_DAQ_LIST is refused
 abbrev pub clear_daq_list_refusal : ℕ → DaqValue → Option Code
-clear_daq_list_refusal list v = first_refusal ((lacks_list v list, OutOfRange) ∷ [])
+clear_daq_list_refusal list v = first_holding ((lacks_list v list, OutOfRange) ∷ [])
 
 -- a list that is stopped, unselected, and whose entries are unwritten
 abbrev pub cleared : DaqList → DaqList
@@ -26,7 +26,7 @@ clear_daq_list_after list v = with_list v list (cleared (list_at v list))
 -- when SET_DAQ_PTR is refused
 abbrev pub set_daq_ptr_refusal : ℕ → ℕ → ℕ → DaqValue → Option Code
 set_daq_ptr_refusal list odt entry v =
-    first_refusal (
+    first_holding (
     (lacks_list v list, OutOfRange)
     ∷ (lacks_odt v list odt, OutOfRange)
     ∷ (lacks_entry v list odt entry, OutOfRange)
@@ -61,12 +61,12 @@ element_rows layout offset size extension address =
 
 -- when an element is refused
 abbrev pub element_refusal : LayoutValue → ℕ → ℕ → ℕ → ℕ → Option Code
-element_refusal layout offset size extension address = first_refusal (element_rows layout offset size extension address)
+element_refusal layout offset size extension address = first_holding (element_rows layout offset size extension address)
 
 -- when WRITE_DAQ is refused: the pointer is looked at first, and then the element
 abbrev pub write_daq_refusal : LayoutValue → ℕ → ℕ → ℕ → ℕ → DaqValue → Option Code
 write_daq_refusal layout offset size extension address v =
-    first_refusal (
+    first_holding (
     (has_no_pointer v.pointer, DaqConfig)
     ∷ (pointed_list_runs v.pointer v, DaqActive)
     ∷ element_rows layout offset size extension address)
@@ -83,7 +83,7 @@ write_daq_after size address v = written_at v.pointer (record { size = size; add
 
 -- when READ_DAQ is refused
 abbrev pub read_daq_refusal : DaqValue → Option Code
-read_daq_refusal v = first_refusal ((has_no_pointer v.pointer, DaqConfig) ∷ [])
+read_daq_refusal v = first_holding ((has_no_pointer v.pointer, DaqConfig) ∷ [])
 
 -- the entry at the pointer
 abbrev pub entry_by : Option Pointer → DaqValue → Option Element
@@ -106,7 +106,7 @@ read_daq_after v = moved_by v.pointer v
 -- when SET_DAQ_LIST_MODE is refused: the event channel has to be one of the layout's
 abbrev pub set_daq_list_mode_refusal : LayoutValue → ℕ → ℕ → ℕ → ℕ → DaqValue → Option Code
 set_daq_list_mode_refusal layout mode list event prescaler v =
-    first_refusal (
+    first_holding (
     (not (mode == 0), ModeNotValid)
     ∷ (lacks_list v list, OutOfRange)
     ∷ ((list_at v list).running, DaqActive)

@@ -5,7 +5,7 @@ use Rattle.std.specs.List.{list_any}
 use Rattle.xcp_packet.specs.declared.Code.{Code}
 use Rattle.xcp_packet.specs.declared.Code.TheVariants.{OutOfRange, DaqConfig, ModeNotValid}
 use Rattle.xcp_memory.specs.Layout.{LayoutValue}
-use Rattle.xcp_memory.specs.Refusals.{first_refusal}
+use Rattle.xcp_packet.specs.Rows.{first_holding}
 use Rattle.xcp_daq.specs.Daq.{DaqValue, DaqList, list_at, lacks_list, has_large_odt, with_list}
 
 -- a list that is stopped; its selection stays
@@ -23,7 +23,7 @@ selected l = record l { selected = true }
 -- when START_STOP_DAQ_LIST is refused: a stop (mode 0) doesn't look at the ODTs
 abbrev pub start_stop_daq_list_refusal : LayoutValue → ℕ → ℕ → DaqValue → Option Code
 start_stop_daq_list_refusal layout mode list v =
-    first_refusal (
+    first_holding (
     (nat_lt 2 mode, ModeNotValid)
     ∷ (lacks_list v list, OutOfRange)
     ∷ (not (mode == 0) && has_large_odt layout (list_at v list), DaqConfig)
@@ -40,7 +40,7 @@ start_stop_daq_list_after mode list v = with_list v list (switched mode (list_at
 -- when START_STOP_SYNCH is refused: a start (mode 1) looks at the ODTs of the selected lists
 abbrev pub start_stop_synch_refusal : LayoutValue → ℕ → DaqValue → Option Code
 start_stop_synch_refusal layout mode v =
-    first_refusal (
+    first_holding (
     (nat_lt 2 mode, ModeNotValid)
     ∷ ((mode == 1) && list_any (λ l. l.selected && has_large_odt layout l) v.lists, DaqConfig)
     ∷ [])

@@ -5,7 +5,7 @@ use Rattle.std.specs.Prelude.{ℕ, ◌+◌, nat_le, [], ◌∷◌, length, Optio
 use Rattle.xcp_packet.specs.declared.Code.{Code}
 use Rattle.xcp_packet.specs.declared.Code.TheVariants.{OutOfRange}
 use Rattle.xcp_memory.specs.Layout.{LayoutValue, EventValue, no_event}
-use Rattle.xcp_memory.specs.Refusals.{first_refusal}
+use Rattle.xcp_packet.specs.Rows.{first_holding}
 use Rattle.xcp_daq.specs.declared.reports.ListMode.{ListMode}
 use Rattle.xcp_daq.specs.declared.reports.ProcessorInfo.{ProcessorInfo}
 use Rattle.xcp_daq.specs.declared.reports.EventInfo.{EventInfo}
@@ -13,7 +13,7 @@ use Rattle.xcp_daq.specs.Daq.{DaqValue, DaqList, list_at, lacks_list}
 
 -- when GET_DAQ_LIST_MODE is refused
 abbrev pub daq_list_mode_refusal : ℕ → DaqValue → Option Code
-daq_list_mode_refusal list v = first_refusal ((lacks_list v list, OutOfRange) ∷ [])
+daq_list_mode_refusal list v = first_holding ((lacks_list v list, OutOfRange) ∷ [])
 
 -- the mode of a list; bit 0: selected; bit 6: running
 abbrev pub mode_bits : DaqList → ℕ
@@ -30,7 +30,7 @@ processor_info_reply layout v = record { lists = length v.lists; events = length
 
 -- when GET_DAQ_EVENT_INFO is refused
 abbrev pub event_info_refusal : LayoutValue → ℕ → Option Code
-event_info_refusal layout channel = first_refusal ((nat_le (length layout.events) channel, OutOfRange) ∷ [])
+event_info_refusal layout channel = first_holding ((nat_le (length layout.events) channel, OutOfRange) ∷ [])
 
 -- what is told of an event channel
 abbrev pub told_event : EventValue → EventInfo

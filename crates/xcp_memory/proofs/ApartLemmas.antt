@@ -4,36 +4,37 @@ use Rattle.std.proofs.lemmas.List.{take_all}
 use Rattle.std.proofs.Math.Seq.{drop-cons}
 use Rattle.xcp_memory.specs.declared.key.LayoutFault.{LayoutFault}
 use Rattle.xcp_memory.specs.Parts.{Placed}
-use Rattle.xcp_memory.specs.Limits.{first_broken, apart_limit, apart_limits}
-use Rattle.xcp_memory.proofs.LimitLemmas.{broken_left, kept_left}
+use Rattle.xcp_packet.specs.Rows.{first_holding}
+use Rattle.xcp_memory.specs.Limits.{apart_limit, apart_limits}
+use Rattle.xcp_packet.proofs.TestLemmas.{holding_left, none_left}
 
 -- a list from one of its elements on
 pub drop_here : {A : Type 0} (xs : List A) (i : ℕ) (x : A) → i < length xs → x ≡ get_or xs i x → drop i xs ≡ x ∷ drop (i + 1) xs
 drop_here xs i x h e = drop-cons xs i x h ∙ ap (λ y. y ∷ drop (suc i) xs) (sym e) ∙ ap (λ n. x ∷ drop n xs) (sym (add-one i))
 
 -- one more pair that is apart
-pub pair_kept : (a : Placed) (xs : List Placed) (i : ℕ) (x : Placed) → i < length xs → x ≡ get_or xs i x → (apart_limit a x).kept ≡ true → first_broken (map (apart_limit a) (drop i xs)) ≡ first_broken (map (apart_limit a) (drop (i + 1) xs))
+pub pair_kept : (a : Placed) (xs : List Placed) (i : ℕ) (x : Placed) → i < length xs → x ≡ get_or xs i x → (apart_limit a x).0 ≡ false → first_holding (map (apart_limit a) (drop i xs)) ≡ first_holding (map (apart_limit a) (drop (i + 1) xs))
 pair_kept a xs i x h e k =
-    ap (λ ys. first_broken (map (apart_limit a) ys)) (drop_here xs i x h e)
-    ∙ ap (λ b. if b then first_broken (map (apart_limit a) (drop (i + 1) xs)) else Some (apart_limit a x).fault) k
+    ap (λ ys. first_holding (map (apart_limit a) ys)) (drop_here xs i x h e)
+    ∙ ap (λ b. if b then Some (apart_limit a x).1 else first_holding (map (apart_limit a) (drop (i + 1) xs))) k
 
 -- a pair that isn't
-pub pair_broken : (a : Placed) (xs : List Placed) (i : ℕ) (x : Placed) → i < length xs → x ≡ get_or xs i x → (apart_limit a x).kept ≡ false → first_broken (map (apart_limit a) (drop i xs)) ≡ Some (apart_limit a x).fault
+pub pair_broken : (a : Placed) (xs : List Placed) (i : ℕ) (x : Placed) → i < length xs → x ≡ get_or xs i x → (apart_limit a x).0 ≡ true → first_holding (map (apart_limit a) (drop i xs)) ≡ Some (apart_limit a x).1
 pair_broken a xs i x h e k =
-    ap (λ ys. first_broken (map (apart_limit a) ys)) (drop_here xs i x h e)
-    ∙ ap (λ b. if b then first_broken (map (apart_limit a) (drop (i + 1) xs)) else Some (apart_limit a x).fault) k
+    ap (λ ys. first_holding (map (apart_limit a) ys)) (drop_here xs i x h e)
+    ∙ ap (λ b. if b then Some (apart_limit a x).1 else first_holding (map (apart_limit a) (drop (i + 1) xs))) k
 
 -- one more area that is apart from those behind it
-pub area_kept : (xs : List Placed) (i : ℕ) (x : Placed) → i < length xs → x ≡ get_or xs i x → first_broken (map (apart_limit x) (drop (i + 1) xs)) ≡ None → first_broken (apart_limits (drop i xs)) ≡ first_broken (apart_limits (drop (i + 1) xs))
+pub area_kept : (xs : List Placed) (i : ℕ) (x : Placed) → i < length xs → x ≡ get_or xs i x → first_holding (map (apart_limit x) (drop (i + 1) xs)) ≡ None → first_holding (apart_limits (drop i xs)) ≡ first_holding (apart_limits (drop (i + 1) xs))
 area_kept xs i x h e k =
-    ap (λ ys. first_broken (apart_limits ys)) (drop_here xs i x h e)
-    ∙ kept_left (map (apart_limit x) (drop (i + 1) xs)) (apart_limits (drop (i + 1) xs)) k
+    ap (λ ys. first_holding (apart_limits ys)) (drop_here xs i x h e)
+    ∙ none_left (map (apart_limit x) (drop (i + 1) xs)) (apart_limits (drop (i + 1) xs)) k
 
 -- an area that isn't
-pub area_broken : (xs : List Placed) (i : ℕ) (x : Placed) (f : LayoutFault) → i < length xs → x ≡ get_or xs i x → first_broken (map (apart_limit x) (drop (i + 1) xs)) ≡ Some f → first_broken (apart_limits (drop i xs)) ≡ Some f
+pub area_broken : (xs : List Placed) (i : ℕ) (x : Placed) (f : LayoutFault) → i < length xs → x ≡ get_or xs i x → first_holding (map (apart_limit x) (drop (i + 1) xs)) ≡ Some f → first_holding (apart_limits (drop i xs)) ≡ Some f
 area_broken xs i x f h e k =
-    ap (λ ys. first_broken (apart_limits ys)) (drop_here xs i x h e)
-    ∙ broken_left (map (apart_limit x) (drop (i + 1) xs)) (apart_limits (drop (i + 1) xs)) f k
+    ap (λ ys. first_holding (apart_limits ys)) (drop_here xs i x h e)
+    ∙ holding_left (map (apart_limit x) (drop (i + 1) xs)) (apart_limits (drop (i + 1) xs)) f k
 
 -- a slice from one of its places to its end
 pub slice_rest : {A : Type 0} (xs : List A) (n : ℕ) → take (length xs - n) (drop n xs) ≡ drop n xs

@@ -7,7 +7,7 @@ use Rattle.std.proofs.lemmas.List.{set-append_left, set-append_right, get_or_app
 use Rattle.std.proofs.lemmas.Bool.Decides.{nat_tests}
 use Rattle.std.proofs.lemmas.Grind.{common_steps}
 use Rattle.xcp_memory.specs.Copying.{with_content, content, copy_refusal, pages_copied, lacks_segment}
-use Rattle.xcp_memory.specs.Refusals.{first_refusal}
+use Rattle.xcp_packet.specs.Rows.{first_holding}
 use Rattle.xcp_memory.specs.Switch.{lacks_page}
 use Rattle.xcp_packet.specs.declared.Code.{Code}
 use Rattle.xcp_packet.specs.declared.Code.TheVariants.{SegmentNotValid, PageNotValid, WriteProtected, OutOfRange}
@@ -78,7 +78,7 @@ is_segment-filled s size page bytes h k l =
     }
 
 -- no test of a list without a refusal holds
-pub first_passes : (a : Bool) (x : Code) (rows : List (Bool × Code)) → first_refusal ((a, x) ∷ rows) ≡ None → (a ≡ false) × (first_refusal rows ≡ None)
+pub first_passes : (a : Bool) (x : Code) (rows : List (Bool × Code)) → first_holding ((a, x) ∷ rows) ≡ None → (a ≡ false) × (first_holding rows ≡ None)
 first_passes false x rows h = (refl, h)
 first_passes true x rows h = cc
 
@@ -88,7 +88,7 @@ below n i h = grind (arith, nat_tests, h)
 equal : (n m : ℕ) → not (n == m) ≡ false → n ≡ m
 equal n m h = grind (arith, nat_tests, h)
 
-six_pass : (a b c d e f : Bool) → first_refusal ((a, SegmentNotValid) ∷ (b, PageNotValid) ∷ (c, SegmentNotValid) ∷ (d, PageNotValid) ∷ (e, WriteProtected) ∷ (f, OutOfRange) ∷ []) ≡ None → (c ≡ false) × (d ≡ false) × (f ≡ false)
+six_pass : (a b c d e f : Bool) → first_holding ((a, SegmentNotValid) ∷ (b, PageNotValid) ∷ (c, SegmentNotValid) ∷ (d, PageNotValid) ∷ (e, WriteProtected) ∷ (f, OutOfRange) ∷ []) ≡ None → (c ≡ false) × (d ≡ false) × (f ≡ false)
 six_pass a b c d e f h =
     let last : List (Bool × Code) = (e, WriteProtected) ∷ (f, OutOfRange) ∷ [] in
     let target : List (Bool × Code) = (c, SegmentNotValid) ∷ (d, PageNotValid) ∷ last in

@@ -1,42 +1,17 @@
--- The first broken limit of lists of limits that are put together.
-use Rattle.std.proofs.Common.{◌≡◌, ℕ, ◌+◌, ◌<◌, ◌≤◌, true, false, List, length, map, ◌++◌, ◌∷◌, [], take, drop, Some, None, Option, refl, sym, ◌∙◌, ap, arith, add-zero, add-one, append_assoc, sum_by, get_or, if◌then◌else◌, suc, zero-add, nat_le}
+-- The first broken limit of parts that are looked at one by one.
+use Rattle.std.proofs.Common.{◌≡◌, not, ℕ, ◌+◌, ◌<◌, ◌≤◌, true, List, length, map, ◌++◌, ◌∷◌, [], take, drop, Some, None, Option, refl, sym, ◌∙◌, ap, arith, add-zero, add-one, append_assoc, sum_by, get_or, if◌then◌else◌, suc, zero-add, nat_le}
 use Rattle.std.specs.List.{flat_map, enumerate_from}
 use Rattle.std.proofs.Math.Seq.{drop-cons}
 use Rattle.std.proofs.lemmas.List.{take-append-drop, take_more, map-id}
 use Rattle.std.proofs.lemmas.List.Sums.{sum_by-append}
+use Rattle.xcp_packet.proofs.TestLemmas.{holding_left, none_left}
 use Rattle.xcp_memory.specs.declared.key.LayoutFault.{LayoutFault}
 use Rattle.xcp_memory.specs.declared.parts.SegmentPart.{SegmentPart}
 use Rattle.xcp_memory.specs.declared.parts.EventPart.{EventPart}
 use Rattle.xcp_memory.specs.Parts.{size}
-use Rattle.xcp_memory.specs.Limits.{Limit, first_broken, limits_in, segment_limits, segments_limits, event_limits, events_limits}
+use Rattle.xcp_packet.specs.Rows.{first_holding}
+use Rattle.xcp_memory.specs.Limits.{Limit, limits_in, segment_limits, segments_limits, event_limits, events_limits}
 use Rattle.std.proofs.lemmas.Bool.Decides.{nat_tests}
-
--- a limit that is broken is the first one, whatever stands behind
-pub broken_left : (xs ys : List Limit) (e : LayoutFault) → first_broken xs ≡ Some e → first_broken (xs ++ ys) ≡ Some e
-broken_left [] ys e h = cc
-broken_left (x ∷ xs) ys e h =
-    elim x.kept as (λ b. (if b then first_broken xs else Some x.fault) ≡ Some e → (if b then first_broken (xs ++ ys) else Some x.fault) ≡ Some e) [
-      | true ↦ λ k. broken_left xs ys e k
-      | false ↦ λ k. k
-    ] h
-
--- where all limits are kept, the first broken one is that of the limits behind
-pub kept_left : (xs ys : List Limit) → first_broken xs ≡ None → first_broken (xs ++ ys) ≡ first_broken ys
-kept_left [] ys h = refl
-kept_left (x ∷ xs) ys h =
-    elim x.kept as (λ b. (if b then first_broken xs else Some x.fault) ≡ None → (if b then first_broken (xs ++ ys) else Some x.fault) ≡ first_broken ys) [
-      | true ↦ λ k. kept_left xs ys k
-      | false ↦ λ k. cc
-    ] h
-
--- where all limits of two lists are kept, those of each are
-pub kept_both : (xs ys : List Limit) → first_broken (xs ++ ys) ≡ None → (first_broken xs ≡ None) × (first_broken ys ≡ None)
-kept_both [] ys h = (refl, h)
-kept_both (x ∷ xs) ys h =
-    elim x.kept as (λ b. (if b then first_broken (xs ++ ys) else Some x.fault) ≡ None → ((if b then first_broken xs else Some x.fault) ≡ None) × (first_broken ys ≡ None)) [
-      | true ↦ λ k. kept_both xs ys k
-      | false ↦ λ k. cc
-    ] h
 
 module _ {A : Type 0} (f : ℕ × A → List Limit) where
   -- the limits of numbered parts, put together
@@ -53,19 +28,19 @@ module _ {A : Type 0} (f : ℕ × A → List Limit) where
       numbered-append 0 xs ys ∙ ap (λ n. flat_map f (enumerate_from 0 xs) ++ flat_map f (enumerate_from n ys)) (zero-add (length xs))
 
   -- one more part keeps its limits
-  pub one_more_kept : (xs : List A) (x : A) → first_broken (flat_map f (enumerate_from 0 xs)) ≡ None → first_broken (f (length xs, x)) ≡ None → first_broken (flat_map f (enumerate_from 0 (xs ++ x ∷ []))) ≡ None
+  pub one_more_kept : (xs : List A) (x : A) → first_holding (flat_map f (enumerate_from 0 xs)) ≡ None → first_holding (f (length xs, x)) ≡ None → first_holding (flat_map f (enumerate_from 0 (xs ++ x ∷ []))) ≡ None
   one_more_kept xs x h k =
-      ap first_broken (numbered xs (x ∷ []))
-      ∙ kept_left (flat_map f (enumerate_from 0 xs)) (f (length xs, x) ++ []) h
-      ∙ kept_left (f (length xs, x)) [] k
+      ap first_holding (numbered xs (x ∷ []))
+      ∙ none_left (flat_map f (enumerate_from 0 xs)) (f (length xs, x) ++ []) h
+      ∙ none_left (f (length xs, x)) [] k
 
   -- one more part breaks one, whatever stands behind
-  pub one_more_broken : (xs : List A) (x : A) (rest : List A) (e : LayoutFault) → first_broken (flat_map f (enumerate_from 0 xs)) ≡ None → first_broken (f (length xs, x)) ≡ Some e → first_broken (flat_map f (enumerate_from 0 (xs ++ x ∷ rest))) ≡ Some e
+  pub one_more_broken : (xs : List A) (x : A) (rest : List A) (e : LayoutFault) → first_holding (flat_map f (enumerate_from 0 xs)) ≡ None → first_holding (f (length xs, x)) ≡ Some e → first_holding (flat_map f (enumerate_from 0 (xs ++ x ∷ rest))) ≡ Some e
   one_more_broken xs x rest e h k =
       let behind = flat_map f (enumerate_from (length xs + 1) rest) in
-      ap first_broken (numbered xs (x ∷ rest))
-      ∙ kept_left (flat_map f (enumerate_from 0 xs)) (f (length xs, x) ++ behind) h
-      ∙ broken_left (f (length xs, x)) behind e k
+      ap first_holding (numbered xs (x ∷ rest))
+      ∙ none_left (flat_map f (enumerate_from 0 xs)) (f (length xs, x) ++ behind) h
+      ∙ holding_left (f (length xs, x)) behind e k
 
 -- a list, split at one of its elements
 pub split_at : {A : Type 0} (all xs : List A) (x : A) → map (λ (y : A). y) xs ≡ take (length xs) all → (length xs < length all) × (x ≡ get_or all (length xs) x) → all ≡ xs ++ x ∷ drop (length xs + 1) all
@@ -90,28 +65,31 @@ pub record IsNext {A : Type 0} (all xs : List A) (x : A) : Type 0 where
   pub next : x ≡ get_or all (length xs) x
 
 -- one more segment keeps its limits
-pub segment_kept : (all xs : List SegmentPart) (x : SegmentPart) (i total : ℕ) → IsNext all xs x → i ≡ length xs → total ≡ sum_by size xs → first_broken (flat_map (limits_in all) (enumerate_from 0 xs)) ≡ None → first_broken (segment_limits i (total + size x) x) ≡ None → first_broken (flat_map (limits_in all) (enumerate_from 0 (xs ++ x ∷ []))) ≡ None
+pub segment_kept : (all xs : List SegmentPart) (x : SegmentPart) (i total : ℕ) → IsNext all xs x → i ≡ length xs → total ≡ sum_by size xs → first_holding (flat_map (limits_in all) (enumerate_from 0 xs)) ≡ None → first_holding (segment_limits i (total + size x) x) ≡ None → first_holding (flat_map (limits_in all) (enumerate_from 0 (xs ++ x ∷ []))) ≡ None
 segment_kept all xs x i total n p q h k =
-    one_more_kept (limits_in all) xs x h (ap first_broken (limits_here all xs x n.front (n.below, n.next)) ∙ (rw (← p, ← q) k))
+    one_more_kept (limits_in all) xs x h (ap first_holding (limits_here all xs x n.front (n.below, n.next)) ∙ (rw (← p, ← q) k))
 
 -- where there is one at least, and no more than the most, the limits behind decide
-within_counts : (n most : ℕ) → 1 ≤ n → n ≤ most → (a b : LayoutFault) (r : Option LayoutFault) {s : Option LayoutFault} → r ≡ s → (if nat_le 1 n then (if nat_le n most then r else Some b) else Some a) ≡ s
-within_counts n most h k a b r e = grind (arith, nat_tests)
+within_counts : (n most : ℕ) → 1 ≤ n → n ≤ most → (a b : LayoutFault) (r : Option LayoutFault) {s : Option LayoutFault} → r ≡ s → (if not (nat_le 1 n) then Some a else (if not (nat_le n most) then Some b else r)) ≡ s
+within_counts n most h k a b r e =
+    let least : nat_le 1 n ≡ true = grind (arith, nat_tests) in
+    let few : nat_le n most ≡ true = grind (arith, nat_tests) in
+    rw (least, few) e
 
 -- one more segment breaks one
-pub segment_broken : (all xs : List SegmentPart) (x : SegmentPart) (i total : ℕ) (e : LayoutFault) → IsNext all xs x → i ≡ length xs → total ≡ sum_by size xs → first_broken (flat_map (limits_in all) (enumerate_from 0 xs)) ≡ None → first_broken (segment_limits i (total + size x) x) ≡ Some e → 1 ≤ length all → length all ≤ 4 → first_broken (segments_limits all) ≡ Some e
+pub segment_broken : (all xs : List SegmentPart) (x : SegmentPart) (i total : ℕ) (e : LayoutFault) → IsNext all xs x → i ≡ length xs → total ≡ sum_by size xs → first_holding (flat_map (limits_in all) (enumerate_from 0 xs)) ≡ None → first_holding (segment_limits i (total + size x) x) ≡ Some e → 1 ≤ length all → length all ≤ 4 → first_holding (segments_limits all) ≡ Some e
 segment_broken all xs x i total e n p q h k least most =
-    let broken = one_more_broken (limits_in all) xs x (drop (length xs + 1) all) e h (ap first_broken (limits_here all xs x n.front (n.below, n.next)) ∙ (rw (← p, ← q) k)) in
-    let whole = ap (λ ys. first_broken (flat_map (limits_in all) (enumerate_from 0 ys))) (split_at all xs x n.front (n.below, n.next)) ∙ broken in
+    let broken = one_more_broken (limits_in all) xs x (drop (length xs + 1) all) e h (ap first_holding (limits_here all xs x n.front (n.below, n.next)) ∙ (rw (← p, ← q) k)) in
+    let whole = ap (λ ys. first_holding (flat_map (limits_in all) (enumerate_from 0 ys))) (split_at all xs x n.front (n.below, n.next)) ∙ broken in
     within_counts (length all) 4 least most _ _ _ whole
 
 -- one more event channel keeps its limits
-pub event_kept : (xs : List EventPart) (x : EventPart) (i : ℕ) → i ≡ length xs → first_broken (flat_map event_limits (enumerate_from 0 xs)) ≡ None → first_broken (event_limits (i, x)) ≡ None → first_broken (flat_map event_limits (enumerate_from 0 (xs ++ x ∷ []))) ≡ None
+pub event_kept : (xs : List EventPart) (x : EventPart) (i : ℕ) → i ≡ length xs → first_holding (flat_map event_limits (enumerate_from 0 xs)) ≡ None → first_holding (event_limits (i, x)) ≡ None → first_holding (flat_map event_limits (enumerate_from 0 (xs ++ x ∷ []))) ≡ None
 event_kept xs x i p h k = one_more_kept event_limits xs x h (rw (← p) k)
 
 -- one more event channel breaks one
-pub event_broken : (all xs : List EventPart) (x : EventPart) (i : ℕ) (e : LayoutFault) → IsNext all xs x → i ≡ length xs → first_broken (flat_map event_limits (enumerate_from 0 xs)) ≡ None → first_broken (event_limits (i, x)) ≡ Some e → 1 ≤ length all → length all ≤ 8 → first_broken (events_limits all) ≡ Some e
+pub event_broken : (all xs : List EventPart) (x : EventPart) (i : ℕ) (e : LayoutFault) → IsNext all xs x → i ≡ length xs → first_holding (flat_map event_limits (enumerate_from 0 xs)) ≡ None → first_holding (event_limits (i, x)) ≡ Some e → 1 ≤ length all → length all ≤ 8 → first_holding (events_limits all) ≡ Some e
 event_broken all xs x i e n p h k least most =
     let broken = one_more_broken event_limits xs x (drop (length xs + 1) all) e h (rw (← p) k) in
-    let whole = ap (λ ys. first_broken (flat_map event_limits (enumerate_from 0 ys))) (split_at all xs x n.front (n.below, n.next)) ∙ broken in
+    let whole = ap (λ ys. first_holding (flat_map event_limits (enumerate_from 0 ys))) (split_at all xs x n.front (n.below, n.next)) ∙ broken in
     within_counts (length all) 8 least most _ _ _ whole

@@ -11,7 +11,7 @@ use Rattle.std.specs.Prelude.{if◌then◌else◌, not}
 use Rattle.xcp_memory.specs.Pages.{PagesValue, SegmentPages, IsSegment, IsPages, segment_at, no_segment, no_pages}
 use Rattle.xcp_packet.specs.declared.Code.{Code}
 use Rattle.xcp_packet.specs.declared.Code.TheVariants.{ModeNotValid, SegmentNotValid, PageNotValid}
-use Rattle.xcp_memory.specs.Refusals.{first_refusal}
+use Rattle.xcp_packet.specs.Rows.{first_holding}
 use Rattle.xcp_memory.specs.Switch.{is_switch_mode, gives_ecu, gives_xcp, is_of_all, names_none, lacks_page, concerned, switch_refusal, segment_switched}
 
 -- a mode with another bit is none
@@ -43,13 +43,13 @@ mapped_more {X} f xs ys i d y h so_far new =
     ∙ ap (λ (zs : List X). zs ++ drop (i + 1) xs) (sym (map_more f xs i d h))
 
 -- nothing is refused exactly where no test holds
-no_refusal : (a b c : Bool) (x y z : Code) → a ≡ false → b ≡ false → c ≡ false → first_refusal ((a, x) ∷ (b, y) ∷ (c, z) ∷ []) ≡ None
+no_refusal : (a b c : Bool) (x y z : Code) → a ≡ false → b ≡ false → c ≡ false → first_holding ((a, x) ∷ (b, y) ∷ (c, z) ∷ []) ≡ None
 no_refusal false false false x y z h k l = refl
 no_refusal false false true x y z h k l = cc
 no_refusal false true c x y z h k l = cc
 no_refusal true b c x y z h k l = cc
 
-none_holds : (a b c : Bool) (x y z : Code) → first_refusal ((a, x) ∷ (b, y) ∷ (c, z) ∷ []) ≡ None → (a ≡ false) × (b ≡ false) × (c ≡ false)
+none_holds : (a b c : Bool) (x y z : Code) → first_holding ((a, x) ∷ (b, y) ∷ (c, z) ∷ []) ≡ None → (a ≡ false) × (b ≡ false) × (c ≡ false)
 none_holds false false false x y z h = (refl, refl, refl)
 none_holds false false true x y z h = cc
 none_holds false true c x y z h = cc

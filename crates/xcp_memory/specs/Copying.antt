@@ -4,7 +4,7 @@ use Rattle.std.specs.Prelude.{◌≡◌, ℕ, Bool, false, not, List, [], ◌∷
 use Rattle.xcp_packet.specs.declared.Code.{Code}
 use Rattle.xcp_packet.specs.declared.Code.TheVariants.{SegmentNotValid, PageNotValid, WriteProtected, OutOfRange}
 use Rattle.xcp_memory.specs.Pages.{PagesValue, SegmentPages, segment_at}
-use Rattle.xcp_memory.specs.Refusals.{first_refusal}
+use Rattle.xcp_packet.specs.Rows.{first_holding}
 use Rattle.xcp_memory.specs.Switch.{lacks_page}
 
 -- the content of a page of a segment
@@ -23,7 +23,7 @@ pub record HasPage (segment page : ℕ) (v : PagesValue) : Type 0 where
 -- Why there is no page of this number in a segment of this number, if there is none.
 abbrev pub page_refusal_of : ℕ → ℕ → PagesValue → Option Code
 page_refusal_of segment page v =
-    first_refusal (
+    first_holding (
     (lacks_segment segment v, SegmentNotValid)
     ∷ (lacks_page page (segment_at v segment), PageNotValid)
     ∷ [])
@@ -32,7 +32,7 @@ page_refusal_of segment page v =
 -- the reference page, and whether the two pages have the same size.
 abbrev pub copy_refusal : ℕ → ℕ → ℕ → ℕ → PagesValue → Option Code
 copy_refusal source source_page target target_page v =
-    first_refusal (
+    first_holding (
     (lacks_segment source v, SegmentNotValid)
     ∷ (lacks_page source_page (segment_at v source), PageNotValid)
     ∷ (lacks_segment target v, SegmentNotValid)

@@ -5,7 +5,7 @@ use Rattle.xcp_packet.specs.declared.Code.{Code}
 use Rattle.xcp_packet.specs.declared.Code.TheVariants.{ModeNotValid, SegmentNotValid}
 use Rattle.xcp_memory.specs.Copying.{lacks_segment, with_content}
 use Rattle.xcp_memory.specs.Pages.{PagesValue, SegmentPages, segment_at, xcp_page}
-use Rattle.xcp_memory.specs.Refusals.{first_refusal}
+use Rattle.xcp_packet.specs.Rows.{first_holding}
 
 -- bit 0 of a segment mode: FREEZE
 abbrev pub is_freeze : ℕ → Bool
@@ -18,7 +18,7 @@ is_segment_mode mode = bit_and mode 0x01 == mode
 -- Why a segment's mode isn't set, if it isn't.
 abbrev pub set_freeze_refusal : ℕ → ℕ → PagesValue → Option Code
 set_freeze_refusal mode segment v =
-    first_refusal (
+    first_holding (
     (not (is_segment_mode mode), ModeNotValid)
     ∷ (lacks_segment segment v, SegmentNotValid)
     ∷ [])
@@ -30,7 +30,7 @@ pages_with_mode mode segment v =
 
 -- Why a segment's mode isn't told, if it isn't.
 abbrev pub freeze_mode_refusal : ℕ → PagesValue → Option Code
-freeze_mode_refusal segment v = first_refusal ((lacks_segment segment v, SegmentNotValid) ∷ [])
+freeze_mode_refusal segment v = first_holding ((lacks_segment segment v, SegmentNotValid) ∷ [])
 
 -- the mode byte of a segment
 abbrev pub segment_mode : SegmentPages → ℕ

@@ -1,4 +1,3 @@
-pub mod Checksums
 pub mod Layout
 pub mod Parts
 pub mod Limits

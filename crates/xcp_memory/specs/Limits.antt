@@ -1,27 +1,20 @@
 -- The limits of a layout's parts, and the fault of the first one that is broken.
-use Rattle.std.specs.Prelude.{ℕ, ℤ, pos, negsuc, ◌+◌, Bool, false, ◌&&◌, ◌||◌, List, [], ◌∷◌, ◌++◌, length, map, sum_by, take, Option, Some, None, nat_le, if◌then◌else◌}
+use Rattle.std.specs.Prelude.{ℕ, ℤ, pos, negsuc, ◌+◌, Bool, false, ◌&&◌, ◌||◌, List, [], ◌∷◌, ◌++◌, length, map, sum_by, take, Option, nat_le}
 use Rattle.std.specs.List.{flat_map, enumerate_from, list_all}
+use Rattle.xcp_packet.specs.Rows.{first_holding, must}
 use Rattle.xcp_memory.specs.declared.parts.Parts.{Parts}
 use Rattle.xcp_memory.specs.declared.parts.SegmentPart.{SegmentPart}
 use Rattle.xcp_memory.specs.declared.parts.EventPart.{EventPart}
+use Rattle.xcp_memory.specs.declared.key.Key.{Key}
 use Rattle.xcp_memory.specs.declared.key.Key.TheVariants as key
 use Rattle.xcp_memory.specs.declared.key.LayoutFault.{LayoutFault}
 use Rattle.xcp_memory.specs.declared.key.LayoutFault.TheVariants.{Range, Overlap, TooMany}
 use Rattle.xcp_memory.specs.Parts.{Placed, number, size, layout_of, areas}
 use Rattle.xcp_memory.specs.Layout.{Extent}
 
--- a limit: whether it is kept, and the fault if it isn't
-pub record Limit : Type 0 where
-  pub kept : Bool
-  pub fault : LayoutFault
-
-abbrev pub must : Bool → LayoutFault → Limit
-must kept fault = record { kept = kept; fault = fault }
-
--- the fault of the first limit that is broken, where there is one
-abbrev pub first_broken : List Limit → Option LayoutFault
-first_broken [] = None
-first_broken (l ∷ ls) = if l.kept then first_broken ls else Some l.fault
+-- a limit: the test that it is broken, and the fault if it is
+abbrev pub Limit : Type 0
+Limit = Bool × LayoutFault
 
 -- a number from `least` to `most`
 abbrev pub is_within : ℕ → ℕ → ℤ → Bool
@@ -43,29 +36,68 @@ is_address a = is_within 0 0xFFFF_FFFE a
 abbrev pub ends_in_time : ℤ → ℕ → Bool
 ends_in_time a n = nat_le (number a + n) 0xFFFF_FFFF
 
-abbrev pub is_byte : ℤ → Bool
-is_byte n = is_within 0 255 n
-
 -- no address lies in both
 abbrev pub is_apart : Extent → Extent → Bool
 is_apart a b = nat_le (a.address + a.size) b.address || nat_le (b.address + b.size) a.address
 
+-- a text of 1 to `most` printable characters, and a number from `least` to `most`
+abbrev pub text_limit : ℕ → Key → List ℕ → Limit
+text_limit most k bytes = must (is_text most bytes) (Range k)
+
+abbrev pub number_limit : ℕ → ℕ → Key → ℤ → Limit
+number_limit least most k n = must (is_within least most n) (Range k)
+
+-- one at least, and so many at most
+abbrev pub least_limit : Key → ℕ → Limit
+least_limit k n = must (nat_le 1 n) (Range k)
+
+abbrev pub most_limit : ℕ → Key → ℕ → Limit
+most_limit most k n = must (nat_le n most) (TooMany k)
+
+abbrev pub count_limits : ℕ → Key → ℕ → List Limit
+count_limits most k n = least_limit k n ∷ most_limit most k n ∷ []
+
+abbrev pub end_limit : Key → ℤ → ℕ → Limit
+end_limit k a n = must (ends_in_time a n) (Range k)
+
 -- the values of the slave itself
+abbrev pub id_limit : List ℕ → Limit
+id_limit = text_limit 64 key.Id
+
+abbrev pub max_cto_limit : ℤ → Limit
+max_cto_limit = number_limit 8 255 key.MaxCto
+
+abbrev pub max_dto_limit : ℤ → Limit
+max_dto_limit = number_limit 8 255 key.MaxDto
+
 abbrev pub own_limits : Parts → List Limit
 own_limits p =
-    must (is_text 64 p.id.items) (Range key.Id)
-    ∷ must (is_within 8 255 p.max_cto) (Range key.MaxCto)
-    ∷ must (is_within 8 255 p.max_dto) (Range key.MaxDto)
-    ∷ must (is_within 1 3 p.checksum) (Range key.Checksum)
+    id_limit p.id.items
+    ∷ max_cto_limit p.max_cto
+    ∷ max_dto_limit p.max_dto
+    ∷ number_limit 1 3 key.Checksum p.checksum
     ∷ []
+
+-- how many segments there are; of segment i the first address, its bytes, and the bytes in all with its own
+abbrev pub segment_counts : ℕ → List Limit
+segment_counts = count_limits 4 key.Segment
+
+abbrev pub address_limit : ℕ → ℤ → Limit
+address_limit i = number_limit 0 0xFFFF_FFFE (key.Address i)
+
+abbrev pub data_limit : ℕ → ℕ → Limit
+data_limit i = least_limit (key.Data i)
+
+abbrev pub total_limit : ℕ → ℕ → Limit
+total_limit i = most_limit 2040 (key.Data i)
 
 -- segment i, with which there are so many bytes in all
 abbrev pub segment_limits : ℕ → ℕ → SegmentPart → List Limit
 segment_limits i total s =
-    must (is_address s.address) (Range (key.Address i))
-    ∷ must (nat_le 1 (size s)) (Range (key.Data i))
-    ∷ must (nat_le total 2040) (TooMany (key.Data i))
-    ∷ must (ends_in_time s.address (size s)) (Range (key.Address i))
+    address_limit i s.address
+    ∷ data_limit i (size s)
+    ∷ total_limit i total
+    ∷ end_limit (key.Address i) s.address (size s)
     ∷ []
 
 -- segment i of these, by the bytes up to its own
@@ -73,32 +105,49 @@ abbrev pub limits_in : List SegmentPart → ℕ × SegmentPart → List Limit
 limits_in ss (i, s) = segment_limits i (sum_by size (take (i + 1) ss)) s
 
 abbrev pub segments_limits : List SegmentPart → List Limit
-segments_limits ss =
-    must (nat_le 1 (length ss)) (Range key.Segment)
-    ∷ must (nat_le (length ss) 4) (TooMany key.Segment)
-    ∷ flat_map (limits_in ss) (enumerate_from 0 ss)
+segments_limits ss = segment_counts (length ss) ++ flat_map (limits_in ss) (enumerate_from 0 ss)
+
+-- where the signals stand, and how many bytes they have
+abbrev pub signals_address_limit : ℤ → Limit
+signals_address_limit = number_limit 0 0xFFFF_FFFE key.SignalsAddress
+
+abbrev pub signals_length_limit : ℤ → Limit
+signals_length_limit = number_limit 1 64 key.SignalsLength
 
 abbrev pub signals_limits : ℤ → ℤ → List Limit
 signals_limits address n =
-    must (is_address address) (Range key.SignalsAddress)
-    ∷ must (is_within 1 64 n) (Range key.SignalsLength)
-    ∷ must (ends_in_time address (number n)) (Range key.SignalsAddress)
+    signals_address_limit address
+    ∷ signals_length_limit n
+    ∷ end_limit key.SignalsAddress address (number n)
     ∷ []
+
+-- how many event channels there are; of event channel i the name and the three numbers
+abbrev pub event_counts : ℕ → List Limit
+event_counts = count_limits 8 key.Event
+
+abbrev pub name_limit : ℕ → List ℕ → Limit
+name_limit i = text_limit 32 (key.Name i)
+
+abbrev pub cycle_limit : ℕ → ℤ → Limit
+cycle_limit i = number_limit 0 255 (key.Cycle i)
+
+abbrev pub unit_limit : ℕ → ℤ → Limit
+unit_limit i = number_limit 0 255 (key.Unit i)
+
+abbrev pub priority_limit : ℕ → ℤ → Limit
+priority_limit i = number_limit 0 255 (key.Priority i)
 
 -- event channel i
 abbrev pub event_limits : ℕ × EventPart → List Limit
 event_limits (i, e) =
-    must (is_text 32 e.name.items) (Range (key.Name i))
-    ∷ must (is_byte e.cycle) (Range (key.Cycle i))
-    ∷ must (is_byte e.unit) (Range (key.Unit i))
-    ∷ must (is_byte e.priority) (Range (key.Priority i))
+    name_limit i e.name.items
+    ∷ cycle_limit i e.cycle
+    ∷ unit_limit i e.unit
+    ∷ priority_limit i e.priority
     ∷ []
 
 abbrev pub events_limits : List EventPart → List Limit
-events_limits es =
-    must (nat_le 1 (length es)) (Range key.Event)
-    ∷ must (nat_le (length es) 8) (TooMany key.Event)
-    ∷ flat_map event_limits (enumerate_from 0 es)
+events_limits es = event_counts (length es) ++ flat_map event_limits (enumerate_from 0 es)
 
 -- two areas share no address
 abbrev pub apart_limit : Placed → Placed → Limit
@@ -122,4 +171,4 @@ limits p =
 
 -- the fault of the first limit that these parts break
 abbrev pub first_fault : Parts → Option LayoutFault
-first_fault p = first_broken (limits p)
+first_fault p = first_holding (limits p)

@@ -5,7 +5,7 @@ use Rattle.std.specs.List.{list_any}
 use Rattle.xcp_packet.specs.declared.Code.{Code}
 use Rattle.xcp_packet.specs.declared.Code.TheVariants.{ModeNotValid, SegmentNotValid, PageNotValid}
 use Rattle.xcp_memory.specs.Pages.{PagesValue, SegmentPages, segment_at}
-use Rattle.xcp_memory.specs.Refusals.{first_refusal}
+use Rattle.xcp_packet.specs.Rows.{first_holding}
 
 -- bits 0 and 1 of a mode of SET_CAL_PAGE: the controller (ECU), the tool (XCP) gets the page
 abbrev pub gives_ecu : ℕ → Bool
@@ -37,7 +37,7 @@ lacks_page page s = nat_le (length s.pages) page
 -- Why a switch is refused, if it is.
 abbrev pub switch_refusal : ℕ → ℕ → ℕ → PagesValue → Option Code
 switch_refusal mode segment page v =
-    first_refusal (
+    first_holding (
     (not (is_switch_mode mode), ModeNotValid)
     ∷ (names_none mode segment v, SegmentNotValid)
     ∷ (list_any (lacks_page page) (concerned mode segment v), PageNotValid)
@@ -56,7 +56,7 @@ pages_switched mode segment page v =
 -- Why the number of a page isn't told, if it isn't: mode 1 asks for the controller's page, 2 for the tool's.
 abbrev pub page_refusal : ℕ → ℕ → PagesValue → Option Code
 page_refusal mode segment v =
-    first_refusal (
+    first_holding (
     (not ((mode == 1) || (mode == 2)), ModeNotValid)
     ∷ (nat_le (length v.segments) segment, SegmentNotValid)
     ∷ [])

@@ -2,7 +2,8 @@
 ghost use Rattle.std.specs.Prelude.{◌≡◌, ◌≤◌, ◌∷◌, ◌++◌, [], length, map, true, false, Some, None, IfOk, IfErr};
 ghost use Rattle.std.specs.List.{enumerate_from};
 ghost use Rattle.xcp_memory.specs.Parts.{Placed as PlacedValue, placed_segment};
-ghost use Rattle.xcp_memory.specs.Limits.{first_broken, apart_limit, apart_limits};
+ghost use Rattle.xcp_packet.specs.Rows.{first_holding};
+ghost use Rattle.xcp_memory.specs.Limits.{apart_limit, apart_limits};
 
 use crate::extent::Extent;
 use crate::limits::{MAX_AREAS, MAX_SEGMENTS};
@@ -59,8 +60,8 @@ pub(crate) fn areas_of(segments: &[Segment], signals: Extent) -> ArrayVec<Placed
 
 /// Checks that two areas share no address.
 fn check_pair(first: &Placed, other: &Placed) -> Result<(), LayoutFault>
-    ensures ok { IfOk result (λ _. (apart_limit first.now other.now).kept ≡ true) }
-    ensures refused { IfErr result (λ e. ((apart_limit first.now other.now).kept ≡ false) × (e ≡ (apart_limit first.now other.now).fault)) }
+    ensures ok { IfOk result (λ _. (apart_limit first.now other.now).0 ≡ false) }
+    ensures refused { IfErr result (λ e. ((apart_limit first.now other.now).0 ≡ true) × (e ≡ (apart_limit first.now other.now).1)) }
 {
     if first.extent.is_apart(&other.extent) {
         Ok(())
@@ -71,8 +72,8 @@ fn check_pair(first: &Placed, other: &Placed) -> Result<(), LayoutFault>
 
 /// Checks that an area shares no address with these.
 fn check_against(first: &Placed, others: &[Placed]) -> Result<(), LayoutFault>
-    ensures ok { IfOk result (λ _. first_broken (map (apart_limit first.now) others.now) ≡ None) }
-    ensures refused { IfErr result (λ e. first_broken (map (apart_limit first.now) others.now) ≡ Some e) }
+    ensures ok { IfOk result (λ _. first_holding (map (apart_limit first.now) others.now) ≡ None) }
+    ensures refused { IfErr result (λ e. first_holding (map (apart_limit first.now) others.now) ≡ Some e) }
 {
     for other in others {
         check_pair(first, other)?;
@@ -82,8 +83,8 @@ fn check_against(first: &Placed, others: &[Placed]) -> Result<(), LayoutFault>
 
 /// Checks that no two areas share an address.
 pub(crate) fn check_apart(areas: &[Placed]) -> Result<(), LayoutFault>
-    ensures ok { IfOk result (λ _. first_broken (apart_limits areas.now) ≡ None) }
-    ensures refused { IfErr result (λ e. first_broken (apart_limits areas.now) ≡ Some e) }
+    ensures ok { IfOk result (λ _. first_holding (apart_limits areas.now) ≡ None) }
+    ensures refused { IfErr result (λ e. first_holding (apart_limits areas.now) ≡ Some e) }
 {
     for (i, first) in areas.iter().enumerate() {
         check_against(first, &areas[i + 1..])?;

@@ -1,6 +1,6 @@
 //! The types of checksums.
 ghost use Rattle.std.specs.Prelude.{◌≡◌};
-ghost use Rattle.xcp_memory.specs.Checksums.{checksum_number};
+ghost use Rattle.xcp_memory.specs.Checksum.{checksum_number};
 ghost use Rattle.xcp_memory.specs.Parts.{checksum_of};
 
 /// The type of a checksum: how wide the sum of the bytes is.

@@ -1,7 +1,8 @@
 //! An event channel of a layout.
 ghost use Rattle.std.specs.Prelude.{◌≡◌, map, Some, None, IfOk, IfErr};
 ghost use Rattle.xcp_memory.specs.Parts.{event_of_part};
-ghost use Rattle.xcp_memory.specs.Limits.{first_broken, event_limits, events_limits};
+ghost use Rattle.xcp_packet.specs.Rows.{first_holding};
+ghost use Rattle.xcp_memory.specs.Limits.{event_limits, events_limits};
 
 use crate::limits::{MAX_EVENTS, MAX_NAME};
 use crate::{EventPart, Key, LayoutFault, checks};
@@ -77,8 +78,8 @@ impl MadeWith<Global> for EventChannel {
 
 /// The event channel that a part makes.
 fn read_event(part: EventPart, number: u8) -> Result<EventChannel, LayoutFault>
-    ensures ok { IfOk result (λ e. (first_broken (event_limits (number, part)) ≡ None) × (e ≡ event_of_part part)) }
-    ensures refused { IfErr result (λ e. first_broken (event_limits (number, part)) ≡ Some e) }
+    ensures ok { IfOk result (λ e. (first_holding (event_limits (number, part)) ≡ None) × (e ≡ event_of_part part)) }
+    ensures refused { IfErr result (λ e. first_holding (event_limits (number, part)) ≡ Some e) }
 {
     checks::check_text(&part.name, MAX_NAME, Key::Name(number))?;
     let cycle = checks::byte(part.cycle, 0, u8::MAX, Key::Cycle(number))?;
@@ -91,8 +92,8 @@ fn read_event(part: EventPart, number: u8) -> Result<EventChannel, LayoutFault>
 pub(crate) fn read_events(
     parts: Vec<EventPart>,
 ) -> Result<ArrayVec<EventChannel, MAX_EVENTS, Global>, LayoutFault>
-    ensures ok { IfOk result (λ s. (first_broken (events_limits parts.items) ≡ None) × (s.items ≡ map event_of_part parts.items)) }
-    ensures refused { IfErr result (λ e. first_broken (events_limits parts.items) ≡ Some e) }
+    ensures ok { IfOk result (λ s. (first_holding (events_limits parts.items) ≡ None) × (s.items ≡ map event_of_part parts.items)) }
+    ensures refused { IfErr result (λ e. first_holding (events_limits parts.items) ≡ Some e) }
 {
     if parts.is_empty() {
         return Err(LayoutFault::Range(Key::Event));

@@ -1,7 +1,8 @@
 //! Where an area lies.
 ghost use Rattle.std.specs.Prelude.{◌≡◌, ◌+◌, ◌<◌, ◌^◌, Some, None, IfOk, IfErr};
 ghost use Rattle.xcp_memory.specs.Words.{is_inside};
-ghost use Rattle.xcp_memory.specs.Limits.{is_apart, signals_limits, first_broken};
+ghost use Rattle.xcp_packet.specs.Rows.{first_holding};
+ghost use Rattle.xcp_memory.specs.Limits.{is_apart, signals_limits};
 ghost use Rattle.xcp_memory.specs.Parts.{number};
 
 use crate::limits::{LAST_ADDRESS, MAX_SIGNALS};
@@ -71,8 +72,8 @@ impl Extent {
 
 /// Where the signals lie.
 pub(crate) fn read_signals(address: i64, length: i64) -> Result<Extent, LayoutFault>
-    ensures ok { IfOk result (λ e. (first_broken (signals_limits address length) ≡ None) × (e ≡ record { address = number address; size = number length })) }
-    ensures refused { IfErr result (λ e. first_broken (signals_limits address length) ≡ Some e) }
+    ensures ok { IfOk result (λ e. (first_holding (signals_limits address length) ≡ None) × (e ≡ record { address = number address; size = number length })) }
+    ensures refused { IfErr result (λ e. first_holding (signals_limits address length) ≡ Some e) }
 {
     let first = checks::number(address, 0, LAST_ADDRESS, Key::SignalsAddress)?;
     let size = checks::number(length, 1, MAX_SIGNALS, Key::SignalsLength)?;

@@ -1,7 +1,8 @@
 //! A segment of a layout.
 ghost use Rattle.std.specs.Prelude.{◌≡◌, ◌+◌, ◌≤◌, length, map, Some, None, IfOk, IfErr};
 ghost use Rattle.xcp_memory.specs.Parts.{segment_of_part, size};
-ghost use Rattle.xcp_memory.specs.Limits.{first_broken, segment_limits, segments_limits};
+ghost use Rattle.xcp_packet.specs.Rows.{first_holding};
+ghost use Rattle.xcp_memory.specs.Limits.{segment_limits, segments_limits};
 
 use crate::extent::Extent;
 use crate::limits::{LAST_ADDRESS, MAX_BYTES, MAX_SEGMENTS};
@@ -71,9 +72,9 @@ impl MadeWith<Global> for Segment {
 /// The segment that a part makes, where there are `before` bytes in the segments before it.
 fn read_segment(part: SegmentPart, number: u8, before: usize) -> Result<Segment, LayoutFault>
     requires { before ≤ 2040 }
-    ensures ok { IfOk result (λ s. (first_broken (segment_limits number (before + size part) part) ≡ None) × (s ≡ segment_of_part part)) }
+    ensures ok { IfOk result (λ s. (first_holding (segment_limits number (before + size part) part) ≡ None) × (s ≡ segment_of_part part)) }
     ensures room { IfOk result (λ s. before + length s.bytes ≤ 2040) }
-    ensures refused { IfErr result (λ e. first_broken (segment_limits number (before + size part) part) ≡ Some e) }
+    ensures refused { IfErr result (λ e. first_holding (segment_limits number (before + size part) part) ≡ Some e) }
 {
     let address = checks::number(part.address, 0, LAST_ADDRESS, Key::Address(number))?;
     let size = part.bytes.len();
@@ -93,8 +94,8 @@ fn read_segment(part: SegmentPart, number: u8, before: usize) -> Result<Segment,
 pub(crate) fn read_segments(
     parts: Vec<SegmentPart>,
 ) -> Result<ArrayVec<Segment, MAX_SEGMENTS, Global>, LayoutFault>
-    ensures ok { IfOk result (λ s. (first_broken (segments_limits parts.items) ≡ None) × (s.items ≡ map segment_of_part parts.items)) }
-    ensures refused { IfErr result (λ e. first_broken (segments_limits parts.items) ≡ Some e) }
+    ensures ok { IfOk result (λ s. (first_holding (segments_limits parts.items) ≡ None) × (s.items ≡ map segment_of_part parts.items)) }
+    ensures refused { IfErr result (λ e. first_holding (segments_limits parts.items) ≡ Some e) }
 {
     if parts.is_empty() {
         return Err(LayoutFault::Range(Key::Segment));

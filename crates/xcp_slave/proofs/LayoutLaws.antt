@@ -14,7 +14,7 @@ use Rattle.xcp_transfer.specs.declared.Mta.{Mta}
 use Rattle.xcp_transfer.specs.declared.Mta.TheVariants.{Nowhere, Memory, Text}
 use Rattle.xcp_transfer.specs.Value.{BlockValue, TransferValue}
 use Rattle.xcp_transfer.specs.Words.{written_at}
-use Rattle.xcp_transfer.specs.Rows.{Meets}
+use Rattle.xcp_packet.specs.Rows.{Meets}
 use Rattle.xcp_transfer.specs.Downloads.{next_row}
 use Rattle.xcp_slave.specs.declared.request.Request.{Request}
 use Rattle.xcp_slave.specs.declared.request.Request.TheVariants as requests

@@ -11,7 +11,7 @@ use Rattle.xcp_packet.specs.declared.Reply.TheVariants as replies
 use Rattle.xcp_packet.specs.declared.Code.{Code}
 use Rattle.xcp_packet.specs.declared.Code.TheVariants.{CmdUnknown, CmdSyntax}
 use Rattle.xcp_memory.specs.Layout.{IsLayout, LayoutValue}
-use Rattle.xcp_transfer.specs.Rows.{Meets}
+use Rattle.xcp_packet.specs.Rows.{Meets}
 use Rattle.xcp_slave.specs.declared.request.Request.TheVariants as requests
 use Rattle.xcp_slave.specs.declared.answer.Answer.TheVariants as answers
 use Rattle.xcp_slave.specs.Value.{SlaveValue, layout_of, noblock}

@@ -3,7 +3,7 @@ use Rattle.std.proofs.Common.{◌≡◌, refl, subst, Option, Result}
 use Rattle.xcp_packet.specs.declared.Command.{Command}
 use Rattle.xcp_packet.specs.declared.Command.TheVariants as commands
 use Rattle.xcp_packet.specs.declared.Reply.{Reply}
-use Rattle.xcp_transfer.specs.Rows.{Meets}
+use Rattle.xcp_packet.specs.Rows.{Meets}
 use Rattle.xcp_slave.specs.declared.answer.Answer.{Answer}
 use Rattle.xcp_slave.specs.Value.{SlaveValue, layout_of, noblock}
 use Rattle.xcp_slave.specs.Rows.{row, MeetsRow}

@@ -11,7 +11,7 @@ use Rattle.xcp_packet.specs.declared.Refuse.TheVariants as refuses
 use Rattle.xcp_packet.specs.declared.Reply.{Reply}
 use Rattle.xcp_packet.specs.declared.Reply.TheVariants as replies
 use Rattle.xcp_transfer.specs.Value.{BlockValue, TransferValue}
-use Rattle.xcp_transfer.specs.Rows.{Meets}
+use Rattle.xcp_packet.specs.Rows.{Meets}
 use Rattle.xcp_transfer.specs.Downloads.{next_row}
 use Rattle.xcp_slave.specs.declared.request.Request.{Request}
 use Rattle.xcp_slave.specs.declared.request.Request.TheVariants as requests

@@ -16,7 +16,7 @@ use Rattle.xcp_transfer.specs.declared.Mta.{Mta}
 use Rattle.xcp_transfer.specs.declared.Mta.TheVariants.{Nowhere, Memory, Text}
 use Rattle.xcp_transfer.specs.Value.{BlockValue, TransferValue}
 use Rattle.xcp_transfer.specs.Words.{bytes_at, is_readable}
-use Rattle.xcp_transfer.specs.Rows.{first_holding, refused}
+use Rattle.xcp_packet.specs.Rows.{first_holding, refused}
 use Rattle.xcp_transfer.specs.Downloads.{next_row}
 use Rattle.xcp_daq.specs.declared.Element.{Element}
 use Rattle.xcp_daq.specs.Configuring.{read_daq_reply}
@@ -44,6 +44,7 @@ next-errors (Some b) remaining bytes t = refl
 
 -- each refusal is an error packet
 row-errors : (c : Command) (v : SlaveValue) → are_errors (row c v).refusals ≡ true
+row-errors (commands.BuildChecksum size) v = refused-errors _
 row-errors (commands.Download n bytes) v = refused-errors _
 row-errors (commands.DownloadNext remaining bytes) v = next-errors v.transfer.block remaining bytes.items v.transfer
 row-errors (commands.DownloadMax bytes) v = refused-errors _

@@ -14,7 +14,7 @@ use Rattle.xcp_packet.specs.declared.Code.TheVariants.{CmdUnknown, CmdSyntax}
 use Rattle.arrayvec.specs.ArrayVec.{ArrayVec}
 use Rattle.xcp_memory.specs.Freeze.{frozen_count}
 use Rattle.xcp_daq.specs.Sample.{sampled}
-use Rattle.xcp_transfer.specs.Rows.{Row, Meets, first_holding}
+use Rattle.xcp_packet.specs.Rows.{Row, Meets, first_holding}
 use Rattle.xcp_slave.specs.declared.request.Request.{Request}
 use Rattle.xcp_slave.specs.declared.request.Request.TheVariants as requests
 use Rattle.xcp_slave.specs.declared.answer.Answer.{Answer}

@@ -4,7 +4,7 @@ use Rattle.std.specs.Prelude.{OnOk, IfErr}
 use Rattle.xcp_packet.specs.declared.Command.TheVariants as commands
 use Rattle.xcp_packet.specs.declared.Reply.{Reply}
 use Rattle.xcp_packet.specs.declared.Code.{Code}
-use Rattle.xcp_transfer.specs.Rows.{Meets, first_holding, refused}
+use Rattle.xcp_packet.specs.Rows.{Meets, first_holding, refused}
 use Rattle.xcp_daq.specs.Configuring.{write_daq_refusal, write_daq_after}
 use Rattle.xcp_slave.specs.DaqRows.{done_or_error}
 use Rattle.xcp_slave.specs.Value.{SlaveValue, layout_of, noblock}

@@ -5,7 +5,7 @@ use Rattle.xcp_packet.specs.declared.Reply.TheVariants as replies
 use Rattle.xcp_packet.specs.declared.Code.{Code}
 use Rattle.xcp_transfer.specs.declared.Mta.TheVariants.{Text}
 use Rattle.xcp_transfer.specs.declared.TextId.TheVariants.{Name}
-use Rattle.xcp_transfer.specs.Rows.{Row, refused}
+use Rattle.xcp_packet.specs.Rows.{Row, refused}
 use Rattle.xcp_daq.specs.declared.Element.{Element}
 use Rattle.xcp_daq.specs.declared.ListMode.{ListMode}
 use Rattle.xcp_daq.specs.declared.ProcessorInfo.{ProcessorInfo}

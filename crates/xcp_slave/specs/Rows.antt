@@ -9,7 +9,7 @@ use Rattle.xcp_packet.specs.declared.Reply.TheVariants as replies
 use Rattle.xcp_packet.specs.declared.Code.TheVariants.{CmdSynch, OutOfRange}
 use Rattle.xcp_transfer.specs.declared.Mta.TheVariants.{Nowhere, Memory}
 use Rattle.xcp_transfer.specs.Value.{TransferValue}
-use Rattle.xcp_transfer.specs.Rows.{Row, Meets, row_within}
+use Rattle.xcp_packet.specs.Rows.{Row, Meets, row_within}
 use Rattle.xcp_transfer.specs.Uploads.{upload_row, short_upload_row, build_checksum_row, get_id_row}
 use Rattle.xcp_transfer.specs.Downloads.{download_row, download_next_row, download_max_row, short_download_row, modify_bits_row}
 use Rattle.xcp_daq.specs.Daq.{any_running, first_pid, greatest_size}

@@ -13,7 +13,7 @@ use Rattle.xcp_packet.specs.declared.Reply.TheVariants as replies
 use Rattle.xcp_packet.specs.declared.Code.{Code}
 use Rattle.xcp_packet.specs.declared.Code.TheVariants.{CmdUnknown, CmdSyntax}
 use Rattle.xcp_memory.specs.Freeze.{pages_frozen, frozen_count}
-use Rattle.xcp_transfer.specs.Rows.{Meets}
+use Rattle.xcp_packet.specs.Rows.{Meets}
 use Rattle.xcp_daq.specs.Sample.{sampled, after_event}
 use Rattle.xcp_slave.specs.declared.request.Request.{Request}
 use Rattle.xcp_slave.specs.declared.request.Request.TheVariants as requests

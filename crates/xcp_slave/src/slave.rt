@@ -4,7 +4,7 @@ ghost use Rattle.xcp_memory.specs.Image.{ecu_image};
 ghost use Rattle.xcp_slave.specs.Rows.{MeetsRow};
 ghost use Rattle.xcp_slave.specs.Step.{Answers, AnswersPacket, Executes, answer_of, found_by, sent_reply};
 ghost use Rattle.xcp_slave.specs.Value.{ended, layout_of, noblock, opening};
-ghost use Rattle.xcp_transfer.specs.Rows.{FitsPacket};
+ghost use Rattle.xcp_packet.specs.Rows.{FitsPacket};
 
 mod acquisition;
 mod allocation;

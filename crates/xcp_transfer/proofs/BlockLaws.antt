@@ -9,7 +9,7 @@ use Rattle.xcp_memory.specs.AccessLaws.{ToolIsWritten}
 use Rattle.xcp_memory.specs.Memory.{Writes}
 use Rattle.xcp_memory.specs.Words.{pages_written}
 use Rattle.xcp_transfer.specs.Value.{TransferValue, BlockValue, IsBlock, IsUnderWay}
-use Rattle.xcp_transfer.specs.Rows.{first_holding}
+use Rattle.xcp_packet.specs.Rows.{first_holding}
 use Rattle.xcp_transfer.specs.Downloads.{next_row, packet_room, download_next_row}
 use Rattle.xcp_transfer.specs.Laws.{IsLawful}
 use Rattle.xcp_transfer.proofs.Blocks.{whole}

@@ -1,7 +1,7 @@
 -- What is known of a row of which no refusal holds, or one does.
 use Rattle.std.proofs.Common.{◌≡◌, Bool, true, false, cond, List, [], ◌∷◌, Some, None, ◌⊎◌, inl, inr, refl}
 use Rattle.xcp_packet.specs.declared.Reply.{Reply}
-use Rattle.xcp_transfer.specs.Rows.{first_holding}
+use Rattle.xcp_packet.specs.Rows.{first_holding}
 
 -- where no refusal holds, the first doesn't, and none of the others does
 pub none_first : (t : Bool) (x : Reply) (ts : List (Bool × Reply)) → first_holding ((t, x) ∷ ts) ≡ None → t ≡ false

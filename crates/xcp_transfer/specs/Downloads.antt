@@ -9,7 +9,7 @@ use Rattle.xcp_transfer.specs.declared.mta.Mta.{Mta}
 use Rattle.xcp_transfer.specs.declared.mta.Mta.TheVariants.{Nowhere, Memory, Text}
 use Rattle.xcp_transfer.specs.Value.{TransferValue, BlockValue}
 use Rattle.xcp_transfer.specs.Words.{bytes_at, write_refusal_at, written_at, moved}
-use Rattle.xcp_transfer.specs.Rows.{Row, refused}
+use Rattle.xcp_packet.specs.Rows.{Row, refused}
 
 -- MAX_BS: the greatest number of packets in a block.
 -- (ASAM MCD-1 XCP, protocol layer, description of commands: GET_COMM_MODE_INFO.)

@@ -11,7 +11,7 @@ use Rattle.xcp_transfer.specs.declared.mta.Mta.{Mta}
 use Rattle.xcp_transfer.specs.Value.{TransferValue, BlockValue, IsTransfer}
 use Rattle.xcp_transfer.specs.Words.{is_readable, bytes_at, write_refusal_at, written_at}
 use Rattle.xcp_transfer.specs.Relations.{ReadsAt, WritesAt}
-use Rattle.xcp_transfer.specs.Rows.{Row, first_holding}
+use Rattle.xcp_packet.specs.Rows.{Row, first_holding}
 use Rattle.xcp_transfer.specs.Uploads.{upload_row, short_upload_row}
 use Rattle.xcp_transfer.specs.Downloads.{download_next_row}
 

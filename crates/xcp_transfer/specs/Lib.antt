@@ -1,6 +1,5 @@
 pub mod Value
 pub mod Words
-pub mod Rows
 pub mod Downloads
 pub mod Uploads
 pub mod Relations

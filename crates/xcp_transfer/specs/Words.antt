@@ -1,10 +1,10 @@
 -- Reads and writes at a memory transfer address (MTA).
-use Rattle.std.specs.Prelude.{ℕ, ◌+◌, Bool, false, List, [], length, take, drop, Option, Some, nat_le, sum, ◌%◌}
+use Rattle.std.specs.Prelude.{ℕ, ◌+◌, Bool, false, List, [], length, take, drop, Option, Some, nat_le}
 use Rattle.xcp_packet.specs.declared.Code.{Code}
 use Rattle.xcp_packet.specs.declared.Code.TheVariants.{AccessDenied, WriteProtected}
 use Rattle.xcp_memory.specs.Pages.{PagesValue}
 use Rattle.xcp_memory.specs.Words.{lies_inside, tool_bytes, write_refusal, pages_written}
-use Rattle.xcp_memory.specs.Checksum.{modulus}
+use Rattle.xcp_memory.specs.Checksum.{summed}
 use Rattle.xcp_transfer.specs.declared.mta.Mta.{Mta}
 use Rattle.xcp_transfer.specs.declared.mta.Mta.TheVariants.{Nowhere, Memory, Text}
 use Rattle.xcp_transfer.specs.Value.{text_of}
@@ -48,4 +48,4 @@ is_summable p (Text id place) n = false
 
 -- the checksum of the n bytes from an MTA on
 abbrev pub sum_at : PagesValue → Mta → ℕ → ℕ
-sum_at p mta n = sum (bytes_at p mta n) % modulus p.layout.checksum
+sum_at p mta n = summed p.layout.checksum (bytes_at p mta n)

@@ -3,7 +3,8 @@ ghost use Rattle.std.specs.Prelude.{◌≡◌, ◌<◌, not, length, None, Some,
 ghost use Rattle.std.specs.List.{list_any};
 ghost use Rattle.xcp_packet.specs.declared.Code.{Code};
 ghost use Rattle.xcp_memory.specs.Pages.{segment_at, no_pages};
-ghost use Rattle.xcp_memory.specs.Refusals.{Checks, first_refusal};
+ghost use Rattle.xcp_packet.specs.Rows.{first_holding};
+ghost use Rattle.xcp_memory.specs.Refusals.{Checks};
 ghost use Rattle.xcp_memory.specs.Switch.{switch_refusal, pages_switched, segment_switched, is_switch_mode, names_none, concerned, lacks_page, page_refusal, page_number};
 
 use super::Pages;
@@ -65,7 +66,7 @@ impl Pages {
     /// The segments that a switch concerns.
     fn concerned(&self, mode: u8, segment: u8) -> Result<&[PageSet], Code>
         ensures ok { IfOk result (λ segments. (is_switch_mode mode ≡ true) × (names_none mode segment self.now ≡ false) × (segments.now ≡ concerned mode segment self.now)) }
-        ensures refused { IfErr result (λ code. first_refusal ((not (is_switch_mode mode), Code.ModeNotValid) ∷ (names_none mode segment self.now, Code.SegmentNotValid) ∷ []) ≡ Some code) }
+        ensures refused { IfErr result (λ code. first_holding ((not (is_switch_mode mode), Code.ModeNotValid) ∷ (names_none mode segment self.now, Code.SegmentNotValid) ∷ []) ≡ Some code) }
     {
         let bits = SwitchMode::of(mode).ok_or(Code::ModeNotValid)?;
         if bits.contains(SwitchMode::ALL) {

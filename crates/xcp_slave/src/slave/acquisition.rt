@@ -6,7 +6,7 @@ ghost use Rattle.xcp_daq.specs.Configuring.{write_daq_refusal, write_daq_after};
 ghost use Rattle.xcp_slave.specs.DaqRows.{done_or_error};
 ghost use Rattle.xcp_slave.specs.Rows.{MeetsRow};
 ghost use Rattle.xcp_slave.specs.Value.{layout_of};
-ghost use Rattle.xcp_transfer.specs.Rows.{FitsPacket};
+ghost use Rattle.xcp_packet.specs.Rows.{FitsPacket};
 
 use super::{Outcome, Slave};
 use xcp_daq::Daq;

@@ -2,7 +2,7 @@
 #![tactic(auto, unfolding(crate::specs::Rows::MeetsRow))]
 
 ghost use Rattle.xcp_slave.specs.Rows.{MeetsRow};
-ghost use Rattle.xcp_transfer.specs.Rows.{FitsPacket};
+ghost use Rattle.xcp_packet.specs.Rows.{FitsPacket};
 
 use super::{Outcome, Slave};
 use xcp_packet::{Command, Reply};

@@ -1,7 +1,7 @@
 //! MODIFY_BITS.
 ghost use Rattle.std.specs.Prelude.{◌≡◌, ◌≤◌, None, Some};
 ghost use Rattle.xcp_transfer.specs.Downloads.{modify_bits_row, modified};
-ghost use Rattle.xcp_transfer.specs.Rows.{Meets, FitsPacket};
+ghost use Rattle.xcp_packet.specs.Rows.{Meets, FitsPacket};
 ghost use Rattle.xcp_transfer.specs.Value.{without_block};
 
 use super::Transfer;

@@ -1,7 +1,7 @@
 //! The commands by which a tool writes: DOWNLOAD, DOWNLOAD_NEXT, DOWNLOAD_MAX, SHORT_DOWNLOAD,
 //! MODIFY_BITS.
 ghost use Rattle.std.specs.Prelude.{◌≡◌, ◌≤◌, ◌<◌, length, None};
-ghost use Rattle.xcp_transfer.specs.Rows.{Meets, FitsPacket};
+ghost use Rattle.xcp_packet.specs.Rows.{Meets, FitsPacket};
 ghost use Rattle.xcp_transfer.specs.Downloads.{download_row, download_next_row, download_max_row, short_download_row, write_row, packet_room, greatest_download};
 ghost use Rattle.xcp_transfer.specs.Value.{without_block};
 

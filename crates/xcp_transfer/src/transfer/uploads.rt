@@ -1,5 +1,5 @@
 //! The commands by which a tool reads: UPLOAD, SHORT_UPLOAD, BUILD_CHECKSUM, GET_ID.
-ghost use Rattle.xcp_transfer.specs.Rows.{Meets, FitsPacket};
+ghost use Rattle.xcp_packet.specs.Rows.{Meets, FitsPacket};
 ghost use Rattle.xcp_transfer.specs.Uploads.{upload_row, short_upload_row, build_checksum_row, get_id_row};
 ghost use Rattle.xcp_transfer.specs.Value.{without_block};
 

@@ -5,8 +5,8 @@ use Rattle.xcp_memory.specs.Parts.{areas}
 use Rattle.xcp_memory.specs.Limits.{apart_limits}
 use Rattle.xcp_config.specs.Check.{Check}
 use Rattle.xcp_config.specs.Layout.{layout_in}
-use Rattle.xcp_config.specs.Table.{own_checks, segments_checks, signals_checks, events_checks, overlap_checks, checks}
-use Rattle.xcp_config.proofs.CheckLemmas.{passed_left}
+use Rattle.xcp_config.specs.Table.{own_checks, segments_checks, signals_checks, events_checks, limit_checks, checks}
+use Rattle.xcp_packet.proofs.TestLemmas.{none_left}
 use Rattle.xcp_config.proofs.LimitLemmas.{areas_decide, layout_read, overlaps}
 use Rattle.xcp_config.proofs.reading.read_table.Goals as goal
 
@@ -14,21 +14,21 @@ abbrev before : Data → List Check
 before t = own_checks t ++ segments_checks t ++ signals_checks t ++ events_checks t
 
 pub returns-in-Ok-clause-passes : goal.returns-in-Ok-clause-passes
-unfolding checks overlap_checks
+unfolding checks limit_checks
 returns-in-Ok-clause-passes c =
     let t = view c.args.table.now in
     let p = c.in_ok-parts.parts in
     let decide = areas_decide p t c.in_ok-parts.ensures.reads c.in_ok-parts.ensures.passes in
-    passed_left (before t) (overlap_checks t) c.in_ok-parts.ensures.passes ∙ overlaps (apart_limits (areas (layout_in t))) None (sym decide ∙ c.in-Ok.ensures.ok.0)
+    none_left (before t) (limit_checks t) c.in_ok-parts.ensures.passes ∙ overlaps (apart_limits (areas (layout_in t))) None (sym decide ∙ c.in-Ok.ensures.ok.0)
 
 pub returns-in-Ok-clause-value : goal.returns-in-Ok-clause-value
 returns-in-Ok-clause-value c = c.in-Ok.ensures.ok.1 ∙ layout_read c.in_ok-parts.parts (view c.args.table.now) c.in_ok-parts.ensures.reads
 
 pub returns-in-Err-clause-refused : goal.returns-in-Err-clause-refused
-unfolding checks overlap_checks
+unfolding checks limit_checks
 returns-in-Err-clause-refused c =
     let t = view c.args.table.now in
     let p = c.in_ok-parts.parts in
     let decide = areas_decide p t c.in_ok-parts.ensures.reads c.in_ok-parts.ensures.passes in
     let f = c.in-Err.fault in
-    inr (passed_left (before t) (overlap_checks t) c.in_ok-parts.ensures.passes ∙ overlaps (apart_limits (areas (layout_in t))) (Some f) (sym decide ∙ (c.in-Err.ensures.refused f).0 refl) ∙ ap Some (sym c.of_limit.ensures))
+    inr (none_left (before t) (limit_checks t) c.in_ok-parts.ensures.passes ∙ overlaps (apart_limits (areas (layout_in t))) (Some f) (sym decide ∙ (c.in-Err.ensures.refused f).0 refl) ∙ ap Some (sym c.of_limit.ensures))

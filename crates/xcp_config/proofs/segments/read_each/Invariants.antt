@@ -1,7 +1,7 @@
 use Rattle.std.proofs.Common.{◌≡◌, ◌≤◌, map, take, drop, sum_by}
 use Rattle.std.specs.List.{flat_map, enumerate_from}
 use Rattle.toml.specs.View.{view}
-use Rattle.xcp_config.specs.Check.{first_failed}
+use Rattle.xcp_packet.specs.Rows.{first_holding}
 use Rattle.xcp_config.specs.Layout.{size_of}
 use Rattle.xcp_config.specs.Table.{checks_in}
 use Rattle.xcp_config.specs.Seen.{segment_read, segment_written}
@@ -9,7 +9,7 @@ use Rattle.xcp_config.proofs.segments.read_each.Given as goal
 
 abbrev pub invariant-loop-i : goal.invariant-loop-i
 invariant-loop-i l = record {
-  checked : first_failed (flat_map (checks_in (map view l.members)) (enumerate_from 0 (map view l.members))) ≡ first_failed (flat_map (checks_in (map view l.members)) (enumerate_from l.i (drop l.i (map view l.members))));
+  checked : first_holding (flat_map (checks_in (map view l.members)) (enumerate_from 0 (map view l.members))) ≡ first_holding (flat_map (checks_in (map view l.members)) (enumerate_from l.i (drop l.i (map view l.members))));
   read : map segment_read l.parts.items ≡ map segment_written (take l.i (map view l.members));
   total : l.total ≡ sum_by size_of (take l.i (map view l.members));
   room : l.total ≤ 2040;

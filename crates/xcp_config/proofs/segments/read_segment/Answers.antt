@@ -5,18 +5,19 @@ use Rattle.xcp_memory.specs.declared.Key.TheVariants as key
 use Rattle.xcp_config.specs.Check.{Check}
 use mir.Val.{SFits}
 use Rattle.std.proofs.lemmas.Int.{to_z-of_z}
-use Rattle.xcp_memory.specs.Limits.{is_address}
+use Rattle.xcp_memory.specs.Limits.{address_limit, data_limit}
 use Rattle.xcp_config.specs.Layout.{address_of, size_of}
 use Rattle.xcp_config.specs.Table.{integer_checks, data_checks, size_checks, segment_checks}
 use Rattle.std.proofs.lemmas.Result.{err_from_is_err_and}
-use Rattle.xcp_config.proofs.CheckLemmas.{behind_2, failed_1_of_3, failed_2_of_3, or_so}
+use Rattle.xcp_packet.proofs.TestLemmas.{behind_2, holding_1_of_3, holding_2_of_3}
+use Rattle.xcp_config.proofs.CheckLemmas.{or_so}
 use Rattle.xcp_config.proofs.segments.read_segment.Goals as goal
 
 abbrev address : ℕ → ℕ → Data → List Check
-address i n s = integer_checks (key.Address i) is_address (get (codes "address") s)
+address i n s = integer_checks (key.Address i) (address_limit i) (get (codes "address") s)
 
 abbrev bytes : ℕ → ℕ → Data → List Check
-bytes i n s = data_checks (key.Data i) (get (codes "data") s)
+bytes i n s = data_checks (key.Data i) (data_limit i) (get (codes "data") s)
 
 abbrev size : ℕ → ℕ → Data → List Check
 size i n s = size_checks i (n + size_of s) (address_of s) (size_of s)
@@ -27,7 +28,7 @@ returns-in_err-address-clause-refused c =
     let s = view c.args.table.now in
     let r = c.from_residual in
     let p = err_from_is_err_and r.result r.ensures.1 in
-    rw (p.1, p.2) (inr (failed_1_of_3 (address c.args.number c.args.before s) (bytes c.args.number c.args.before s) (size c.args.number c.args.before s) _ c.in_err-address.ensures.refused))
+    rw (p.1, p.2) (inr (holding_1_of_3 (address c.args.number c.args.before s) (bytes c.args.number c.args.before s) (size c.args.number c.args.before s) _ c.in_err-address.ensures.refused))
 
 pub returns-in_err-bytes-clause-refused : goal.returns-in_err-bytes-clause-refused
 unfolding segment_checks
@@ -35,7 +36,7 @@ returns-in_err-bytes-clause-refused c =
     let s = view c.args.table.now in
     let r = c.from_residual-in_err-bytes in
     let p = err_from_is_err_and r.result r.ensures.1 in
-    rw (p.1, p.2) (or_so c.in_err-bytes.ensures.refused (λ k. failed_2_of_3 (address c.args.number c.args.before s) (bytes c.args.number c.args.before s) (size c.args.number c.args.before s) _ c.in_ok-address.ensures.passes k))
+    rw (p.1, p.2) (or_so c.in_err-bytes.ensures.refused (λ k. holding_2_of_3 (address c.args.number c.args.before s) (bytes c.args.number c.args.before s) (size c.args.number c.args.before s) _ c.in_ok-address.ensures.passes k))
 
 pub returns-in_err-check_size-clause-refused : goal.returns-in_err-check_size-clause-refused
 unfolding segment_checks

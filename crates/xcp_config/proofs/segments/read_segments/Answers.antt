@@ -4,15 +4,18 @@ use Rattle.std.proofs.lemmas.Result.{err_from_is_err_and}
 use Rattle.toml.specs.Data.{Data, get}
 use Rattle.toml.specs.View.{view}
 use Rattle.xcp_memory.specs.declared.Key.TheVariants as key
-use Rattle.xcp_config.specs.Check.{Check, first_failed}
+use Rattle.xcp_packet.specs.Rows.{first_holding}
+use Rattle.xcp_config.specs.Check.{Check}
 use Rattle.xcp_config.specs.Layout.{segments_of}
+use Rattle.xcp_memory.specs.Limits.{segment_counts}
 use Rattle.xcp_config.specs.Table.{array_checks, checks_in, segments_checks}
 use Rattle.xcp_config.specs.Seen.{segment_written}
-use Rattle.xcp_config.proofs.CheckLemmas.{failed_left, passed_left, if_ok, if_err, or_so}
+use Rattle.xcp_packet.proofs.TestLemmas.{holding_left, none_left}
+use Rattle.xcp_config.proofs.CheckLemmas.{if_ok, if_err, or_so}
 use Rattle.xcp_config.proofs.segments.read_segments.Goals as goal
 
 abbrev there : Data → List Check
-there t = array_checks key.Segment 4 (get (codes "segment") t)
+there t = array_checks key.Segment segment_counts (get (codes "segment") t)
 
 abbrev each : List Data → List Check
 each ds = flat_map (checks_in ds) (enumerate_from 0 ds)
@@ -22,14 +25,14 @@ unfolding segments_checks
 returns-in_err-members-clause-refused c =
     let t = view c.args.table.now in
     let p = err_from_is_err_and c.from_residual.result c.from_residual.ensures.1 in
-    rw (p.1, p.2) (inr (failed_left (there t) (each (segments_of t)) _ c.in_err-members.ensures.refused))
+    rw (p.1, p.2) (inr (holding_left (there t) (each (segments_of t)) _ c.in_err-members.ensures.refused))
 
 pub returns-clause-passes : goal.returns-clause-passes
 unfolding segments_checks
 returns-clause-passes c =
     let t = view c.args.table.now in
     let e : map view c.in_ok-members.members.now ≡ segments_of t = c.in_ok-members.ensures.value in
-    if_ok c.read_each.result _ _ (λ _ h. passed_left (there t) (each (segments_of t)) c.in_ok-members.ensures.passes ∙ ap (λ ds. first_failed (each ds)) (sym e) ∙ h) c.read_each.ensures.passes
+    if_ok c.read_each.result _ _ (λ _ h. none_left (there t) (each (segments_of t)) c.in_ok-members.ensures.passes ∙ ap (λ ds. first_holding (each ds)) (sym e) ∙ h) c.read_each.ensures.passes
 
 pub returns-clause-read : goal.returns-clause-read
 returns-clause-read c =
@@ -42,4 +45,4 @@ unfolding segments_checks
 returns-clause-refused c =
     let t = view c.args.table.now in
     let e : map view c.in_ok-members.members.now ≡ segments_of t = c.in_ok-members.ensures.value in
-    if_err c.read_each.result _ _ (λ f h. or_so h (λ k. passed_left (there t) (each (segments_of t)) c.in_ok-members.ensures.passes ∙ ap (λ ds. first_failed (each ds)) (sym e) ∙ k)) c.read_each.ensures.refused
+    if_err c.read_each.result _ _ (λ f h. or_so h (λ k. none_left (there t) (each (segments_of t)) c.in_ok-members.ensures.passes ∙ ap (λ ds. first_holding (each ds)) (sym e) ∙ k)) c.read_each.ensures.refused

@@ -5,18 +5,18 @@ use Rattle.std.proofs.lemmas.Result.{err_from_is_err_and}
 use Rattle.toml.specs.Data.{Data, get}
 use Rattle.toml.specs.View.{view}
 use Rattle.xcp_memory.specs.declared.Key.TheVariants as key
-use Rattle.xcp_memory.specs.Limits.{is_address, is_within}
+use Rattle.xcp_memory.specs.Limits.{signals_address_limit, signals_length_limit}
 use Rattle.xcp_config.specs.Check.{Check}
 use Rattle.xcp_config.specs.Layout.{address_of, length_of}
 use Rattle.xcp_config.specs.Table.{integer_checks, end_checks, place_checks}
-use Rattle.xcp_config.proofs.CheckLemmas.{failed_1_of_3, failed_2_of_3, behind_2}
+use Rattle.xcp_packet.proofs.TestLemmas.{holding_1_of_3, holding_2_of_3, behind_2}
 use Rattle.xcp_config.proofs.signals.read_place.Goals as goal
 
 abbrev first : Data → List Check
-first s = integer_checks key.SignalsAddress is_address (get (codes "address") s)
+first s = integer_checks key.SignalsAddress signals_address_limit (get (codes "address") s)
 
 abbrev second : Data → List Check
-second s = integer_checks key.SignalsLength (is_within 1 64) (get (codes "length") s)
+second s = integer_checks key.SignalsLength signals_length_limit (get (codes "length") s)
 
 abbrev third : Data → List Check
 third s = end_checks (address_of s) (length_of s)
@@ -27,7 +27,7 @@ returns-in_err-address-clause-refused c =
     let s = view c.args.signals.now in
     let r = c.from_residual in
     let p = err_from_is_err_and r.result r.ensures.1 in
-    rw (p.1, p.2) (failed_1_of_3 (first s) (second s) (third s) _ c.in_err-address.ensures.refused)
+    rw (p.1, p.2) (holding_1_of_3 (first s) (second s) (third s) _ c.in_err-address.ensures.refused)
 
 pub returns-in_err-length-clause-refused : goal.returns-in_err-length-clause-refused
 unfolding place_checks
@@ -35,7 +35,7 @@ returns-in_err-length-clause-refused c =
     let s = view c.args.signals.now in
     let r = c.from_residual-in_err-length in
     let p = err_from_is_err_and r.result r.ensures.1 in
-    rw (p.1, p.2) (failed_2_of_3 (first s) (second s) (third s) _ c.in_ok-address.ensures.passes c.in_err-length.ensures.refused)
+    rw (p.1, p.2) (holding_2_of_3 (first s) (second s) (third s) _ c.in_ok-address.ensures.passes c.in_err-length.ensures.refused)
 
 pub returns-in_err-check_end-clause-refused : goal.returns-in_err-check_end-clause-refused
 unfolding place_checks

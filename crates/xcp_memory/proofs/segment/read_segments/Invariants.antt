@@ -1,7 +1,8 @@
 use Rattle.std.proofs.Common.{◌≡◌, ◌≤◌, map, sum_by, None}
 use Rattle.std.specs.List.{flat_map, enumerate_from}
 use Rattle.xcp_memory.specs.Parts.{segment_of_part, size}
-use Rattle.xcp_memory.specs.Limits.{first_broken, limits_in}
+use Rattle.xcp_packet.specs.Rows.{first_holding}
+use Rattle.xcp_memory.specs.Limits.{limits_in}
 use Rattle.xcp_memory.proofs.segment.read_segments.Given as goal
 
 abbrev pub invariant-loop-part : goal.invariant-loop-part
@@ -9,5 +10,5 @@ invariant-loop-part l = record {
   items : l.segments.items ≡ map segment_of_part l.yielded;
   total : l.total ≡ sum_by size l.yielded;
   room : l.total ≤ 2040;
-  kept : first_broken (flat_map (limits_in l.fn.parts.items) (enumerate_from 0 l.yielded)) ≡ None;
+  kept : first_holding (flat_map (limits_in l.fn.parts.items) (enumerate_from 0 l.yielded)) ≡ None;
 }

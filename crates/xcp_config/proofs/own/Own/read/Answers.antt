@@ -3,28 +3,29 @@ use Rattle.toml.specs.Data.{Data, get}
 use Rattle.toml.specs.View.{view}
 use Rattle.xcp_memory.specs.declared.Key.TheVariants as key
 use Rattle.xcp_config.specs.Check.{Check}
-use Rattle.xcp_memory.specs.Limits.{is_text, is_within}
+use Rattle.xcp_memory.specs.Limits.{id_limit, max_cto_limit, max_dto_limit}
 use Rattle.xcp_config.specs.Values.{is_byte_order, is_checksum}
 use Rattle.xcp_config.specs.Layout.{byte_order_of, checksum_of}
-use Rattle.xcp_config.specs.Table.{text_checks, integer_checks, own_checks}
+use Rattle.xcp_config.specs.Table.{text_checks, name_checks, integer_checks, own_checks}
 use Rattle.std.proofs.lemmas.Result.{err_from_is_err_and}
-use Rattle.xcp_config.proofs.CheckLemmas.{behind_4, failed_1_of_5, failed_2_of_5, failed_3_of_5, failed_4_of_5, or_so}
+use Rattle.xcp_packet.proofs.TestLemmas.{behind_4, holding_1_of_5, holding_2_of_5, holding_3_of_5, holding_4_of_5}
+use Rattle.xcp_config.proofs.CheckLemmas.{or_so}
 use Rattle.xcp_config.proofs.own.Own.read.Goals as goal
 
 abbrev id : Data → List Check
-id t = text_checks key.Id (is_text 64) (get (codes "id") t)
+id t = text_checks key.Id id_limit (get (codes "id") t)
 
 abbrev max_cto : Data → List Check
-max_cto t = integer_checks key.MaxCto (is_within 8 255) (get (codes "max_cto") t)
+max_cto t = integer_checks key.MaxCto max_cto_limit (get (codes "max_cto") t)
 
 abbrev max_dto : Data → List Check
-max_dto t = integer_checks key.MaxDto (is_within 8 255) (get (codes "max_dto") t)
+max_dto t = integer_checks key.MaxDto max_dto_limit (get (codes "max_dto") t)
 
 abbrev byte_order : Data → List Check
-byte_order t = text_checks key.ByteOrder is_byte_order (byte_order_of t)
+byte_order t = name_checks key.ByteOrder is_byte_order (byte_order_of t)
 
 abbrev checksum : Data → List Check
-checksum t = text_checks key.Checksum is_checksum (checksum_of t)
+checksum t = name_checks key.Checksum is_checksum (checksum_of t)
 
 pub returns-in_err-id-clause-refused : goal.returns-in_err-id-clause-refused
 unfolding own_checks
@@ -32,7 +33,7 @@ returns-in_err-id-clause-refused c =
     let t = view c.args.table.now in
     let r = c.from_residual in
     let p = err_from_is_err_and r.result r.ensures.1 in
-    rw (p.1, p.2) (or_so c.in_err-id.ensures.refused (λ k. failed_1_of_5 (id t) (max_cto t) (max_dto t) (byte_order t) (checksum t) _ k))
+    rw (p.1, p.2) (or_so c.in_err-id.ensures.refused (λ k. holding_1_of_5 (id t) (max_cto t) (max_dto t) (byte_order t) (checksum t) _ k))
 
 pub returns-in_err-max_cto-clause-refused : goal.returns-in_err-max_cto-clause-refused
 unfolding own_checks
@@ -40,7 +41,7 @@ returns-in_err-max_cto-clause-refused c =
     let t = view c.args.table.now in
     let r = c.from_residual-in_err-max_cto in
     let p = err_from_is_err_and r.result r.ensures.1 in
-    rw (p.1, p.2) (inr (failed_2_of_5 (id t) (max_cto t) (max_dto t) (byte_order t) (checksum t) _ c.in_ok-id.ensures.passes c.in_err-max_cto.ensures.refused))
+    rw (p.1, p.2) (inr (holding_2_of_5 (id t) (max_cto t) (max_dto t) (byte_order t) (checksum t) _ c.in_ok-id.ensures.passes c.in_err-max_cto.ensures.refused))
 
 pub returns-in_err-max_dto-clause-refused : goal.returns-in_err-max_dto-clause-refused
 unfolding own_checks
@@ -48,7 +49,7 @@ returns-in_err-max_dto-clause-refused c =
     let t = view c.args.table.now in
     let r = c.from_residual-in_err-max_dto in
     let p = err_from_is_err_and r.result r.ensures.1 in
-    rw (p.1, p.2) (inr (failed_3_of_5 (id t) (max_cto t) (max_dto t) (byte_order t) (checksum t) _ c.in_ok-id.ensures.passes c.in_ok-max_cto.ensures.passes c.in_err-max_dto.ensures.refused))
+    rw (p.1, p.2) (inr (holding_3_of_5 (id t) (max_cto t) (max_dto t) (byte_order t) (checksum t) _ c.in_ok-id.ensures.passes c.in_ok-max_cto.ensures.passes c.in_err-max_dto.ensures.refused))
 
 pub returns-in_err-check_byte_order-clause-refused : goal.returns-in_err-check_byte_order-clause-refused
 unfolding own_checks
@@ -56,7 +57,7 @@ returns-in_err-check_byte_order-clause-refused c =
     let t = view c.args.table.now in
     let r = c.from_residual-in_err-check_byte_order in
     let p = err_from_is_err_and r.result r.ensures.1 in
-    rw (p.1, p.2) (inr (failed_4_of_5 (id t) (max_cto t) (max_dto t) (byte_order t) (checksum t) _ c.in_ok-id.ensures.passes c.in_ok-max_cto.ensures.passes c.in_ok-max_dto.ensures.passes c.in_err-check_byte_order.ensures.refused))
+    rw (p.1, p.2) (inr (holding_4_of_5 (id t) (max_cto t) (max_dto t) (byte_order t) (checksum t) _ c.in_ok-id.ensures.passes c.in_ok-max_cto.ensures.passes c.in_ok-max_dto.ensures.passes c.in_err-check_byte_order.ensures.refused))
 
 pub returns-in_err-checksum-clause-refused : goal.returns-in_err-checksum-clause-refused
 unfolding own_checks

@@ -1,9 +1,12 @@
-use Rattle.std.proofs.Common.{ap, ◌∙◌}
+use Rattle.std.proofs.Common.{ap, ◌∙◌, refl}
 use Rattle.xcp_slave.proofs.LayoutLaws.{answers-layout}
 use Rattle.xcp_slave.proofs.RunLaws.{run-extended}
 use Rattle.xcp_slave.specs.Value.{layout_of}
 use Rattle.xcp_framing.specs.Desk.{DeskValue}
 use Rattle.xcp_framing.proofs.desk.DeskStation.submit.Goals as goal
+
+pub returns-then-is_err-clause-memory : goal.returns-then-is_err-clause-memory
+returns-then-is_err-clause-memory c = refl
 
 pub invariant_of-self-2 : goal.invariant_of-self-2
 invariant_of-self-2 c = rw (c.push_reserved.ensures.items, c.copy-stored.ensures, c.reserve.ensures.items) (run-extended _ _ _ _ _ c.self.invariant c.submit-answer.ensures)

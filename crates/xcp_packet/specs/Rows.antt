@@ -1,9 +1,19 @@
--- The row of a command: why it is refused, and else its reply and its effect.
-use Rattle.std.specs.Prelude.{◌≡◌, Bool, true, List, [], ◌∷◌, Option, Some, None, Result, Ok, Err, if◌then◌else◌}
-use Rattle.xcp_packet.specs.declared.Code.{Code}
-use Rattle.xcp_packet.specs.declared.Reply.{Reply}
-use Rattle.xcp_packet.specs.declared.Reply.TheVariants.{Error}
+-- Tests in the order in which they are looked at, and the row of a command: why it is refused, and else its reply and its
+-- effect.
+use Rattle.std.specs.Prelude.{◌≡◌, Bool, true, not, List, [], ◌∷◌, Option, Some, None, Result, Ok, Err, if◌then◌else◌}
+use Rattle.xcp_packet.specs.declared.code.Code.{Code}
+use Rattle.xcp_packet.specs.declared.reply.Reply.{Reply}
+use Rattle.xcp_packet.specs.declared.reply.Reply.TheVariants.{Error}
 use Rattle.xcp_packet.specs.Layout.{Fits}
+
+-- what stands beside the first test that holds, where one does
+abbrev pub first_holding : {A : Type 0} → List (Bool × A) → Option A
+first_holding [] = None
+first_holding (t ∷ ts) = if t.0 then Some t.1 else first_holding ts
+
+-- what must hold, as the test that it doesn't
+abbrev pub must : {A : Type 0} → Bool → A → Bool × A
+must good fault = (not good, fault)
 
 -- Refusals in the order in which they are looked at, each a test and its error packet; the reply to a command that
 -- none of them meets, none where nothing is sent; and the value after it.
@@ -11,11 +21,6 @@ pub record Row (V : Type 0) : Type 0 where
   pub refusals : List (Bool × Reply)
   pub reply : Option Reply
   pub after : V
-
--- the error packet of the first test that holds
-abbrev pub first_holding : List (Bool × Reply) → Option Reply
-first_holding [] = None
-first_holding (t ∷ ts) = if t.0 then Some t.1 else first_holding ts
 
 -- a refusal that is decided elsewhere
 abbrev pub refused : Option Code → List (Bool × Reply)
