@@ -10,6 +10,10 @@ mod frames;
 #[cfg(test)]
 mod lines;
 #[cfg(test)]
+mod ordered;
+#[cfg(test)]
+mod orders;
+#[cfg(test)]
 mod replay_rows;
 #[cfg(test)]
 mod replays;

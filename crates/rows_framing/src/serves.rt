@@ -163,7 +163,7 @@ fn drains(rt: HostRuntime) -> Result<(), Fail> {
 }
 
 /// CONNECT and so many SYNCH, each in its frame.
-fn synch_stream(alloc: Global, count: u32) -> Result<Vec<u8>, AllocError> {
+pub(crate) fn synch_stream(alloc: Global, count: u32) -> Result<Vec<u8>, AllocError> {
     let mut stream = [2, 0, 0, 0, 0xFF, 0].to_vec(alloc)?;
     for _ in 0..count {
         stream.extend_from_slice(&[1, 0, 0, 0, 0xFC])?;

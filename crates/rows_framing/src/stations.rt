@@ -1,7 +1,9 @@
 //! Stations that refuse, and one that always has more to send.
-ghost use Rattle.std.specs.Prelude.{◌≡◌, ◌⊎◌};
+ghost use Rattle.std.specs.Prelude.{◌≡◌, ◌⊎◌, ℕ, List};
+ghost use Rattle.xcp_slave.specs.declared.Exchange.{Exchange};
 ghost use Rattle.xcp_framing.specs.declared.station.StationError.TheVariants as refusals;
 
+use std::marker::Model;
 use xcp_framing::{Desk, Station, StationError};
 use xcp_packet::Packet;
 use xcp_slave::{Answer, Exchange, Request};
@@ -24,8 +26,9 @@ impl Station for Refusing {
         if self.takes == 0 {
             return Err(self.error);
         }
+        let answer = self.desk.submit(request)?;
         self.takes -= 1;
-        self.desk.submit(request)
+        Ok(answer)
     }
 }
 
@@ -36,8 +39,14 @@ pub struct Pending {
     pub packets: u32,
 }
 
+impl Model for Pending {
+    ghost Value = { List Exchange × ℕ };
+
+    ghost view = { λ p. (p.exchanges.items, p.packets) };
+}
+
 impl Station for Pending {
-    ghost exchanges = { λ s. s.exchanges.items };
+    ghost exchanges = { λ s. s.0 };
 
     ghost refuses = { λ s request e. e ≡ refusals.Memory };
 

@@ -37,15 +37,13 @@ on_refusal_all A (Ok v) F G f h = tt
 on_refusal_all A (Err e) F G f h = on_refusal_map A A e F G f h
 
 -- exchanges before the part of the call that was refused
-pub refused_more : {S : Type 0} (exchanges_of : S → List Exchange) (refuses : S → Request → StationError → Type 0) (e : StationError) (Next Later : List Exchange → Request → Type 0) {old mid new : List Exchange} (xs : List Exchange)
+pub refused_more : {S : Type 0} (exchanges_of : S → List Exchange) (refuses : S → Request → StationError → Type 0) (e : StationError) (Next Later : List Exchange → Request → Type 0) {old mid : List Exchange} {new : S} (xs : List Exchange)
     → mid ≡ old ++ xs → ((ys : List Exchange) (q : Request) → Next ys q → Later (xs ++ ys) q) → Refused exchanges_of refuses e Next mid new → Refused exchanges_of refuses e Later old new
 refused_more exchanges_of refuses e Next Later {old = old} xs g f r = record {
   exchanges = xs ++ r.exchanges;
   grown = r.grown ∙ ap (λ (z : List Exchange). z ++ r.exchanges) g ∙ append_assoc old xs r.exchanges;
   request = r.request;
   next = f r.exchanges r.request r.next;
-  state = r.state;
-  had = r.had;
   may = r.may;
 }
 
@@ -54,15 +52,13 @@ pub asks_command : (p : List ℕ) → AsksNext (p ∷ []) [] (requests.Command (
 asks_command p = record { done = []; packet = p; later = []; full = []; cut = []; packets_are = refl; joined = refl; answered = refl; asks = refl }
 
 -- a packet's command was refused
-pub refused_command : {S : Type 0} (exchanges_of : S → List Exchange) (refuses : S → Request → StationError → Type 0) (e : StationError) (p : List ℕ) (state : S) {new : List Exchange}
-    → new ≡ exchanges_of state → refuses state (requests.Command (record { items = p })) e → Refused exchanges_of refuses e (AsksNext (p ∷ [])) (exchanges_of state) new
+pub refused_command : {S : Type 0} (exchanges_of : S → List Exchange) (refuses : S → Request → StationError → Type 0) (e : StationError) (p : List ℕ) (state : S) {new : S}
+    → exchanges_of new ≡ exchanges_of state → refuses new (requests.Command (record { items = p })) e → Refused exchanges_of refuses e (AsksNext (p ∷ [])) (exchanges_of state) new
 refused_command exchanges_of refuses e p state same may = record {
   exchanges = [];
   grown = same ∙ sym (append-nil (exchanges_of state));
   request = requests.Command (record { items = p });
   next = asks_command p;
-  state = state;
-  had = sym same;
   may = may;
 }
 
@@ -99,7 +95,7 @@ asks_before ps qs xs q k = record {
 }
 
 -- a refusal in a piece of the stream, of which packets were answered
-pub refused_in_piece : {S : Type 0} (exchanges_of : S → List Exchange) (refuses : S → Request → StationError → Type 0) (m j : ℕ) (h s t r left : List ℕ) (p : List ℕ) {used : ℕ} {old now new : List Exchange} {a b : Option (List ℕ)} {from at first count : ℕ}
+pub refused_in_piece : {S : Type 0} (exchanges_of : S → List Exchange) (refuses : S → Request → StationError → Type 0) (m j : ℕ) (h s t r left : List ℕ) (p : List ℕ) {used : ℕ} {old now : List Exchange} {new : S} {a b : Option (List ℕ)} {from at first count : ℕ}
     → Consumes m h s r used old now a b from at first count → t ≡ drop used s → Feeds m r t j (p ∷ []) left
     → (e : StationError) → Refused exchanges_of refuses e (AsksNext (p ∷ [])) now new → Refused exchanges_of refuses e (AsksNext (frames m (h ++ s))) old new
 refused_in_piece exchanges_of refuses m j h s t r left p x d f e k =
@@ -116,7 +112,7 @@ read_packets m (Some xs) None packets behind h = absurd h
 read_packets m (Some xs) (Some ys) packets behind h = (h.0, h.1, h.2.0)
 
 -- a refusal in the piece of the stream that was read last
-pub refused_midway : {S : Type 0} (exchanges_of : S → List Exchange) (refuses : S → Request → StationError → Type 0) (m : ℕ) {i o n : Option (List ℕ)} {held : List ℕ} (chunk : List ℕ) {old now new : List Exchange} {a b : Option (List ℕ)} {sent count : ℕ}
+pub refused_midway : {S : Type 0} (exchanges_of : S → List Exchange) (refuses : S → Request → StationError → Type 0) (m : ℕ) {i o n : Option (List ℕ)} {held : List ℕ} (chunk : List ℕ) {old now : List Exchange} {new : S} {a b : Option (List ℕ)} {sent count : ℕ}
     → Midway m i o held old now a b sent count → Takes o n chunk
     → (e : StationError) → Refused exchanges_of refuses e (AsksNext (frames m (held ++ chunk))) now new → Refused exchanges_of refuses e (ReadsNext m i n) old new
 refused_midway exchanges_of refuses m {i = i} {o = o} {n = n} {held = held} chunk x t e k =

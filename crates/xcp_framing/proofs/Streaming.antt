@@ -1,5 +1,5 @@
 -- A whole stream, read piece by piece.
-use Rattle.std.proofs.Common.{◌≡◌, ◌≢◌, ◌+◌, ℕ, List, [], ◌∷◌, ◌++◌, length, take, Option, Some, None, Ok, Err, refl, sym, ap, subst, ◌∙◌, arith, append_assoc, length-append}
+use Rattle.std.proofs.Common.{◌≡◌, ◌≢◌, ◌+◌, ℕ, List, [], ◌∷◌, ◌++◌, length, take, Option, Some, None, Result, Ok, Err, refl, sym, ap, subst, ◌∙◌, arith, append_assoc, length-append}
 use Rattle.std.proofs.lemmas.List.{append-nil}
 use Rattle.std.proofs.Math.Seq.{take-append_seam}
 use Rattle.std.specs.Io.KnownBytes.{Consumes, Keeps}
@@ -7,6 +7,7 @@ use Rattle.xcp_slave.specs.declared.Exchange.{Exchange}
 use Rattle.xcp_framing.specs.declared.serving.Served.{Served}
 use Rattle.xcp_framing.specs.declared.serving.ServeError.{ServeError}
 use Rattle.xcp_framing.specs.declared.serving.ServeError.TheVariants as errors
+use Rattle.xcp_framing.specs.Wire.{IsBadLength}
 use Rattle.xcp_framing.specs.Frames.{frames, rest}
 use Rattle.xcp_framing.specs.Serve.{AnswersAll, AnswersSoFar, Writes, OnRead, EndsStream, EndsReader, Serves}
 use Rattle.xcp_framing.specs.Turns.{Grows, EndsPiece, fine}
@@ -24,6 +25,7 @@ pub record Midway (m : ℕ) (input left : Option (List ℕ)) (held : List ℕ) (
   pub read : OnRead input left (λ stream. (packets ≡ frames m stream) × (held ≡ rest m stream))
   pub grows : Grows fine (AnswersAll packets) old now a b 0 sent
   pub counted : count ≡ length packets
+  pub good : ¬ IsBadLength m held
 
 -- nothing was read
 pub read_none : (m : ℕ) (i : Option (List ℕ)) → OnRead i i (IsOf m [] [])
@@ -54,19 +56,20 @@ read_more m (Some xs) (Some ys) (Some zs) packets held chunk h k =
 
 -- before the first read
 pub midway_start : (m : ℕ) (i : Option (List ℕ)) (old : List Exchange) (a : Option (List ℕ)) → Midway m i i [] old old a a 0 0
-midway_start m i old a = record { packets = []; read = read_none m i; grows = grows_none (AnswersAll []) old a 0 refl; counted = refl }
+midway_start m i old a = record { packets = []; read = read_none m i; grows = grows_none (AnswersAll []) old a 0 refl; counted = refl; good = λ bad. omega (arith, bad.there) }
 
 -- after one more read
 pub midway_more : (m : ℕ) {i o n : Option (List ℕ)} {held left : List ℕ} (chunk : List ℕ) {old now new : List Exchange} {a b c : Option (List ℕ)} {sent to count count' : ℕ}
-    → Midway m i o held old now a b sent count → Consumes o n chunk → Grows fine (AnswersAll (frames m (held ++ chunk))) now new b c sent to → left ≡ rest m (held ++ chunk) → count' ≡ count + length (frames m (held ++ chunk))
+    → Midway m i o held old now a b sent count → Consumes o n chunk → Grows fine (AnswersAll (frames m (held ++ chunk))) now new b c sent to → left ≡ rest m (held ++ chunk) → ¬ IsBadLength m (rest m (held ++ chunk)) → count' ≡ count + length (frames m (held ++ chunk))
     → Midway m i n left old new a c to count'
-midway_more m {i = i} {o = o} {n = n} {held = held} chunk x k g e l =
+midway_more m {i = i} {o = o} {n = n} {held = held} chunk x k g e q l =
     let more = frames m (held ++ chunk) in
     record {
       packets = x.packets ++ more;
       read = rw e (read_more m i o n x.packets held chunk x.read k);
       grows = grows_more fine x.grows g (λ xs ys h j. answers_more fine x.packets more xs ys h j);
       counted = omega (arith, l, x.counted, length-append x.packets more);
+      good = rw e q;
     }
 
 -- the same exchanges under another type of result
@@ -87,6 +90,16 @@ writes_as A B errors.Truncated a b t h = h
 writes_as A B errors.Memory a b t h = h
 writes_as A B errors.TurnsSpent a b t h = h
 writes_as A B errors.JournalFull a b t h = h
+
+-- the same error under another type of result
+pub write_as : (A B : Type 0) (e : ServeError) → ◌≡◌ {A = Result A ServeError} (Err e) (Err errors.Write) → ◌≡◌ {A = Result B ServeError} (Err e) (Err errors.Write)
+write_as A B errors.Write h = refl
+write_as A B errors.Read h = absurd (cc)
+write_as A B (errors.BadLength n) h = absurd (cc)
+write_as A B errors.Truncated h = absurd (cc)
+write_as A B errors.Memory h = absurd (cc)
+write_as A B errors.TurnsSpent h = absurd (cc)
+write_as A B errors.JournalFull h = absurd (cc)
 
 -- how a piece ended is how the stream ended
 pub ends_as : (A : Type 0) (m : ℕ) (e : ServeError) (held left : List ℕ) → EndsPiece {A = A} m (Err e) held left → EndsStream m (Err e) left
@@ -123,7 +136,7 @@ serves_read m {i = i} {o = o} {n = n} {held = held} x k = record {
   grown = x.grows.grown;
   answers = x.grows.fact;
   writes = x.grows.writes;
-  ends = tt;
+  ends = x.good;
   counts = tt;
 }
 
@@ -138,7 +151,7 @@ serves_turns m {held = held} x = record {
   grown = x.grows.grown;
   answers = x.grows.fact;
   writes = x.grows.writes;
-  ends = tt;
+  ends = x.good;
   counts = tt;
 }
 
@@ -168,7 +181,7 @@ serves_truncated m {i = i} {o = o} {n = n} {held = held} x k e = record {
   grown = x.grows.grown;
   answers = x.grows.fact;
   writes = x.grows.writes;
-  ends = e;
+  ends = (e, x.good);
   counts = tt;
 }
 

@@ -44,13 +44,11 @@ pub record ReadsNext (m : ℕ) (input left : Option (List ℕ)) (exchanges : Lis
   pub read : OnRead input left (λ stream. packets ≡ frames m stream)
   pub asks : AsksNext packets exchanges request
 
--- A station, of which `exchanges_of` and `refuses` tell, refused the request that comes next: it was in a state in which it
--- may refuse this request so. Its exchanges then were those that it has now, the old ones and those of the call.
-pub record Refused {S : Type 0} (exchanges_of : S → List Exchange) (refuses : S → Request → StationError → Type 0) (error : StationError) (Next : List Exchange → Request → Type 0) (old new : List Exchange) : Type 0 where
+-- A station, of which `exchanges_of` and `refuses` tell, refused the request that comes next: as it is now, it may refuse this
+-- request so. Its exchanges are the old ones and those of the call.
+pub record Refused {S : Type 0} (exchanges_of : S → List Exchange) (refuses : S → Request → StationError → Type 0) (error : StationError) (Next : List Exchange → Request → Type 0) (old : List Exchange) (now : S) : Type 0 where
   pub exchanges : List Exchange
-  pub grown : new ≡ old ++ exchanges
+  pub grown : exchanges_of now ≡ old ++ exchanges
   pub request : Request
   pub next : Next exchanges request
-  pub state : S
-  pub had : exchanges_of state ≡ new
-  pub may : refuses state request error
+  pub may : refuses now request error

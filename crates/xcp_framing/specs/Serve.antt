@@ -92,11 +92,14 @@ OnRead None after Fact = ⊤
 OnRead (Some input) None Fact = ⊥
 OnRead (Some input) (Some left) Fact = (stream : List ℕ) × (input ≡ stream ++ left) × Fact stream
 
--- what is left of the stream at its end: nothing, a LEN above m, or a part of a frame
+-- What is left of the stream at its end: nothing, a LEN above m, or a part of a frame. After a failed read, and where all
+-- turns are spent, it begins with no LEN above m either: that ends the call as soon as it is read.
 abbrev pub EndsStream : ℕ → Result Served ServeError → List ℕ → Type 0
 EndsStream m (Ok served) left = left ≡ []
 EndsStream m (Err (errors.BadLength n)) left = (n ≡ len_of left) × IsBadLength m left
-EndsStream m (Err errors.Truncated) left = left ≢ []
+EndsStream m (Err errors.Truncated) left = (left ≢ []) × ¬ IsBadLength m left
+EndsStream m (Err errors.Read) left = ¬ IsBadLength m left
+EndsStream m (Err errors.TurnsSpent) left = ¬ IsBadLength m left
 EndsStream m _ left = ⊤
 
 -- the reader was read to its end

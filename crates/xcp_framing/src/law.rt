@@ -20,7 +20,7 @@ pub fn each_text_has_its_lines()
 pub fn a_desk_is_never_full()
     ensures refuses { (desk : DeskValue) (request : Request)
         → ¬ (⟦<Desk as Station>⟧.refuses desk request StationError.JournalFull) }
-    ensures serve { (max_cto : ℕ) (input left : Option (List ℕ)) (old new : List Exchange)
+    ensures serve { (max_cto : ℕ) (input left : Option (List ℕ)) (old : List Exchange) (now : DeskValue)
         → ¬ (Refused ⟦<Desk as Station>⟧.exchanges ⟦<Desk as Station>⟧.refuses
-        StationError.JournalFull (ReadsNext max_cto input left) old new) }
+        StationError.JournalFull (ReadsNext max_cto input left) old now) }
 {}

@@ -1,5 +1,5 @@
 //! A script run through a desk.
-ghost use Rattle.std.specs.Prelude.{◌≡◌, ◌≢◌, ◌<◌, ◌+◌, ◌^◌, ◌++◌, [], ℕ, List, Option, OnOk, OnErr, IfErr, ◌⊎◌};
+ghost use Rattle.std.specs.Prelude.{◌≡◌, ◌≢◌, ◌<◌, ◌≤◌, ◌+◌, ◌^◌, ◌++◌, [], ℕ, List, Option, OnOk, OnErr, IfErr, ◌⊎◌};
 ghost use Rattle.std.specs.Io.KnownBytes.{Appends, IsAtEnd};
 ghost use Rattle.xcp_slave.specs.Run.{Run, requests_of};
 ghost use Rattle.xcp_slave.specs.Value.{layout_of, opening};
@@ -83,6 +83,7 @@ fn run_script<R: Read, W: Write>(
     ensures ended { OnOk result (IsAtEnd (R.remaining reader.new.inner)) }
     ensures read { result ≡ Err ReplayError.Read
         → (reader.old.failures < reader.new.failures) ⊎ (reader.new.calls ≡ reader.old.calls + turns) }
+    ensures reads { reader.new.calls ≤ reader.old.calls + turns }
     ensures read_quiet { result ≢ Err ReplayError.Read → reader.new.failures ≡ reader.old.failures }
     ensures write { result ≡ Err ReplayError.Write → writer.old.failures < writer.new.failures }
     ensures write_quiet { result ≢ Err ReplayError.Write
@@ -140,6 +141,7 @@ pub fn replay_on<R: Read, W: Write>(
     // A fault of a stream comes only where that stream failed, or the turns are spent.
     ensures read { result ≡ Err ReplayError.Read
         → (reader.old.failures < reader.new.failures) ⊎ (reader.new.calls ≡ reader.old.calls + turns) }
+    ensures reads { reader.new.calls ≤ reader.old.calls + turns }
     ensures read_quiet { result ≢ Err ReplayError.Read → reader.new.failures ≡ reader.old.failures }
     ensures write { result ≡ Err ReplayError.Write → writer.old.failures < writer.new.failures }
     ensures write_quiet { result ≢ Err ReplayError.Write

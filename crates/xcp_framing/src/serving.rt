@@ -1,5 +1,5 @@
 //! A station behind a stream: commands in frames from a reader, answers in frames to a writer.
-ghost use Rattle.std.specs.Prelude.{◌≡◌, ◌<◌, ◌≤◌, ◌+◌, ◌*◌, ◌^◌, [], ◌∷◌, ◌++◌, ◌⊎◌, OnOk, IfErr, length};
+ghost use Rattle.std.specs.Prelude.{◌≡◌, ◌≢◌, ◌<◌, ◌≤◌, ◌+◌, ◌*◌, ◌^◌, [], ◌∷◌, ◌++◌, ◌⊎◌, OnOk, IfErr, length};
 ghost use Rattle.xcp_framing.specs.Wire.{wire_from};
 ghost use Rattle.xcp_framing.specs.Frames.{frames, rest};
 ghost use Rattle.xcp_framing.specs.Serve.{AnswersSoFar, EndsReader, Serves, Writes, number_of};
@@ -121,11 +121,11 @@ fn drain<W: Write, S: Station>(
         served.old.sent served.new.sent }
     ensures bound { OnOk result (served.new.sent ≤ served.old.sent + 64) }
     ensures frames { served.new.frames ≡ served.old.frames }
-    ensures fine { OnOk result (writer.new.failures ≡ writer.old.failures) }
+    ensures quiet { result ≢ Err ServeError.Write → writer.new.failures ≡ writer.old.failures }
     ensures stops { IfErr result IsInterruption }
     ensures write { result ≡ Err ServeError.Write → writer.old.failures < writer.new.failures }
     ensures refused { OnRefusal result (λ e. Refused S.exchanges S.refuses e DrainsNext
-        (S.exchanges station.old) (S.exchanges station.new)) }
+        (S.exchanges station.old) station.new) }
 {
     for _drain in 0..DRAINS {
         let Answer::Packet(packet) = station.submit(Request::Drain)? else {
@@ -150,12 +150,12 @@ fn exchange<W: Write, S: Station>(
         served.old.sent served.new.sent }
     ensures bound { OnOk result (served.new.sent ≤ served.old.sent + 65) }
     ensures frames { served.new.frames ≡ served.old.frames }
-    ensures fine { OnOk result (writer.new.failures ≡ writer.old.failures) }
+    ensures quiet { result ≢ Err ServeError.Write → writer.new.failures ≡ writer.old.failures }
     ensures stops { IfErr result IsInterruption }
     ensures write { result ≡ Err ServeError.Write → writer.old.failures < writer.new.failures }
     ensures refused { OnRefusal result (λ e.
         Refused S.exchanges S.refuses e (AsksNext (packet.items ∷ []))
-        (S.exchanges station.old) (S.exchanges station.new)) }
+        (S.exchanges station.old) station.new) }
 {
     if let Answer::Packet(packet) = station.submit(Request::Command(packet))? {
         send(writer, served, &packet)?;
@@ -184,12 +184,12 @@ fn consume<W: Write, S: Station>(
         ≡ served.old.frames + length (frames framer.old.max_cto (framer.old.held ++ piece.now))) }
     ensures bound { OnOk result (served.new.sent ≤ served.old.sent + 65 * length piece.now) }
     ensures few { OnOk result (served.new.frames ≤ served.old.frames + length piece.now) }
-    ensures fine { OnOk result (writer.new.failures ≡ writer.old.failures) }
+    ensures quiet { result ≢ Err ServeError.Write → writer.new.failures ≡ writer.old.failures }
     ensures write { result ≡ Err ServeError.Write → writer.old.failures < writer.new.failures }
     ensures kept { framer.new.max_cto ≡ framer.old.max_cto }
     ensures refused { OnRefusal result (λ e. Refused S.exchanges S.refuses e
         (AsksNext (frames framer.old.max_cto (framer.old.held ++ piece.now)))
-        (S.exchanges station.old) (S.exchanges station.new)) }
+        (S.exchanges station.old) station.new) }
 {
     let mut used = 0;
     loop {
@@ -231,9 +231,12 @@ pub fn serve<R: Read, W: Write, S: Station>(
         (W.contents writer.old.inner) (W.contents writer.new.inner) }
     // Ok and Truncated come at the reader's end.
     ensures ends { EndsReader result (R.remaining reader.new.inner) }
-    // When the others come.
+    // When the others come. A stream fails only where the call ends with it.
     ensures read { result ≡ Err ServeError.Read → reader.old.failures < reader.new.failures }
+    ensures read_quiet { result ≢ Err ServeError.Read → reader.new.failures ≡ reader.old.failures }
     ensures write { result ≡ Err ServeError.Write → writer.old.failures < writer.new.failures }
+    ensures write_quiet { result ≢ Err ServeError.Write
+        → writer.new.failures ≡ writer.old.failures }
     ensures reads { reader.new.calls ≤ reader.old.calls + turns }
     ensures turns { result ≡ Err ServeError.TurnsSpent → reader.new.calls ≡ reader.old.calls + turns }
     // Memory and JournalFull come where the station refused the request that comes next. Memory
@@ -243,7 +246,7 @@ pub fn serve<R: Read, W: Write, S: Station>(
         × (station.new ≡ station.old))
         ⊎ Refused S.exchanges S.refuses e
         (ReadsNext max_cto (R.remaining reader.old.inner) (R.remaining reader.new.inner))
-        (S.exchanges station.old) (S.exchanges station.new)) }
+        (S.exchanges station.old) station.new) }
 {
     let Ok(mut buffer) = vec![in alloc; 0; READ_SIZE] else {
         return Err(ServeError::Memory);

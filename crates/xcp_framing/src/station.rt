@@ -30,6 +30,6 @@ pub trait Station {
     fn submit(&mut self, request: Request) -> Result<Answer, StationError>
         ensures ok { IfOk result (λ answer. exchanges self.new
             ≡ exchanges self.old ++ record { request = request; answer = answer } ∷ []) }
-        ensures err { OnErr result (exchanges self.new ≡ exchanges self.old) }
-        ensures refused { IfErr result (λ e. refuses self.old request e) };
+        ensures err { OnErr result (self.new ≡ self.old) }
+        ensures refused { IfErr result (λ e. refuses self.new request e) };
 }

@@ -1,2 +1,4 @@
 pub mod SourceLemmas
 pub mod CommandLineLemmas
+pub mod WalkLemmas
+pub mod NoFaultLemmas

@@ -1,5 +1,5 @@
 -- The words of the command line, as clap reads them.
-use Rattle.std.specs.Prelude.{◌≡◌, ◌⊎◌, ℕ, List, [], true, codes, Option, Some, string_bytes}
+use Rattle.std.specs.Prelude.{◌≡◌, ◌⊎◌, ℕ, List, true, codes, Option, Some, string_bytes}
 use Rattle.std.specs.Option.{option_map, option_and_then}
 use Rattle.clap.specs.Words.{App, IsAmong, Kinds, Row, Rule, Text, first_of, kind_of, new_app, new_rule, with_rule, with_subcommand}
 use Rattle.xcp_program.specs.declared.purpose.Options.{Options}
@@ -40,10 +40,10 @@ abbrev pub Asks : Option (Text × List Row) → Options → Type 0
 Asks found (Replay config) = IsReplay found (string_bytes config)
 
 -- Why the words ask for nothing, by the kinds of error of the first fault that clap finds in them (a wish for help is one): the error
--- has one of these kinds, or clap finds no fault, and yet they name no replay with a file. Memory may be wanting at any place.
-abbrev pub IsMistake : Kinds → Option (Text × List Row) → OptionsFault → Type 0
-IsMistake kinds found Memory = Unit {0}
-IsMistake kinds found (Words e) = IsAmong (kind_of e) kinds ⊎ ((kinds ≡ []) × ((config : Text) → ¬ (IsReplay found config)))
+-- has one of these kinds. Memory may be wanting at any place.
+abbrev pub IsMistake : Kinds → OptionsFault → Type 0
+IsMistake kinds Memory = Unit {0}
+IsMistake kinds (Words e) = IsAmong (kind_of e) kinds
 
 -- what `options` answers, as the program tells it
 abbrev pub unasked_of : OptionsFault → Unasked

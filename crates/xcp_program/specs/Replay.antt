@@ -4,7 +4,7 @@ use Rattle.xcp_memory.specs.Layout.{LayoutValue}
 use Rattle.xcp_slave.specs.Value.{SlaveValue, opening}
 use Rattle.xcp_slave.specs.Run.{Run, requests_of}
 use Rattle.xcp_slave.specs.declared.Exchange.{Exchange}
-use Rattle.xcp_framing.specs.Replay.{OfLines, Replayed, Tells}
+use Rattle.xcp_framing.specs.Replay.{EndsShort, OfLines, Replayed, Tells, asked}
 use Rattle.xcp_framing.specs.Told.{told}
 use Rattle.xcp_framing.specs.declared.ReplayError.{ReplayError}
 use Rattle.xcp_framing.specs.declared.ReplayError.TheVariants as errors
@@ -30,6 +30,17 @@ pub record Replays (config : List ℕ) (script old new : Option (List ℕ)) (end
   pub layout : LayoutValue
   pub described : HasLayout config layout
   pub answers : AnswersScript layout script old new ended
+
+-- a run for which memory was short at a request of the script: the slave did not take it, or its answer has no text
+pub record RunsShort (layout : LayoutValue) (script old new : Option (List ℕ)) : Type 0 where
+  pub answers : AnswersScript layout script old new (Err errors.Memory)
+  pub short : OfLines script (λ lines. EndsShort (asked layout.max_cto lines) answers.exchanges old new)
+
+-- the same, for the layout that the configuration describes
+pub record ReplaysShort (config : List ℕ) (script old new : Option (List ℕ)) : Type 0 where
+  pub layout : LayoutValue
+  pub described : HasLayout config layout
+  pub runs : RunsShort layout script old new
 
 -- the configuration has a fault of this number: 1 where its text is no document, else that of the first check that fails
 pub record IsFaulty (config : List ℕ) (n : ℕ) : Type 0 where

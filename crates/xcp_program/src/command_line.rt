@@ -80,8 +80,8 @@ fn config_in<'a>(matches: &ArgMatches<'a>) -> Option<&'a str>
 pub fn options(alloc: Global, words: &[String]) -> Result<Options, OptionsFault>
     ensures asked { IfOk result (λ o. Asks (subcommand_of program (map string_bytes words.now)) o) }
     ensures taken { IfOk result (λ o. faults_in program (map string_bytes words.now) ≡ []) }
-    ensures mistake { IfErr result (λ e. IsMistake (faults_in program (map string_bytes words.now)) (subcommand_of program (map string_bytes words.now)) e) }
-    ensures refused { IfErr result (λ e. takes program (map string_bytes words.now) ≡ true → (config : List ℕ) → IsReplay (subcommand_of program (map string_bytes words.now)) config → e ≡ OptionsFault.Memory) }
+    ensures mistake { IfErr result (λ e. IsMistake (faults_in program (map string_bytes words.now)) e) }
+    ensures refused { IfErr result (λ e. takes program (map string_bytes words.now) ≡ true → e ≡ OptionsFault.Memory) }
 {
     let command = program(alloc)?;
     match command.try_get_matches_from(words) {
@@ -101,18 +101,14 @@ fn fault_of(e: Error) -> OptionsFault
     }
 }
 
-/// What these matches ask for.
+/// What the matches of a replay ask for.
 fn asked(alloc: Global, matches: &ArgMatches<'_>) -> Result<Options, OptionsFault>
+    requires { (config : List ℕ) × IsReplay (subcommand_rows_of matches.now) config }
     ensures asked { IfOk result (λ o. Asks (subcommand_rows_of matches.now) o) }
-    ensures refused { IfErr result (λ e. (config : List ℕ) → IsReplay (subcommand_rows_of matches.now) config → e ≡ OptionsFault.Memory) }
+    ensures refused { IfErr result (λ e. e ≡ OptionsFault.Memory) }
 {
     let Some(config) = config_in(matches) else {
-        let mut command = program(alloc)?;
-        let e = command.error(
-            ErrorKind::MissingSubcommand,
-            "a replay wants a configuration file",
-        )?;
-        return Err(OptionsFault::Words(e));
+        unreachable!()
     };
     let config = String::from_str(alloc, config)?;
     Ok(Options::Replay { config })

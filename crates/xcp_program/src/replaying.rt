@@ -1,6 +1,6 @@
 //! A replay: a script of requests on a slave of a configured layout.
-ghost use Rattle.std.specs.Prelude.{◌≡◌, ◌<◌, ◌+◌, ◌⊎◌};
-ghost use Rattle.xcp_program.specs.Replay.{AnswersScript, Ends};
+ghost use Rattle.std.specs.Prelude.{◌≡◌, ◌≢◌, ◌<◌, ◌≤◌, ◌+◌, ◌⊎◌, ℕ};
+ghost use Rattle.xcp_program.specs.Replay.{AnswersScript, Ends, ReplaysShort, RunsShort};
 
 use crate::fault::Fault;
 use std::alloc::Global;
@@ -26,8 +26,17 @@ pub fn replay<R: Read, W: Write>(
     turns: u32,
 ) -> Result<u64, Fault>
     ensures ends { Ends config.now (R.remaining reader.old.inner) (W.contents writer.old.inner) (W.contents writer.new.inner) result }
+    // A fault of a stream comes only where that stream failed, or the turns are spent.
     ensures read { result ≡ Err (Fault.Stream 1) → (reader.old.failures < reader.new.failures) ⊎ (reader.new.calls ≡ reader.old.calls + turns) }
+    ensures read_quiet { result ≢ Err (Fault.Stream 1) → reader.new.failures ≡ reader.old.failures }
+    ensures reads { reader.new.calls ≤ reader.old.calls + turns }
     ensures write { result ≡ Err (Fault.Stream 2) → writer.old.failures < writer.new.failures }
+    ensures write_quiet { result ≢ Err (Fault.Stream 2) → writer.new.failures ≡ writer.old.failures }
+    // Memory comes before anything is read or written, or at a request of the script.
+    ensures memory { result ≡ Err Fault.Memory
+        → ((reader.new ≡ reader.old) × (writer.new ≡ writer.old))
+        ⊎ ReplaysShort config.now (R.remaining reader.old.inner) (W.contents writer.old.inner) (W.contents writer.new.inner) }
+    ensures configuration { (n : ℕ) → result ≡ Err (Fault.Configuration n) → (reader.new ≡ reader.old) × (writer.new ≡ writer.old) }
 {
     let layout = match read_layout(alloc, config) {
         Ok(layout) => layout,
@@ -53,7 +62,13 @@ fn answer_script<R: Read, W: Write>(
 ) -> Result<u64, ReplayError>
     ensures answered { AnswersScript layout (R.remaining reader.old.inner) (W.contents writer.old.inner) (W.contents writer.new.inner) result }
     ensures read { result ≡ Err ReplayError.Read → (reader.old.failures < reader.new.failures) ⊎ (reader.new.calls ≡ reader.old.calls + turns) }
+    ensures read_quiet { result ≢ Err ReplayError.Read → reader.new.failures ≡ reader.old.failures }
+    ensures reads { reader.new.calls ≤ reader.old.calls + turns }
     ensures write { result ≡ Err ReplayError.Write → writer.old.failures < writer.new.failures }
+    ensures write_quiet { result ≢ Err ReplayError.Write → writer.new.failures ≡ writer.old.failures }
+    ensures memory { result ≡ Err ReplayError.Memory
+        → ((reader.new ≡ reader.old) × (writer.new ≡ writer.old))
+        ⊎ RunsShort layout (R.remaining reader.old.inner) (W.contents writer.old.inner) (W.contents writer.new.inner) }
 {
     let Ok(slave) = Slave::new(alloc, layout) else {
         return Err(ReplayError::Memory);

@@ -1,5 +1,5 @@
 //! The bytes of the configuration file.
-ghost use Rattle.std.specs.Prelude.{◌≡◌, ◌≤◌, ◌⊎◌, Err, IfOk, IfErr, IfSome, length, string_bytes};
+ghost use Rattle.std.specs.Prelude.{◌≡◌, ◌≤◌, ◌⊎◌, IfOk, IfErr, IfSome, MatchResult, length, string_bytes};
 ghost use Rattle.std.specs.Str.{IsUtf8};
 
 use crate::fault::Fault;
@@ -25,13 +25,21 @@ pub fn read_whole<R: Read + Drop>(alloc: Global, file: R) -> Result<Vec<u8>, Fau
     }
 }
 
-/// The text of a file. Beside the faults of `read_whole`, `Configuration(1)` comes where the bytes are no UTF-8.
+/// The text of a file. `Configuration(1)` comes where the file was read whole and its bytes are no UTF-8, the faults of
+/// `read_whole` where it was not.
 pub fn read_text<R: Read + Drop>(alloc: Global, file: R) -> Result<String, Fault>
     ensures size { IfOk result (λ text. length (string_bytes text) ≤ 65536) }
     ensures whole { IfOk result (λ text. IfSome (R.remaining file) (λ all. string_bytes text ≡ all)) }
-    ensures no_text { result ≡ Err (Fault.Configuration 1) → IfSome (R.remaining file) (λ all. ¬ IsUtf8 all) }
+    ensures utf8 { IfOk result (λ text. IsUtf8 (string_bytes text)) }
+    ensures refused { IfErr result (λ e. (e ≡ Fault.Memory) ⊎ (e ≡ Fault.Configuration 0) ⊎ ((e ≡ Fault.Configuration 1) × IfSome (R.remaining file) (λ all. (length all ≤ 65536) × (¬ IsUtf8 all)))) }
 {
-    let bytes = read_whole(alloc, file)?;
+    text_of(read_whole(alloc, file)?)
+}
+
+/// The bytes of a file as text: `Configuration(1)` where they are no UTF-8, and no other fault.
+fn text_of(bytes: Vec<u8>) -> Result<String, Fault>
+    ensures { MatchResult result (λ text. (string_bytes text ≡ bytes.items) × IsUtf8 bytes.items) (λ e. (e ≡ Fault.Configuration 1) × (¬ IsUtf8 bytes.items)) }
+{
     match String::from_utf8(bytes) {
         Ok(text) => Ok(text),
         Err(_) => Err(Fault::Configuration(1)),

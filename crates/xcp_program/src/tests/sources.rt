@@ -19,5 +19,8 @@ fn a_file_that_is_no_text(rt: HostRuntime) -> Result<(), Fail> {
     assert_eq!(rt; good, Ok(2));
     let bad = read_text(rt.alloc(), &b"id\xFF"[..]).map(|text| text.len());
     assert_eq!(rt; bad, Err(Fault::Configuration(1)));
+    let long = vec![in rt.alloc(); 0xFFu8; 65_537]?;
+    let long = read_text(rt.alloc(), long.as_slice()).map(|text| text.len());
+    assert_eq!(rt; long, Err(Fault::Configuration(0)));
     Ok(())
 }

@@ -1,7 +1,7 @@
 use Rattle.std.proofs.Common.{◌≡◌, ◌-◌, ◌∙◌, ℕ, List, length, take, drop, ap, arith, length-drop}
 use Rattle.std.proofs.lemmas.List.{take_all}
 use Rattle.xcp_framing.proofs.Answering.{passed_on, cons≢nil}
-use Rattle.xcp_framing.proofs.Consuming.{consumes_more, consumes_bad, consumes_part}
+use Rattle.xcp_framing.proofs.Consuming.{consumes_all, consumes_more, consumes_bad, consumes_part}
 use Rattle.xcp_framing.proofs.Refusing.{on_refusal_map, refused_in_piece}
 use Rattle.xcp_framing.proofs.serving.consume.Goals as goal
 
@@ -26,6 +26,17 @@ returns-in-BadLength-clause-ends g c =
     let ends = consumes_bad {A = Unit {0}} _ _ _ _ s t _ _ c.loop-length.invariant.consumes all fed bad.0 bad.1 in
     (ends.1, ends.2)
 
+pub returns-in-More-clause-ends : goal.returns-in-More-clause-ends
+returns-in-More-clause-ends g c =
+    let s = c.args.piece.now in
+    let i = c.loop-length.used in
+    let t = take (length s - i) (drop i s) in
+    let all : t ≡ drop i s = take_all (length s - i) (drop i s) (omega (arith, length-drop i s)) in
+    let fed = rw (c.in-More.is, c.loop-length.invariant.kept) at c.feed-fed.ensures.feeds in
+    let more = rw (c.feed-fed.ensures.kept, c.loop-length.invariant.kept) at c.feed-fed.ensures.more c.in-More.is in
+    let behind = (consumes_all _ _ _ s t _ _ c.loop-length.invariant.consumes all fed more.0).1 in
+    (behind, rw behind at more.1)
+
 pub loop-length-preserved : goal.loop-length-preserved
 loop-length-preserved g c =
     let s = c.args.piece.now in
@@ -45,7 +56,7 @@ loop-length-preserved g c =
       within = omega (arith, front, left, limit);
       bound = omega (arith, c.in_ok-exchange-in-Packet.ensures.bound, c.loop-length.invariant.bound, some);
       few = omega (arith, c.in_ok-exchange-in-Packet.ensures.frames, c.loop-length.invariant.few, some);
-      quiet = c.in_ok-exchange-in-Packet.ensures.fine ∙ c.loop-length.invariant.quiet;
+      quiet = c.in_ok-exchange-in-Packet.ensures.quiet (λ e. cc) ∙ c.loop-length.invariant.quiet;
       kept = c.feed-fed.ensures.kept ∙ c.loop-length.invariant.kept;
     }
 

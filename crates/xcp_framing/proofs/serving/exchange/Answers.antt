@@ -1,4 +1,4 @@
-use Rattle.std.proofs.Common.{◌≡◌, [], ◌∷◌, refl}
+use Rattle.std.proofs.Common.{◌≡◌, [], ◌∷◌, refl, ap}
 use Rattle.xcp_slave.specs.declared.Exchange.{Exchange}
 use Rattle.xcp_slave.specs.declared.Request.TheVariants as requests
 use Rattle.xcp_framing.specs.Serve.{refused_with}
@@ -11,7 +11,7 @@ use Rattle.xcp_framing.proofs.serving.exchange.Goals.{in-Packet+in_ok-send, in_d
 pub returns-in_err-packet-clause-answers : goal.returns-in_err-packet-clause-answers
 returns-in_err-packet-clause-answers g c =
     rw (passed_on c.from_residual.result (refused_with c.in_err-packet.field-0.0) c.from_residual.ensures.1)
-    (grows_refused _ _ (answers_none c.in_err-packet.field-0.0 _) c.in_err-packet.ensures.err)
+    (grows_refused _ _ (answers_none c.in_err-packet.field-0.0 _) (ap g.S.Station.exchanges c.in_err-packet.ensures.err))
 
 pub returns-clause-answers : goal.returns-clause-answers
 returns-clause-answers g c =
@@ -26,7 +26,7 @@ returns-clause-answers g c =
 pub returns-in_err-packet-clause-refused : goal.returns-in_err-packet-clause-refused
 returns-in_err-packet-clause-refused g c =
     rw (passed_on c.from_residual.result (refused_with c.in_err-packet.field-0.0) c.from_residual.ensures.1)
-    (on_refusal (Unit {0}) c.in_err-packet.field-0.0 _ (refused_command _ _ _ c.args.packet.items c.args.station.now c.in_err-packet.ensures.err c.in_err-packet.ensures.refused))
+    (on_refusal (Unit {0}) c.in_err-packet.field-0.0 _ (refused_command _ _ _ c.args.packet.items c.args.station.now (ap g.S.Station.exchanges c.in_err-packet.ensures.err) c.in_err-packet.ensures.refused))
 
 pub returns-clause-refused : goal.returns-clause-refused
 returns-clause-refused g c =

@@ -2,7 +2,7 @@ use Rattle.std.proofs.Common.{inr, ◌≡◌, ◌≤◌, ◌∙◌, length, take
 use Rattle.std.proofs.lemmas.Bool.{false≢true}
 use Rattle.xcp_framing.specs.declared.serving.Served.{Served}
 use Rattle.xcp_framing.proofs.Answering.{passed_on}
-use Rattle.xcp_framing.proofs.Streaming.{midway_start, midway_more, serves_memory, serves_read, serves_all, serves_truncated, serves_part, ends_for, whole_buffer, nothing_held, reader_goes_on}
+use Rattle.xcp_framing.proofs.Streaming.{midway_start, midway_more, serves_memory, serves_read, serves_all, serves_truncated, serves_part, ends_for, whole_buffer, nothing_held, reader_goes_on, write_as}
 use Rattle.xcp_framing.proofs.Refusing.{on_refusal_map, refused_midway}
 use Rattle.xcp_framing.proofs.serving.serve.Goals as goal
 
@@ -38,6 +38,11 @@ returns-in_err-consume-clause-ends g c =
     rw (passed_on c.from_residual.result c.in_err-consume.field-0.0 c.from_residual.ensures.1)
     (reader_goes_on (Unit {0}) _ _ _ _ _ c.in_err-consume.ensures.ends)
 
+pub returns-in_err-consume-clause-write_quiet : goal.returns-in_err-consume-clause-write_quiet
+returns-in_err-consume-clause-write_quiet g c = λ other.
+    c.in_err-consume.ensures.quiet (λ e. other (passed_on c.from_residual.result c.in_err-consume.field-0.0 c.from_residual.ensures.1 ∙ write_as (Unit {0}) Served c.in_err-consume.field-0.0 e))
+    ∙ c.loop-turn.invariant.quiet
+
 pub loop-turn-preserved : goal.loop-turn-preserved
 loop-turn-preserved g c =
     let same : take c.in-Ok-read.count c.deref.result.now ≡ take c.in-Ok-read.count c.read.new.buf = ap (take c.in-Ok-read.count) (c.deref.ensures.value ∙ whole_buffer _ _ _ (c.read.auto.buf ∙ c.deref_mut.ensures.len)) in
@@ -46,14 +51,14 @@ loop-turn-preserved g c =
     let piece : length (take c.in-Ok-read.count c.deref.result.now) ≤ 512 = omega (arith, c.in-Ok-read.ensures.bound.0, length-take c.in-Ok-read.count c.deref.result.now, c.read.auto.buf, c.deref_mut.ensures.len, c.loop-turn.invariant.size) in
     let count = rw (c.loop-turn.invariant.limit, same) at c.in_ok-consume.ensures.frames in
     record {
-      midway = midway_more _ _ c.loop-turn.invariant.midway c.in-Ok-read.ensures.bytes.0 answers ends count;
+      midway = midway_more _ _ c.loop-turn.invariant.midway c.in-Ok-read.ensures.bytes.0 answers ends.0 ends.1 count;
       size = c.loop-turn.invariant.size;
       limit = c.in_ok-consume.ensures.kept ∙ c.loop-turn.invariant.limit;
       bound = omega (arith, c.in_ok-consume.ensures.bound, c.loop-turn.invariant.bound, piece);
       few = omega (arith, c.in_ok-consume.ensures.few, c.loop-turn.invariant.few, piece);
       calls = omega (arith, c.in-Ok-read.ensures.counted.calls, c.loop-turn.invariant.calls);
       failures = c.in-Ok-read.ensures.counted.failures ∙ c.loop-turn.invariant.failures;
-      quiet = c.in_ok-consume.ensures.fine ∙ c.loop-turn.invariant.quiet;
+      quiet = c.in_ok-consume.ensures.quiet (λ e. cc) ∙ c.loop-turn.invariant.quiet;
     }
 
 pub returns-then-inside-clause-serves : goal.returns-then-inside-clause-serves

@@ -1,4 +1,4 @@
 use Rattle.xcp_program.proofs.command_line.asked.Goals as goal
 
-pub returns-in_default-clause-refused : goal.returns-in_default-clause-refused
-returns-in_default-clause-refused c = λ config h. absurd (c.config_in.ensures.none c.in_default.is config h)
+pub unreachable-requires : goal.unreachable-requires
+unreachable-requires c = absurd (c.config_in.ensures.none c.in_default.is c.requires.0 c.requires.1)
