@@ -93,8 +93,7 @@ fn a_desk_stores_its_exchanges(rt: HostRuntime) -> Result<(), Fail> {
     each_text_has_its_lines();
     let (result, _, mut desk) = run(rt.alloc(), &GOOD)?;
     desk.audit();
-    assert_eq!(rt; result, Ok(3));
-    assert_eq!(rt; desk.max_cto(), 32);
+    assert!(rt; result == Ok(3) && desk.max_cto() == 32);
     let answer = desk.submit(Request::Hangup);
     assert_eq!(rt; answer, Ok::<Answer, StationError>(Answer::Silent));
     assert_eq!(rt; desk.exchanges().len(), 4);

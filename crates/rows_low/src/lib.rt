@@ -22,6 +22,10 @@ mod lists_rows;
 #[cfg(test)]
 mod lists_tests;
 #[cfg(test)]
+mod packet_commands;
+#[cfg(test)]
+mod packet_replies;
+#[cfg(test)]
 mod page_rows;
 #[cfg(test)]
 mod page_tests;
