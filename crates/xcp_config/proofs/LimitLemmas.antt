@@ -18,7 +18,7 @@ use Rattle.xcp_config.specs.declared.config_error.ConfigError.{ConfigError}
 use Rattle.xcp_config.specs.declared.config_error.ConfigError.TheVariants as error
 use Rattle.xcp_packet.specs.Rows.{first_holding}
 use Rattle.xcp_config.specs.ConfigError.{error_of}
-use Rattle.xcp_config.specs.Values.{text_of, integer_of, bytes_of, members_of, is_array_of_tables, is_byte_order, is_checksum}
+use Rattle.xcp_config.specs.Values.{text_of, integer_of, bytes_of, members_of, is_array_of_tables, byte_orders, checksums}
 use Rattle.xcp_config.specs.Layout.{layout_in, byte_order_of, checksum_of, segments_of, signals_of, events_of, address_of, size_of, length_of, setting, segment_in, event_in}
 use Rattle.xcp_config.specs.Seen.{Reads, Segment, Event, segment_read, segment_written, event_read, event_written}
 use Rattle.xcp_config.specs.Table.{text_checks, name_checks, integer_checks, data_checks, array_checks, table_checks, own_checks, size_checks, segment_checks, checks_in, segments_checks, end_checks, place_checks, signals_checks, event_checks, events_checks, limit_check}
@@ -85,8 +85,8 @@ own_kept p t r h =
     let a = text_checks key.Id id_limit (get (codes "id") t) in
     let b = integer_checks key.MaxCto max_cto_limit (get (codes "max_cto") t) in
     let c = integer_checks key.MaxDto max_dto_limit (get (codes "max_dto") t) in
-    let d = name_checks key.ByteOrder is_byte_order (byte_order_of t) in
-    let e = name_checks key.Checksum is_checksum (checksum_of t) in
+    let d = name_checks key.ByteOrder byte_orders (byte_order_of t) in
+    let e = name_checks key.Checksum checksums (checksum_of t) in
     let four = none_both (a ++ b ++ c ++ d) e h in
     let three = none_both (a ++ b ++ c) d four.0 in
     let two = none_both (a ++ b) c three.0 in

@@ -1,18 +1,27 @@
 -- The layout that the table of a configuration has.
 use Rattle.std.specs.Prelude.{ℕ, ℤ, pos, List, map, length, codes, Option, unwrap_or}
 use Rattle.toml.specs.Data.{Data, integer, string, table, no_members, get}
+use Rattle.xcp_packet.specs.declared.Order.{Order}
 use Rattle.xcp_packet.specs.declared.Order.TheVariants.{Intel}
+use Rattle.xcp_memory.specs.declared.ChecksumKind.{ChecksumKind}
+use Rattle.xcp_memory.specs.declared.ChecksumKind.TheVariants.{Add14}
 use Rattle.xcp_memory.specs.Parts.{number}
 use Rattle.xcp_memory.specs.Layout.{LayoutValue, SegmentValue, EventValue}
-use Rattle.xcp_config.specs.Values.{optional, text_of, integer_of, bytes_of, members_of, checksum_named}
+use Rattle.xcp_config.specs.Values.{optional, text_of, integer_of, bytes_of, members_of, named, byte_orders, checksums}
 
--- the byte order where none is given
+-- the byte order, `intel` where none is given
 abbrev pub byte_order_of : Data → Option Data
 byte_order_of t = optional (string (codes "intel")) (get (codes "byte_order") t)
+
+abbrev pub order_in : Data → Order
+order_in t = unwrap_or (named byte_orders (text_of (byte_order_of t))) Intel
 
 -- the type of checksums, ADD_14 where none is given
 abbrev pub checksum_of : Data → Option Data
 checksum_of t = optional (string (codes "ADD_14")) (get (codes "checksum") t)
+
+abbrev pub checksum_in : Data → ChecksumKind
+checksum_in t = unwrap_or (named checksums (text_of (checksum_of t))) Add14
 
 -- the tables of the array `segment`, and of the array `event`
 abbrev pub segments_of : Data → List Data
@@ -54,14 +63,14 @@ event_in e = record {
   priority = number (integer_of (setting (codes "priority") e));
 }
 
--- the layout, where no check of the table fails; `intel` is the only byte order that passes
+-- the layout, where no check of the table fails
 abbrev pub layout_in : Data → LayoutValue
 layout_in t = record {
   id = text_of (get (codes "id") t);
   max_cto = number (integer_of (get (codes "max_cto") t));
   max_dto = number (integer_of (get (codes "max_dto") t));
-  checksum = checksum_named (text_of (checksum_of t));
-  order = Intel;
+  checksum = checksum_in t;
+  order = order_in t;
   segments = map segment_in (segments_of t);
   signals_address = number (address_of (signals_of t));
   signals_length = number (length_of (signals_of t));

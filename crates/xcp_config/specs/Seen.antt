@@ -1,14 +1,13 @@
 -- What was read of a table, beside what the table has.
 use Rattle.std.specs.Prelude.{◌≡◌, ℕ, ℤ, List, true, map, codes}
 use Rattle.toml.specs.Data.{Data, get}
-use Rattle.xcp_packet.specs.declared.Order.TheVariants.{Intel}
 use Rattle.xcp_memory.specs.declared.SegmentPart.{SegmentPart}
 use Rattle.xcp_memory.specs.declared.EventPart.{EventPart}
 use Rattle.xcp_memory.specs.declared.Parts.{Parts}
 use Rattle.xcp_memory.specs.Parts.{number, checksum_of as kind_of}
 use Rattle.xcp_memory.specs.Limits.{is_within}
-use Rattle.xcp_config.specs.Values.{text_of, integer_of, checksum_named}
-use Rattle.xcp_config.specs.Layout.{checksum_of, segments_of, signals_of, events_of, address_of, data_of, length_of, setting}
+use Rattle.xcp_config.specs.Values.{text_of, integer_of}
+use Rattle.xcp_config.specs.Layout.{order_in, checksum_in, segments_of, signals_of, events_of, address_of, data_of, length_of, setting}
 
 -- a segment before its limits are looked at
 pub record Segment : Type 0 where
@@ -44,9 +43,9 @@ pub record Reads (p : Parts) (t : Data) : Type 0 where
   pub id : p.id.items ≡ text_of (get (codes "id") t)
   pub max_cto : p.max_cto ≡ integer_of (get (codes "max_cto") t)
   pub max_dto : p.max_dto ≡ integer_of (get (codes "max_dto") t)
-  pub checksum : kind_of (number p.checksum) ≡ checksum_named (text_of (checksum_of t))
-  pub known : is_within 1 3 p.checksum ≡ true
-  pub order : p.order ≡ Intel
+  pub checksum : kind_of (number p.checksum) ≡ checksum_in t
+  pub known : is_within 1 6 p.checksum ≡ true
+  pub order : p.order ≡ order_in t
   pub segments : map segment_read p.segments.items ≡ map segment_written (segments_of t)
   pub signals_address : p.signals_address ≡ address_of (signals_of t)
   pub signals_length : p.signals_length ≡ length_of (signals_of t)

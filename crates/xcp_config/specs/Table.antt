@@ -13,7 +13,7 @@ use Rattle.xcp_config.specs.declared.config_error.ConfigError.TheVariants.{Missi
 use Rattle.xcp_config.specs.ConfigError.{error_of}
 use Rattle.xcp_packet.specs.Rows.{first_holding, must}
 use Rattle.xcp_config.specs.Check.{Check}
-use Rattle.xcp_config.specs.Values.{text_of, integer_of, bytes_of, members_of, is_array_of_tables, is_byte_order, is_checksum}
+use Rattle.xcp_config.specs.Values.{text_of, integer_of, bytes_of, members_of, is_array_of_tables, named, byte_orders, checksums}
 use Rattle.xcp_config.specs.Layout.{layout_in, byte_order_of, checksum_of, segments_of, signals_of, events_of, address_of, size_of, length_of, setting}
 
 -- a text is there
@@ -36,11 +36,11 @@ text_checks k limit v =
     ∷ []
 
 -- a text that is one of some names
-unfoldable pub name_checks : Key → (List ℕ → Bool) → Option Data → List Check
-name_checks k known v =
+unfoldable pub name_checks : {A : Type 0} → Key → List (List ℕ × A) → Option Data → List Check
+name_checks k names v =
     must (is_some v) (Missing k)
     ∷ must (is_some (option_and_then as_str v)) (Kind k)
-    ∷ must (known (text_of v)) (Range k)
+    ∷ must (is_some (named names (text_of v))) (Range k)
     ∷ []
 
 -- an integer that keeps a limit
@@ -79,8 +79,8 @@ own_checks t =
     text_checks key.Id id_limit (get (codes "id") t)
     ++ integer_checks key.MaxCto max_cto_limit (get (codes "max_cto") t)
     ++ integer_checks key.MaxDto max_dto_limit (get (codes "max_dto") t)
-    ++ name_checks key.ByteOrder is_byte_order (byte_order_of t)
-    ++ name_checks key.Checksum is_checksum (checksum_of t)
+    ++ name_checks key.ByteOrder byte_orders (byte_order_of t)
+    ++ name_checks key.Checksum checksums (checksum_of t)
 
 -- how many bytes there are in all with those of segment i, and where the last one of these lies
 abbrev pub size_checks : ℕ → ℕ → ℤ → ℕ → List Check

@@ -1,13 +1,15 @@
 -- The values that a TOML document has at its keys (TOML v1.0.0: keys, arrays and tables), read as a configuration reads them.
-use Rattle.std.specs.Prelude.{ℕ, ℤ, pos, Bool, List, [], ◌∷◌, ◌&&◌, ◌||◌, codes, Option, Some, None, Result, Ok, Err, is_some, unwrap_or, if◌then◌else◌}
+use Rattle.std.specs.Prelude.{ℕ, ℤ, pos, Bool, List, [], ◌∷◌, ◌&&◌, codes, Option, Some, None, Result, Ok, Err, is_some, unwrap_or, if◌then◌else◌}
 use Rattle.std.specs.Option.{option_and_then}
 use Rattle.std.specs.List.{list_all}
 use Rattle.std.specs.Str.{bytes_eq}
 use Rattle.hex.specs.Hex.{decode_of}
 use Rattle.hex.specs.declared.FromHexError.{FromHexError}
 use Rattle.toml.specs.Data.{Data, Items, no_items, item, as_integer, as_str, as_array, as_table}
+use Rattle.xcp_packet.specs.declared.Order.{Order}
+use Rattle.xcp_packet.specs.declared.Order.TheVariants.{Intel, Motorola}
 use Rattle.xcp_memory.specs.declared.ChecksumKind.{ChecksumKind}
-use Rattle.xcp_memory.specs.declared.ChecksumKind.TheVariants.{Add11, Add12, Add14}
+use Rattle.xcp_memory.specs.declared.ChecksumKind.TheVariants.{Add11, Add12, Add14, Add22, Add24, Add44}
 
 -- the value of an optional key: its own, or the default where the key isn't there
 abbrev pub optional : Data → Option Data → Option Data
@@ -47,15 +49,24 @@ is_table d = is_some (as_table d)
 abbrev pub is_array_of_tables : Option Data → Bool
 is_array_of_tables v = is_some (option_and_then as_array v) && list_all is_table (members_of v)
 
--- the one byte order that there is, `intel`: the lowest byte first
-abbrev pub is_byte_order : List ℕ → Bool
-is_byte_order text = bytes_eq text (codes "intel")
+-- what a text names in a list of names, if it is one of them
+abbrev pub named : {A : Type 0} → List (List ℕ × A) → List ℕ → Option A
+named [] text = None
+named (x ∷ rest) text = if bytes_eq text x.0 then Some x.1 else named rest text
 
--- the names of the types of checksums
--- (ASAM MCD-1 XCP, protocol layer, description of commands: BUILD_CHECKSUM, XCP_ADD_11, XCP_ADD_12, XCP_ADD_14.)
-abbrev pub is_checksum : List ℕ → Bool
-is_checksum text = bytes_eq text (codes "ADD_11") || bytes_eq text (codes "ADD_12") || bytes_eq text (codes "ADD_14")
+-- the byte orders: the lowest byte first, or the highest
+-- (ASAM MCD-1 XCP, protocol layer, description of commands: CONNECT, BYTE_ORDER of COMM_MODE_BASIC.)
+abbrev pub byte_orders : List (List ℕ × Order)
+byte_orders = (codes "intel", Intel) ∷ (codes "motorola", Motorola) ∷ []
 
--- the type of checksums with this name
-abbrev pub checksum_named : List ℕ → ChecksumKind
-checksum_named text = if bytes_eq text (codes "ADD_11") then Add11 else (if bytes_eq text (codes "ADD_12") then Add12 else Add14)
+-- the types of checksums
+-- (ASAM MCD-1 XCP, protocol layer, description of commands: BUILD_CHECKSUM, XCP_ADD_11 to XCP_ADD_44.)
+abbrev pub checksums : List (List ℕ × ChecksumKind)
+checksums =
+    (codes "ADD_11", Add11)
+    ∷ (codes "ADD_12", Add12)
+    ∷ (codes "ADD_14", Add14)
+    ∷ (codes "ADD_22", Add22)
+    ∷ (codes "ADD_24", Add24)
+    ∷ (codes "ADD_44", Add44)
+    ∷ []

@@ -6,8 +6,8 @@ ghost use Rattle.xcp_memory.specs.declared.Key.TheVariants as key;
 ghost use Rattle.xcp_memory.specs.Parts.{number, checksum_of as kind_of};
 ghost use Rattle.xcp_memory.specs.Limits.{is_within};
 ghost use Rattle.xcp_packet.specs.Rows.{first_holding};
-ghost use Rattle.xcp_config.specs.Values.{checksum_named, integer_of, is_byte_order, is_checksum, text_of};
-ghost use Rattle.xcp_config.specs.Layout.{byte_order_of, checksum_of};
+ghost use Rattle.xcp_config.specs.Values.{byte_orders, checksums, integer_of, named, text_of};
+ghost use Rattle.xcp_config.specs.Layout.{byte_order_of, checksum_in, checksum_of, order_in};
 ghost use Rattle.xcp_config.specs.Table.{own_checks, name_checks};
 
 use crate::ConfigError;
@@ -15,7 +15,8 @@ use crate::limits::MAX_ID;
 use crate::values::{read_integer, read_text, text_in};
 use std::alloc::Global;
 use toml::Value;
-use xcp_memory::Key;
+use xcp_memory::{ChecksumKind, Key};
+use xcp_packet::Order;
 
 /// The values of the slave itself.
 #[derive(Drop)]
@@ -23,47 +24,68 @@ pub(crate) struct Own {
     pub(crate) id: Vec<u8>,
     pub(crate) max_cto: i64,
     pub(crate) max_dto: i64,
-    /// The number of the type of checksums: 1 to 3.
+    pub(crate) order: Order,
+    /// The number of the type of checksums: 1 to 6.
     pub(crate) checksum: i64,
 }
 
-/// Checks the byte order, where one is given.
-#[tactic(auto, unfolding(crate::specs::Table::name_checks))]
-fn check_byte_order(table: &Value) -> Result<(), ConfigError>
-    ensures passes { IfOk result (λ _. first_holding (name_checks key.ByteOrder is_byte_order (byte_order_of (view table.now))) ≡ None) }
-    ensures refused { IfErr result (λ e. first_holding (name_checks key.ByteOrder is_byte_order (byte_order_of (view table.now))) ≡ Some e) }
+/// The byte order with this name.
+fn order_named(text: &str) -> Option<Order>
+    ensures { result ≡ named byte_orders text.now }
 {
-    if table.get("byte_order").is_none() {
-        return Ok(());
-    }
-    let text = text_in(table, "byte_order", Key::ByteOrder)?;
-    if text == "intel" {
-        Ok(())
-    } else {
-        Err(ConfigError::Range(Key::ByteOrder))
+    match text {
+        "intel" => Some(Order::Intel),
+        "motorola" => Some(Order::Motorola),
+        _ => None,
     }
 }
 
-/// The number of the type of checksums: that of ADD_14 where none is given.
+/// The type of checksums with this name.
+fn checksum_named(text: &str) -> Option<ChecksumKind>
+    ensures { result ≡ named checksums text.now }
+{
+    match text {
+        "ADD_11" => Some(ChecksumKind::Add11),
+        "ADD_12" => Some(ChecksumKind::Add12),
+        "ADD_14" => Some(ChecksumKind::Add14),
+        "ADD_22" => Some(ChecksumKind::Add22),
+        "ADD_24" => Some(ChecksumKind::Add24),
+        "ADD_44" => Some(ChecksumKind::Add44),
+        _ => None,
+    }
+}
+
+/// The byte order: Intel where none is given.
 #[tactic(auto, unfolding(crate::specs::Table::name_checks))]
-fn read_checksum(table: &Value) -> Result<i64, ConfigError>
-    ensures passes { IfOk result (λ _. first_holding (name_checks key.Checksum is_checksum (checksum_of (view table.now))) ≡ None) }
-    ensures value { IfOk result (λ n. kind_of (number n) ≡ checksum_named (text_of (checksum_of (view table.now)))) }
-    ensures range { IfOk result (λ n. is_within 1 3 n ≡ true) }
-    ensures refused { IfErr result (λ e. first_holding (name_checks key.Checksum is_checksum (checksum_of (view table.now))) ≡ Some e) }
+fn read_order(table: &Value) -> Result<Order, ConfigError>
+    ensures passes { IfOk result (λ _. first_holding (name_checks key.ByteOrder byte_orders (byte_order_of (view table.now))) ≡ None) }
+    ensures value { IfOk result (λ order. order ≡ order_in (view table.now)) }
+    ensures refused { IfErr result (λ e. first_holding (name_checks key.ByteOrder byte_orders (byte_order_of (view table.now))) ≡ Some e) }
+{
+    if table.get("byte_order").is_none() {
+        return Ok(Order::Intel);
+    }
+    let text = text_in(table, "byte_order", Key::ByteOrder)?;
+    match order_named(text) {
+        Some(order) => Ok(order),
+        None => Err(ConfigError::Range(Key::ByteOrder)),
+    }
+}
+
+/// The type of checksums: ADD_14 where none is given.
+#[tactic(auto, unfolding(crate::specs::Table::name_checks))]
+fn read_checksum(table: &Value) -> Result<ChecksumKind, ConfigError>
+    ensures passes { IfOk result (λ _. first_holding (name_checks key.Checksum checksums (checksum_of (view table.now))) ≡ None) }
+    ensures value { IfOk result (λ kind. kind ≡ checksum_in (view table.now)) }
+    ensures refused { IfErr result (λ e. first_holding (name_checks key.Checksum checksums (checksum_of (view table.now))) ≡ Some e) }
 {
     if table.get("checksum").is_none() {
-        return Ok(3);
+        return Ok(ChecksumKind::Add14);
     }
     let text = text_in(table, "checksum", Key::Checksum)?;
-    if text == "ADD_11" {
-        Ok(1)
-    } else if text == "ADD_12" {
-        Ok(2)
-    } else if text == "ADD_14" {
-        Ok(3)
-    } else {
-        Err(ConfigError::Range(Key::Checksum))
+    match checksum_named(text) {
+        Some(kind) => Ok(kind),
+        None => Err(ConfigError::Range(Key::Checksum)),
     }
 }
 
@@ -74,20 +96,22 @@ impl Own {
         ensures id { IfOk result (λ o. o.id.items ≡ text_of (get (codes "id") (view table.now))) }
         ensures max_cto { IfOk result (λ o. o.max_cto ≡ integer_of (get (codes "max_cto") (view table.now))) }
         ensures max_dto { IfOk result (λ o. o.max_dto ≡ integer_of (get (codes "max_dto") (view table.now))) }
-        ensures checksum { IfOk result (λ o. kind_of (number o.checksum) ≡ checksum_named (text_of (checksum_of (view table.now)))) }
-        ensures range { IfOk result (λ o. is_within 1 3 o.checksum ≡ true) }
+        ensures order { IfOk result (λ o. o.order ≡ order_in (view table.now)) }
+        ensures checksum { IfOk result (λ o. kind_of (number o.checksum) ≡ checksum_in (view table.now)) }
+        ensures range { IfOk result (λ o. is_within 1 6 o.checksum ≡ true) }
         ensures refused { IfErr result (λ e. (e ≡ ConfigError.Memory) ⊎ (first_holding (own_checks (view table.now)) ≡ Some e)) }
     {
         let id = read_text(alloc, table, "id", Key::Id, MAX_ID)?;
         let max_cto = read_integer(table, "max_cto", Key::MaxCto, 8, 255)?;
         let max_dto = read_integer(table, "max_dto", Key::MaxDto, 8, 255)?;
-        check_byte_order(table)?;
+        let order = read_order(table)?;
         let checksum = read_checksum(table)?;
         Ok(Own {
             id,
             max_cto,
             max_dto,
-            checksum,
+            order,
+            checksum: i64::from(checksum.number()),
         })
     }
 }

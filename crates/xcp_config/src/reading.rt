@@ -15,7 +15,6 @@ use crate::signals::read_signals;
 use std::alloc::Global;
 use toml::Value;
 use xcp_memory::{Layout, Parts};
-use xcp_packet::Order;
 
 /// The layout that a text describes. `Text` comes only where the text is no TOML document; then the keys are looked at
 /// in the order of `specs/Table.antt`, and the first check that fails tells the fault: for each key `Missing`, `Kind`,
@@ -48,8 +47,7 @@ fn read_parts(alloc: Global, table: &Value) -> Result<Parts, ConfigError>
         max_cto: own.max_cto,
         max_dto: own.max_dto,
         checksum: own.checksum,
-        // the only byte order that a table may name
-        order: Order::Intel,
+        order: own.order,
         segments,
         signals_address: signals.address,
         signals_length: signals.length,

@@ -14,3 +14,4 @@ pub mod Writing
 pub mod Copying
 pub mod SegmentModes
 pub mod Freezing
+pub mod Summing

@@ -1,4 +1,5 @@
 pub mod Layout
+pub mod LayoutFault
 pub mod Parts
 pub mod Limits
 pub mod Pages

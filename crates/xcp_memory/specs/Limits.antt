@@ -75,7 +75,7 @@ own_limits p =
     id_limit p.id.items
     ∷ max_cto_limit p.max_cto
     ∷ max_dto_limit p.max_dto
-    ∷ number_limit 1 3 key.Checksum p.checksum
+    ∷ number_limit 1 6 key.Checksum p.checksum
     ∷ []
 
 -- how many segments there are; of segment i the first address, its bytes, and the bytes in all with its own

@@ -7,7 +7,7 @@ use Rattle.xcp_memory.specs.declared.parts.EventPart.{EventPart}
 use Rattle.xcp_memory.specs.declared.key.Area.{Area}
 use Rattle.xcp_memory.specs.declared.key.Area.TheVariants as area
 use Rattle.xcp_memory.specs.declared.checksum_kind.ChecksumKind.{ChecksumKind}
-use Rattle.xcp_memory.specs.declared.checksum_kind.ChecksumKind.TheVariants.{Add11, Add12, Add14}
+use Rattle.xcp_memory.specs.declared.checksum_kind.ChecksumKind.TheVariants.{Add11, Add12, Add14, Add22, Add24, Add44}
 use Rattle.xcp_memory.specs.Layout.{LayoutValue, SegmentValue, EventValue, Extent, segment_extent, signals_extent}
 
 -- a number that isn't negative
@@ -21,7 +21,13 @@ size s = length s.bytes.items
 
 -- the type of checksums with this number
 abbrev pub checksum_of : ℕ → ChecksumKind
-checksum_of n = if n == 1 then Add11 else (if n == 2 then Add12 else Add14)
+checksum_of n =
+    if n == 1 then Add11
+    else (if n == 2 then Add12
+    else (if n == 3 then Add14
+    else (if n == 4 then Add22
+    else (if n == 5 then Add24
+    else Add44))))
 
 abbrev pub segment_of_part : SegmentPart → SegmentValue
 segment_of_part s = record { address = number s.address; bytes = s.bytes.items }

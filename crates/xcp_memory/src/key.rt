@@ -1,4 +1,7 @@
 //! Where a layout breaks a limit.
+ghost use Rattle.std.specs.Prelude.{◌≡◌};
+ghost use Rattle.xcp_memory.specs.LayoutFault.{number_of};
+
 use thiserror::Error;
 
 /// A value of a layout. The number is that of its segment or of its event channel, from 0.
@@ -59,4 +62,17 @@ pub enum LayoutFault {
     /// More than there is room for.
     #[error("too many: {0:?}")]
     TooMany(Key),
+}
+
+impl LayoutFault {
+    /// The fault's number: 1 Range, 2 Overlap, 3 TooMany.
+    pub fn number(&self) -> u8
+        ensures { result ≡ number_of self.now }
+    {
+        match self {
+            LayoutFault::Range(_) => 1,
+            LayoutFault::Overlap(_, _) => 2,
+            LayoutFault::TooMany(_) => 3,
+        }
+    }
 }

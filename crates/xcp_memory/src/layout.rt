@@ -49,7 +49,7 @@ impl OwnValues {
         checks::check_text(&parts.id, MAX_ID, Key::Id)?;
         let max_cto = checks::byte(parts.max_cto, MIN_PACKET, u8::MAX, Key::MaxCto)?;
         let max_dto = checks::byte(parts.max_dto, MIN_PACKET, u8::MAX, Key::MaxDto)?;
-        let number = checks::byte(parts.checksum, 1, 3, Key::Checksum)?;
+        let number = checks::byte(parts.checksum, 1, 6, Key::Checksum)?;
         Ok(OwnValues {
             max_cto,
             max_dto,

@@ -10,7 +10,7 @@ pub struct Parts {
     pub max_cto: i64,
     /// MAX_DTO, in bytes: 8 to 255.
     pub max_dto: i64,
-    /// The number of the type of checksums: 1 to 3.
+    /// The number of the type of checksums: 1 to 6.
     pub checksum: i64,
     /// The byte order of words and double words in packets.
     pub order: Order,

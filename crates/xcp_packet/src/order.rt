@@ -27,8 +27,8 @@ impl Order {
         }
     }
 
-    /// The word whose first byte has this place.
-    pub(crate) fn word_at(self, bytes: &[u8], place: usize) -> u16
+    /// The word whose first byte has this place; the first of the bytes has place 0.
+    pub fn word_at(self, bytes: &[u8], place: usize) -> u16
         requires { place + 2 ≤ length bytes.now }
         ensures { result ≡ word_at self place bytes.now }
     {

@@ -1,12 +1,14 @@
 -- Ranges that lie in an area end below the last address.
-use Rattle.std.proofs.Common.{◌≡◌, ℕ, ◌+◌, ◌<◌, ◌≤◌, Bool, true, false, cond, [], ◌∷◌, length, map, Option, Some, None, length-append, refl, ◌∙◌, subst, arith, slice_index_or as get_or}
+use Rattle.std.proofs.Common.{◌≡◌, ℕ, ◌+◌, ◌<◌, ◌≤◌, ◌==◌, ◌%◌, not, Bool, true, false, cond, [], ◌∷◌, length, map, Option, Some, None, length-append, refl, ◌∙◌, subst, arith, slice_index_or as get_or}
 use Rattle.std.proofs.lemmas.List.{get_or_append_left, length-map}
 use Rattle.std.proofs.lemmas.List.Elements.{All-get_or}
 use Rattle.std.proofs.lemmas.List.Quantifiers.{position-Some}
 use Rattle.std.proofs.lemmas.Bool.Decides.{nat_tests}
 use Rattle.std.proofs.Math.ListN.{get_or-map}
 use Rattle.std.proofs.Math.Seq.{get_or-append_seam}
-use Rattle.xcp_packet.specs.declared.Code.TheVariants.{AccessDenied, WriteProtected}
+use Rattle.xcp_packet.specs.declared.Code.TheVariants.{OutOfRange, AccessDenied, WriteProtected}
+use Rattle.xcp_packet.specs.Rows.{first_holding}
+use Rattle.xcp_memory.specs.Checksum.{unit, sum_refusal}
 use Rattle.xcp_memory.specs.Layout.{LayoutValue, IsLayout, Extent, extents, segment_extent, signals_extent, no_extent}
 use Rattle.xcp_memory.specs.Pages.{PagesValue, no_segment}
 use Rattle.xcp_memory.specs.Words.{is_inside, segment_of, lies_inside, lies_inside_by, write_refusal, write_refusal_by}
@@ -47,6 +49,17 @@ inside_by l a n None h e k = let t = to a n (signals_extent l) k in let s = sign
 -- a range in one area
 pub inside_last : (l : LayoutValue) (a n : ℕ) → IsLayout l → lies_inside l a n ≡ true → a + n ≤ 0xFFFF_FFFF
 inside_last l a n h k = inside_by l a n (segment_of l a n) h refl k
+
+-- where no refusal holds, the bytes lie in one area
+lying : (s t b : Bool) → first_holding ((s, OutOfRange) ∷ (t, OutOfRange) ∷ (not b, AccessDenied) ∷ []) ≡ None → b ≡ true
+lying true t b k = absurd (cc)
+lying false true b k = absurd (cc)
+lying false false true k = refl
+lying false false false k = absurd (cc)
+
+-- a range that can be summed up
+pub summed_last : (v : PagesValue) (a n : ℕ) → IsLayout v.layout → sum_refusal v.layout.checksum (lies_inside v.layout a n) n ≡ None → a + n ≤ 0xFFFF_FFFF
+summed_last v a n h k = inside_last v.layout a n h (lying (n == 0) (not (n % unit v.layout.checksum == 0)) (lies_inside v.layout a n) k)
 
 protected : (b : Bool) → cond b (Some WriteProtected) (Some AccessDenied) ≡ None → b ≡ true
 protected true k = refl

@@ -3,11 +3,11 @@ use Rattle.std.specs.Prelude.{ℕ, ◌-◌, not, ◌||◌, [], ◌∷◌, length
 use Rattle.xcp_packet.specs.declared.Reply.TheVariants.{Bytes, Checksum, Error}
 use Rattle.xcp_packet.specs.declared.Reply.TheVariants as replies
 use Rattle.xcp_packet.specs.declared.Code.TheVariants.{OutOfRange, AccessDenied}
-use Rattle.xcp_memory.specs.Checksum.{checksum_number, sum_refusal}
+use Rattle.xcp_memory.specs.Checksum.{checksum_number}
 use Rattle.xcp_transfer.specs.declared.mta.Mta.TheVariants.{Memory, Text}
 use Rattle.xcp_transfer.specs.declared.mta.TextId.TheVariants.{Id}
 use Rattle.xcp_transfer.specs.Value.{TransferValue}
-use Rattle.xcp_transfer.specs.Words.{is_readable, bytes_at, moved, is_summable, sum_at}
+use Rattle.xcp_transfer.specs.Words.{is_readable, bytes_at, moved, sum_refusal_at, sum_at}
 use Rattle.xcp_packet.specs.Rows.{Row, refused}
 
 -- UPLOAD of n bytes, 1 to MAX_CTO - 1, moves the MTA on by n.
@@ -37,7 +37,7 @@ short_upload_row n extension address v = record {
 -- (ASAM MCD-1 XCP, protocol layer, description of commands: BUILD_CHECKSUM.)
 abbrev pub build_checksum_row : ℕ → TransferValue → Row TransferValue
 build_checksum_row size v = record {
-  refusals = refused (sum_refusal (is_summable v.pages v.mta size) size);
+  refusals = refused (sum_refusal_at v.pages v.mta size);
   reply = Some (Checksum (checksum_number v.pages.layout.checksum) (sum_at v.pages v.mta size));
   after = record v { mta = moved v.mta size; block = None };
 }

@@ -4,7 +4,7 @@ use Rattle.xcp_packet.specs.declared.Code.{Code}
 use Rattle.xcp_packet.specs.declared.Code.TheVariants.{AccessDenied, WriteProtected}
 use Rattle.xcp_memory.specs.Pages.{PagesValue}
 use Rattle.xcp_memory.specs.Words.{lies_inside, tool_bytes, write_refusal, pages_written}
-use Rattle.xcp_memory.specs.Checksum.{summed}
+use Rattle.xcp_memory.specs.Checksum.{summed, sum_refusal, checksum_refusal}
 use Rattle.xcp_transfer.specs.declared.mta.Mta.{Mta}
 use Rattle.xcp_transfer.specs.declared.mta.Mta.TheVariants.{Nowhere, Memory, Text}
 use Rattle.xcp_transfer.specs.Value.{text_of}
@@ -40,12 +40,12 @@ moved Nowhere n = Nowhere
 moved (Memory a) n = Memory (a + n)
 moved (Text id place) n = Text id (place + n)
 
--- Whether n bytes from an MTA on can be summed up: at addresses that lie in one area.
-abbrev pub is_summable : PagesValue → Mta → ℕ → Bool
-is_summable p Nowhere n = false
-is_summable p (Memory a) n = lies_inside p.layout a n
-is_summable p (Text id place) n = false
+-- Why the checksum of n bytes from an MTA on is refused, if it is. Nowhere and in a text no bytes lie in an area.
+abbrev pub sum_refusal_at : PagesValue → Mta → ℕ → Option Code
+sum_refusal_at p Nowhere n = sum_refusal p.layout.checksum false n
+sum_refusal_at p (Memory a) n = checksum_refusal p a n
+sum_refusal_at p (Text id place) n = sum_refusal p.layout.checksum false n
 
--- the checksum of the n bytes from an MTA on
+-- the checksum of the n bytes from an MTA on, which are numbers in the layout's byte order
 abbrev pub sum_at : PagesValue → Mta → ℕ → ℕ
-sum_at p mta n = summed p.layout.checksum (bytes_at p mta n)
+sum_at p mta n = summed p.layout.checksum p.layout.order (bytes_at p mta n)

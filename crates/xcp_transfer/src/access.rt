@@ -3,7 +3,7 @@ ghost use Rattle.std.specs.Prelude.{◌≡◌, ◌≤◌, ◌<◌, ◌+◌, leng
 ghost use Rattle.xcp_memory.specs.Words.{lies_inside, tool_bytes, write_refusal, pages_written};
 ghost use Rattle.xcp_packet.specs.Order.{double_at, double_bytes};
 ghost use Rattle.xcp_transfer.specs.Value.{text_of, IsText, IsMta};
-ghost use Rattle.xcp_transfer.specs.Words.{is_readable, is_summable, sum_at, bytes_at, write_refusal_at, written_at, moved};
+ghost use Rattle.xcp_transfer.specs.Words.{is_readable, sum_refusal_at, sum_at, bytes_at, write_refusal_at, written_at, moved};
 
 use crate::{Mta, TextId};
 use xcp_memory::{Layout, Pages};
@@ -70,16 +70,17 @@ fn read_text(layout: &Layout, id: TextId, place: u8, n: u8) -> Result<Data, Code
     Ok(data(&text[place..end]))
 }
 
-/// Sums up `size` bytes from an MTA on: the checksum, and the MTA behind them. `AccessDenied` where
-/// they don't lie in one area, also nowhere and at a text.
-#[tactic(auto, using(crate::proofs::Ends::inside_last))]
+/// Sums up `size` bytes from an MTA on: the checksum, and the MTA behind them. `OutOfRange` where
+/// the layout's type of checksum has no such size, then `AccessDenied` where the bytes don't lie in
+/// one area, also nowhere and at a text.
+#[tactic(auto, using(crate::proofs::Ends::summed_last))]
 pub(crate) fn checksum(pages: &Pages, mta: Mta, size: u32) -> Result<(u32, Mta), Code>
-    requires { 0 < size }
-    ensures ok { IfOk result (λ r. (is_summable pages.now mta size ≡ true) × (r.0 ≡ sum_at pages.now mta size) × (r.1 ≡ moved mta size)) }
+    ensures ok { IfOk result (λ r. (sum_refusal_at pages.now mta size ≡ None) × (r.0 ≡ sum_at pages.now mta size) × (r.1 ≡ moved mta size)) }
     ensures next { IfOk result (λ r. IsMta pages.now.layout r.1) }
-    ensures refused { IfErr result (λ code. (is_summable pages.now mta size ≡ false) × (code ≡ Code.AccessDenied)) }
+    ensures refused { IfErr result (λ code. sum_refusal_at pages.now mta size ≡ Some code) }
 {
     let Mta::Memory(address) = mta else {
+        pages.layout().checksum().check_size(size)?;
         return Err(Code::AccessDenied);
     };
     pages.audit();

@@ -52,17 +52,15 @@ impl Transfer {
 
     /// BUILD_CHECKSUM: sums up `size` bytes from the MTA on, and moves it on by as many.
     ///
-    /// `OutOfRange` at size 0, then `AccessDenied` where the bytes don't lie in one area, also
-    /// nowhere and at a text.
+    /// `OutOfRange` at size 0, then where the size is no multiple of the words or double words that
+    /// are summed; then `AccessDenied` where the bytes don't lie in one area, also nowhere and at a
+    /// text.
     /// ASAM MCD-1 XCP, protocol layer, description of commands: BUILD_CHECKSUM.
     pub fn build_checksum(&mut self, size: u32) -> Result<Option<Reply>, Reply>
         ensures row { Meets (build_checksum_row size self.old) (without_block self.old) result self.new }
         ensures fits { FitsPacket result }
     {
         self.block = None;
-        if size == 0 {
-            return Err(Reply::Error(Code::OutOfRange));
-        }
         let (sum, next) = checksum(&self.pages, self.mta, size).map_err(Reply::Error)?;
         self.mta = next;
         let kind = self.pages.layout().checksum().number();

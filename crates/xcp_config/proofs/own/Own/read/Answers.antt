@@ -4,7 +4,7 @@ use Rattle.toml.specs.View.{view}
 use Rattle.xcp_memory.specs.declared.Key.TheVariants as key
 use Rattle.xcp_config.specs.Check.{Check}
 use Rattle.xcp_memory.specs.Limits.{id_limit, max_cto_limit, max_dto_limit}
-use Rattle.xcp_config.specs.Values.{is_byte_order, is_checksum}
+use Rattle.xcp_config.specs.Values.{byte_orders, checksums}
 use Rattle.xcp_config.specs.Layout.{byte_order_of, checksum_of}
 use Rattle.xcp_config.specs.Table.{text_checks, name_checks, integer_checks, own_checks}
 use Rattle.std.proofs.lemmas.Result.{err_from_is_err_and}
@@ -22,10 +22,10 @@ abbrev max_dto : Data → List Check
 max_dto t = integer_checks key.MaxDto max_dto_limit (get (codes "max_dto") t)
 
 abbrev byte_order : Data → List Check
-byte_order t = name_checks key.ByteOrder is_byte_order (byte_order_of t)
+byte_order t = name_checks key.ByteOrder byte_orders (byte_order_of t)
 
 abbrev checksum : Data → List Check
-checksum t = name_checks key.Checksum is_checksum (checksum_of t)
+checksum t = name_checks key.Checksum checksums (checksum_of t)
 
 pub returns-in_err-id-clause-refused : goal.returns-in_err-id-clause-refused
 unfolding own_checks
@@ -51,13 +51,13 @@ returns-in_err-max_dto-clause-refused c =
     let p = err_from_is_err_and r.result r.ensures.1 in
     rw (p.1, p.2) (inr (holding_3_of_5 (id t) (max_cto t) (max_dto t) (byte_order t) (checksum t) _ c.in_ok-id.ensures.passes c.in_ok-max_cto.ensures.passes c.in_err-max_dto.ensures.refused))
 
-pub returns-in_err-check_byte_order-clause-refused : goal.returns-in_err-check_byte_order-clause-refused
+pub returns-in_err-order-clause-refused : goal.returns-in_err-order-clause-refused
 unfolding own_checks
-returns-in_err-check_byte_order-clause-refused c =
+returns-in_err-order-clause-refused c =
     let t = view c.args.table.now in
-    let r = c.from_residual-in_err-check_byte_order in
+    let r = c.from_residual-in_err-order in
     let p = err_from_is_err_and r.result r.ensures.1 in
-    rw (p.1, p.2) (inr (holding_4_of_5 (id t) (max_cto t) (max_dto t) (byte_order t) (checksum t) _ c.in_ok-id.ensures.passes c.in_ok-max_cto.ensures.passes c.in_ok-max_dto.ensures.passes c.in_err-check_byte_order.ensures.refused))
+    rw (p.1, p.2) (inr (holding_4_of_5 (id t) (max_cto t) (max_dto t) (byte_order t) (checksum t) _ c.in_ok-id.ensures.passes c.in_ok-max_cto.ensures.passes c.in_ok-max_dto.ensures.passes c.in_err-order.ensures.refused))
 
 pub returns-in_err-checksum-clause-refused : goal.returns-in_err-checksum-clause-refused
 unfolding own_checks
@@ -65,10 +65,10 @@ returns-in_err-checksum-clause-refused c =
     let t = view c.args.table.now in
     let r = c.from_residual-in_err-checksum in
     let p = err_from_is_err_and r.result r.ensures.1 in
-    rw (p.1, p.2) (inr (behind_4 (id t) (max_cto t) (max_dto t) (byte_order t) (checksum t) c.in_ok-id.ensures.passes c.in_ok-max_cto.ensures.passes c.in_ok-max_dto.ensures.passes c.in_ok-check_byte_order.ensures.passes ∙ c.in_err-checksum.ensures.refused))
+    rw (p.1, p.2) (inr (behind_4 (id t) (max_cto t) (max_dto t) (byte_order t) (checksum t) c.in_ok-id.ensures.passes c.in_ok-max_cto.ensures.passes c.in_ok-max_dto.ensures.passes c.in_ok-order.ensures.passes ∙ c.in_err-checksum.ensures.refused))
 
 pub returns-clause-passes : goal.returns-clause-passes
 unfolding own_checks
 returns-clause-passes c =
     let t = view c.args.table.now in
-    behind_4 (id t) (max_cto t) (max_dto t) (byte_order t) (checksum t) c.in_ok-id.ensures.passes c.in_ok-max_cto.ensures.passes c.in_ok-max_dto.ensures.passes c.in_ok-check_byte_order.ensures.passes ∙ c.in_ok-checksum.ensures.passes
+    behind_4 (id t) (max_cto t) (max_dto t) (byte_order t) (checksum t) c.in_ok-id.ensures.passes c.in_ok-max_cto.ensures.passes c.in_ok-max_dto.ensures.passes c.in_ok-order.ensures.passes ∙ c.in_ok-checksum.ensures.passes

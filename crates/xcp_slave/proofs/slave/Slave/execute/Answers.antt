@@ -4,6 +4,9 @@ use Rattle.xcp_slave.proofs.slave.Slave.execute.Goals as goal
 pub returns-in-ShortUpload-clause-row : goal.returns-in-ShortUpload-clause-row
 returns-in-ShortUpload-clause-row c = search rules
 
+pub returns-in-BuildChecksum-clause-row : goal.returns-in-BuildChecksum-clause-row
+returns-in-BuildChecksum-clause-row c = search rules
+
 pub returns-in-ShortDownload-clause-row : goal.returns-in-ShortDownload-clause-row
 returns-in-ShortDownload-clause-row c = search rules
 

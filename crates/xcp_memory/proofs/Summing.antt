@@ -1,0 +1,35 @@
+-- The sum of the numbers that bytes are.
+use Rattle.std.proofs.Common.{◌≡◌, ◌+◌, ◌*◌, ◌/◌, ℕ, zero, suc, List, [], ◌∷◌, length, drop, sum, refl, sym, ap, ◌∙◌, arith, add-one, add_assoc, add_comm, mul-zero, mul-suc}
+use Rattle.std.proofs.lemmas.List.{drop-drop}
+use Rattle.std.proofs.lemmas.List.Sums.{sum_by-cons}
+use Rattle.xcp_packet.specs.declared.Order.{Order}
+use Rattle.xcp_packet.specs.declared.Order.TheVariants.{Intel, Motorola}
+use Rattle.xcp_packet.specs.Order.{number_in}
+use Rattle.xcp_memory.specs.Checksum.{numbers}
+
+-- one number more
+pub one_more_number : (order : Order) (n k : ℕ) (bytes : List ℕ) → sum (numbers order n (k + 1) bytes) ≡ sum (numbers order n k bytes) + number_in order n (drop (n * k) bytes)
+one_more_number order n zero bytes = rw mul-zero refl
+one_more_number order n (suc k) bytes =
+    let first = number_in order n bytes in
+    let rest = drop n bytes in
+    let more : sum (numbers order n (suc k) rest) ≡ sum (numbers order n k rest) + number_in order n (drop (n * k) rest) = rw add-one at (one_more_number order n k rest) in
+    let place : drop (n * k) rest ≡ drop (n * suc k) bytes = drop-drop (n * k) n bytes ∙ ap (λ (j : ℕ). drop j bytes) (add_comm n (n * k) ∙ sym (mul-suc n k)) in
+    let whole = sum_by-cons (λ (x : ℕ). x) first (numbers order n (suc k) rest) in
+    let front = sum_by-cons (λ (x : ℕ). x) first (numbers order n k rest) in
+    rw (add-one (suc k)) (whole ∙ ap (λ (m : ℕ). first + m) (more ∙ ap (λ (ys : List ℕ). sum (numbers order n k rest) + number_in order n ys) place) ∙ sym (add_assoc first (sum (numbers order n k rest)) (number_in order n (drop (n * suc k) bytes))) ∙ ap (λ (m : ℕ). m + number_in order n (drop (n * suc k) bytes)) (sym front))
+
+-- a byte is the number of one byte
+one_byte : (order : Order) (x : ℕ) (xs : List ℕ) → number_in order 1 (x ∷ xs) ≡ x
+one_byte Intel x xs = omega arith
+one_byte Motorola x xs = omega arith
+
+each_byte : (order : Order) (bytes : List ℕ) → numbers order 1 (length bytes) bytes ≡ bytes
+each_byte order [] = refl
+each_byte order (x ∷ xs) = rw (one_byte order x xs) (ap (λ ys. x ∷ ys) (each_byte order xs))
+
+-- bytes are their own numbers
+pub byte_numbers : (order : Order) (bytes : List ℕ) → sum (numbers order 1 (length bytes / 1) bytes) ≡ sum bytes
+byte_numbers order bytes =
+    let n : length bytes / 1 ≡ length bytes = omega arith in
+    ap (λ k. sum (numbers order 1 k bytes)) n ∙ ap sum (each_byte order bytes)
