@@ -14,10 +14,12 @@ fn segments(alloc: Global) -> Result<Vec<SegmentPart>, AllocError> {
     segments.push(SegmentPart {
         address: 0x1000,
         bytes: [0, 1, 2, 3, 4, 5, 6, 7, 8, 9, 10, 11, 12, 13, 14, 15].to_vec(alloc)?,
+        pages: 2,
     })?;
     segments.push(SegmentPart {
         address: 0x2000,
         bytes: [0xAA; 8].to_vec(alloc)?,
+        pages: 2,
     })?;
     Ok(segments)
 }

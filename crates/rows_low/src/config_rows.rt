@@ -97,6 +97,71 @@ pub static OF_SEGMENTS: [Row; 18] = [
     (8, "data = 8", Some(ConfigError::Kind(Key::Data(1)))),
 ];
 
+/// The number of pages is looked at behind the segment's last address, and before the next segment.
+pub static OF_PAGES: [Row; 13] = [
+    (4, "pages = 4\naddress = 0x1000", None),
+    (
+        4,
+        "pages = 5\naddress = 0x1000",
+        Some(ConfigError::Range(Key::Pages(0))),
+    ),
+    (
+        4,
+        "pages = 1\naddress = 0x1000",
+        Some(ConfigError::Range(Key::Pages(0))),
+    ),
+    (
+        4,
+        "pages = 0\naddress = 0x1000",
+        Some(ConfigError::Range(Key::Pages(0))),
+    ),
+    (
+        4,
+        "pages = -2\naddress = 0x1000",
+        Some(ConfigError::Range(Key::Pages(0))),
+    ),
+    (
+        4,
+        "pages = \"2\"\naddress = 0x1000",
+        Some(ConfigError::Kind(Key::Pages(0))),
+    ),
+    (
+        4,
+        "pages = 2.0\naddress = 0x1000",
+        Some(ConfigError::Kind(Key::Pages(0))),
+    ),
+    (
+        4,
+        "pages = 5\naddress = -1",
+        Some(ConfigError::Range(Key::Address(0))),
+    ),
+    (
+        4,
+        "pages = 5\naddress = 0xFFFFFFF0",
+        Some(ConfigError::Range(Key::Address(0))),
+    ),
+    (
+        5,
+        "pages = 5\ndata = \"\"",
+        Some(ConfigError::Range(Key::Data(0))),
+    ),
+    (
+        6,
+        "pages = 5\n[[segment]]\n[[segment]]",
+        Some(ConfigError::Range(Key::Pages(0))),
+    ),
+    (
+        6,
+        "pages = 3\n[[segment]]\n[[segment]]",
+        Some(ConfigError::Missing(Key::Address(1))),
+    ),
+    (
+        7,
+        "pages = 1\naddress = 0x100F",
+        Some(ConfigError::Range(Key::Pages(1))),
+    ),
+];
+
 pub static OF_SIGNALS_AND_EVENTS: [Row; 14] = [
     (9, "[signal]", Some(ConfigError::Missing(Key::Signals))),
     (9, "[[signals]]", Some(ConfigError::Kind(Key::Signals))),

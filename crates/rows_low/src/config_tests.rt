@@ -1,5 +1,5 @@
 //! Layouts of documents: the worked one, and the faults of others.
-use crate::config_rows::{OF_SEGMENTS, OF_SIGNALS_AND_EVENTS, OF_THE_SLAVE, Row};
+use crate::config_rows::{OF_PAGES, OF_SEGMENTS, OF_SIGNALS_AND_EVENTS, OF_THE_SLAVE, Row};
 use std::alloc::{AllocError, Global};
 use std::test::Fail;
 use xcp_config::{ConfigError, read_layout};
@@ -107,6 +107,35 @@ fn values_of_the_slave_itself(rt: HostRuntime) -> Result<(), Fail> {
 #[test]
 fn segments(rt: HostRuntime) -> Result<(), Fail> {
     assert_eq!(rt; wrong(rt.alloc(), &OF_SEGMENTS)?, None);
+    Ok(())
+}
+
+#[test]
+fn pages_of_segments(rt: HostRuntime) -> Result<(), Fail> {
+    assert_eq!(rt; wrong(rt.alloc(), &OF_PAGES)?, None);
+    Ok(())
+}
+
+/// How many pages the first two segments have, where another line stands in the place of the first one's address.
+fn pages(alloc: Global, line: &str) -> Result<Option<(u8, u8)>, Fail> {
+    let text = changed(alloc, 4, line)?;
+    let layout = read_layout(alloc, text.as_str())?;
+    if layout.segment_count() < 2 {
+        return Ok(None);
+    }
+    Ok(Some((layout.segment_pages(0), layout.segment_pages(1))))
+}
+
+#[test]
+fn two_pages_where_none_are_told(rt: HostRuntime) -> Result<(), Fail> {
+    for (line, first) in [
+        ("address = 0x1000", 2),
+        ("address = 0x1000\npages = 2", 2),
+        ("address = 0x1000\npages = 3", 3),
+        ("address = 0x1000\npages = 4", 4),
+    ] {
+        assert_eq!(rt; pages(rt.alloc(), line)?, Some((first, 2)), "{line}");
+    }
     Ok(())
 }
 

@@ -4,11 +4,11 @@ use std::test::Fail;
 use xcp_memory::{Area, EventPart, Key, Layout, LayoutFault, Parts, SegmentPart};
 use xcp_packet::Order;
 
-/// The parts of a layout: the segments by address and number of bytes, the events by name and numbers.
+/// The parts of a layout: the segments by address and numbers of bytes and of pages, the events by name and numbers.
 struct Row {
     id: &'static [u8],
     own: (i64, i64, i64),
-    segments: &'static [(i64, usize)],
+    segments: &'static [(i64, usize, i64)],
     signals: (i64, i64),
     events: &'static [(&'static [u8], i64, i64, i64)],
     fault: Option<LayoutFault>,
@@ -16,10 +16,11 @@ struct Row {
 
 fn parts(alloc: Global, row: &Row) -> Result<Parts, AllocError> {
     let mut segments = Vec::new(alloc);
-    for (address, size) in row.segments {
+    for (address, size, pages) in row.segments {
         segments.push(SegmentPart {
             address: *address,
             bytes: vec![in alloc; 0xAA; *size]?,
+            pages: *pages,
         })?;
     }
     let mut events = Vec::new(alloc);
@@ -50,7 +51,7 @@ fn parts(alloc: Global, row: &Row) -> Result<Parts, AllocError> {
 const LONG: &[u8] = b"a name of thirty-three characters";
 
 /// Each row keeps the limit that the row before breaks, and breaks all those behind that it can.
-static ROWS: [Row; 28] = [
+static ROWS: [Row; 31] = [
     Row {
         id: b"",
         own: (7, 256, 4),
@@ -102,7 +103,7 @@ static ROWS: [Row; 28] = [
     Row {
         id: b"ECU1",
         own: (32, 64, 2),
-        segments: &[(-1, 0), (0, 0), (0, 0), (0, 0), (0, 0)],
+        segments: &[(-1, 0, 1), (0, 0, 1), (0, 0, 1), (0, 0, 1), (0, 0, 1)],
         signals: (-1, 65),
         events: &[],
         fault: Some(LayoutFault::TooMany(Key::Segment)),
@@ -110,7 +111,7 @@ static ROWS: [Row; 28] = [
     Row {
         id: b"ECU1",
         own: (32, 64, 3),
-        segments: &[(0xFFFF_FFFF, 0), (-1, 0)],
+        segments: &[(0xFFFF_FFFF, 0, 1), (-1, 0, 1)],
         signals: (-1, 65),
         events: &[],
         fault: Some(LayoutFault::Range(Key::Address(0))),
@@ -118,7 +119,7 @@ static ROWS: [Row; 28] = [
     Row {
         id: b"ECU1",
         own: (32, 64, 3),
-        segments: &[(0xFFFF_FFFE, 0), (-1, 0)],
+        segments: &[(0xFFFF_FFFE, 0, 1), (-1, 0, 1)],
         signals: (-1, 65),
         events: &[],
         fault: Some(LayoutFault::Range(Key::Data(0))),
@@ -126,7 +127,7 @@ static ROWS: [Row; 28] = [
     Row {
         id: b"ECU1",
         own: (32, 64, 3),
-        segments: &[(0xFFFF_FFFE, 2041), (-1, 0)],
+        segments: &[(0xFFFF_FFFE, 2041, 1), (-1, 0, 1)],
         signals: (-1, 65),
         events: &[],
         fault: Some(LayoutFault::TooMany(Key::Data(0))),
@@ -134,7 +135,7 @@ static ROWS: [Row; 28] = [
     Row {
         id: b"ECU1",
         own: (32, 64, 3),
-        segments: &[(0xFFFF_FFF0, 16), (-1, 0)],
+        segments: &[(0xFFFF_FFF0, 16, 1), (-1, 0, 1)],
         signals: (-1, 65),
         events: &[],
         fault: Some(LayoutFault::Range(Key::Address(0))),
@@ -142,7 +143,23 @@ static ROWS: [Row; 28] = [
     Row {
         id: b"ECU1",
         own: (32, 64, 3),
-        segments: &[(0xFFFF_FFEF, 16), (-1, 0)],
+        segments: &[(0xFFFF_FFEF, 16, 1), (-1, 0, 1)],
+        signals: (-1, 65),
+        events: &[],
+        fault: Some(LayoutFault::Range(Key::Pages(0))),
+    },
+    Row {
+        id: b"ECU1",
+        own: (32, 64, 3),
+        segments: &[(0xFFFF_FFEF, 16, 5), (-1, 0, 1)],
+        signals: (-1, 65),
+        events: &[],
+        fault: Some(LayoutFault::Range(Key::Pages(0))),
+    },
+    Row {
+        id: b"ECU1",
+        own: (32, 64, 3),
+        segments: &[(0xFFFF_FFEF, 16, 4), (-1, 0, 1)],
         signals: (-1, 65),
         events: &[],
         fault: Some(LayoutFault::Range(Key::Address(1))),
@@ -150,7 +167,7 @@ static ROWS: [Row; 28] = [
     Row {
         id: b"ECU1",
         own: (32, 64, 3),
-        segments: &[(0x1000, 16), (0xFFFF_FFF0, 2025)],
+        segments: &[(0x1000, 16, 2), (0xFFFF_FFF0, 2025, 1)],
         signals: (-1, 65),
         events: &[],
         fault: Some(LayoutFault::TooMany(Key::Data(1))),
@@ -158,7 +175,15 @@ static ROWS: [Row; 28] = [
     Row {
         id: b"ECU1",
         own: (32, 64, 3),
-        segments: &[(0x1000, 16), (0x100F, 2024)],
+        segments: &[(0x1000, 16, 2), (0x100F, 2024, -1)],
+        signals: (0xFFFF_FFFF, 65),
+        events: &[],
+        fault: Some(LayoutFault::Range(Key::Pages(1))),
+    },
+    Row {
+        id: b"ECU1",
+        own: (32, 64, 3),
+        segments: &[(0x1000, 16, 2), (0x100F, 2024, 2)],
         signals: (0xFFFF_FFFF, 65),
         events: &[],
         fault: Some(LayoutFault::Range(Key::SignalsAddress)),
@@ -166,7 +191,7 @@ static ROWS: [Row; 28] = [
     Row {
         id: b"ECU1",
         own: (32, 64, 3),
-        segments: &[(0x1000, 16), (0x100F, 8)],
+        segments: &[(0x1000, 16, 2), (0x100F, 8, 2)],
         signals: (0xFFFF_FFFE, 65),
         events: &[],
         fault: Some(LayoutFault::Range(Key::SignalsLength)),
@@ -174,7 +199,7 @@ static ROWS: [Row; 28] = [
     Row {
         id: b"ECU1",
         own: (32, 64, 3),
-        segments: &[(0x1000, 16), (0x100F, 8)],
+        segments: &[(0x1000, 16, 2), (0x100F, 8, 2)],
         signals: (0xFFFF_FFFE, 0),
         events: &[],
         fault: Some(LayoutFault::Range(Key::SignalsLength)),
@@ -182,7 +207,7 @@ static ROWS: [Row; 28] = [
     Row {
         id: b"ECU1",
         own: (32, 64, 3),
-        segments: &[(0x1000, 16), (0x100F, 8)],
+        segments: &[(0x1000, 16, 2), (0x100F, 8, 2)],
         signals: (0xFFFF_FFFE, 2),
         events: &[],
         fault: Some(LayoutFault::Range(Key::SignalsAddress)),
@@ -190,7 +215,7 @@ static ROWS: [Row; 28] = [
     Row {
         id: b"ECU1",
         own: (32, 64, 3),
-        segments: &[(0x1000, 16), (0x100F, 8)],
+        segments: &[(0x1000, 16, 2), (0x100F, 8, 2)],
         signals: (0x1000, 64),
         events: &[],
         fault: Some(LayoutFault::Range(Key::Event)),
@@ -198,7 +223,7 @@ static ROWS: [Row; 28] = [
     Row {
         id: b"ECU1",
         own: (32, 64, 3),
-        segments: &[(0x1000, 16), (0x100F, 8)],
+        segments: &[(0x1000, 16, 2), (0x100F, 8, 2)],
         signals: (0x1000, 64),
         events: &[
             (b"", -1, -1, -1),
@@ -216,7 +241,7 @@ static ROWS: [Row; 28] = [
     Row {
         id: b"ECU1",
         own: (32, 64, 3),
-        segments: &[(0x1000, 16), (0x100F, 8)],
+        segments: &[(0x1000, 16, 2), (0x100F, 8, 2)],
         signals: (0x1000, 64),
         events: &[(LONG, -1, 256, -1), (b"", 0, 0, 0)],
         fault: Some(LayoutFault::Range(Key::Name(0))),
@@ -224,7 +249,7 @@ static ROWS: [Row; 28] = [
     Row {
         id: b"ECU1",
         own: (32, 64, 3),
-        segments: &[(0x1000, 16), (0x100F, 8)],
+        segments: &[(0x1000, 16, 2), (0x100F, 8, 2)],
         signals: (0x1000, 64),
         events: &[(b"a", -1, 256, -1), (b"", 0, 0, 0)],
         fault: Some(LayoutFault::Range(Key::Cycle(0))),
@@ -232,7 +257,7 @@ static ROWS: [Row; 28] = [
     Row {
         id: b"ECU1",
         own: (32, 64, 3),
-        segments: &[(0x1000, 16), (0x100F, 8)],
+        segments: &[(0x1000, 16, 2), (0x100F, 8, 2)],
         signals: (0x1000, 64),
         events: &[(b"a", 255, 256, -1), (b"", 0, 0, 0)],
         fault: Some(LayoutFault::Range(Key::Unit(0))),
@@ -240,7 +265,7 @@ static ROWS: [Row; 28] = [
     Row {
         id: b"ECU1",
         own: (32, 64, 3),
-        segments: &[(0x1000, 16), (0x100F, 8)],
+        segments: &[(0x1000, 16, 2), (0x100F, 8, 2)],
         signals: (0x1000, 64),
         events: &[(b"a", 255, 0, 256), (b"", 0, 0, 0)],
         fault: Some(LayoutFault::Range(Key::Priority(0))),
@@ -248,7 +273,7 @@ static ROWS: [Row; 28] = [
     Row {
         id: b"ECU1",
         own: (32, 64, 3),
-        segments: &[(0x1000, 16), (0x100F, 8)],
+        segments: &[(0x1000, 16, 2), (0x100F, 8, 2)],
         signals: (0x1000, 64),
         events: &[(b"a", 255, 0, 255), (b"\x1F", 0, 0, 0)],
         fault: Some(LayoutFault::Range(Key::Name(1))),
@@ -256,7 +281,7 @@ static ROWS: [Row; 28] = [
     Row {
         id: b"ECU1",
         own: (32, 64, 3),
-        segments: &[(0x1000, 16), (0x100F, 8)],
+        segments: &[(0x1000, 16, 2), (0x100F, 8, 2)],
         signals: (0x1000, 64),
         events: &[(b"10ms", 10, 6, 0)],
         fault: Some(LayoutFault::Overlap(Area::Segment(0), Area::Segment(1))),
@@ -264,7 +289,7 @@ static ROWS: [Row; 28] = [
     Row {
         id: b"ECU1",
         own: (32, 64, 3),
-        segments: &[(0x1000, 16), (0x1010, 8)],
+        segments: &[(0x1000, 16, 2), (0x1010, 8, 2)],
         signals: (0x0FD0, 64),
         events: &[(b"10ms", 10, 6, 0)],
         fault: Some(LayoutFault::Overlap(Area::Segment(0), Area::Signals)),
@@ -272,7 +297,7 @@ static ROWS: [Row; 28] = [
     Row {
         id: b"ECU1",
         own: (32, 64, 3),
-        segments: &[(0x1010, 16), (0x1000, 16)],
+        segments: &[(0x1010, 16, 2), (0x1000, 16, 2)],
         signals: (0x0FC1, 64),
         events: &[(b"10ms", 10, 6, 0)],
         fault: Some(LayoutFault::Overlap(Area::Segment(1), Area::Signals)),
@@ -280,7 +305,7 @@ static ROWS: [Row; 28] = [
     Row {
         id: b"ECU1",
         own: (32, 64, 3),
-        segments: &[(0xFFFF_FFEF, 16), (0x2000, 2024)],
+        segments: &[(0xFFFF_FFEF, 16, 4), (0x2000, 2024, 3)],
         signals: (0x1FC0, 64),
         events: &[(b"10ms", 10, 6, 0)],
         fault: None,

@@ -5,14 +5,15 @@ use std::test::Fail;
 use xcp_memory::{Area, ChecksumKind, Key, Layout, LayoutFault};
 use xcp_packet::Order;
 
-/// Number, address and size of a segment, and its last byte.
-fn segment(layout: &Layout, segment: usize) -> Option<(u32, usize, u8)> {
+/// Address and size of a segment, how many pages it has, and its last byte.
+fn segment(layout: &Layout, segment: usize) -> Option<(u32, usize, u8, u8)> {
     if segment >= layout.segment_count() {
         return None;
     }
     Some((
         layout.segment_address(segment),
         layout.segment_size(segment),
+        layout.segment_pages(segment),
         *layout.segment_bytes(segment).last()?,
     ))
 }
@@ -53,13 +54,13 @@ fn order_of(alloc: Global, order: Order) -> Result<Order, Fail> {
 
 #[test]
 fn layout_has_its_values(rt: HostRuntime) -> Result<(), Fail> {
-    let layout = layout(rt.alloc(), USUAL)?;
+    let layout = layout(rt.alloc(), Kind { pages: 3, ..USUAL })?;
     layout.audit();
     assert_eq!(rt; numbers(&layout), [32, 64, 3, 2, 0x8000, 8, 1]);
     let parts = (segment(&layout, 0), segment(&layout, 1), event(&layout, 0));
     let wanted = (
-        Some((0x1000, 16, 15)),
-        Some((0x2000, 8, 0xAA)),
+        Some((0x1000, 16, 3, 15)),
+        Some((0x2000, 8, 2, 0xAA)),
         Some((10, 6, 0)),
     );
     assert!(rt; parts == wanted);

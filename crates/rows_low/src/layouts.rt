@@ -16,9 +16,11 @@ pub struct Kind<'a> {
     pub order: Order,
     pub first: &'a [u8],
     pub second: &'a [u8],
+    pub pages: i64,
 }
 
-/// MAX_CTO 32, MAX_DTO 64, checksums of type ADD_14, Intel byte order, the bytes 00 to 0F and eight bytes AA.
+/// MAX_CTO 32, MAX_DTO 64, checksums of type ADD_14, Intel byte order, the bytes 00 to 0F and eight bytes AA, and two
+/// pages of the first segment.
 pub const USUAL: Kind = Kind {
     max_cto: 32,
     max_dto: 64,
@@ -26,12 +28,19 @@ pub const USUAL: Kind = Kind {
     order: Order::Intel,
     first: &COUNTED,
     second: &[0xAA; 8],
+    pages: 2,
 };
 
-fn segment(alloc: Global, address: i64, bytes: &[u8]) -> Result<SegmentPart, AllocError> {
+fn segment(
+    alloc: Global,
+    address: i64,
+    bytes: &[u8],
+    pages: i64,
+) -> Result<SegmentPart, AllocError> {
     Ok(SegmentPart {
         address,
         bytes: bytes.to_vec(alloc)?,
+        pages,
     })
 }
 
@@ -44,11 +53,11 @@ fn event(alloc: Global) -> Result<EventPart, AllocError> {
     })
 }
 
-/// The identification `ECU1`, a segment at 0x1000, one at 0x2000, 8 bytes of signals at 0x8000, and
+/// The identification `ECU1`, a segment at 0x1000, one of two pages at 0x2000, 8 bytes of signals at 0x8000, and
 /// the event channel `10ms`.
 pub(crate) fn layout(alloc: Global, kind: Kind) -> Result<Layout, Fail> {
-    let first = segment(alloc, 0x1000, kind.first)?;
-    let second = segment(alloc, 0x2000, kind.second)?;
+    let first = segment(alloc, 0x1000, kind.first, kind.pages)?;
+    let second = segment(alloc, 0x2000, kind.second, 2)?;
     Ok(Layout::new(Parts {
         id: b"ECU1".to_vec(alloc)?,
         max_cto: kind.max_cto,

@@ -196,3 +196,37 @@ fn segments_in_freeze_mode_are_stored(rt: HostRuntime) -> Result<(), Fail> {
     assert_eq!(rt; first_wrong_of(rt.alloc(), USUAL, rows)?, None);
     Ok(())
 }
+
+/// Four pages of the first segment, two of the second.
+#[test]
+fn pages_behind_the_second(rt: HostRuntime) -> Result<(), Fail> {
+    let rows = "
+        page_count 0 > FF 04
+        page_count 1 > FF 02
+        content 0 3 F > FF 0F
+        content 0 4 0 > FE 26
+        switch 3 0 4 > FE 26
+        switch 83 0 2 > FE 26
+        page 2 0 > FF 00
+        switch 3 0 3 > FF
+        write 1000 AB CD > FF
+        image > FF AB CD 2 3 4 5 6 7 8 9 A B C D E F AA AA AA AA AA AA AA AA
+        content 0 3 1 > FF CD
+        content 0 2 1 > FF 01
+        copy 0 3 0 2 > FF
+        content 0 2 1 > FF CD
+        content 0 2 2 > FF 02
+        content 0 1 1 > FF 01
+        copy 0 1 0 3 > FF
+        content 0 3 1 > FF 01
+        copy 0 2 0 3 > FF
+        copy 0 3 0 4 > FE 26
+        set_freeze 1 0 > FF
+        freeze > FF 01
+        content 0 0 1 > FF CD
+        content 0 1 1 > FF 01
+    ";
+    let kind = Kind { pages: 4, ..USUAL };
+    assert_eq!(rt; first_wrong_of(rt.alloc(), kind, rows)?, None);
+    Ok(())
+}

@@ -12,25 +12,30 @@ pub struct Kind {
     pub max_dto: i64,
     pub checksum: i64,
     pub order: Order,
+    pub pages: i64,
 }
 
-/// MAX_CTO 32, MAX_DTO 64, checksums of type ADD_14, Intel byte order.
+/// MAX_CTO 32, MAX_DTO 64, checksums of type ADD_14, Intel byte order, two pages of segment 0.
 pub const USUAL: Kind = Kind {
     max_cto: 32,
     max_dto: 64,
     checksum: 3,
     order: Order::Intel,
+    pages: 2,
 };
 
-fn segments(alloc: Global) -> Result<Vec<SegmentPart>, AllocError> {
+/// Segment 0 with so many pages, and segment 1 with two.
+fn segments(alloc: Global, pages: i64) -> Result<Vec<SegmentPart>, AllocError> {
     let mut segments = Vec::new(alloc);
     segments.push(SegmentPart {
         address: 0x1000,
         bytes: [0, 1, 2, 3, 4, 5, 6, 7, 8, 9, 10, 11, 12, 13, 14, 15].to_vec(alloc)?,
+        pages,
     })?;
     segments.push(SegmentPart {
         address: 0x2000,
         bytes: [0xAA; 8].to_vec(alloc)?,
+        pages: 2,
     })?;
     Ok(segments)
 }
@@ -50,7 +55,7 @@ fn layout(alloc: Global, kind: Kind) -> Result<Layout, Fail> {
         max_dto: kind.max_dto,
         checksum: kind.checksum,
         order: kind.order,
-        segments: segments(alloc)?,
+        segments: segments(alloc, kind.pages)?,
         signals_address: 0x8000,
         signals_length: 8,
         events: Vec::from_array(alloc, [event])?,

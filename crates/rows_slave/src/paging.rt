@@ -1,5 +1,5 @@
 //! Rows of the commands that tell of pages, switch and copy them.
-use crate::layouts::USUAL;
+use crate::layouts::{Kind, USUAL};
 use crate::rows::first_wrong_of;
 use std::test::Fail;
 
@@ -102,5 +102,55 @@ fn the_image_is_of_the_controllers_pages(rt: HostRuntime) -> Result<(), Fail> {
         image > AB CD 02 03 04 05 06 07 08 09 0A 0B 0C 0D 0E 0F AA AA AA AA AA AA AA AA
     ";
     assert_eq!(rt; first_wrong_of(rt.alloc(), USUAL, rows)?, None);
+    Ok(())
+}
+
+/// Four pages of segment 0, two of segment 1.
+#[test]
+fn four_pages_are_told_and_switched(rt: HostRuntime) -> Result<(), Fail> {
+    let rows = "
+        E8 01 00 00 00 > FF 04 00 00 00 00
+        E8 01 01 00 00 > FF 02 00 00 00 00
+        E7 00 00 00 > FF 0F 00
+        E7 00 00 03 > FF 3F 00
+        E7 00 00 04 > FE 26
+        E7 00 01 02 > FE 26
+        EB 02 00 03 > FF
+        EB 02 00 04 > FE 26
+        EB 82 00 02 > FE 26
+        EA 02 00 > FF 00 00 03
+        EA 02 01 > FF 00 00 00
+        EA 01 00 > FF 00 00 00
+        EB 83 00 01 > FF
+        EA 02 00 > FF 00 00 01
+    ";
+    let kind = Kind { pages: 4, ..USUAL };
+    assert_eq!(rt; first_wrong_of(rt.alloc(), kind, rows)?, None);
+    Ok(())
+}
+
+#[test]
+fn four_pages_have_bytes_of_their_own(rt: HostRuntime) -> Result<(), Fail> {
+    let rows = "
+        EB 03 00 03 > FF
+        F6 00 00 00 00 10 00 00 > FF
+        F0 02 AB CD > FF
+        F4 03 00 00 00 10 00 00 > FF AB CD 02
+        image > AB CD 02 03 04 05 06 07 08 09 0A 0B 0C 0D 0E 0F AA AA AA AA AA AA AA AA
+        EB 03 00 02 > FF
+        F4 03 00 00 00 10 00 00 > FF 00 01 02
+        E4 00 03 00 02 > FF
+        F4 03 00 00 00 10 00 00 > FF AB CD 02
+        EB 02 00 01 > FF
+        F4 03 00 00 00 10 00 00 > FF 00 01 02
+        EB 02 00 00 > FF
+        F4 03 00 00 00 10 00 00 > FF 00 01 02
+        E4 00 03 00 00 > FE 23
+        E4 00 04 00 02 > FE 26
+        E4 00 03 00 04 > FE 26
+        E4 00 03 01 01 > FE 22
+    ";
+    let kind = Kind { pages: 4, ..USUAL };
+    assert_eq!(rt; first_wrong_of(rt.alloc(), kind, rows)?, None);
     Ok(())
 }

@@ -43,6 +43,27 @@ fn a_working_page_is_stored(rt: HostRuntime) -> Result<(), Fail> {
 }
 
 #[test]
+fn the_last_page_is_stored(rt: HostRuntime) -> Result<(), Fail> {
+    let rows = "
+        EB 02 00 03 > FF
+        F6 00 00 00 00 10 00 00 > FF
+        F0 01 55 > FF
+        E6 01 00 > FF
+        F9 01 00 00 > FF
+        store > stored 1
+        EB 02 00 00 > FF
+        F4 02 00 00 00 10 00 00 > FF 55 01
+        EB 02 00 01 > FF
+        F4 02 00 00 00 10 00 00 > FF 00 01
+        EB 02 00 02 > FF
+        F4 02 00 00 00 10 00 00 > FF 00 01
+    ";
+    let kind = Kind { pages: 4, ..USUAL };
+    assert_eq!(rt; first_wrong_of(rt.alloc(), kind, rows)?, None);
+    Ok(())
+}
+
+#[test]
 fn a_block_goes_on_behind_a_store(rt: HostRuntime) -> Result<(), Fail> {
     let rows = "
         EB 83 00 01 > FF

@@ -12,24 +12,27 @@ use Rattle.xcp_memory.specs.declared.SegmentPart.{SegmentPart}
 use Rattle.xcp_memory.specs.declared.EventPart.{EventPart}
 use Rattle.xcp_memory.specs.Parts.{number, size, layout_of, areas, segment_of_part, event_of_part}
 use Rattle.xcp_memory.specs.Layout.{SegmentValue, EventValue}
-use Rattle.xcp_memory.specs.Limits.{Limit, first_fault as first_limit, own_limits, segment_limits, segments_limits, limits_in, signals_limits, event_limits, events_limits, apart_limits, is_within, is_text, is_address, ends_in_time, text_limit, number_limit, least_limit, count_limits, id_limit, max_cto_limit, max_dto_limit, segment_counts, address_limit, data_limit, signals_address_limit, signals_length_limit, event_counts, name_limit, cycle_limit, unit_limit, priority_limit}
+use Rattle.xcp_memory.specs.Limits.{Limit, first_fault as first_limit, own_limits, segment_limits, segments_limits, limits_in, signals_limits, event_limits, events_limits, apart_limits, is_within, is_text, is_address, ends_in_time, text_limit, number_limit, least_limit, count_limits, id_limit, max_cto_limit, max_dto_limit, segment_counts, address_limit, data_limit, pages_limit, signals_address_limit, signals_length_limit, event_counts, name_limit, cycle_limit, unit_limit, priority_limit}
 use Rattle.xcp_memory.specs.declared.LayoutFault.{LayoutFault}
 use Rattle.xcp_config.specs.declared.config_error.ConfigError.{ConfigError}
 use Rattle.xcp_config.specs.declared.config_error.ConfigError.TheVariants as error
 use Rattle.xcp_packet.specs.Rows.{first_holding}
 use Rattle.xcp_config.specs.ConfigError.{error_of}
 use Rattle.xcp_config.specs.Values.{text_of, integer_of, bytes_of, members_of, is_array_of_tables, byte_orders, checksums}
-use Rattle.xcp_config.specs.Layout.{layout_in, byte_order_of, checksum_of, segments_of, signals_of, events_of, address_of, size_of, length_of, setting, segment_in, event_in}
+use Rattle.xcp_config.specs.Layout.{layout_in, byte_order_of, checksum_of, segments_of, signals_of, events_of, address_of, size_of, pages_of, length_of, setting, segment_in, event_in}
 use Rattle.xcp_config.specs.Seen.{Reads, Segment, Event, segment_read, segment_written, event_read, event_written}
 use Rattle.xcp_config.specs.Table.{text_checks, name_checks, integer_checks, data_checks, array_checks, table_checks, own_checks, size_checks, segment_checks, checks_in, segments_checks, end_checks, place_checks, signals_checks, event_checks, events_checks, limit_check}
 use Rattle.xcp_packet.proofs.TestLemmas.{none_both, none_left}
 
--- three limits that are kept, and four
+-- three limits that are kept, four, and five
 three_kept : (a b c : Bool) (e f g : LayoutFault) → a ≡ true → b ≡ true → c ≡ true → (if not a then Some e else (if not b then Some f else (if not c then Some g else None))) ≡ None
 three_kept a b c e f g h i j = rw (h, i, j) refl
 
 four_kept : (a b c d : Bool) (e f g k : LayoutFault) → a ≡ true → b ≡ true → c ≡ true → d ≡ true → (if not a then Some e else (if not b then Some f else (if not c then Some g else (if not d then Some k else None)))) ≡ None
 four_kept a b c d e f g k h i j l = rw (h, i, j, l) refl
+
+five_kept : (a b c d e : Bool) (f g h i j : LayoutFault) → a ≡ true → b ≡ true → c ≡ true → d ≡ true → e ≡ true → (if not a then Some f else (if not b then Some g else (if not c then Some h else (if not d then Some i else (if not e then Some j else None))))) ≡ None
+five_kept a b c d e f g h i j k l m n o = rw (k, l, m, n, o) refl
 
 -- two limits on how many there are, and those of each
 counted_kept : (a b : Bool) (e f : LayoutFault) (r : Option LayoutFault) → a ≡ true → b ≡ true → r ≡ None → (if not a then Some e else (if not b then Some f else r)) ≡ None
@@ -115,7 +118,9 @@ segment_kept i m n s d q e h =
     let a = integer_checks (key.Address i) (address_limit i) (get (codes "address") d) in
     let b = data_checks (key.Data i) (data_limit i) (get (codes "data") d) in
     let c = size_checks i n (address_of d) (size_of d) in
-    let two = none_both (a ++ b) c h in
+    let f = integer_checks (key.Pages i) (pages_limit i) (pages_of d) in
+    let three = none_both (a ++ b ++ c) f h in
+    let two = none_both (a ++ b) c three.0 in
     let one = none_both a b two.0 in
     let place = two_pass (nat_le n 2040) (ends_in_time (address_of d) (size_of d)) (error.TooMany (key.Data i)) (error.Range (key.Address i)) two.1 in
     let address : s.address ≡ address_of d = ap (λ (x : Segment). x.address) e in
@@ -124,7 +129,8 @@ segment_kept i m n s d q e h =
     let second = ap (nat_le 1) bytes ∙ data_good (key.Data i) (get (codes "data") d) one.1 in
     let third = ap (λ k. nat_le k 2040) q ∙ place.0 in
     let fourth : ends_in_time s.address (size s) ≡ true = rw (address, bytes) place.1 in
-    four_kept _ _ _ _ _ _ _ _ first second third fourth
+    let fifth = ap (λ (x : Segment). is_within 2 4 x.pages) e ∙ integer_good (key.Pages i) 2 4 (pages_of d) three.1 in
+    five_kept _ _ _ _ _ _ _ _ _ _ first second third fourth fifth
 
 -- the segments from one of them on
 segments_from : (ss : List SegmentPart) (ds : List Data) → ((n : ℕ) → sum_by size (take n ss) ≡ sum_by size_of (take n ds)) → (i : ℕ) (xs : List SegmentPart) (ys : List Data) → map segment_read xs ≡ map segment_written ys → first_holding (flat_map (checks_in ds) (enumerate_from i ys)) ≡ None → first_holding (flat_map (limits_in ss) (enumerate_from i xs)) ≡ None
@@ -203,7 +209,7 @@ events_kept p t r h =
 
 -- what was read as a segment or an event channel of the layout
 as_segment : Segment → SegmentValue
-as_segment s = record { address = number s.address; bytes = s.bytes }
+as_segment s = record { address = number s.address; bytes = s.bytes; pages = number s.pages }
 
 as_event : Event → EventValue
 as_event e = record { name = e.name; cycle = number e.cycle; unit = number e.unit; priority = number e.priority }

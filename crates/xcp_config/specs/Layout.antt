@@ -44,6 +44,10 @@ data_of s = bytes_of (get (codes "data") s)
 abbrev pub size_of : Data → ℕ
 size_of s = length (data_of s)
 
+-- how many pages a segment has, 2 where no number is given
+abbrev pub pages_of : Data → Option Data
+pages_of s = optional (integer (pos 2)) (get (codes "pages") s)
+
 -- how many bytes of signals there are
 abbrev pub length_of : Data → ℤ
 length_of s = integer_of (get (codes "length") s)
@@ -53,7 +57,7 @@ abbrev pub setting : List ℕ → Data → Option Data
 setting name e = optional (integer (pos 0)) (get name e)
 
 abbrev pub segment_in : Data → SegmentValue
-segment_in s = record { address = number (address_of s); bytes = data_of s }
+segment_in s = record { address = number (address_of s); bytes = data_of s; pages = number (integer_of (pages_of s)) }
 
 abbrev pub event_in : Data → EventValue
 event_in e = record {

@@ -7,18 +7,19 @@ use Rattle.xcp_memory.specs.declared.Parts.{Parts}
 use Rattle.xcp_memory.specs.Parts.{number, checksum_of as kind_of}
 use Rattle.xcp_memory.specs.Limits.{is_within}
 use Rattle.xcp_config.specs.Values.{text_of, integer_of}
-use Rattle.xcp_config.specs.Layout.{order_in, checksum_in, segments_of, signals_of, events_of, address_of, data_of, length_of, setting}
+use Rattle.xcp_config.specs.Layout.{order_in, checksum_in, segments_of, signals_of, events_of, address_of, data_of, pages_of, length_of, setting}
 
 -- a segment before its limits are looked at
 pub record Segment : Type 0 where
   pub address : ℤ
   pub bytes : List ℕ
+  pub pages : ℤ
 
 abbrev pub segment_read : SegmentPart → Segment
-segment_read s = record { address = s.address; bytes = s.bytes.items }
+segment_read s = record { address = s.address; bytes = s.bytes.items; pages = s.pages }
 
 abbrev pub segment_written : Data → Segment
-segment_written d = record { address = address_of d; bytes = data_of d }
+segment_written d = record { address = address_of d; bytes = data_of d; pages = integer_of (pages_of d) }
 
 -- an event channel before its limits are looked at
 pub record Event : Type 0 where

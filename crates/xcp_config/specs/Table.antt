@@ -7,14 +7,14 @@ use Rattle.toml.specs.Data.{Data, get, as_integer, as_str, as_table}
 use Rattle.xcp_memory.specs.declared.Key.{Key}
 use Rattle.xcp_memory.specs.declared.Key.TheVariants as key
 use Rattle.xcp_memory.specs.Parts.{number, areas}
-use Rattle.xcp_memory.specs.Limits.{Limit, id_limit, max_cto_limit, max_dto_limit, segment_counts, address_limit, data_limit, total_limit, end_limit, signals_address_limit, signals_length_limit, event_counts, name_limit, cycle_limit, unit_limit, priority_limit, apart_limits}
+use Rattle.xcp_memory.specs.Limits.{Limit, id_limit, max_cto_limit, max_dto_limit, segment_counts, address_limit, data_limit, total_limit, end_limit, pages_limit, signals_address_limit, signals_length_limit, event_counts, name_limit, cycle_limit, unit_limit, priority_limit, apart_limits}
 use Rattle.xcp_config.specs.declared.config_error.ConfigError.{ConfigError}
 use Rattle.xcp_config.specs.declared.config_error.ConfigError.TheVariants.{Missing, Kind, Range}
 use Rattle.xcp_config.specs.ConfigError.{error_of}
 use Rattle.xcp_packet.specs.Rows.{first_holding, must}
 use Rattle.xcp_config.specs.Check.{Check}
 use Rattle.xcp_config.specs.Values.{text_of, integer_of, bytes_of, members_of, is_array_of_tables, named, byte_orders, checksums}
-use Rattle.xcp_config.specs.Layout.{layout_in, byte_order_of, checksum_of, segments_of, signals_of, events_of, address_of, size_of, length_of, setting}
+use Rattle.xcp_config.specs.Layout.{layout_in, byte_order_of, checksum_of, segments_of, signals_of, events_of, address_of, size_of, pages_of, length_of, setting}
 
 -- a text is there
 abbrev pub text_there : Key → Option Data → List Check
@@ -95,6 +95,7 @@ segment_checks i total s =
     integer_checks (key.Address i) (address_limit i) (get (codes "address") s)
     ++ data_checks (key.Data i) (data_limit i) (get (codes "data") s)
     ++ size_checks i total (address_of s) (size_of s)
+    ++ integer_checks (key.Pages i) (pages_limit i) (pages_of s)
 
 -- segment i of these, by the bytes up to its own
 abbrev pub checks_in : List Data → ℕ × Data → List Check

@@ -21,9 +21,9 @@ fn read_event(alloc: Global, table: &Value, number: u8) -> Result<EventPart, Con
     ensures refused { IfErr result (λ e. (e ≡ ConfigError.Memory) ⊎ (first_holding (event_checks (number, view table.now)) ≡ Some e)) }
 {
     let name = read_text(alloc, table, "name", Key::Name(number), MAX_NAME)?;
-    let cycle = read_setting(table, "cycle", Key::Cycle(number))?;
-    let unit = read_setting(table, "unit", Key::Unit(number))?;
-    let priority = read_setting(table, "priority", Key::Priority(number))?;
+    let cycle = read_setting(table, "cycle", Key::Cycle(number), 0, 255, 0)?;
+    let unit = read_setting(table, "unit", Key::Unit(number), 0, 255, 0)?;
+    let priority = read_setting(table, "priority", Key::Priority(number), 0, 255, 0)?;
     Ok(EventPart {
         name,
         cycle,

@@ -6,6 +6,15 @@ pub(crate) const MAX_SEGMENTS: usize = 4;
 /// How many bytes the segments have at most, in all.
 pub(crate) const MAX_BYTES: usize = 2040;
 
+/// How many pages a segment has at least.
+pub(crate) const MIN_PAGES: u32 = 2;
+
+/// How many pages a segment has at most.
+pub(crate) const MAX_PAGES: u32 = 4;
+
+/// How many pages a segment has where its table doesn't say it.
+pub(crate) const DEFAULT_PAGES: u32 = 2;
+
 /// How many event channels there are at most.
 pub(crate) const MAX_EVENTS: usize = 8;
 

@@ -9,8 +9,8 @@ ghost use Rattle.xcp_config.specs.Table.{checks_in, segment_checks, segments_che
 ghost use Rattle.xcp_config.specs.Seen.{segment_read, segment_written};
 
 use crate::ConfigError;
-use crate::limits::{LAST_ADDRESS, MAX_BYTES, MAX_SEGMENTS};
-use crate::values::{read_bytes, read_integer, tables_in};
+use crate::limits::{DEFAULT_PAGES, LAST_ADDRESS, MAX_BYTES, MAX_PAGES, MAX_SEGMENTS, MIN_PAGES};
+use crate::values::{read_bytes, read_integer, read_setting, tables_in};
 use std::alloc::Global;
 use toml::Value;
 use xcp_memory::{Key, SegmentPart};
@@ -48,7 +48,19 @@ fn read_segment(
     let address = read_integer(table, "address", Key::Address(number), 0, LAST_ADDRESS)?;
     let bytes = read_bytes(alloc, table, "data", Key::Data(number))?;
     check_size(address, bytes.len(), number, before)?;
-    Ok(SegmentPart { address, bytes })
+    let pages = read_setting(
+        table,
+        "pages",
+        Key::Pages(number),
+        MIN_PAGES,
+        MAX_PAGES,
+        DEFAULT_PAGES,
+    )?;
+    Ok(SegmentPart {
+        address,
+        bytes,
+        pages,
+    })
 }
 
 /// The segments that these tables describe.

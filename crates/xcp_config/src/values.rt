@@ -90,16 +90,24 @@ pub(crate) fn read_integer(
     }
 }
 
-/// An integer from 0 to 255, and 0 where the key isn't there.
+/// An integer from `least` to `most`, and the default where the key isn't there.
 #[tactic(auto, unfolding(crate::specs::Table::integer_checks))]
-pub(crate) fn read_setting(table: &Value, name: &str, key: Key) -> Result<i64, ConfigError>
-    ensures passes { IfOk result (λ _. first_holding (integer_checks key (number_limit 0 255 key) (optional (integer (pos 0)) (get name.now (view table.now)))) ≡ None) }
-    ensures value { IfOk result (λ n. n ≡ integer_of (optional (integer (pos 0)) (get name.now (view table.now)))) }
-    ensures refused { IfErr result (λ e. first_holding (integer_checks key (number_limit 0 255 key) (optional (integer (pos 0)) (get name.now (view table.now)))) ≡ Some e) }
+pub(crate) fn read_setting(
+    table: &Value,
+    name: &str,
+    key: Key,
+    least: u32,
+    most: u32,
+    default: u32,
+) -> Result<i64, ConfigError>
+    requires { is_within least most (pos default) ≡ true }
+    ensures passes { IfOk result (λ _. first_holding (integer_checks key (number_limit least most key) (optional (integer (pos default)) (get name.now (view table.now)))) ≡ None) }
+    ensures value { IfOk result (λ n. n ≡ integer_of (optional (integer (pos default)) (get name.now (view table.now)))) }
+    ensures refused { IfErr result (λ e. first_holding (integer_checks key (number_limit least most key) (optional (integer (pos default)) (get name.now (view table.now)))) ≡ Some e) }
 {
     match table.get(name) {
-        None => Ok(0),
-        Some(_) => read_integer(table, name, key, 0, 255),
+        None => Ok(i64::from(default)),
+        Some(_) => read_integer(table, name, key, least, most),
     }
 }
 

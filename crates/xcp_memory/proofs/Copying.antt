@@ -1,20 +1,15 @@
 -- Changes of one part of a list that was split, and of a page's whole content.
-use Rattle.std.proofs.Common.{◌≡◌, ℕ, ◌+◌, ◌-◌, ◌<◌, List, [], ◌∷◌, ◌++◌, length, get_or, slice_set, Bool, true, false, None, ap, sym, ◌∙◌, arith, refl}
+use Rattle.std.proofs.Common.{◌≡◌, ℕ, ◌-◌, ◌<◌, List, [], ◌∷◌, ◌++◌, length, get_or, slice_set, Bool, true, false, None, ap, sym, ◌∙◌, arith, refl}
 use Rattle.std.specs.Prelude.{nat_le, not, ◌==◌}
-use Rattle.std.specs.Global.{Vec}
-use Rattle.std.specs.Vec.{with_items}
 use Rattle.std.proofs.lemmas.List.{set-append_left, set-append_right, get_or_append_left, get_or-append_right, get_or_default, length-set}
 use Rattle.std.proofs.lemmas.Bool.Decides.{nat_tests}
-use Rattle.std.proofs.lemmas.Grind.{common_steps}
 use Rattle.xcp_memory.specs.Copying.{with_content, content, copy_refusal, pages_copied, lacks_segment}
 use Rattle.xcp_packet.specs.Rows.{first_holding}
 use Rattle.xcp_memory.specs.Switch.{lacks_page}
 use Rattle.xcp_packet.specs.declared.Code.{Code}
 use Rattle.xcp_packet.specs.declared.Code.TheVariants.{SegmentNotValid, PageNotValid, WriteProtected, OutOfRange}
-use Rattle.xcp_memory.specs.Pages.{SegmentPages, PagesValue, IsSegment, IsPages, segment_at}
-use Rattle.xcp_memory.specs.Vectors.{lists_of}
-use Rattle.xcp_memory.specs.Words.{overwritten}
-use Rattle.xcp_memory.proofs.PageLemmas.{written, page_at}
+use Rattle.xcp_memory.specs.Layout.{SegmentValue}
+use Rattle.xcp_memory.specs.Pages.{SegmentPages, PagesValue, IsSegment, IsPages, segment_at, no_segment}
 use Rattle.xcp_memory.proofs.Switching.{is_pages-set}
 use Rattle.std.proofs.lemmas.List.Elements.{All-get_or, All-set}
 
@@ -46,33 +41,15 @@ first_behind {X} front back xs n y d e h k is = is ∙ read_behind front back xs
 pub one_before : {X : Type 0} (front back xs : List X) (i : ℕ) (y d : X) → xs ≡ front ++ back → i < length front → y ≡ get_or front i y → y ≡ get_or xs i d
 one_before {X} front back xs i y d e h is = is ∙ get_or_default front i y d h ∙ read_before front back xs i d e h
 
--- bytes over all of those that were there
-all_over : (xs ys : List ℕ) → length ys ≡ length xs → overwritten xs 0 ys ≡ ys
-all_over xs ys h = grind (arith, common_steps)
-
--- the pages after one vector got another content
-pub refilled_page : (vs : List (Vec ℕ)) (x : ℕ) (v : Vec ℕ) (new ys : List ℕ) → x < length (lists_of vs) → v ≡ get_or vs x v → length ys ≡ length (get_or (lists_of vs) x []) → new ≡ overwritten v.items 0 ys → lists_of (slice_set vs x (with_items v new)) ≡ slice_set (lists_of vs) x ys
-refilled_page vs x v new ys h e k w =
-    let here : v.items ≡ get_or (lists_of vs) x [] = page_at vs x v h e in
-    written vs x 0 v new ys h e (omega (arith, k, ap length here)) w
-    ∙ ap (λ (p : List ℕ). slice_set (lists_of vs) x p) (all_over (get_or (lists_of vs) x []) ys k)
-
--- the same of the whole segment
-pub filled_by : (s : SegmentPages) (vs : List (Vec ℕ)) (ecu xcp : ℕ) (freeze : Bool) (x : ℕ) (v : Vec ℕ) (new ys : List ℕ) → record { pages = lists_of vs; ecu = ecu; xcp = xcp; freeze = freeze } ≡ s → x < length s.pages → v ≡ get_or vs x v → length ys ≡ length (get_or s.pages x []) → new ≡ overwritten v.items 0 ys → record { pages = lists_of (slice_set vs x (with_items v new)); ecu = ecu; xcp = xcp; freeze = freeze } ≡ with_content s x ys
-filled_by s vs ecu xcp freeze x v new ys is h e k w =
-    let there : x < length (lists_of vs) = omega (arith, h, ap (λ (s : SegmentPages). length s.pages) is) in
-    let size : length ys ≡ length (get_or (lists_of vs) x []) = k ∙ sym (ap (λ (s : SegmentPages). length (get_or s.pages x [])) is) in
-    ap (λ (ps : List (List ℕ)). let r : SegmentPages = record { pages = ps; ecu = ecu; xcp = xcp; freeze = freeze } in r) (refilled_page vs x v new ys there e size w)
-    ∙ ap (λ (s : SegmentPages). with_content s x ys) is
-
 -- a segment of which one page has as many other bytes
-pub is_segment-filled : (s : SegmentPages) (size page : ℕ) (bytes : List ℕ) → IsSegment size s → page < length s.pages → length bytes ≡ length (get_or s.pages page []) → IsSegment size (with_content s page bytes)
-is_segment-filled s size page bytes h k l =
-    let old = All-get_or (λ p. length p ≡ size) s.pages page [] k h.sized in
+pub is_segment-filled : (segment : SegmentValue) (s : SegmentPages) (page : ℕ) (bytes : List ℕ) → IsSegment segment s → page < length s.pages → length bytes ≡ length (get_or s.pages page []) → IsSegment segment (with_content s page bytes)
+is_segment-filled segment s page bytes h k l =
+    let IsSized : List ℕ → Type 0 = λ p. length p ≡ length segment.bytes in
+    let old = All-get_or IsSized s.pages page [] k h.sized in
     let same : length (slice_set s.pages page bytes) ≡ length s.pages = length-set s.pages page bytes in
     record {
-      sized = All-set (λ p. length p ≡ size) s.pages page bytes (l ∙ old) h.sized;
-      two = same ∙ h.two;
+      count = same ∙ h.count;
+      sized = All-set IsSized s.pages page bytes (l ∙ old) h.sized;
       ecu = omega (arith, h.ecu);
       xcp = omega (arith, h.xcp);
     }
@@ -109,4 +86,4 @@ pub is_pages-copied : (v : PagesValue) (source source_page target target_page : 
 is_pages-copied v source source_page target target_page h r =
     let t = copy_tests source source_page target target_page v r in
     is_pages-set v target (with_content (segment_at v target) target_page (content v source source_page)) h t.0
-    (is_segment-filled (segment_at v target) _ target_page (content v source source_page) (h.each target t.0) t.1 t.2)
+    (is_segment-filled (get_or v.layout.segments target no_segment) (segment_at v target) target_page (content v source source_page) (h.each target t.0) t.1 t.2)

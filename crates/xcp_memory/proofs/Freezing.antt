@@ -4,7 +4,7 @@ use Rattle.std.specs.Prelude.{count_by, All, if◌then◌else◌, ◌==◌}
 use Rattle.std.proofs.lemmas.List.{length-take-le, drop_more, length-map}
 use Rattle.std.proofs.lemmas.List.Sums.{count_by-le-length}
 use Rattle.std.proofs.Math.Seq.{get_or-append_seam}
-use Rattle.std.proofs.lemmas.List.Elements.{All-get_or, All-from_get_or}
+use Rattle.std.proofs.lemmas.List.Elements.{All-from_get_or}
 use Rattle.xcp_memory.specs.Freeze.{segment_frozen, pages_frozen}
 use Rattle.std.proofs.Math.ListN.{get_or-map}
 use Rattle.xcp_packet.specs.declared.Code.TheVariants.{WriteProtected}
@@ -12,6 +12,8 @@ use Rattle.xcp_memory.specs.Words.{segment_of, write_refusal, write_refusal_by}
 use Rattle.xcp_memory.specs.Copying.{with_content}
 use Rattle.xcp_memory.proofs.Copying.{is_segment-filled}
 use Rattle.xcp_memory.proofs.Switching.{is_pages-map}
+use Rattle.xcp_memory.proofs.Places.{page_size}
+use Rattle.xcp_memory.specs.Layout.{SegmentValue}
 use Rattle.xcp_memory.specs.Pages.{PagesValue, SegmentPages, IsSegment, IsPages, segment_at, no_pages, xcp_page}
 
 -- the next element of a list whose first ones are changed is still as it was
@@ -30,27 +32,19 @@ pub each_has_page : (v : PagesValue) → IsPages v → All (λ (s : SegmentPages
 each_has_page v h = All-from_get_or (λ (s : SegmentPages). s.xcp < length s.pages) v.segments no_pages (λ i k. (h.each i k).xcp)
 
 -- the tool's page has the size of the reference page
-same_size : (s : SegmentPages) (size : ℕ) → IsSegment size s → length (xcp_page s) ≡ length (get_or s.pages 0 [])
-same_size s size h =
-    let some : 0 < length s.pages = omega (arith, h.two) in
-    All-get_or (λ (p : List ℕ). length p ≡ size) s.pages s.xcp [] h.xcp h.sized ∙ sym (All-get_or (λ (p : List ℕ). length p ≡ size) s.pages 0 [] some h.sized)
+same_size : (segment : SegmentValue) (s : SegmentPages) → IsSegment segment s → length (xcp_page s) ≡ length (get_or s.pages 0 [])
+same_size segment s h = page_size segment s.xcp s h h.xcp ∙ sym (page_size segment 0 s h (omega (arith, h.xcp)))
 
--- which is as long as the reference page
-pub each_has_size : (v : PagesValue) → IsPages v → All (λ (s : SegmentPages). length (xcp_page s) ≡ length (get_or s.pages 0 [])) v.segments
-each_has_size v h =
-    All-from_get_or (λ (s : SegmentPages). length (xcp_page s) ≡ length (get_or s.pages 0 [])) v.segments no_pages (λ i k.
-    same_size (segment_at v i) _ (h.each i k))
-
-is_segment-frozen : (s : SegmentPages) (size : ℕ) → IsSegment size s → IsSegment size (segment_frozen s)
-is_segment-frozen s size h = by_mode s.freeze
+is_segment-frozen : (segment : SegmentValue) (s : SegmentPages) → IsSegment segment s → IsSegment segment (segment_frozen s)
+is_segment-frozen segment s h = by_mode s.freeze
   where
-    by_mode : (b : Bool) → IsSegment size (if b then with_content s 0 (xcp_page s) else s)
-    by_mode true = is_segment-filled s size 0 (xcp_page s) h (omega (arith, h.two)) (same_size s size h)
+    by_mode : (b : Bool) → IsSegment segment (if b then with_content s 0 (xcp_page s) else s)
+    by_mode true = is_segment-filled segment s 0 (xcp_page s) h (omega (arith, h.xcp)) (same_size segment s h)
     by_mode false = h
 
 -- the pages once the segments in FREEZE mode are stored
 pub is_pages-frozen : (v : PagesValue) → IsPages v → IsPages (pages_frozen v)
-is_pages-frozen v h = is_pages-map v segment_frozen h (λ i size k is. is_segment-frozen (segment_at v i) size is)
+is_pages-frozen v h = is_pages-map v segment_frozen h (λ i segment k is. is_segment-frozen segment (segment_at v i) is)
 
 -- what the tool may write
 same_number : (s : SegmentPages) → (segment_frozen s).xcp ≡ s.xcp

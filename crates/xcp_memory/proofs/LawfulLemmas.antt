@@ -79,6 +79,7 @@ each_kept f P g n (x ∷ xs) h =
 pub record IsGoodSegment (s : SegmentPart) : Type 0 where
   pub filled : 1 ≤ size s
   pub ends : number s.address + size s ≤ 0xFFFF_FFFF
+  pub paged : (2 ≤ number s.pages) × (number s.pages ≤ 4)
 
 good_segment : (ss : List SegmentPart) (i : ℕ) (s : SegmentPart) → first_holding (limits_in ss (i, s)) ≡ None → (sum_by size (take (i + 1) ss) ≤ 2040) × IsGoodSegment s
 good_segment ss i s h =
@@ -86,7 +87,8 @@ good_segment ss i s h =
     let filled = kept (nat_le 1 (size s)) k.1.0 in
     let total = kept (nat_le (sum_by size (take (i + 1) ss)) 2040) k.1.1.0 in
     let ends = kept (nat_le (number s.address + size s) 0xFFFF_FFFF) k.1.1.1.0 in
-    (grind (arith, nat_tests), record { filled = grind (arith, nat_tests); ends = grind (arith, nat_tests) })
+    let paged = within_number 2 4 s.pages (kept (is_within 2 4 s.pages) k.1.1.1.1.0) in
+    (grind (arith, nat_tests), record { filled = grind (arith, nat_tests); ends = grind (arith, nat_tests); paged = paged })
 
 -- the last segment's limit is that of all bytes
 pub total_kept : (ss xs : List SegmentPart) (n : ℕ) → 1 ≤ length xs → n + length xs ≡ length ss → first_holding (flat_map (limits_in ss) (enumerate_from n xs)) ≡ None → sum_by size ss ≤ 2040
@@ -241,6 +243,7 @@ lawful p h =
       segments_most = rw length-map (at_most (length ss) 4 (kept _ segments.most));
       filled = All-map (λ s. 1 ≤ length s.bytes) segment_of_part ss (λ k d b. (good k d b).filled);
       total = rw sum_of_parts (total_kept ss ss 0 (at_most 1 (length ss) (kept _ segments.least)) (omega arith) segments.behind);
+      paged = All-map (λ s. (2 ≤ s.pages) × (s.pages ≤ 4)) segment_of_part ss (λ k d b. (good k d b).paged);
       signals_least = signals_number.0;
       signals_most = signals_number.1;
       events_least = rw length-map (at_most 1 (length es) (kept _ events.least));

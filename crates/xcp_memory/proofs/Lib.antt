@@ -4,6 +4,7 @@ pub mod ApartLemmas
 pub mod LawfulLemmas
 pub mod BuildLemmas
 pub mod PageLemmas
+pub mod PageStore
 pub mod Places
 pub mod Opening
 pub mod Imaging

@@ -3,7 +3,7 @@ use Rattle.std.proofs.Common.{◌≡◌, ℕ, ◌+◌, ◌<◌, ◌≤◌, true,
 use Rattle.std.proofs.lemmas.List.Elements.{All-get_or}
 use Rattle.std.proofs.lemmas.List.Quantifiers.{position-Some}
 use Rattle.std.proofs.lemmas.Bool.Decides.{nat_tests}
-use Rattle.xcp_memory.specs.Layout.{Extent, segment_extent}
+use Rattle.xcp_memory.specs.Layout.{Extent, SegmentValue, segment_extent}
 use Rattle.xcp_memory.specs.Pages.{PagesValue, SegmentPages, IsSegment, IsPages, segment_at, no_segment}
 use Rattle.xcp_memory.specs.Words.{is_inside, segment_of}
 use Rattle.xcp_memory.specs.Places.{LiesOnPages}
@@ -15,8 +15,8 @@ pub inside_to : (a n : ℕ) (e : Extent) → is_inside a n e ≡ true → a + n 
 inside_to a n e h = grind (arith, nat_tests, h)
 
 -- the page of a number that there is has the segment's size
-pub page_size : (size number : ℕ) (s : SegmentPages) → IsSegment size s → number < length s.pages → length (get_or s.pages number []) ≡ size
-page_size size number s h k = All-get_or (λ p. length p ≡ size) s.pages number [] k h.sized
+pub page_size : (segment : SegmentValue) (number : ℕ) (s : SegmentPages) → IsSegment segment s → number < length s.pages → length (get_or s.pages number []) ≡ length segment.bytes
+page_size segment number s h k = All-get_or (λ p. length p ≡ length segment.bytes) s.pages number [] k h.sized
 
 pub located : (v : PagesValue) (a n i : ℕ) → IsPages v → segment_of v.layout a n ≡ Some i → LiesOnPages v a n i
 located v a n i f h =

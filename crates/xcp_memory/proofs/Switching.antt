@@ -8,6 +8,7 @@ use Rattle.std.proofs.lemmas.List.{get_or-set_same, get_or-set_other}
 use Rattle.std.proofs.lemmas.List.Folds.{list_any_at}
 use Rattle.std.specs.List.{list_any}
 use Rattle.std.specs.Prelude.{if◌then◌else◌, not}
+use Rattle.xcp_memory.specs.Layout.{SegmentValue}
 use Rattle.xcp_memory.specs.Pages.{PagesValue, SegmentPages, IsSegment, IsPages, segment_at, no_segment, no_pages}
 use Rattle.xcp_packet.specs.declared.Code.{Code}
 use Rattle.xcp_packet.specs.declared.Code.TheVariants.{ModeNotValid, SegmentNotValid, PageNotValid}
@@ -74,37 +75,37 @@ either_below : (b : Bool) (x y n : ℕ) → x < n → y < n → (if b then x els
 either_below true x y n h k = h
 either_below false x y n h k = k
 
-is_segment-switched : (mode page size : ℕ) (s : SegmentPages) → IsSegment size s → page < length s.pages → IsSegment size (segment_switched mode page s)
-is_segment-switched mode page size s h k = record {
+is_segment-switched : (mode page : ℕ) (segment : SegmentValue) (s : SegmentPages) → IsSegment segment s → page < length s.pages → IsSegment segment (segment_switched mode page s)
+is_segment-switched mode page segment s h k = record {
+  count = h.count;
   sized = h.sized;
-  two = h.two;
   ecu = either_below (gives_ecu mode) page s.ecu (length s.pages) k h.ecu;
   xcp = either_below (gives_xcp mode) page s.xcp (length s.pages) k h.xcp;
 }
 
 -- the pages after a change of one segment
-pub is_pages-set : (v : PagesValue) (i : ℕ) (s : SegmentPages) → IsPages v → i < length v.segments → IsSegment (length (get_or v.layout.segments i no_segment).bytes) s → IsPages (record v { segments = slice_set v.segments i s })
+pub is_pages-set : (v : PagesValue) (i : ℕ) (s : SegmentPages) → IsPages v → i < length v.segments → IsSegment (get_or v.layout.segments i no_segment) s → IsPages (record v { segments = slice_set v.segments i s })
 is_pages-set v i s h k f =
     let same = length-set v.segments i s in
     record {
       count = same ∙ h.count;
       each = λ j l.
           elim (cases_eq j i) [
-            | inl e ↦ subst (λ t. IsSegment (length (get_or v.layout.segments j no_segment).bytes) t) (sym (ap (λ n. get_or (slice_set v.segments i s) n no_pages) e ∙ get_or-set_same v.segments i s no_pages k)) (subst (λ n. IsSegment (length (get_or v.layout.segments n no_segment).bytes) s) (sym e) f)
-            | inr e ↦ subst (λ t. IsSegment (length (get_or v.layout.segments j no_segment).bytes) t) (sym (get_or-set_other v.segments i j s no_pages e)) (h.each j (omega arith))
+            | inl e ↦ subst (λ t. IsSegment (get_or v.layout.segments j no_segment) t) (sym (ap (λ n. get_or (slice_set v.segments i s) n no_pages) e ∙ get_or-set_same v.segments i s no_pages k)) (subst (λ n. IsSegment (get_or v.layout.segments n no_segment) s) (sym e) f)
+            | inr e ↦ subst (λ t. IsSegment (get_or v.layout.segments j no_segment) t) (sym (get_or-set_other v.segments i j s no_pages e)) (h.each j (omega arith))
           ];
       signals = h.signals;
     }
 
 -- the pages after a change of each segment
-pub is_pages-map : (v : PagesValue) (f : SegmentPages → SegmentPages) → IsPages v → ((i size : ℕ) → i < length v.segments → IsSegment size (segment_at v i) → IsSegment size (f (segment_at v i))) → IsPages (record v { segments = map f v.segments })
+pub is_pages-map : (v : PagesValue) (f : SegmentPages → SegmentPages) → IsPages v → ((i : ℕ) (segment : SegmentValue) → i < length v.segments → IsSegment segment (segment_at v i) → IsSegment segment (f (segment_at v i))) → IsPages (record v { segments = map f v.segments })
 is_pages-map v f h g =
     let same = length-map v.segments f in
     record {
       count = same ∙ h.count;
       each = λ j l.
           (let short : j < length v.segments = omega arith in
-          subst (λ s. IsSegment (length (get_or v.layout.segments j no_segment).bytes) s) (sym (get_or-map f v.segments j no_pages no_pages short)) (g j _ short (h.each j short)));
+          subst (λ s. IsSegment (get_or v.layout.segments j no_segment) s) (sym (get_or-map f v.segments j no_pages no_pages short)) (g j _ short (h.each j short)));
       signals = h.signals;
     }
 
@@ -116,4 +117,4 @@ pub is_pages-switched_all : (v : PagesValue) (mode segment page : ℕ) → IsPag
 is_pages-switched_all v mode segment page h r all =
     let tests = switch_tests v mode segment page r in
     let none : list_any (lacks_page page) v.segments ≡ false = ap (λ b. list_any (lacks_page page) (if b then v.segments else segment_at v segment ∷ [])) (sym all) ∙ tests.2 in
-    is_pages-map v (segment_switched mode page) h (λ i size k f. is_segment-switched mode page size (segment_at v i) f (has_page page (segment_at v i) (none_passes (lacks_page page) v.segments i no_pages none k)))
+    is_pages-map v (segment_switched mode page) h (λ i segment k f. is_segment-switched mode page segment (segment_at v i) f (has_page page (segment_at v i) (none_passes (lacks_page page) v.segments i no_pages none k)))

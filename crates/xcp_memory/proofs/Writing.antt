@@ -117,8 +117,8 @@ is_pages_after v a bytes segments f h = record {
       let same = h.numbers j in
       let size = length (get_or v.layout.segments j no_segment).bytes in
       record {
+        count = same.count ∙ old.count;
         sized = All-from_get_or (λ p. length p ≡ size) (segment_at (with v segments) j).pages [] (λ p m. same.sizes p ∙ All-get_or (λ p. length p ≡ size) (segment_at v j).pages p [] (omega (arith, same.count)) old.sized);
-        two = same.count ∙ old.two;
         ecu = omega (arith, same.ecu, same.count, old.ecu);
         xcp = omega (arith, same.xcp, same.count, old.xcp);
       });

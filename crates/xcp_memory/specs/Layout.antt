@@ -3,11 +3,12 @@ use Rattle.std.specs.Prelude.{ℕ, List, [], ◌∷◌, ◌++◌, length, map, s
 use Rattle.xcp_packet.specs.declared.Order.{Order}
 use Rattle.xcp_memory.specs.declared.checksum_kind.ChecksumKind.{ChecksumKind}
 
--- A segment: its first address, and the bytes of its reference page.
+-- A segment: its first address, the bytes of its reference page, and how many pages it has.
 -- (ASAM MCD-1 XCP, protocol layer: calibration data segments and pages.)
 pub record SegmentValue : Type 0 where
   pub address : ℕ
   pub bytes : List ℕ
+  pub pages : ℕ
 
 -- An event channel: its name, and its time cycle, time unit and priority, which are handed on as they are.
 -- (ASAM MCD-1 XCP, protocol layer, description of commands: GET_DAQ_EVENT_INFO.)
@@ -73,6 +74,7 @@ pub record IsLayout (l : LayoutValue) : Type 0 where
   pub segments_most : length l.segments ≤ 4
   pub filled : All (λ s. 1 ≤ length s.bytes) l.segments
   pub total : sum_by (λ s. length s.bytes) l.segments ≤ 2040
+  pub paged : All (λ s. (2 ≤ s.pages) × (s.pages ≤ 4)) l.segments
   pub signals_least : 1 ≤ l.signals_length
   pub signals_most : l.signals_length ≤ 64
   pub events_least : 1 ≤ length l.events

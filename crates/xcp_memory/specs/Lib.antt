@@ -14,5 +14,5 @@ pub mod Freeze
 pub mod Checksum
 pub mod Image
 pub mod Sides
-pub mod Vectors
+pub mod PageStore
 pub mod AccessLaws

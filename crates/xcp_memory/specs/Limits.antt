@@ -78,7 +78,7 @@ own_limits p =
     ∷ number_limit 1 6 key.Checksum p.checksum
     ∷ []
 
--- how many segments there are; of segment i the first address, its bytes, and the bytes in all with its own
+-- how many segments there are; of segment i the first address, its bytes, the bytes in all with its own, and its pages
 abbrev pub segment_counts : ℕ → List Limit
 segment_counts = count_limits 4 key.Segment
 
@@ -91,13 +91,17 @@ data_limit i = least_limit (key.Data i)
 abbrev pub total_limit : ℕ → ℕ → Limit
 total_limit i = most_limit 2040 (key.Data i)
 
--- segment i, with which there are so many bytes in all
+abbrev pub pages_limit : ℕ → ℤ → Limit
+pages_limit i = number_limit 2 4 (key.Pages i)
+
+-- segment i, with which there are so many bytes in all: each counts once, on however many pages it stands
 abbrev pub segment_limits : ℕ → ℕ → SegmentPart → List Limit
 segment_limits i total s =
     address_limit i s.address
     ∷ data_limit i (size s)
     ∷ total_limit i total
     ∷ end_limit (key.Address i) s.address (size s)
+    ∷ pages_limit i s.pages
     ∷ []
 
 -- segment i of these, by the bytes up to its own

@@ -1,9 +1,9 @@
 -- The pages of a slave: what stands in each segment, and who sees which page.
-use Rattle.std.specs.Prelude.{◌≡◌, ℕ, Bool, false, List, [], ◌∷◌, length, map, replicate, All, ◌<◌, slice_index_or as get_or}
+use Rattle.std.specs.Prelude.{◌≡◌, ℕ, Bool, false, List, [], length, map, replicate, All, ◌<◌, slice_index_or as get_or}
 use Rattle.xcp_memory.specs.Layout.{SegmentValue, LayoutValue}
 
--- A segment's pages, each a list of bytes: page 0 is the reference page, which nobody writes, page 1 the
--- working page. The numbers of the page that the controller has (ECU) and of the page that the tool has
+-- A segment's pages, each a list of bytes: page 0 is the reference page, which nobody writes, the others are
+-- working pages. The numbers of the page that the controller has (ECU) and of the page that the tool has
 -- (XCP), and whether the segment is in FREEZE mode.
 -- (ASAM MCD-1 XCP, protocol layer: calibration data segments and pages; SET_CAL_PAGE, SET_SEGMENT_MODE.)
 pub record SegmentPages : Type 0 where
@@ -18,9 +18,9 @@ pub record PagesValue : Type 0 where
   pub segments : List SegmentPages
   pub signals : List ℕ
 
--- the working page begins equal to the reference page, both sides have page 0, FREEZE is off
+-- each page begins equal to the reference page, both sides have page 0, FREEZE is off
 abbrev pub opening_segment : SegmentValue → SegmentPages
-opening_segment s = record { pages = s.bytes ∷ s.bytes ∷ []; ecu = 0; xcp = 0; freeze = false }
+opening_segment s = record { pages = replicate s.pages s.bytes; ecu = 0; xcp = 0; freeze = false }
 
 -- the pages of a new slave; the signals are zeros
 abbrev pub opening_pages : LayoutValue → PagesValue
@@ -30,7 +30,7 @@ abbrev pub no_pages : SegmentPages
 no_pages = record { pages = []; ecu = 0; xcp = 0; freeze = false }
 
 abbrev pub no_segment : SegmentValue
-no_segment = record { address = 0; bytes = [] }
+no_segment = record { address = 0; bytes = []; pages = 0 }
 
 -- the pages of segment i
 abbrev pub segment_at : PagesValue → ℕ → SegmentPages
@@ -44,15 +44,15 @@ xcp_page s = get_or s.pages s.xcp []
 abbrev pub ecu_page : SegmentPages → List ℕ
 ecu_page s = get_or s.pages s.ecu []
 
--- a segment's pages have its size, and both numbers are those of pages
-pub record IsSegment (size : ℕ) (s : SegmentPages) : Type 0 where
-  pub sized : All (λ p. length p ≡ size) s.pages
-  pub two : length s.pages ≡ 2
+-- the pages of a segment are as many as its layout says, each has its size, and both numbers are those of pages
+pub record IsSegment (segment : SegmentValue) (s : SegmentPages) : Type 0 where
+  pub count : length s.pages ≡ segment.pages
+  pub sized : All (λ p. length p ≡ length segment.bytes) s.pages
   pub ecu : s.ecu < length s.pages
   pub xcp : s.xcp < length s.pages
 
 -- the pages are those of the layout's segments, and the signals are as many bytes as it says
 pub record IsPages (v : PagesValue) : Type 0 where
   pub count : length v.segments ≡ length v.layout.segments
-  pub each : (i : ℕ) → i < length v.segments → IsSegment (length (get_or v.layout.segments i no_segment).bytes) (segment_at v i)
+  pub each : (i : ℕ) → i < length v.segments → IsSegment (get_or v.layout.segments i no_segment) (segment_at v i)
   pub signals : length v.signals ≡ v.layout.signals_length

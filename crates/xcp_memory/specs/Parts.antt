@@ -30,7 +30,7 @@ checksum_of n =
     else Add44))))
 
 abbrev pub segment_of_part : SegmentPart → SegmentValue
-segment_of_part s = record { address = number s.address; bytes = s.bytes.items }
+segment_of_part s = record { address = number s.address; bytes = s.bytes.items; pages = number s.pages }
 
 abbrev pub event_of_part : EventPart → EventValue
 event_of_part e = record { name = e.name.items; cycle = number e.cycle; unit = number e.unit; priority = number e.priority }

@@ -23,6 +23,8 @@ pub enum Key {
     Address(u8),
     /// The bytes of a segment's reference page.
     Data(u8),
+    /// How many pages a segment has.
+    Pages(u8),
     /// The signals.
     Signals,
     /// The first address of the signals.

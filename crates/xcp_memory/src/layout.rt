@@ -71,9 +71,9 @@ impl Model for Layout {
 impl Layout {
     /// The layout that these parts make, or the first limit that they break, in this order: the identification,
     /// MAX_CTO, MAX_DTO, the type of checksums; how many segments there are, and for each its first address, that it
-    /// has a byte, the bytes so far and its last address; the signals' first address, length and last address; how many
-    /// event channels there are, and for each its name, time cycle, time unit and priority; the first two areas that
-    /// share an address. It takes no memory.
+    /// has a byte, the bytes so far, its last address and its number of pages; the signals' first address, length and
+    /// last address; how many event channels there are, and for each its name, time cycle, time unit and priority; the
+    /// first two areas that share an address. It takes no memory.
     pub fn new(parts: Parts) -> Result<Layout, LayoutFault>
         ensures ok { IfOk result (λ l. (first_fault parts ≡ None) × (l ≡ layout_of parts)) }
         ensures refused { (e : LayoutFault) → (result ≡ Err e) ↔ (first_fault parts ≡ Some e) }
@@ -194,6 +194,16 @@ impl Layout {
         ensures most { length result.now ≤ 2040 }
     {
         self.segments[segment].bytes()
+    }
+
+    /// How many pages a segment has: the reference page, which is page 0, and working pages.
+    pub fn segment_pages(&self, segment: usize) -> u8
+        requires { segment < length self.now.segments }
+        ensures value { result ≡ (get_or self.now.segments segment no_segment).pages }
+        ensures least { 2 ≤ result }
+        ensures most { result ≤ 4 }
+    {
+        self.segments[segment].pages()
     }
 
     /// The first address of the signals.

@@ -6,6 +6,12 @@ pub(crate) const MAX_SEGMENTS: usize = 4;
 /// How many bytes the segments have at most, in all.
 pub(crate) const MAX_BYTES: usize = 2040;
 
+/// How many pages a segment has at least: the reference page and a working page.
+pub(crate) const MIN_PAGES: u8 = 2;
+
+/// How many pages a segment has at most.
+pub(crate) const MAX_PAGES: u8 = 4;
+
 /// How many event channels there are at most.
 pub(crate) const MAX_EVENTS: usize = 8;
 

@@ -1,10 +1,9 @@
 //! The pages of one segment.
-ghost use Rattle.std.specs.Prelude.{◌≡◌, ◌≤◌, ◌<◌, ◌+◌, length, [], ◌∷◌, IfOk, false, slice_set, slice_index_or as get_or};
+ghost use Rattle.std.specs.Prelude.{◌≡◌, ◌≤◌, ◌<◌, ◌+◌, length, [], IfOk, false, replicate, take, drop, slice_index_or as get_or};
 ghost use Rattle.xcp_memory.specs.Pages.{xcp_page};
 ghost use Rattle.xcp_memory.specs.Copying.{with_content};
 ghost use Rattle.xcp_memory.specs.Freeze.{segment_frozen};
 ghost use Rattle.xcp_memory.specs.Switch.{segment_switched};
-ghost use Rattle.xcp_memory.specs.Vectors.{lists_of};
 ghost use Rattle.xcp_memory.specs.Words.{overwritten, segment_written};
 
 use crate::switch_mode::SwitchMode;
@@ -23,35 +22,39 @@ pub(crate) enum Side {
 /// in FREEZE mode.
 #[derive(Drop)]
 pub(crate) struct PageSet {
-    pages: Vec<Vec<u8>>,
+    // The pages one after another, `count` of them with `size` bytes each.
+    bytes: Vec<u8>,
+    size: usize,
+    count: u8,
     ecu: u8,
     xcp: u8,
     freeze: bool,
 }
 
 impl Model for PageSet {
+    ghost use Rattle.std.specs.Prelude.{◌≡◌, ◌*◌, length};
     ghost use Rattle.xcp_memory.specs.Pages.{SegmentPages};
-    ghost use Rattle.xcp_memory.specs.Vectors.{lists_of};
+    ghost use Rattle.xcp_memory.specs.PageStore.{pages_in};
 
     ghost Value = { SegmentPages };
 
-    ghost view = { λ s. record { pages = lists_of s.pages.items; ecu = s.ecu; xcp = s.xcp; freeze = s.freeze } };
+    ghost view = { λ s. record { pages = pages_in s.count s.size s.bytes.items; ecu = s.ecu; xcp = s.xcp; freeze = s.freeze } };
+
+    ghost invariant = { λ s. length s.bytes.items ≡ s.count * s.size };
 }
 
 impl PageSet {
     ghost use Rattle.xcp_memory.specs.Sides.{number_by, page_by};
 
-    /// Two pages with these bytes; both sides have page 0, and FREEZE is off.
-    pub(crate) fn new(alloc: Global, bytes: &[u8]) -> Result<PageSet, AllocError>
-        ensures { IfOk result (λ s. s ≡ record { pages = bytes.now ∷ bytes.now ∷ []; ecu = 0; xcp = 0; freeze = false }) }
+    /// So many pages with these bytes; both sides have page 0, and FREEZE is off.
+    pub(crate) fn new(alloc: Global, page: &[u8], count: u8) -> Result<PageSet, AllocError>
+        ensures { IfOk result (λ s. s ≡ record { pages = replicate count page.now; ecu = 0; xcp = 0; freeze = false }) }
     {
-        let reference = bytes.to_vec(alloc)?;
-        let working = bytes.to_vec(alloc)?;
-        let mut pages = Vec::with_capacity(alloc, 2)?;
-        pages.push(reference)?;
-        pages.push(working)?;
+        let bytes = page.repeat(alloc, count as usize)?;
         Ok(PageSet {
-            pages,
+            bytes,
+            size: page.len(),
+            count,
             ecu: 0,
             xcp: 0,
             freeze: false,
@@ -59,10 +62,10 @@ impl PageSet {
     }
 
     /// How many pages there are.
-    pub(crate) fn count(&self) -> usize
+    pub(crate) fn count(&self) -> u8
         ensures { result ≡ length self.now.pages }
     {
-        self.pages.len()
+        self.count
     }
 
     /// The number of the page that a side has.
@@ -80,7 +83,7 @@ impl PageSet {
         requires { number_by side self.now < length self.now.pages }
         ensures { result.now ≡ page_by side self.now }
     {
-        &self.pages[self.number(side) as usize]
+        self.at(self.number(side) as usize)
     }
 
     /// The bytes of a page.
@@ -88,7 +91,7 @@ impl PageSet {
         requires { page < length self.now.pages }
         ensures { result.now ≡ get_or self.now.pages page [] }
     {
-        &self.pages[page]
+        cut(&self.bytes, page * self.size, self.size)
     }
 
     /// Writes bytes over the tool's page, from a place on.
@@ -97,7 +100,7 @@ impl PageSet {
         requires room { place + length bytes.now ≤ length (xcp_page self.old) }
         ensures { self.new ≡ segment_written self.old place bytes.now }
     {
-        overwrite(&mut self.pages[self.xcp as usize], place, bytes);
+        self.put(self.xcp as usize, place, bytes);
     }
 
     /// Replaces the whole content of a page.
@@ -106,17 +109,27 @@ impl PageSet {
         requires size { length bytes.now ≡ length (get_or self.old.pages page []) }
         ensures { self.new ≡ with_content self.old page bytes.now }
     {
-        overwrite(&mut self.pages[page], 0, bytes);
+        self.put(page, 0, bytes);
+    }
+
+    /// Writes bytes over those of a page, from a place on.
+    fn put(&mut self, page: usize, place: usize, bytes: &[u8])
+        requires page { page < length self.old.pages }
+        requires room { place + length bytes.now ≤ length (get_or self.old.pages page []) }
+        ensures { self.new ≡ with_content self.old page (overwritten (get_or self.old.pages page []) place bytes.now) }
+    {
+        overwrite(&mut self.bytes, page * self.size + place, bytes);
     }
 
     /// Replaces the whole content of a page by that of another.
     pub(crate) fn copy(&mut self, source: usize, target: usize)
         requires source { source < length self.old.pages }
         requires target { target < length self.old.pages }
-        requires size { length (get_or self.old.pages source []) ≡ length (get_or self.old.pages target []) }
         ensures { self.new ≡ with_content self.old target (get_or self.old.pages source []) }
     {
-        copy_page(&mut self.pages, source, target);
+        let start = source * self.size;
+        self.bytes
+            .copy_within(start..start + self.size, target * self.size);
     }
 
     /// Whether the segment is in FREEZE mode.
@@ -136,7 +149,6 @@ impl PageSet {
     /// In FREEZE mode: page 0 gets the content of the page that the tool has.
     pub(crate) fn store(&mut self)
         requires page { self.old.xcp < length self.old.pages }
-        requires size { length (xcp_page self.old) ≡ length (get_or self.old.pages 0 []) }
         ensures { self.new ≡ segment_frozen self.old }
     {
         if self.freeze {
@@ -158,26 +170,19 @@ impl PageSet {
     }
 }
 
+/// The n bytes from a place on.
+pub(crate) fn cut(bytes: &[u8], place: usize, n: usize) -> &[u8]
+    requires { place + n ≤ length bytes.now }
+    ensures value { result.now ≡ take n (drop place bytes.now) }
+    ensures long { length result.now ≡ n }
+{
+    &bytes[place..place + n]
+}
+
 /// Writes bytes over those from a place on.
 pub(crate) fn overwrite(xs: &mut [u8], place: usize, bytes: &[u8])
     requires { place + length bytes.now ≤ length xs.old }
     ensures { xs.new ≡ overwritten xs.old place bytes.now }
 {
     xs[place..place + bytes.len()].copy_from_slice(bytes);
-}
-
-/// Replaces the content of one of these pages by that of another.
-fn copy_page(pages: &mut [Vec<u8>], source: usize, target: usize)
-    requires source { source < length pages.old }
-    requires target { target < length pages.old }
-    requires size { length (get_or (lists_of pages.old) source []) ≡ length (get_or (lists_of pages.old) target []) }
-    ensures { lists_of pages.new ≡ slice_set (lists_of pages.old) target (get_or (lists_of pages.old) source []) }
-{
-    if source < target {
-        let (front, back) = pages.split_at_mut(target);
-        overwrite(&mut back[0], 0, &front[source]);
-    } else if target < source {
-        let (front, back) = pages.split_at_mut(source);
-        overwrite(&mut front[target], 0, &back[0]);
-    }
 }

@@ -38,9 +38,11 @@ impl Pages {
     pub fn new(alloc: Global, layout: Layout) -> Result<Pages, AllocError>
         ensures { IfOk result (λ p. p ≡ opening_pages layout) }
     {
+        layout.audit();
         let mut segments = Vec::with_capacity(alloc, layout.segment_count())?;
         for i in 0..layout.segment_count() {
-            segments.push(PageSet::new(alloc, layout.segment_bytes(i))?)?;
+            let pages = PageSet::new(alloc, layout.segment_bytes(i), layout.segment_pages(i))?;
+            segments.push(pages)?;
         }
         let signals = vec![in alloc; 0; layout.signals_length()]?;
         Ok(Pages {

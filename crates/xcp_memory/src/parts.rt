@@ -14,7 +14,7 @@ pub struct Parts {
     pub checksum: i64,
     /// The byte order of words and double words in packets.
     pub order: Order,
-    /// The segments: 1 to 4, with 2,040 bytes in all.
+    /// The segments: 1 to 4, with 2,040 bytes in all, whatever number of pages they have.
     pub segments: Vec<SegmentPart>,
     /// The first address of the signals: 0 to 0xFFFF_FFFE, and so for their last address.
     pub signals_address: i64,
@@ -31,6 +31,8 @@ pub struct SegmentPart {
     pub address: i64,
     /// The bytes of the reference page: at least one.
     pub bytes: Vec<u8>,
+    /// How many pages there are: 2 to 4. All of them begin with these bytes.
+    pub pages: i64,
 }
 
 /// An event channel.

@@ -5,18 +5,19 @@ ghost use Rattle.xcp_packet.specs.Rows.{first_holding};
 ghost use Rattle.xcp_memory.specs.Limits.{segment_limits, segments_limits};
 
 use crate::extent::Extent;
-use crate::limits::{LAST_ADDRESS, MAX_BYTES, MAX_SEGMENTS};
+use crate::limits::{LAST_ADDRESS, MAX_BYTES, MAX_PAGES, MAX_SEGMENTS, MIN_PAGES};
 use crate::{Key, LayoutFault, SegmentPart, checks};
 use arrayvec::ArrayVec;
 use std::alloc::Global;
 use std::default::MadeWith;
 use std::marker::Model;
 
-/// A segment: its first address, and the bytes of its reference page.
+/// A segment: its first address, the bytes of its reference page, and how many pages it has.
 #[derive(Drop)]
 pub(crate) struct Segment {
     address: u32,
     bytes: Vec<u8>,
+    pages: u8,
 }
 
 impl Model for Segment {
@@ -25,7 +26,7 @@ impl Model for Segment {
 
     ghost Value = { SegmentValue };
 
-    ghost view = { λ s. record { address = s.address; bytes = s.bytes.items } };
+    ghost view = { λ s. record { address = s.address; bytes = s.bytes.items; pages = s.pages } };
 
     ghost invariant = { λ s. length s.bytes.items ≤ 2040 };
 }
@@ -33,11 +34,15 @@ impl Model for Segment {
 impl Segment {
     ghost use Rattle.xcp_memory.specs.Layout.{segment_extent};
 
-    pub(crate) fn new(address: u32, bytes: Vec<u8>) -> Segment
+    pub(crate) fn new(address: u32, bytes: Vec<u8>, pages: u8) -> Segment
         requires { length bytes.items ≤ 2040 }
-        ensures { result ≡ record { address = address; bytes = bytes.items } }
+        ensures { result ≡ record { address = address; bytes = bytes.items; pages = pages } }
     {
-        Segment { address, bytes }
+        Segment {
+            address,
+            bytes,
+            pages,
+        }
     }
 
     pub(crate) fn address(&self) -> u32
@@ -50,6 +55,12 @@ impl Segment {
         ensures { result.now ≡ self.now.bytes }
     {
         &self.bytes
+    }
+
+    pub(crate) fn pages(&self) -> u8
+        ensures { result ≡ self.now.pages }
+    {
+        self.pages
     }
 
     /// Where the segment lies.
@@ -65,6 +76,7 @@ impl MadeWith<Global> for Segment {
         Segment {
             address: 0,
             bytes: Vec::new(alloc),
+            pages: 0,
         }
     }
 }
@@ -87,7 +99,8 @@ fn read_segment(part: SegmentPart, number: u8, before: usize) -> Result<Segment,
     if size as u64 - 1 > u64::from(LAST_ADDRESS - address) {
         return Err(LayoutFault::Range(Key::Address(number)));
     }
-    Ok(Segment::new(address, part.bytes))
+    let pages = checks::byte(part.pages, MIN_PAGES, MAX_PAGES, Key::Pages(number))?;
+    Ok(Segment::new(address, part.bytes, pages))
 }
 
 /// The segments that these parts make.

@@ -1,12 +1,12 @@
 //! Reads and writes of address ranges.
-ghost use Rattle.std.specs.Prelude.{◌≡◌, ◌≤◌, ◌<◌, ◌+◌, ◌^◌, length, Option, Some, None, true, false, IfOk, OnOk, IfErr, IfSome, take, drop};
+ghost use Rattle.std.specs.Prelude.{◌≡◌, ◌≤◌, ◌<◌, ◌+◌, ◌^◌, length, Option, Some, None, true, false, IfOk, OnOk, IfErr, IfSome};
 ghost use Rattle.xcp_packet.specs.declared.Code.{Code};
 ghost use Rattle.xcp_memory.specs.Words.{lies_inside, segment_of, bytes_by, tool_bytes, controller_bytes, write_refusal, pages_written};
 ghost use Rattle.xcp_memory.specs.Refusals.{Checks};
 ghost use Rattle.xcp_memory.specs.Places.{LiesOnPages, IsSpot};
 
 use super::Pages;
-use crate::page_set::Side;
+use crate::page_set::{Side, cut};
 use xcp_packet::Code;
 
 impl Pages {
@@ -104,13 +104,4 @@ impl Pages {
         }
         Err(Code::AccessDenied)
     }
-}
-
-/// The n bytes from a place on.
-fn cut(bytes: &[u8], place: usize, n: usize) -> &[u8]
-    requires { place + n ≤ length bytes.now }
-    ensures value { result.now ≡ take n (drop place bytes.now) }
-    ensures long { length result.now ≡ n }
-{
-    &bytes[place..place + n]
 }

@@ -43,7 +43,7 @@ impl Pages {
         Ok(())
     }
 
-    /// How many pages a segment has: 2. `SegmentNotValid` where there is no such segment.
+    /// How many pages a segment has: 2 to 4. `SegmentNotValid` where there is no such segment.
     ///
     /// ASAM MCD-1 XCP, protocol layer, description of commands: GET_SEGMENT_INFO.
     pub fn page_count(&self, segment: u8) -> Result<u8, Code>
@@ -54,7 +54,7 @@ impl Pages {
         if segment as usize >= self.segments.len() {
             return Err(Code::SegmentNotValid);
         }
-        Ok(self.segments[segment as usize].count() as u8)
+        Ok(self.segments[segment as usize].count())
     }
 
     /// The refusals of a copy.
@@ -88,7 +88,7 @@ impl Pages {
             return Err(Code::SegmentNotValid);
         }
         let pages = &self.segments[segment as usize];
-        if page as usize >= pages.count() {
+        if page >= pages.count() {
             return Err(Code::PageNotValid);
         }
         Ok(pages.at(page as usize))

@@ -62,7 +62,6 @@ impl Pages {
 fn store_each(segments: &mut [PageSet]) -> u8
     requires few { length segments.old ≤ 4 }
     requires pages { All (λ s. s.xcp < length s.pages) segments.old }
-    requires sizes { All (λ s. length (xcp_page s) ≡ length (get_or s.pages 0 [])) segments.old }
     ensures count { result ≡ count_by (λ s. s.freeze) segments.old }
     ensures stored { segments.new ≡ map segment_frozen segments.old }
 {

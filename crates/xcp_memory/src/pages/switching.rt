@@ -95,7 +95,7 @@ impl Pages {
 fn lack_page(segments: &[PageSet], page: u8) -> bool
     ensures { result ≡ list_any (lacks_page page) segments.now }
 {
-    segments.iter().any(|s| s.count() <= page as usize)
+    segments.iter().any(|s| s.count() <= page)
 }
 
 /// One segment alone.

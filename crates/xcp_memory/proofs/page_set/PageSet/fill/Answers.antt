@@ -1,7 +1,8 @@
-use Rattle.std.proofs.Common.{ap, ◌∙◌}
-use Rattle.xcp_memory.specs.Words.{overwritten}
-use Rattle.xcp_memory.proofs.Copying.{filled_by}
+use Rattle.std.proofs.Common.{[], ap, ◌∙◌, get_or}
+use Rattle.xcp_memory.specs.Copying.{with_content}
+use Rattle.xcp_memory.proofs.PageLemmas.{all_over}
 use Rattle.xcp_memory.proofs.page_set.PageSet.fill.Goals as goal
 
 pub returns : goal.returns
-returns c = filled_by c.args.self.now c.self.inside.pages.items c.self.inside.ecu c.self.inside.xcp c.self.inside.freeze c.args.page c.index_mut.result.now c.overwrite.new.xs c.args.bytes.now c.self.view_is c.requires.page c.index_mut.ensures.value c.requires.size (c.overwrite.ensures ∙ ap (λ xs. overwritten xs 0 c.args.bytes.now) c.deref_mut.ensures.value)
+returns c =
+    c.put.ensures ∙ ap (with_content c.args.self.now c.args.page) (all_over (get_or c.args.self.now.pages c.args.page []) c.args.bytes.now c.requires.size)
