@@ -25,3 +25,5 @@ mod serves;
 mod stations;
 #[cfg(test)]
 mod texts;
+#[cfg(test)]
+mod traces;

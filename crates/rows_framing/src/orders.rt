@@ -139,6 +139,23 @@ fn packets_before_the_next_read(rt: HostRuntime) {
     assert!(rt; result == wanted && order.is_kept());
 }
 
+/// 64 packets of 5 bytes in their frames behind each of 102 commands in one read: 819 such frames
+/// find room in 4,096 bytes, so that the 6,528 are written in 8 writes.
+#[test]
+fn packets_of_a_read_are_gathered(rt: HostRuntime) -> Result<(), Fail> {
+    let order = Order::new();
+    let stream = synch_stream(rt.alloc(), 101)?;
+    let pieces = [(0, stream.as_slice()), (32_640, &[][..])];
+    let station = pending(rt.alloc(), 6528);
+    let result = served(rt.alloc(), station, &order, &pieces, 40_000, Full::Fails);
+    let wanted = Ok(Served {
+        frames: 102,
+        sent: 6528,
+    });
+    assert!(rt; result == wanted && order.is_kept() && order.writes() == 8);
+    Ok(())
+}
+
 /// Whether the first write that fails is the last call of all.
 fn is_last<S: Station + Drop>(
     alloc: Global,
@@ -205,7 +222,7 @@ fn replayed(
     let mut reader = Watched::new(Patient { pieces, order });
     let mut writer = Watched::new(Telling { room, full, order });
     let result = replay_on(alloc, &mut desk, &mut reader, &mut writer, 1000);
-    Ok((result, desk.exchanges().len()))
+    Ok((result, desk.trace().len()))
 }
 
 /// Whether a script in these pieces has this result, each call in its order.

@@ -6,7 +6,7 @@ use std::test::Fail;
 use xcp_framing::{
     Desk, ReplayError, Station, StationError, Watched, each_text_has_its_lines, replay_on,
 };
-use xcp_slave::{Answer, Request};
+use xcp_slave::{Answer, Exchange, Request};
 
 fn run(alloc: Global, row: &Row) -> Result<(Result<u64, ReplayError>, Vec<u8>, Desk), Fail> {
     let mut desk = desk(alloc)?;
@@ -96,7 +96,10 @@ fn a_desk_stores_its_exchanges(rt: HostRuntime) -> Result<(), Fail> {
     assert!(rt; result == Ok(3) && desk.max_cto() == 32);
     let answer = desk.submit(Request::Hangup);
     assert_eq!(rt; answer, Ok::<Answer, StationError>(Answer::Silent));
-    assert_eq!(rt; desk.exchanges().len(), 4);
-    assert_eq!(rt; desk.exchanges()[3].request, Request::Hangup);
+    let last = Exchange {
+        request: Request::Hangup,
+        answer: Answer::Silent,
+    };
+    assert!(rt; desk.trace().len() == 4 && desk.trace().get(3) == Some(last));
     Ok(())
 }

@@ -206,4 +206,8 @@ fn numbers(rt: HostRuntime) {
     for (error, number) in ERRORS.iter().zip(1..8) {
         assert!(rt; error.number() == number, "{number}");
     }
+    let refusals = [StationError::Memory, StationError::JournalFull];
+    for (refusal, number) in refusals.iter().zip(1..3) {
+        assert!(rt; refusal.number() == number, "{number}");
+    }
 }

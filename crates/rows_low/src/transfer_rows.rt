@@ -1,90 +1,84 @@
 //! What rows ask of transfers: a command packet, new signals, or that the pages are stored.
-use crate::answers::told;
+use crate::answers::{answer, refused, told};
 use crate::layouts::{Kind, USUAL, pages};
 use crate::rows::{Subject, packet};
 use std::alloc::Global;
 use std::test::Fail;
-use xcp_packet::{Code, Command, Packet, Reply, decode, encode_reply};
+use xcp_packet::{Command, Fault, Packet, Sent, decode, write_fault};
 use xcp_transfer::{Mta, Transfer};
-
-/// What a command is answered; nothing where nothing is sent.
-type Answered = Result<Option<Reply>, Reply>;
 
 /// Transfers with such a MAX_CTO.
 pub(crate) fn transfer(alloc: Global, max_cto: i64) -> Result<Transfer, Fail> {
     Ok(Transfer::new(pages(alloc, Kind { max_cto, ..USUAL })?))
 }
 
-fn done(outcome: Result<(), Code>) -> Answered {
-    match outcome {
-        Ok(()) => Ok(Some(Reply::Done)),
-        Err(code) => Err(Reply::Error(code)),
-    }
-}
+/// What comes of a command whose reply stands in a packet that is lent; none for other commands.
+type Outcome = Option<Result<Sent, Fault>>;
 
 /// Executes a command of pages, which gives a block up.
-fn execute_on_pages(transfer: &mut Transfer, command: Command) -> Option<Answered> {
+fn execute_on_pages(transfer: &mut Transfer, command: Command) -> Option<Packet> {
     transfer.give_up_block();
     match command {
+        Command::SetMta { address, .. } => {
+            transfer.set_mta(Mta::Memory(address));
+            Some(told(&[]))
+        }
         Command::SetCalPage {
             mode,
             segment,
             page,
-        } => Some(done(transfer.switch(mode, segment, page))),
-        Command::GetCalPage { mode, segment } => {
-            let page = transfer.pages().page(mode, segment);
-            Some(
-                page.map(|page| Some(Reply::CalPage(page)))
-                    .map_err(Reply::Error),
-            )
+        } => Some(answer(transfer.switch(mode, segment, page), &[])),
+        Command::GetCalPage { mode, segment } => match transfer.pages().page(mode, segment) {
+            Ok(page) => Some(told(&[0, 0, page])),
+            Err(code) => Some(refused(code)),
+        },
+        Command::SetSegmentMode { mode, segment } => {
+            Some(answer(transfer.set_freeze(mode, segment), &[]))
         }
-        Command::SetSegmentMode { mode, segment } => Some(done(transfer.set_freeze(mode, segment))),
         Command::CopyCalPage {
             source,
             source_page,
             target,
             target_page,
-        } => Some(done(transfer.copy(source, source_page, target, target_page))),
+        } => {
+            let outcome = transfer.copy(source, source_page, target, target_page);
+            Some(answer(outcome, &[]))
+        }
         _ => None,
     }
 }
 
 /// Executes a command that writes.
-fn execute_download(transfer: &mut Transfer, command: Command) -> Option<Answered> {
+fn execute_download(transfer: &mut Transfer, command: &Command, packet: &mut Packet) -> Outcome {
     match command {
-        Command::Download { n, bytes } => Some(transfer.download(n, &bytes)),
+        Command::Download { n, bytes } => Some(transfer.download(*n, bytes, packet)),
         Command::DownloadNext { remaining, bytes } => {
-            Some(transfer.download_next(remaining, &bytes))
+            Some(transfer.download_next(*remaining, bytes, packet))
         }
-        Command::DownloadMax { bytes } => Some(transfer.download_max(&bytes)),
+        Command::DownloadMax { bytes } => Some(transfer.download_max(bytes, packet)),
         Command::ShortDownload {
             n,
             extension,
             address,
             bytes,
-        } => Some(transfer.short_download(n, extension, address, &bytes)),
-        Command::ModifyBits { s, ma, mx } => Some(transfer.modify_bits(s, ma, mx)),
-        _ => execute_on_pages(transfer, command),
+        } => Some(transfer.short_download(*n, *extension, *address, bytes, packet)),
+        Command::ModifyBits { s, ma, mx } => Some(transfer.modify_bits(*s, *ma, *mx, packet)),
+        _ => None,
     }
 }
 
-/// Executes a command; none where rows don't ask it of transfers.
-fn execute(transfer: &mut Transfer, command: Command) -> Option<Answered> {
+/// Executes a command of transfers.
+fn execute(transfer: &mut Transfer, command: &Command, packet: &mut Packet) -> Outcome {
     match command {
-        Command::SetMta { address, .. } => {
-            transfer.give_up_block();
-            transfer.set_mta(Mta::Memory(address));
-            Some(Ok(Some(Reply::Done)))
-        }
-        Command::GetId { kind } => Some(transfer.get_id(kind)),
-        Command::Upload { n } => Some(transfer.upload(n)),
+        Command::GetId { kind } => Some(transfer.get_id(*kind, packet)),
+        Command::Upload { n } => Some(transfer.upload(*n, packet)),
         Command::ShortUpload {
             n,
             extension,
             address,
-        } => Some(transfer.short_upload(n, extension, address)),
-        Command::BuildChecksum { size } => Some(transfer.build_checksum(size)),
-        _ => execute_download(transfer, command),
+        } => Some(transfer.short_upload(*n, *extension, *address, packet)),
+        Command::BuildChecksum { size } => Some(transfer.build_checksum(*size, packet)),
+        _ => execute_download(transfer, command, packet),
     }
 }
 
@@ -92,16 +86,14 @@ fn execute(transfer: &mut Transfer, command: Command) -> Option<Answered> {
 pub(crate) fn sent(transfer: &mut Transfer, bytes: &Packet) -> Option<Packet> {
     let order = transfer.pages().layout().order();
     let command = decode(bytes, order).ok()?;
-    match execute(transfer, command)? {
-        Ok(None) => Some(Packet::new()),
-        Ok(Some(reply)) | Err(reply) => {
-            if reply.fits() {
-                Some(encode_reply(&reply, order))
-            } else {
-                None
-            }
-        }
+    let mut packet = told(&[1, 2, 3]);
+    match execute(transfer, &command, &mut packet) {
+        None => return execute_on_pages(transfer, command),
+        Some(Ok(Sent::Lent)) => {}
+        Some(Ok(Sent::Nothing)) => packet.clear(),
+        Some(Err(fault)) => write_fault(&mut packet, fault, order),
     }
+    Some(packet)
 }
 
 fn signals(transfer: &mut Transfer, bytes: &Packet) -> Option<Packet> {

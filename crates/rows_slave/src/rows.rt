@@ -73,12 +73,21 @@ fn image(slave: &Slave) -> Option<Answer> {
     Some(Answer::Packet(packet))
 }
 
+/// A packet to lend, full of bytes that no answer may have.
+fn lent() -> Option<Packet> {
+    let mut packet = Packet::new();
+    packet.try_extend_from_slice(&[0xEE; 255]).ok()?;
+    Some(packet)
+}
+
 /// What is answered; none where the question has no meaning.
 fn told(slave: &mut Slave, question: &str) -> Option<Answer> {
     if question == "image" {
         image(slave)
     } else {
-        Some(slave.submit(&request(question)?))
+        let mut packet = lent()?;
+        let told = slave.submit_into(&request(question)?, &mut packet);
+        Some(told.with(packet))
     }
 }
 

@@ -1,5 +1,5 @@
 -- A seat of the bank, for the contracts of its steps.
-use Rattle.std.specs.Prelude.{◌≡◌, ◌≢◌, ℕ, suc, ◌+◌, ◌-◌, ◌<◌, ◌≤◌, List, [], ◌∷◌, ◌++◌, length, slice_index, slice_index_or, false, Option, Some, None}
+use Rattle.std.specs.Prelude.{◌≡◌, ◌≢◌, ℕ, suc, ◌+◌, ◌-◌, ◌/◌, ◌<◌, ◌≤◌, ◌⊎◌, List, [], ◌∷◌, ◌++◌, length, slice_index, slice_index_or, false, Option, Some, None}
 use Rattle.atomic_table.specs.Seated.{TableId}
 use Rattle.atomic_table.specs.declared.shared.Seat.{Seat}
 use Rattle.xcp_bank.specs.declared.taken.Taken.{Taken}
@@ -7,6 +7,7 @@ use Rattle.xcp_bank.specs.declared.taken.Taken.TheVariants.{Same, Newer}
 use Rattle.xcp_bank.specs.Deeds.{Deed, Grows, Does, Ends, AllScans, looked_at, pinned_at, given_up, has_reset, has_published, reads_of, writes_of}
 use Rattle.xcp_bank.specs.ReaderSteps.{Reaches, Looked, Pinned, UpToDate, Follows, reading_after_read}
 use Rattle.xcp_bank.specs.Rule.{IsNumbered}
+use Rattle.xcp_bank.specs.Images.{image_of}
 use Rattle.xcp_bank.specs.WriterSteps.{WriterUpToDate}
 use Rattle.xcp_bank.specs.Known.{Begins, AllBegin, Reading, Writing, Known, one_reader, the_writer, everybody}
 
@@ -101,6 +102,14 @@ pub record HasRead (k n p : ℕ) (r : ℕ) (x y : Reading) : Type 0 where
   pub pasts : 0 < n → AllBegin x.past x.list
   pub heard : 0 < n → Begins x.heard y.history
   pub did : Does (suc r) x.history x.pending y.history y.pending (reads_of r (slice_index_or x.list p []) k n)
+
+-- Reads of the n words from word k on of what is held, behind others, while bytes are read from the byte `at` of an image on: the bytes
+-- that lie in these words are put, and no others.
+pub record ReadsOn (bank : TableId) (buffer at k n : ℕ) (old new : Seat (Unit {0}) Known) (before after : List ℕ) : Type 0 where
+  pub size : length after ≡ length before
+  pub elsewhere : (j : ℕ) → ((at + j) / 8 < k) ⊎ (k + n ≤ (at + j) / 8) → slice_index after j ≡ slice_index before j
+  pub there : (r : ℕ) (y : Reading) (p : ℕ) → IsReaderSeat old bank r y → y.pins.held ≡ Some (buffer, p) → (j : ℕ) → j < length before → k ≤ (at + j) / 8 → (at + j) / 8 < k + n → slice_index after j ≡ slice_index (image_of (slice_index_or y.list p [])) (at + j)
+  pub reads : (r : ℕ) (x y : Reading) (p from m : ℕ) → IsReaderSeat old bank r y → y.pins.held ≡ Some (buffer, p) → HasRead from m p r x y → from + m ≡ k → (z : Reading) × IsReaderSeat new bank r z × HasRead from (m + n) p r x z
 
 -- Scans, up to the buffer `next`, of which none has found the idle buffer.
 abbrev pub scanned_to : Option ℕ → List Deed → Writing → Writing

@@ -4,7 +4,6 @@ use Rattle.std.proofs.lemmas.List.{append-nil}
 use Rattle.std.proofs.lemmas.Grind.{flat_map-append}
 use Rattle.std.proofs.lemmas.List.Elements.{All-append}
 use Rattle.arrayvec.specs.declared.ArrayVec.{ArrayVec}
-use Rattle.std.specs.Io.KnownBytes.{Appends}
 use Rattle.xcp_slave.specs.declared.Exchange.{Exchange}
 use Rattle.xcp_slave.specs.declared.Answer.{Answer}
 use Rattle.xcp_slave.specs.declared.Answer.TheVariants as answers
@@ -13,43 +12,13 @@ use Rattle.xcp_framing.specs.declared.serving.ServeError.{ServeError}
 use Rattle.xcp_framing.specs.declared.serving.ServeError.TheVariants as errors
 use Rattle.xcp_framing.specs.declared.station.StationError.{StationError}
 use Rattle.xcp_framing.specs.declared.station.StationError.TheVariants as refusals
-use Rattle.xcp_framing.specs.Front.{AppendsFront}
+use Rattle.std.specs.Io.KnownBytes.{Appends}
+use Rattle.xcp_framing.specs.Gathered.{Output, Sends}
 use Rattle.xcp_framing.specs.Wire.{wire_from, frame_bytes}
-use Rattle.xcp_framing.specs.Serve.{packet_of, packets_of, GavePacket, AnswersAll, AnswersStart, AnswersPart, AnswersSoFar, Writes, refused_with}
+use Rattle.xcp_framing.specs.Serve.{packet_of, packets_of, GavePacket, AnswersAll, AnswersStart, AnswersPart, AnswersSoFar, most_drains, refused_with}
 use Rattle.xcp_framing.specs.Turns.{Grows, DrainsSoFar, EndsPiece, IsInterruption, fine}
-use Rattle.xcp_framing.proofs.Bytes.{appends_none, appends_more}
-
--- a text, and then a front of another
-pub front_more : (a b c : Option (List ℕ)) (t u : List ℕ) → Appends a b t → AppendsFront b c u → AppendsFront a c (t ++ u)
-front_more a b c t u h k = record {
-  written = t ++ k.written;
-  grown = appends_more a b c t k.written h k.grown;
-  front = record {
-    rest = k.front.rest;
-    joined = append_assoc t k.written k.front.rest ∙ ap (λ (z : List ℕ). t ++ z) k.front.joined;
-  };
-}
-
-pub writes_more : {A : Type 0} (r : Result A ServeError) (a b c : Option (List ℕ)) (t u : List ℕ) → Appends a b t → Writes r b c u → Writes r a c (t ++ u)
-writes_more (Ok v) a b c t u h k = appends_more a b c t u h k
-writes_more (Err errors.Write) a b c t u h k = front_more a b c t u h k
-writes_more (Err errors.Read) a b c t u h k = appends_more a b c t u h k
-writes_more (Err (errors.BadLength n)) a b c t u h k = appends_more a b c t u h k
-writes_more (Err errors.Truncated) a b c t u h k = appends_more a b c t u h k
-writes_more (Err errors.Memory) a b c t u h k = appends_more a b c t u h k
-writes_more (Err errors.TurnsSpent) a b c t u h k = appends_more a b c t u h k
-writes_more (Err errors.JournalFull) a b c t u h k = appends_more a b c t u h k
-
--- nothing to write
-pub writes_none : {A : Type 0} (r : Result A ServeError) (a : Option (List ℕ)) → Writes r a a []
-writes_none (Ok v) a = appends_none a
-writes_none (Err errors.Write) a = record { written = []; grown = appends_none a; front = record { rest = []; joined = refl } }
-writes_none (Err errors.Read) a = appends_none a
-writes_none (Err (errors.BadLength n)) a = appends_none a
-writes_none (Err errors.Truncated) a = appends_none a
-writes_none (Err errors.Memory) a = appends_none a
-writes_none (Err errors.TurnsSpent) a = appends_none a
-writes_none (Err errors.JournalFull) a = appends_none a
+use Rattle.xcp_framing.specs.Front.{AppendsFront}
+use Rattle.xcp_framing.proofs.Sending.{gathers_none, sends_flushed, sends_more, sends_none, sends_unflushed}
 
 -- frames behind frames
 pub wire_from-append : (k : ℕ) (ps qs : List (List ℕ)) → wire_from k (ps ++ qs) ≡ wire_from k ps ++ wire_from (k + length ps) qs
@@ -87,17 +56,17 @@ no_packet answers.NoStore h = refl
 no_packet answers.Later h = refl
 
 -- no exchange yet
-pub grows_none : (Fact : List Exchange → Type 0) (old : List Exchange) (a : Option (List ℕ)) (from : ℕ) → Fact [] → Grows fine Fact old old a a from from
+pub grows_none : (Fact : List Exchange → Type 0) (old : List Exchange) (a : Output) (from : ℕ) → Fact [] → Grows fine Fact old old a a from from
 grows_none Fact old a from h = record {
   exchanges = [];
   grown = sym (append-nil old);
   fact = h;
-  writes = appends_none a;
+  sends = gathers_none a;
   counts = omega arith;
 }
 
 -- exchanges behind exchanges
-pub grows_more : {A : Type 0} (r : Result A ServeError) {F G H : List Exchange → Type 0} {old mid new : List Exchange} {a b c : Option (List ℕ)} {from at to : ℕ}
+pub grows_more : {A : Type 0} (r : Result A ServeError) {F G H : List Exchange → Type 0} {old mid new : List Exchange} {a b c : Output} {from at to : ℕ}
     → Grows fine F old mid a b from at → Grows r G mid new b c at to → ((xs ys : List Exchange) → F xs → G ys → H (xs ++ ys)) → Grows r H old new a c from to
 grows_more r {old = old} {a = a} {b = b} {c = c} {from = from} {at = at} {to = to} x y join =
     let xs = x.exchanges in
@@ -109,42 +78,42 @@ grows_more r {old = old} {a = a} {b = b} {c = c} {from = from} {at = at} {to = t
       exchanges = xs ++ ys;
       grown = y.grown ∙ ap (λ (z : List Exchange). z ++ ys) x.grown ∙ append_assoc old xs ys;
       fact = join xs ys x.fact y.fact;
-      writes = rw text (writes_more r a b c (wire_from from (packets_of xs)) (wire_from at (packets_of ys)) x.writes y.writes);
+      sends = rw text (sends_more r a b c (wire_from from (packets_of xs)) (wire_from at (packets_of ys)) x.sends y.sends);
       counts = on_ok r y.counts (λ (h : to ≡ at + length (packets_of ys)). omega (arith, h, counted, ap (λ (ps : List (List ℕ)). length ps) (packets_of-append xs ys), length-append (packets_of xs) (packets_of ys)));
     }
 
 -- one exchange with no packet
-pub grows_quiet : {old new : List Exchange} (x : Exchange) (a : Option (List ℕ)) (from : ℕ) → new ≡ old ++ x ∷ [] → packet_of x.answer ≡ [] → Grows fine (λ xs. xs ≡ x ∷ []) old new a a from from
+pub grows_quiet : {old new : List Exchange} (x : Exchange) (a : Output) (from : ℕ) → new ≡ old ++ x ∷ [] → packet_of x.answer ≡ [] → Grows fine (λ xs. xs ≡ x ∷ []) old new a a from from
 grows_quiet x a from h e =
     let none : packets_of (x ∷ []) ≡ [] = rw e refl in
     record {
       exchanges = x ∷ [];
       grown = h;
       fact = refl;
-      writes = rw none (appends_none a);
+      sends = rw none (gathers_none a);
       counts = rw none (omega arith);
     }
 
 -- one exchange, and its packet sent
-pub grows_sent : {A : Type 0} (r : Result A ServeError) {old new : List Exchange} (x : Exchange) (p : List ℕ) {a b : Option (List ℕ)} {from to : ℕ}
-    → new ≡ old ++ x ∷ [] → packet_of x.answer ≡ p ∷ [] → Writes r a b (wire_from from (p ∷ [])) → OnOk r (to ≡ from + 1) → Grows r (λ xs. xs ≡ x ∷ []) old new a b from to
+pub grows_sent : {A : Type 0} (r : Result A ServeError) {old new : List Exchange} (x : Exchange) (p : List ℕ) {a b : Output} {from to : ℕ}
+    → new ≡ old ++ x ∷ [] → packet_of x.answer ≡ p ∷ [] → Sends r a b (wire_from from (p ∷ [])) → OnOk r (to ≡ from + 1) → Grows r (λ xs. xs ≡ x ∷ []) old new a b from to
 grows_sent r x p {from = from} {to = to} h e w k =
     let one : packets_of (x ∷ []) ≡ p ∷ [] = rw e refl in
     record {
       exchanges = x ∷ [];
       grown = h;
       fact = refl;
-      writes = rw one w;
+      sends = rw one w;
       counts = on_ok r k (λ (j : to ≡ from + 1). rw one j);
     }
 
 -- a request that the station refused
-pub grows_refused : {A : Type 0} (r : Result A ServeError) {Fact : List Exchange → Type 0} {old new : List Exchange} (a : Option (List ℕ)) {from : ℕ} → Fact [] → new ≡ old → Grows r Fact old new a a from from
+pub grows_refused : {A : Type 0} (r : Result A ServeError) {Fact : List Exchange → Type 0} {old new : List Exchange} (a : Output) {from : ℕ} → Fact [] → new ≡ old → Grows r Fact old new a a from from
 grows_refused r {old = old} a {from} f h = record {
   exchanges = [];
   grown = h ∙ sym (append-nil old);
   fact = f;
-  writes = writes_none r a;
+  sends = sends_none r a;
   counts = on_any r (omega arith);
 }
 
@@ -179,7 +148,7 @@ answers_none refusals.Memory packets = part_none packets
 answers_none refusals.JournalFull packets = part_none packets
 
 -- a command, and Drains behind it
-pub part_one : (p : List ℕ) (x : Exchange) (ys : List Exchange) → x.request ≡ requests.Command (record { items = p }) → All GavePacket ys × (length ys ≤ 64) → AnswersPart (p ∷ []) (x ∷ ys)
+pub part_one : (p : List ℕ) (x : Exchange) (ys : List Exchange) → x.request ≡ requests.Command (record { items = p }) → All GavePacket ys × (length ys ≤ most_drains) → AnswersPart (p ∷ []) (x ∷ ys)
 part_one p x ys q d = record {
   done = [];
   next = p ∷ [];
@@ -219,6 +188,52 @@ part_more ps qs xs ys h k = record {
   joined = ap (λ (z : List Exchange). xs ++ z) k.joined ∙ sym (append_assoc xs k.full k.cut);
   answered = answers_all_more ps k.done xs k.full h k.answered;
   begun = k.begun;
+}
+
+-- all packets answered is a part too
+part_all : (packets : List (List ℕ)) (xs : List Exchange) → AnswersAll packets xs → AnswersPart packets xs
+part_all packets xs h = record {
+  done = packets;
+  next = [];
+  full = xs;
+  cut = [];
+  packets_are = sym (append-nil packets);
+  joined = sym (append-nil xs);
+  answered = h;
+  begun = tt;
+}
+
+pub part_of : {A : Type 0} (r : Result A ServeError) (packets : List (List ℕ)) (xs : List Exchange) → AnswersSoFar r packets xs → AnswersPart packets xs
+part_of (Ok v) packets xs h = part_all packets xs h
+part_of (Err errors.Write) packets xs h = h
+part_of (Err errors.Memory) packets xs h = h
+part_of (Err errors.JournalFull) packets xs h = h
+part_of (Err errors.Read) packets xs h = part_all packets xs h
+part_of (Err (errors.BadLength n)) packets xs h = part_all packets xs h
+part_of (Err errors.Truncated) packets xs h = part_all packets xs h
+part_of (Err errors.TurnsSpent) packets xs h = part_all packets xs h
+
+-- what is held is written
+pub grows_flushed : {A : Type 0} (r : Result A ServeError) {Fact : List Exchange → Type 0} {old new : List Exchange} {a b : Output} (c : Output) {from to : ℕ}
+    → Grows r Fact old new a b from to → (r ≡ Err errors.Write → b.held ≡ []) → Appends b.contents c.contents b.held → c.held ≡ [] → Grows r Fact old new a c from to
+grows_flushed r {a = a} {b = b} c x n h e = record {
+  exchanges = x.exchanges;
+  grown = x.grown;
+  fact = x.fact;
+  sends = sends_flushed r a b c _ x.sends n h e;
+  counts = x.counts;
+}
+
+-- of what is held a front is written, and the call ends
+pub grows_unflushed : {A : Type 0} (r : Result A ServeError) {packets : List (List ℕ)} {old new : List Exchange} {a b : Output} (c : Output) {from to : ℕ}
+    → Grows r (AnswersSoFar r packets) old new a b from to → (r ≡ Err errors.Write → b.held ≡ []) → AppendsFront b.contents c.contents b.held
+    → Grows {A = A} (Err errors.Write) (AnswersPart packets) old new a c from to
+grows_unflushed r {packets = packets} {a = a} {b = b} c x n h = record {
+  exchanges = x.exchanges;
+  grown = x.grown;
+  fact = part_of r packets x.exchanges x.fact;
+  sends = sends_unflushed r a b c _ x.sends n h;
+  counts = tt;
 }
 
 -- packets that come later don't matter to what was answered in part

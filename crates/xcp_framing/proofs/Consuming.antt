@@ -1,5 +1,5 @@
 -- A piece of the stream, answered packet by packet.
-use Rattle.std.proofs.Common.{◌≡◌, ◌+◌, ℕ, List, [], ◌∷◌, ◌++◌, length, take, drop, Option, Err, refl, sym, ap, ◌∙◌, arith, append_assoc, length-append}
+use Rattle.std.proofs.Common.{◌≡◌, ◌+◌, ℕ, List, [], ◌∷◌, ◌++◌, length, take, drop, Err, refl, sym, ap, ◌∙◌, arith, append_assoc, length-append}
 use Rattle.std.proofs.lemmas.List.{append-nil, take-append-drop, take_all, drop-drop}
 use Rattle.xcp_slave.specs.declared.Exchange.{Exchange}
 use Rattle.xcp_framing.specs.declared.serving.ServeError.{ServeError}
@@ -7,6 +7,7 @@ use Rattle.xcp_framing.specs.declared.serving.ServeError.TheVariants as errors
 use Rattle.xcp_framing.specs.Wire.{len_of, IsBadLength, IsUnfinished}
 use Rattle.xcp_framing.specs.Frames.{frames, rest}
 use Rattle.xcp_framing.specs.Feeding.{Feeds}
+use Rattle.xcp_framing.specs.Gathered.{Output}
 use Rattle.xcp_framing.specs.Serve.{AnswersAll, AnswersSoFar}
 use Rattle.xcp_framing.specs.Turns.{Grows, IsInterruption, fine}
 use Rattle.xcp_framing.proofs.Cuts.{cuts_alike, len_of-append}
@@ -37,14 +38,14 @@ bad_stays m r b f =
     (w.0, rw (← w.1) same, rw (← w.1) record { there = omega (arith, f.there, length-append r b); above = omega (arith, same, f.above) })
 
 -- The packets of a piece's front of `used` bytes were answered: `done`.
-pub record Consumes (m : ℕ) (h s left : List ℕ) (used : ℕ) (old now : List Exchange) (a b : Option (List ℕ)) (from to first count : ℕ) : Type 0 where
+pub record Consumes (m : ℕ) (h s left : List ℕ) (used : ℕ) (old now : List Exchange) (a b : Output) (from to first count : ℕ) : Type 0 where
   pub done : List (List ℕ)
   pub grows : Grows fine (AnswersAll done) old now a b from to
   pub packets : frames m (h ++ s) ≡ done ++ frames m (left ++ drop used s)
   pub behind : rest m (h ++ s) ≡ rest m (left ++ drop used s)
   pub counted : count ≡ first + length done
 
-pub consumes_none : (m : ℕ) (h s : List ℕ) (old : List Exchange) (a : Option (List ℕ)) (from first : ℕ) → Consumes m h s h 0 old old a a from from first first
+pub consumes_none : (m : ℕ) (h s : List ℕ) (old : List Exchange) (a : Output) (from first : ℕ) → Consumes m h s h 0 old old a a from from first first
 consumes_none m h s old a from first = record {
   done = [];
   grows = grows_none (AnswersAll []) old a from refl;
@@ -54,7 +55,7 @@ consumes_none m h s old a from first = record {
 }
 
 -- one packet more
-pub consumes_more : (m j : ℕ) (h s t r left : List ℕ) (p : List ℕ) {used : ℕ} {old now new : List Exchange} {a b c : Option (List ℕ)} {from at to first count : ℕ}
+pub consumes_more : (m j : ℕ) (h s t r left : List ℕ) (p : List ℕ) {used : ℕ} {old now new : List Exchange} {a b c : Output} {from at to first count : ℕ}
     → Consumes m h s r used old now a b from at first count → t ≡ drop used s → Feeds m r t j (p ∷ []) left → Grows fine (AnswersAll (p ∷ [])) now new b c at to
     → Consumes m h s left (used + j) old new a c from to first (count + 1)
 consumes_more m j h s t r left p {used = used} {first = first} {count = count} x e f g =
@@ -70,7 +71,7 @@ consumes_more m j h s t r left p {used = used} {first = first} {count = count} x
     }
 
 -- the piece is used up
-pub consumes_all : (m j : ℕ) (h s t r left : List ℕ) {used : ℕ} {old now : List Exchange} {a b : Option (List ℕ)} {from at first count : ℕ}
+pub consumes_all : (m j : ℕ) (h s t r left : List ℕ) {used : ℕ} {old now : List Exchange} {a b : Output} {from at first count : ℕ}
     → Consumes m h s r used old now a b from at first count → t ≡ drop used s → Feeds m r t j [] left → j ≡ length t
     → Grows fine (AnswersAll (frames m (h ++ s))) old now a b from at × (left ≡ rest m (h ++ s)) × (count ≡ first + length (frames m (h ++ s)))
 consumes_all m j h s t r left {used = used} {first = first} {count = count} x e f k =
@@ -79,7 +80,7 @@ consumes_all m j h s t r left {used = used} {first = first} {count = count} x e 
     (rw all x.grows, end.1 ∙ rw e (sym x.behind), rw all x.counted)
 
 -- a LEN above m
-pub consumes_bad : {A : Type 0} (m j n : ℕ) (h s t r left : List ℕ) {used : ℕ} {old now : List Exchange} {a b : Option (List ℕ)} {from at first count : ℕ}
+pub consumes_bad : {A : Type 0} (m j n : ℕ) (h s t r left : List ℕ) {used : ℕ} {old now : List Exchange} {a b : Output} {from at first count : ℕ}
     → Consumes m h s r used old now a b from at first count → t ≡ drop used s → Feeds m r t j [] left → n ≡ len_of left → IsBadLength m left
     → Grows {A = A} (Err (errors.BadLength n)) (AnswersAll (frames m (h ++ s))) old now a b from at × (n ≡ len_of (rest m (h ++ s))) × IsBadLength m (rest m (h ++ s))
 consumes_bad {A} m j n h s t r left {used = used} x e f l bad =
@@ -87,10 +88,10 @@ consumes_bad {A} m j n h s t r left {used = used} x e f l bad =
     let stay = bad_stays m left (drop j t) bad in
     let all : frames m (h ++ s) ≡ x.done = x.packets ∙ rw (← e, step.0, stay.0) (append-nil x.done) in
     let end : rest m (h ++ s) ≡ rest m (left ++ drop j t) = x.behind ∙ rw (← e) step.1 in
-    (rw all (record { exchanges = x.grows.exchanges; grown = x.grows.grown; fact = x.grows.fact; writes = x.grows.writes; counts = tt }), rw end (l ∙ sym stay.1), rw end stay.2)
+    (rw all (record { exchanges = x.grows.exchanges; grown = x.grows.grown; fact = x.grows.fact; sends = x.grows.sends; counts = tt }), rw end (l ∙ sym stay.1), rw end stay.2)
 
 -- a packet that was answered in part
-pub consumes_part : (A : Type 0) (m j : ℕ) (e : ServeError) (h s t r left : List ℕ) (p : List ℕ) {used : ℕ} {old now new : List Exchange} {a b c : Option (List ℕ)} {from at to first count : ℕ}
+pub consumes_part : (A : Type 0) (m j : ℕ) (e : ServeError) (h s t r left : List ℕ) (p : List ℕ) {used : ℕ} {old now new : List Exchange} {a b c : Output} {from at to first count : ℕ}
     → IsInterruption e → Consumes m h s r used old now a b from at first count → t ≡ drop used s → Feeds m r t j (p ∷ []) left
     → Grows {A = A} (Err e) (AnswersSoFar {A = A} (Err e) (p ∷ [])) now new b c at to
     → Grows {A = A} (Err e) (AnswersSoFar {A = A} (Err e) (frames m (h ++ s))) old new a c from to

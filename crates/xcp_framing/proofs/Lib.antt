@@ -7,7 +7,9 @@ pub mod Events
 pub mod Gathering
 pub mod LongLines
 pub mod Midway
+pub mod Pairs
 pub mod Refusing
+pub mod Sending
 pub mod Shortage
 pub mod Streaming
 pub mod Texts

@@ -11,6 +11,7 @@ use Rattle.xcp_framing.specs.declared.serving.ServeError.{ServeError}
 use Rattle.xcp_framing.specs.declared.serving.ServeError.TheVariants as errors
 use Rattle.xcp_framing.specs.Frames.{frames, rest}
 use Rattle.xcp_framing.specs.Feeding.{Feeds}
+use Rattle.xcp_framing.specs.Gathered.{Output}
 use Rattle.xcp_framing.specs.Serve.{AnswersAll, OnRead, refused_with}
 use Rattle.xcp_framing.specs.Refusal.{OnRefusal, DrainsNext, AsksNext, ReadsNext, Refused}
 use Rattle.xcp_framing.proofs.Answering.{answers_all_more}
@@ -95,7 +96,7 @@ asks_before ps qs xs q k = record {
 }
 
 -- a refusal in a piece of the stream, of which packets were answered
-pub refused_in_piece : {S : Type 0} (exchanges_of : S → List Exchange) (refuses : S → Request → StationError → Type 0) (m j : ℕ) (h s t r left : List ℕ) (p : List ℕ) {used : ℕ} {old now : List Exchange} {new : S} {a b : Option (List ℕ)} {from at first count : ℕ}
+pub refused_in_piece : {S : Type 0} (exchanges_of : S → List Exchange) (refuses : S → Request → StationError → Type 0) (m j : ℕ) (h s t r left : List ℕ) (p : List ℕ) {used : ℕ} {old now : List Exchange} {new : S} {a b : Output} {from at first count : ℕ}
     → Consumes m h s r used old now a b from at first count → t ≡ drop used s → Feeds m r t j (p ∷ []) left
     → (e : StationError) → Refused exchanges_of refuses e (AsksNext (p ∷ [])) now new → Refused exchanges_of refuses e (AsksNext (frames m (h ++ s))) old new
 refused_in_piece exchanges_of refuses m j h s t r left p x d f e k =
@@ -112,7 +113,7 @@ read_packets m (Some xs) None packets behind h = absurd h
 read_packets m (Some xs) (Some ys) packets behind h = (h.0, h.1, h.2.0)
 
 -- a refusal in the piece of the stream that was read last
-pub refused_midway : {S : Type 0} (exchanges_of : S → List Exchange) (refuses : S → Request → StationError → Type 0) (m : ℕ) {i o n : Option (List ℕ)} {held : List ℕ} (chunk : List ℕ) {old now : List Exchange} {new : S} {a b : Option (List ℕ)} {sent count : ℕ}
+pub refused_midway : {S : Type 0} (exchanges_of : S → List Exchange) (refuses : S → Request → StationError → Type 0) (m : ℕ) {i o n : Option (List ℕ)} {held : List ℕ} (chunk : List ℕ) {old now : List Exchange} {new : S} {a b : Output} {sent count : ℕ}
     → Midway m i o held old now a b sent count → Takes o n chunk
     → (e : StationError) → Refused exchanges_of refuses e (AsksNext (frames m (held ++ chunk))) now new → Refused exchanges_of refuses e (ReadsNext m i n) old new
 refused_midway exchanges_of refuses m {i = i} {o = o} {n = n} {held = held} chunk x t e k =

@@ -1,7 +1,9 @@
 pub mod Desk
+pub mod Digits
 pub mod Feeding
 pub mod Frames
 pub mod Front
+pub mod Gathered
 pub mod Lines
 pub mod Meaning
 pub mod Reading

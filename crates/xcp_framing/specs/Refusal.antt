@@ -8,7 +8,12 @@ use Rattle.xcp_framing.specs.declared.station.StationError.TheVariants as refusa
 use Rattle.xcp_framing.specs.declared.serving.ServeError.{ServeError}
 use Rattle.xcp_framing.specs.declared.serving.ServeError.TheVariants as errors
 use Rattle.xcp_framing.specs.Frames.{frames}
-use Rattle.xcp_framing.specs.Serve.{GavePacket, AnswersAll, OnRead}
+use Rattle.xcp_framing.specs.Serve.{GavePacket, AnswersAll, OnRead, most_drains}
+
+-- the number of a refusal
+abbrev pub refusal_number : StationError → ℕ
+refusal_number refusals.Memory = 1
+refusal_number refusals.JournalFull = 2
 
 -- a fact about the refusal that ended a call, if one did
 abbrev pub OnRefusal : {A : Type 0} → Result A ServeError → (StationError → Type 0) → Type 0
@@ -16,9 +21,9 @@ OnRefusal (Err errors.Memory) Fact = Fact refusals.Memory
 OnRefusal (Err errors.JournalFull) Fact = Fact refusals.JournalFull
 OnRefusal _ Fact = ⊤
 
--- Behind these Drains, each of which gave a packet, one more comes: they are fewer than 64.
+-- Behind these Drains, each of which gave a packet, one more comes: they aren't the most yet.
 abbrev pub DrainsNext : List Exchange → Request → Type 0
-DrainsNext drains request = All GavePacket drains × (length drains < 64) × (request ≡ requests.Drain)
+DrainsNext drains request = All GavePacket drains × (length drains < most_drains) × (request ≡ requests.Drain)
 
 -- of one packet, behind these exchanges: its command, or a Drain behind the command
 abbrev pub AsksOne : List ℕ → List Exchange → Request → Type 0

@@ -1,6 +1,6 @@
 -- What `serve` does with a stream: the exchanges that it makes, and what it writes (ASAM MCD-1 XCP, transport layer, XCP on
 -- Ethernet; CTO packets come in and go out, DTO packets go out between them).
-use Rattle.std.specs.Prelude.{◌≡◌, ◌≢◌, ◌<◌, ◌≤◌, ℕ, List, [], ◌∷◌, ◌++◌, All, length, Option, Some, None, Result, Ok, Err, ⊤}
+use Rattle.std.specs.Prelude.{◌≡◌, ◌≢◌, ◌<◌, ◌≤◌, ◌+◌, ℕ, List, [], ◌∷◌, ◌++◌, All, length, Option, Some, None, Result, Ok, Err, ⊤}
 use Rattle.std.specs.List.{flat_map}
 use Rattle.std.specs.Io.KnownBytes.{Appends, IsAtEnd}
 use Rattle.xcp_slave.specs.declared.Exchange.{Exchange}
@@ -30,10 +30,17 @@ pub record GavePacket (x : Exchange) : Type 0 where
   pub drain : x.request ≡ requests.Drain
   pub gave : packet_of x.answer ≢ []
 
--- behind n Drains that gave a packet each: one that gave none; none at all where they were 64
+-- the most Drains behind a command, and the most packets of a command: its answer's and those of the Drains
+abbrev pub most_drains : ℕ
+most_drains = 64
+
+abbrev pub most_packets : ℕ
+most_packets = 1 + most_drains
+
+-- behind n Drains that gave a packet each: one that gave none; none at all where they were the most
 abbrev pub EndsDrains : ℕ → List Exchange → Type 0
-EndsDrains n [] = n ≡ 64
-EndsDrains n (x ∷ more) = (n < 64) × (x.request ≡ requests.Drain) × (packet_of x.answer ≡ []) × (more ≡ [])
+EndsDrains n [] = n ≡ most_drains
+EndsDrains n (x ∷ more) = (n < most_drains) × (x.request ≡ requests.Drain) × (packet_of x.answer ≡ []) × (more ≡ [])
 
 -- The Drains behind a command: up to and with the first that gives no packet, at most 64.
 pub record Drained (exchanges : List Exchange) : Type 0 where
@@ -61,7 +68,7 @@ AnswersAll (packet ∷ packets) exchanges =
 abbrev pub AnswersStart : List (List ℕ) → List Exchange → Type 0
 AnswersStart packets [] = ⊤
 AnswersStart [] (x ∷ drains) = ⊥
-AnswersStart (packet ∷ packets) (x ∷ drains) = (x.request ≡ requests.Command (record { items = packet })) × All GavePacket drains × (length drains ≤ 64)
+AnswersStart (packet ∷ packets) (x ∷ drains) = (x.request ≡ requests.Command (record { items = packet })) × All GavePacket drains × (length drains ≤ most_drains)
 
 -- the first packets, each with the Drains behind it, and of the next one the start
 pub record AnswersPart (packets : List (List ℕ)) (exchanges : List Exchange) : Type 0 where

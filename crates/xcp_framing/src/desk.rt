@@ -7,14 +7,15 @@ ghost use Rattle.xcp_slave.specs.Value.{layout_of, opening};
 use crate::{Station, StationError};
 use std::alloc::Global;
 use std::marker::Model;
-use xcp_slave::{Answer, Exchange, Request, Slave};
+use xcp_slave::{Answer, Request, Slave};
+use xcp_trace::Trace;
 
 /// A slave with all the exchanges that it has had. They are a run of the slave, from the opening
 /// of its layout to the slave as it is now.
 #[derive(Drop)]
 pub struct Desk {
     slave: Slave,
-    exchanges: Vec<Exchange>,
+    trace: Trace,
 }
 
 impl Model for Desk {
@@ -24,9 +25,9 @@ impl Model for Desk {
 
     ghost Value = { DeskValue };
 
-    ghost view = { λ d. record { slave = d.slave; exchanges = d.exchanges.items } };
+    ghost view = { λ d. record { slave = d.slave; exchanges = d.trace.exchanges } };
 
-    ghost invariant = { λ d. Run (opening (layout_of d.slave)) d.exchanges.items d.slave };
+    ghost invariant = { λ d. Run (opening (layout_of d.slave)) d.trace.exchanges d.slave };
 }
 
 impl Desk {
@@ -37,7 +38,7 @@ impl Desk {
     {
         Desk {
             slave,
-            exchanges: Vec::new(alloc),
+            trace: Trace::new(alloc),
         }
     }
 
@@ -48,11 +49,11 @@ impl Desk {
         self.slave.max_cto()
     }
 
-    /// The exchanges so far, in order.
-    pub fn exchanges(&self) -> &[Exchange]
-        ensures { result.now ≡ self.now.exchanges }
+    /// The exchanges so far, in order: how many, each by its index, or all of them one by one.
+    pub fn trace(&self) -> &Trace
+        ensures { result.now.exchanges ≡ self.now.exchanges }
     {
-        &self.exchanges
+        &self.trace
     }
 
     /// Does nothing: its contract says that the exchanges are a run, which each desk keeps.
@@ -80,15 +81,11 @@ impl Station for Desk {
         ensures memory { IfErr result (λ e. e ≡ StationError.Memory) }
         ensures layout { layout_of self.new.slave ≡ layout_of self.old.slave }
     {
-        if self.exchanges.reserve(1).is_err() {
+        if self.trace.reserve().is_err() {
             return Err(StationError::Memory);
         }
         let answer = self.slave.submit(&request);
-        let stored = answer.copy();
-        self.exchanges.push_reserved(Exchange {
-            request,
-            answer: stored,
-        });
+        self.trace.push(&request, &answer);
         Ok(answer)
     }
 }

@@ -12,7 +12,9 @@
 #![tactic(auto)]
 
 mod desk;
+mod digits;
 mod fault;
+mod frame_writer;
 mod framer;
 mod law;
 mod line;

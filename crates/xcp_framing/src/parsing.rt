@@ -3,6 +3,7 @@ ghost use Rattle.std.specs.Prelude.{◌≡◌, ◌≤◌, MatchOption, position,
 ghost use Rattle.xcp_framing.specs.Meaning.{meaning, channel_of, command_of, event_of, hex_bytes, is_skipped, is_space};
 
 use crate::Line;
+use crate::digits::{GREATEST_VALUE, digit_value};
 use arrayvec::ArrayVec;
 use xcp_packet::Packet;
 use xcp_slave::Request;
@@ -80,6 +81,20 @@ fn parse_command(max_cto: u8, line: &[u8]) -> Line
     requires { length line.now ≤ 1024 }
     ensures { result ≡ command_of max_cto line.now }
 {
+    if line.contains(&b' ') {
+        return parse_spaced(max_cto, line);
+    }
+    match parse_hex(max_cto as usize, line) {
+        Some(packet) => Line::Ask(Request::Command(packet)),
+        None => Line::Faulty,
+    }
+}
+
+/// The same of a line in which spaces stand: it is copied without them.
+fn parse_spaced(max_cto: u8, line: &[u8]) -> Line
+    requires { length line.now ≤ 1024 }
+    ensures { result ≡ command_of max_cto line.now }
+{
     let mut digits: ArrayVec<u8, LINE_BYTES> = ArrayVec::new();
     for byte in line {
         if *byte != b' ' {
@@ -100,16 +115,18 @@ fn parse_hex<const N: usize>(most: usize, digits: &[u8]) -> Option<ArrayVec<u8, 
     ensures { MatchOption result (hex_bytes most digits.now ≡ None)
         (λ bytes. hex_bytes most digits.now ≡ Some bytes.items) }
 {
-    if digits.is_empty() || digits.len() > 2 * most {
-        return None;
-    }
-    let mut buffer = [0; 255];
-    let bytes = &mut buffer[..digits.len() / 2];
-    if hex::decode_to_slice(digits, bytes).is_err() {
+    if digits.is_empty() || digits.len() > 2 * most || digits.len() % 2 == 1 {
         return None;
     }
     let mut read = ArrayVec::new();
-    let _ = read.try_extend_from_slice(bytes);
+    for i in 0..digits.len() / 2 {
+        let high = digit_value(digits[2 * i]);
+        let low = digit_value(digits[2 * i + 1]);
+        if high > GREATEST_VALUE || low > GREATEST_VALUE {
+            return None;
+        }
+        read.push(high * 16 + low);
+    }
     Some(read)
 }
 

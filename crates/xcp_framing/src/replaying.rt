@@ -105,7 +105,7 @@ fn run_script<R: Read, W: Write>(
         if length == 0 {
             let last = pending.finish(desk, max_cto, &mut texts);
             write_out(writer, &mut texts, last, pending.count)?;
-            return Ok(desk.exchanges().len() as u64);
+            return Ok(desk.trace().len() as u64);
         }
         let fed = pending.feed(desk, max_cto, &buffer[..length], &mut texts);
         write_out(writer, &mut texts, fed, pending.count)?;

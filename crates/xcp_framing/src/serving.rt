@@ -1,12 +1,13 @@
 //! A station behind a stream: commands in frames from a reader, answers in frames to a writer.
 ghost use Rattle.std.specs.Prelude.{◌≡◌, ◌≢◌, ◌<◌, ◌≤◌, ◌+◌, ◌*◌, ◌^◌, [], ◌∷◌, ◌++◌, ◌⊎◌, OnOk, IfErr, length};
-ghost use Rattle.xcp_framing.specs.Wire.{wire_from};
 ghost use Rattle.xcp_framing.specs.Frames.{frames, rest};
-ghost use Rattle.xcp_framing.specs.Serve.{AnswersSoFar, EndsReader, Serves, Writes, number_of};
+ghost use Rattle.xcp_framing.specs.Gathered.{output};
+ghost use Rattle.xcp_framing.specs.Serve.{AnswersSoFar, EndsReader, Serves, most_drains, most_packets, number_of};
 ghost use Rattle.xcp_framing.specs.Refusal.{AsksNext, DrainsNext, OnRefusal, ReadsNext, Refused};
 ghost use Rattle.xcp_framing.specs.Turns.{Grows, DrainsSoFar, EndsPiece, IsInterruption};
 
-use crate::{Framer, Got, Station, StationError, Watched, frame};
+use crate::frame_writer::FrameWriter;
+use crate::{Framer, Got, Station, StationError, Watched};
 use std::alloc::Global;
 use std::io::{Read, Write};
 use thiserror::Error;
@@ -85,45 +86,23 @@ impl From<StationError> for ServeError {
     }
 }
 
-/// Sends one packet. CTR is the number of packets sent before, modulo 65,536.
-fn send<W: Write>(
-    writer: &mut Watched<W>,
-    served: &mut Served,
-    packet: &Packet,
-) -> Result<(), ServeError>
-    requires { served.old.sent + 1 < 2 ^ 64 }
-    ensures writes { Writes result (W.contents writer.old.inner) (W.contents writer.new.inner)
-        (wire_from served.old.sent (packet.now.items ∷ [])) }
-    ensures counts { OnOk result (served.new.sent ≡ served.old.sent + 1) }
-    ensures frames { served.new.frames ≡ served.old.frames }
-    ensures fine { OnOk result (writer.new.failures ≡ writer.old.failures) }
-    ensures err { IfErr result (λ e.
-        (e ≡ ServeError.Write) × (writer.old.failures < writer.new.failures)) }
-{
-    let frame = frame((served.sent % 65_536) as u16, packet);
-    if writer.write_all(frame.as_slice()).is_err() {
-        return Err(ServeError::Write);
-    }
-    served.sent += 1;
-    Ok(())
-}
-
 /// Drains the station until an answer is no packet, at most 64 times, and sends the packets.
 fn drain<W: Write, S: Station>(
     station: &mut S,
     writer: &mut Watched<W>,
-    served: &mut Served,
+    sender: &mut FrameWriter,
 ) -> Result<(), ServeError>
-    requires { served.old.sent + 64 < 2 ^ 64 }
+    requires { sender.old.sent + most_drains < 2 ^ 64 }
     ensures drains { Grows result (DrainsSoFar result)
         (S.exchanges station.old) (S.exchanges station.new)
-        (W.contents writer.old.inner) (W.contents writer.new.inner)
-        served.old.sent served.new.sent }
-    ensures bound { OnOk result (served.new.sent ≤ served.old.sent + 64) }
-    ensures frames { served.new.frames ≡ served.old.frames }
+        (output (W.contents writer.old.inner) sender.old)
+        (output (W.contents writer.new.inner) sender.new)
+        sender.old.sent sender.new.sent }
+    ensures bound { OnOk result (sender.new.sent ≤ sender.old.sent + most_drains) }
     ensures quiet { result ≢ Err ServeError.Write → writer.new.failures ≡ writer.old.failures }
     ensures stops { IfErr result IsInterruption }
     ensures write { result ≡ Err ServeError.Write → writer.old.failures < writer.new.failures }
+    ensures dropped { result ≡ Err ServeError.Write → sender.new.held ≡ [] }
     ensures refused { OnRefusal result (λ e. Refused S.exchanges S.refuses e DrainsNext
         (S.exchanges station.old) station.new) }
 {
@@ -131,7 +110,7 @@ fn drain<W: Write, S: Station>(
         let Answer::Packet(packet) = station.submit(Request::Drain)? else {
             return Ok(());
         };
-        send(writer, served, &packet)?;
+        sender.send(writer, &packet)?;
     }
     Ok(())
 }
@@ -141,51 +120,55 @@ fn exchange<W: Write, S: Station>(
     packet: Packet,
     station: &mut S,
     writer: &mut Watched<W>,
-    served: &mut Served,
+    sender: &mut FrameWriter,
 ) -> Result<(), ServeError>
-    requires { served.old.sent + 65 < 2 ^ 64 }
+    requires { sender.old.sent + most_packets < 2 ^ 64 }
     ensures answers { Grows result (AnswersSoFar result (packet.items ∷ []))
         (S.exchanges station.old) (S.exchanges station.new)
-        (W.contents writer.old.inner) (W.contents writer.new.inner)
-        served.old.sent served.new.sent }
-    ensures bound { OnOk result (served.new.sent ≤ served.old.sent + 65) }
-    ensures frames { served.new.frames ≡ served.old.frames }
+        (output (W.contents writer.old.inner) sender.old)
+        (output (W.contents writer.new.inner) sender.new)
+        sender.old.sent sender.new.sent }
+    ensures bound { OnOk result (sender.new.sent ≤ sender.old.sent + most_packets) }
     ensures quiet { result ≢ Err ServeError.Write → writer.new.failures ≡ writer.old.failures }
     ensures stops { IfErr result IsInterruption }
     ensures write { result ≡ Err ServeError.Write → writer.old.failures < writer.new.failures }
+    ensures dropped { result ≡ Err ServeError.Write → sender.new.held ≡ [] }
     ensures refused { OnRefusal result (λ e.
         Refused S.exchanges S.refuses e (AsksNext (packet.items ∷ []))
         (S.exchanges station.old) station.new) }
 {
     if let Answer::Packet(packet) = station.submit(Request::Command(packet))? {
-        send(writer, served, &packet)?;
+        sender.send(writer, &packet)?;
     }
-    drain(station, writer, served)
+    drain(station, writer, sender)
 }
 
-/// Answers the packets that are whole with the bytes of one read.
+/// Answers the packets that are whole with the bytes of one read. Their frames may still be held.
 fn consume<W: Write, S: Station>(
     framer: &mut Framer,
     piece: &[u8],
     station: &mut S,
     writer: &mut Watched<W>,
-    served: &mut Served,
+    sender: &mut FrameWriter,
+    received: &mut u64,
 ) -> Result<(), ServeError>
-    requires sent { served.old.sent + 65 * length piece.now < 2 ^ 64 }
-    requires frames { served.old.frames + length piece.now < 2 ^ 64 }
+    requires sent { sender.old.sent + most_packets * length piece.now < 2 ^ 64 }
+    requires received { received.old + length piece.now < 2 ^ 64 }
     ensures answers { Grows result
         (AnswersSoFar result (frames framer.old.max_cto (framer.old.held ++ piece.now)))
         (S.exchanges station.old) (S.exchanges station.new)
-        (W.contents writer.old.inner) (W.contents writer.new.inner)
-        served.old.sent served.new.sent }
+        (output (W.contents writer.old.inner) sender.old)
+        (output (W.contents writer.new.inner) sender.new)
+        sender.old.sent sender.new.sent }
     ensures ends { EndsPiece framer.old.max_cto result framer.new.held
         (rest framer.old.max_cto (framer.old.held ++ piece.now)) }
-    ensures frames { OnOk result (served.new.frames
-        ≡ served.old.frames + length (frames framer.old.max_cto (framer.old.held ++ piece.now))) }
-    ensures bound { OnOk result (served.new.sent ≤ served.old.sent + 65 * length piece.now) }
-    ensures few { OnOk result (served.new.frames ≤ served.old.frames + length piece.now) }
+    ensures received { OnOk result (received.new
+        ≡ received.old + length (frames framer.old.max_cto (framer.old.held ++ piece.now))) }
+    ensures bound { OnOk result (sender.new.sent ≤ sender.old.sent + most_packets * length piece.now) }
+    ensures few { OnOk result (received.new ≤ received.old + length piece.now) }
     ensures quiet { result ≢ Err ServeError.Write → writer.new.failures ≡ writer.old.failures }
     ensures write { result ≡ Err ServeError.Write → writer.old.failures < writer.new.failures }
+    ensures dropped { result ≡ Err ServeError.Write → sender.new.held ≡ [] }
     ensures kept { framer.new.max_cto ≡ framer.old.max_cto }
     ensures refused { OnRefusal result (λ e. Refused S.exchanges S.refuses e
         (AsksNext (frames framer.old.max_cto (framer.old.held ++ piece.now)))
@@ -199,8 +182,8 @@ fn consume<W: Write, S: Station>(
             Got::More => return Ok(()),
             Got::BadLength(length) => return Err(ServeError::BadLength(length)),
             Got::Packet(packet) => {
-                served.frames += 1;
-                exchange(packet, station, writer, served)?;
+                *received += 1;
+                exchange(packet, station, writer, sender)?;
             }
         }
     }
@@ -210,8 +193,9 @@ fn consume<W: Write, S: Station>(
 ///
 /// Each turn is one read of up to 512 bytes, of at most `turns` turns. Each packet that is whole is
 /// submitted as a command, and behind it `Drain` until an answer is no packet, at most 64 times.
-/// Each packet of an answer is sent in a frame of its own as soon as it is there; CTR counts them
-/// from 0. A frame of LEN 0 is skipped, and the CTR of what is read is not looked at.
+/// Each packet of an answer is sent in a frame of its own; CTR counts them from 0. The frames are
+/// gathered, and written before the next read, before any return, and where the next one finds no
+/// room. A frame of LEN 0 is skipped, and the CTR of what is read is not looked at.
 ///
 /// Packets have at most `max_cto` bytes, a frame's LEN above it is `BadLength`. What comes first in
 /// the stream comes first: all whole frames before a fault in it have been answered, and nothing
@@ -251,8 +235,11 @@ pub fn serve<R: Read, W: Write, S: Station>(
     let Ok(mut buffer) = vec![in alloc; 0; READ_SIZE] else {
         return Err(ServeError::Memory);
     };
+    let Ok(mut sender) = FrameWriter::new(alloc) else {
+        return Err(ServeError::Memory);
+    };
     let mut framer = Framer::new(max_cto);
-    let mut served = Served { frames: 0, sent: 0 };
+    let mut received = 0;
     for _turn in 0..turns {
         let Ok(count) = reader.read(&mut buffer) else {
             return Err(ServeError::Read);
@@ -261,9 +248,22 @@ pub fn serve<R: Read, W: Write, S: Station>(
             if framer.inside() {
                 return Err(ServeError::Truncated);
             }
-            return Ok(served);
+            return Ok(Served {
+                frames: received,
+                sent: sender.sent(),
+            });
         }
-        consume(&mut framer, &buffer[..count], station, writer, &mut served)?;
+        let piece = &buffer[..count];
+        let consumed = consume(
+            &mut framer,
+            piece,
+            station,
+            writer,
+            &mut sender,
+            &mut received,
+        );
+        sender.flush(writer)?;
+        consumed?;
     }
     Err(ServeError::TurnsSpent)
 }

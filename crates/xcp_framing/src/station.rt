@@ -18,6 +18,20 @@ pub enum StationError {
     JournalFull,
 }
 
+impl StationError {
+    ghost use Rattle.xcp_framing.specs.Refusal.{refusal_number};
+
+    /// The error's number: 1 Memory, 2 JournalFull.
+    pub fn number(&self) -> u8
+        ensures { result ≡ refusal_number self.now }
+    {
+        match self {
+            StationError::Memory => 1,
+            StationError::JournalFull => 2,
+        }
+    }
+}
+
 /// What takes requests one by one, as a slave that stores its exchanges does.
 pub trait Station {
     /// The exchanges that it has had, in order.

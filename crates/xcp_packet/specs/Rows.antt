@@ -1,10 +1,14 @@
 -- Tests in the order in which they are looked at, and the row of a command: why it is refused, and else its reply and its
 -- effect.
-use Rattle.std.specs.Prelude.{◌≡◌, Bool, true, not, List, [], ◌∷◌, Option, Some, None, Result, Ok, Err, if◌then◌else◌}
+use Rattle.std.specs.Prelude.{◌≡◌, ℕ, Bool, true, not, List, [], ◌∷◌, Option, Some, None, Result, Ok, Err, if◌then◌else◌}
 use Rattle.xcp_packet.specs.declared.code.Code.{Code}
 use Rattle.xcp_packet.specs.declared.reply.Reply.{Reply}
 use Rattle.xcp_packet.specs.declared.reply.Reply.TheVariants.{Error}
+use Rattle.xcp_packet.specs.declared.order.Order.{Order}
+use Rattle.xcp_packet.specs.declared.lent.Sent.{Sent}
+use Rattle.xcp_packet.specs.declared.lent.Fault.{Fault}
 use Rattle.xcp_packet.specs.Layout.{Fits}
+use Rattle.xcp_packet.specs.Lent.{fault_reply, sent_bytes, reply_bytes}
 
 -- what stands beside the first test that holds, where one does
 abbrev pub first_holding : {A : Type 0} → List (Bool × A) → Option A
@@ -32,6 +36,12 @@ refused (Some code) = (true, Error code) ∷ []
 abbrev pub Meets : {V : Type 0} → Row V → V → Result (Option Reply) Reply → V → Type 0
 Meets r left (Ok reply) w = (first_holding r.refusals ≡ None) × (reply ≡ r.reply) × (w ≡ r.after)
 Meets r left (Err e) w = (first_holding r.refusals ≡ Some e) × (w ≡ left)
+
+-- The same where the reply stands in a packet that was lent, which then has these bytes, in this byte order. A refusal
+-- says nothing of them.
+abbrev pub Tells : {V : Type 0} → Order → Row V → V → Result Sent Fault → List ℕ → V → Type 0
+Tells order r left (Ok sent) bytes w = (first_holding r.refusals ≡ None) × (sent_bytes sent bytes ≡ reply_bytes order r.reply) × (w ≡ r.after)
+Tells order r left (Err fault) bytes w = (first_holding r.refusals ≡ Some (fault_reply fault)) × (w ≡ left)
 
 -- one packet holds what is sent
 abbrev pub FitsPacket : Result (Option Reply) Reply → Type 0

@@ -7,4 +7,3 @@ pub mod LengthLaws
 pub mod Obeying
 pub mod Rings
 pub mod EventChannels
-pub mod Writing

@@ -6,3 +6,4 @@ pub mod Step
 pub mod Run
 pub mod Refused
 pub mod Outbox
+pub mod Told

@@ -1,5 +1,5 @@
 -- The row of each command: why it is refused, and else its reply and its effect.
-use Rattle.std.specs.Prelude.{ℕ, ◌+◌, true, [], ◌∷◌, Option, Some, None, Result, not, ◌==◌, if◌then◌else◌}
+use Rattle.std.specs.Prelude.{ℕ, ◌+◌, true, List, [], ◌∷◌, Some, None, Result, not, ◌==◌, if◌then◌else◌}
 use Rattle.xcp_packet.specs.Order.{byte_order}
 use Rattle.xcp_packet.specs.declared.Order.{Order}
 use Rattle.xcp_packet.specs.declared.Command.{Command}
@@ -9,7 +9,9 @@ use Rattle.xcp_packet.specs.declared.Reply.TheVariants as replies
 use Rattle.xcp_packet.specs.declared.Code.TheVariants.{CmdSynch, OutOfRange}
 use Rattle.xcp_transfer.specs.declared.Mta.TheVariants.{Nowhere, Memory}
 use Rattle.xcp_transfer.specs.Value.{TransferValue}
-use Rattle.xcp_packet.specs.Rows.{Row, Meets, row_within}
+use Rattle.xcp_packet.specs.declared.Sent.{Sent}
+use Rattle.xcp_packet.specs.declared.Fault.{Fault}
+use Rattle.xcp_packet.specs.Rows.{Row, Tells, row_within}
 use Rattle.xcp_transfer.specs.Uploads.{upload_row, short_upload_row, build_checksum_row, get_id_row}
 use Rattle.xcp_transfer.specs.Downloads.{download_row, download_next_row, download_max_row, short_download_row, modify_bits_row}
 use Rattle.xcp_daq.specs.Daq.{any_running, first_pid, greatest_size}
@@ -97,6 +99,7 @@ row (commands.AllocDaq count) v = daq_row (alloc_daq_refusal count v.daq) replie
 row (commands.AllocOdt list count) v = daq_row (alloc_odt_refusal list count v.daq) replies.Done (alloc_odt_after list count v.daq) v
 row (commands.AllocOdtEntry list odt count) v = daq_row (alloc_odt_entry_refusal list odt count v.daq) replies.Done (alloc_odt_entry_after list odt count v.daq) v
 
--- The command's row is met at v. A refusal leaves the slave without its block.
-unfoldable pub MeetsRow : Command → SlaveValue → Result (Option Reply) Reply → SlaveValue → Type 0
-MeetsRow c v r w = Meets (row c v) (noblock v) r w
+-- The command's row is met at v, and its reply stands in the packet that was lent, which has these bytes. A refusal leaves
+-- the slave without its block.
+unfoldable pub TellsRow : Command → SlaveValue → Result Sent Fault → List ℕ → SlaveValue → Type 0
+TellsRow c v r bytes w = Tells (layout_of v).order (row c v) (noblock v) r bytes w

@@ -1,7 +1,8 @@
 //! The XCP slave: one request, one answer, by one step relation.
 //!
-//! A [`Slave`] is driven by [`Slave::submit`] alone. `specs/Step.antt` says what each request
-//! does to it; `specs/Rows.antt` has the row of each command.
+//! A [`Slave`] is driven by [`Slave::submit_into`] alone, or by [`Slave::submit`], which stands over
+//! it. `specs/Step.antt` says what each request does to it; `specs/Rows.antt` has the row of each
+//! command.
 #![tactic(auto)]
 
 mod answer;
@@ -13,6 +14,7 @@ mod page_properties;
 mod request;
 mod slave;
 mod status;
+mod told;
 
 pub use answer::Answer;
 pub use exchange::Exchange;
@@ -24,3 +26,4 @@ pub use page_properties::PageProperties;
 pub use request::Request;
 pub use slave::Slave;
 pub use status::SessionStatus;
+pub use told::Told;

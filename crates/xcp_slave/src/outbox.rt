@@ -1,8 +1,8 @@
 //! The packets that wait to be sent.
-ghost use Rattle.std.specs.Prelude.{◌≡◌, ◌≤◌, ◌<◌, ◌+◌, [], ◌∷◌, ◌++◌, length, Option, Some, None};
+ghost use Rattle.std.specs.Prelude.{◌≡◌, ◌≤◌, ◌<◌, ◌+◌, [], ◌∷◌, ◌++◌, length, Option, Some, None, if◌then◌else◌};
 ghost use Rattle.xcp_slave.specs.Outbox.{first_of, behind_first, wrapped};
 
-use crate::packet::copied;
+use crate::packet::{copied, copy_into};
 use arrayvec::ArrayVec;
 use std::marker::Model;
 use xcp_packet::Packet;
@@ -83,18 +83,18 @@ impl Outbox {
         }
     }
 
-    /// Takes the first packet out.
-    pub(crate) fn take_first(&mut self) -> Option<Packet>
-        ensures packet { result ≡ first_of self.old }
+    /// Takes the first packet out, if there is one, into a packet that is lent.
+    pub(crate) fn take_first(&mut self, packet: &mut Packet) -> bool
+        ensures packet { first_of self.old ≡ (if result then Some packet.new else None) }
         ensures others { self.new ≡ behind_first self.old }
     {
         if self.count == 0 {
-            return None;
+            return false;
         }
-        let packet = copied(&self.slots[self.first]);
+        copy_into(&self.slots[self.first], packet);
         self.first = around(self.first + 1);
         self.count -= 1;
-        Some(packet)
+        true
     }
 }
 

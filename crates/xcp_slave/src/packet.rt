@@ -3,11 +3,19 @@ ghost use Rattle.std.specs.Prelude.{◌≡◌};
 
 use arrayvec::ArrayVec;
 
+/// Makes a packet equal to another, in place: no memory is taken.
+pub(crate) fn copy_into<const N: usize>(bytes: &ArrayVec<u8, N>, packet: &mut ArrayVec<u8, N>)
+    ensures { packet.new ≡ bytes.now }
+{
+    packet.clear();
+    let _ = packet.try_extend_from_slice(bytes.as_slice());
+}
+
 /// Equal bytes, in place: no memory is taken.
 pub(crate) fn copied<const N: usize>(bytes: &ArrayVec<u8, N>) -> ArrayVec<u8, N>
     ensures { result ≡ bytes.now }
 {
     let mut copy = ArrayVec::new();
-    let _ = copy.try_extend_from_slice(bytes.as_slice());
+    copy_into(bytes, &mut copy);
     copy
 }

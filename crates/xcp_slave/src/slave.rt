@@ -1,10 +1,12 @@
 //! The slave: its value, and one answer for each request.
-ghost use Rattle.std.specs.Prelude.{◌≡◌, ◌≤◌, IfOk, length};
+ghost use Rattle.std.specs.Prelude.{◌≡◌, ◌≤◌, IfOk, Some, length};
 ghost use Rattle.xcp_memory.specs.Image.{ecu_image};
-ghost use Rattle.xcp_slave.specs.Rows.{MeetsRow};
-ghost use Rattle.xcp_slave.specs.Step.{Answers, AnswersPacket, Executes, answer_of, found_by, sent_reply};
+ghost use Rattle.xcp_packet.specs.Layout.{Fits};
+ghost use Rattle.xcp_packet.specs.Lent.{reply_bytes, sent_bytes};
+ghost use Rattle.xcp_slave.specs.Rows.{TellsRow};
+ghost use Rattle.xcp_slave.specs.Step.{Answers, AnswersPacket, Executes, answer_of, found_by};
+ghost use Rattle.xcp_slave.specs.Told.{answer_in};
 ghost use Rattle.xcp_slave.specs.Value.{ended, layout_of, noblock, opening};
-ghost use Rattle.xcp_packet.specs.Rows.{FitsPacket};
 
 mod acquisition;
 mod allocation;
@@ -14,17 +16,19 @@ mod paging;
 mod session;
 
 use crate::outbox::Outbox;
-use crate::{Answer, Request};
+use crate::{Answer, Request, Told};
 use arrayvec::ArrayVec;
 use std::alloc::{AllocError, Global};
 use std::marker::Model;
 use xcp_daq::Daq;
 use xcp_memory::{Layout, Pages};
-use xcp_packet::{Code, Command, Order, Packet, Refuse, Reply, commands, decode, encode_reply};
+use xcp_packet::{
+    Code, Command, Fault, Order, Packet, Refuse, Reply, Sent, commands, decode, write_reply,
+};
 use xcp_transfer::{Mta, Transfer};
 
-/// What comes of a command: the reply, or none where nothing is sent, or the error packet.
-type Outcome = Result<Option<Reply>, Reply>;
+/// What comes of a command: a reply in the packet that was lent, or nothing is sent, or a refusal.
+type Outcome = Result<Sent, Fault>;
 
 /// An XCP slave: segments with their pages, the signals, and one session of a tool with its DAQ
 /// lists and the packets that wait for it.
@@ -49,129 +53,129 @@ impl Model for Slave {
 
 // The handler of each command.
 macro_rules! handle {
-    ($slave:ident Connect $mode:ident) => {
-        $slave.connect(*$mode)
+    ($slave:ident $packet:ident Connect $mode:ident) => {
+        $slave.connect(*$mode, $packet)
     };
-    ($slave:ident Disconnect) => {
-        $slave.disconnect()
+    ($slave:ident $packet:ident Disconnect) => {
+        $slave.disconnect($packet)
     };
-    ($slave:ident GetStatus) => {
-        $slave.get_status()
+    ($slave:ident $packet:ident GetStatus) => {
+        $slave.get_status($packet)
     };
-    ($slave:ident Synch) => {
-        $slave.synch()
+    ($slave:ident $packet:ident Synch) => {
+        $slave.synch($packet)
     };
-    ($slave:ident GetCommModeInfo) => {
-        $slave.get_comm_mode_info()
+    ($slave:ident $packet:ident GetCommModeInfo) => {
+        $slave.get_comm_mode_info($packet)
     };
-    ($slave:ident GetId $kind:ident) => {
-        $slave.get_id(*$kind)
+    ($slave:ident $packet:ident GetId $kind:ident) => {
+        $slave.get_id(*$kind, $packet)
     };
-    ($slave:ident SetMta $extension:ident $address:ident) => {
-        $slave.set_mta(*$extension, *$address)
+    ($slave:ident $packet:ident SetMta $extension:ident $address:ident) => {
+        $slave.set_mta(*$extension, *$address, $packet)
     };
-    ($slave:ident Upload $n:ident) => {
-        $slave.upload(*$n)
+    ($slave:ident $packet:ident Upload $n:ident) => {
+        $slave.upload(*$n, $packet)
     };
-    ($slave:ident ShortUpload $n:ident $extension:ident $address:ident) => {
-        $slave.short_upload(*$n, *$extension, *$address)
+    ($slave:ident $packet:ident ShortUpload $n:ident $extension:ident $address:ident) => {
+        $slave.short_upload(*$n, *$extension, *$address, $packet)
     };
-    ($slave:ident BuildChecksum $size:ident) => {
-        $slave.build_checksum(*$size)
+    ($slave:ident $packet:ident BuildChecksum $size:ident) => {
+        $slave.build_checksum(*$size, $packet)
     };
-    ($slave:ident Download $n:ident $bytes:ident) => {
-        $slave.download(*$n, $bytes)
+    ($slave:ident $packet:ident Download $n:ident $bytes:ident) => {
+        $slave.download(*$n, $bytes, $packet)
     };
-    ($slave:ident DownloadNext $remaining:ident $bytes:ident) => {
-        $slave.download_next(*$remaining, $bytes)
+    ($slave:ident $packet:ident DownloadNext $remaining:ident $bytes:ident) => {
+        $slave.download_next(*$remaining, $bytes, $packet)
     };
-    ($slave:ident DownloadMax $bytes:ident) => {
-        $slave.download_max($bytes)
+    ($slave:ident $packet:ident DownloadMax $bytes:ident) => {
+        $slave.download_max($bytes, $packet)
     };
-    ($slave:ident ShortDownload $n:ident $extension:ident $address:ident $bytes:ident) => {
-        $slave.short_download(*$n, *$extension, *$address, $bytes)
+    ($slave:ident $packet:ident ShortDownload $n:ident $extension:ident $address:ident $bytes:ident) => {
+        $slave.short_download(*$n, *$extension, *$address, $bytes, $packet)
     };
-    ($slave:ident ModifyBits $s:ident $ma:ident $mx:ident) => {
-        $slave.modify_bits(*$s, *$ma, *$mx)
+    ($slave:ident $packet:ident ModifyBits $s:ident $ma:ident $mx:ident) => {
+        $slave.modify_bits(*$s, *$ma, *$mx, $packet)
     };
-    ($slave:ident SetCalPage $mode:ident $segment:ident $page:ident) => {
-        $slave.set_cal_page(*$mode, *$segment, *$page)
+    ($slave:ident $packet:ident SetCalPage $mode:ident $segment:ident $page:ident) => {
+        $slave.set_cal_page(*$mode, *$segment, *$page, $packet)
     };
-    ($slave:ident GetCalPage $mode:ident $segment:ident) => {
-        $slave.get_cal_page(*$mode, *$segment)
+    ($slave:ident $packet:ident GetCalPage $mode:ident $segment:ident) => {
+        $slave.get_cal_page(*$mode, *$segment, $packet)
     };
-    ($slave:ident GetPagProcessorInfo) => {
-        $slave.get_pag_processor_info()
+    ($slave:ident $packet:ident GetPagProcessorInfo) => {
+        $slave.get_pag_processor_info($packet)
     };
-    ($slave:ident GetSegmentInfo $mode:ident $segment:ident $info:ident $mapping:ident) => {
-        $slave.get_segment_info(*$mode, *$segment, *$info, *$mapping)
+    ($slave:ident $packet:ident GetSegmentInfo $mode:ident $segment:ident $info:ident $mapping:ident) => {
+        $slave.get_segment_info(*$mode, *$segment, *$info, *$mapping, $packet)
     };
-    ($slave:ident GetPageInfo $segment:ident $page:ident) => {
-        $slave.get_page_info(*$segment, *$page)
+    ($slave:ident $packet:ident GetPageInfo $segment:ident $page:ident) => {
+        $slave.get_page_info(*$segment, *$page, $packet)
     };
-    ($slave:ident SetSegmentMode $mode:ident $segment:ident) => {
-        $slave.set_segment_mode(*$mode, *$segment)
+    ($slave:ident $packet:ident SetSegmentMode $mode:ident $segment:ident) => {
+        $slave.set_segment_mode(*$mode, *$segment, $packet)
     };
-    ($slave:ident GetSegmentMode $segment:ident) => {
-        $slave.get_segment_mode(*$segment)
+    ($slave:ident $packet:ident GetSegmentMode $segment:ident) => {
+        $slave.get_segment_mode(*$segment, $packet)
     };
-    ($slave:ident CopyCalPage $source:ident $source_page:ident $target:ident $target_page:ident) => {
-        $slave.copy_cal_page(*$source, *$source_page, *$target, *$target_page)
+    ($slave:ident $packet:ident CopyCalPage $source:ident $source_page:ident $target:ident $target_page:ident) => {
+        $slave.copy_cal_page(*$source, *$source_page, *$target, *$target_page, $packet)
     };
-    ($slave:ident SetRequest $mode:ident $id:ident) => {
-        $slave.set_request(*$mode, *$id)
+    ($slave:ident $packet:ident SetRequest $mode:ident $id:ident) => {
+        $slave.set_request(*$mode, *$id, $packet)
     };
-    ($slave:ident ClearDaqList $list:ident) => {
-        $slave.clear_daq_list(*$list)
+    ($slave:ident $packet:ident ClearDaqList $list:ident) => {
+        $slave.clear_daq_list(*$list, $packet)
     };
-    ($slave:ident SetDaqPtr $list:ident $odt:ident $entry:ident) => {
-        $slave.set_daq_ptr(*$list, *$odt, *$entry)
+    ($slave:ident $packet:ident SetDaqPtr $list:ident $odt:ident $entry:ident) => {
+        $slave.set_daq_ptr(*$list, *$odt, *$entry, $packet)
     };
-    ($slave:ident WriteDaq $offset:ident $size:ident $extension:ident $address:ident) => {
-        $slave.write_daq(*$offset, *$size, *$extension, *$address)
+    ($slave:ident $packet:ident WriteDaq $offset:ident $size:ident $extension:ident $address:ident) => {
+        $slave.write_daq(*$offset, *$size, *$extension, *$address, $packet)
     };
-    ($slave:ident SetDaqListMode $mode:ident $list:ident $event:ident $prescaler:ident $priority:ident) => {
-        $slave.set_daq_list_mode(*$mode, *$list, *$event, *$prescaler, *$priority)
+    ($slave:ident $packet:ident SetDaqListMode $mode:ident $list:ident $event:ident $prescaler:ident $priority:ident) => {
+        $slave.set_daq_list_mode(*$mode, *$list, *$event, *$prescaler, *$priority, $packet)
     };
-    ($slave:ident GetDaqListMode $list:ident) => {
-        $slave.get_daq_list_mode(*$list)
+    ($slave:ident $packet:ident GetDaqListMode $list:ident) => {
+        $slave.get_daq_list_mode(*$list, $packet)
     };
-    ($slave:ident StartStopDaqList $mode:ident $list:ident) => {
-        $slave.start_stop_daq_list(*$mode, *$list)
+    ($slave:ident $packet:ident StartStopDaqList $mode:ident $list:ident) => {
+        $slave.start_stop_daq_list(*$mode, *$list, $packet)
     };
-    ($slave:ident StartStopSynch $mode:ident) => {
-        $slave.start_stop_synch(*$mode)
+    ($slave:ident $packet:ident StartStopSynch $mode:ident) => {
+        $slave.start_stop_synch(*$mode, $packet)
     };
-    ($slave:ident ReadDaq) => {
-        $slave.read_daq()
+    ($slave:ident $packet:ident ReadDaq) => {
+        $slave.read_daq($packet)
     };
-    ($slave:ident GetDaqProcessorInfo) => {
-        $slave.get_daq_processor_info()
+    ($slave:ident $packet:ident GetDaqProcessorInfo) => {
+        $slave.get_daq_processor_info($packet)
     };
-    ($slave:ident GetDaqResolutionInfo) => {
-        $slave.get_daq_resolution_info()
+    ($slave:ident $packet:ident GetDaqResolutionInfo) => {
+        $slave.get_daq_resolution_info($packet)
     };
-    ($slave:ident GetDaqEventInfo $channel:ident) => {
-        $slave.get_daq_event_info(*$channel)
+    ($slave:ident $packet:ident GetDaqEventInfo $channel:ident) => {
+        $slave.get_daq_event_info(*$channel, $packet)
     };
-    ($slave:ident FreeDaq) => {
-        $slave.free_daq()
+    ($slave:ident $packet:ident FreeDaq) => {
+        $slave.free_daq($packet)
     };
-    ($slave:ident AllocDaq $count:ident) => {
-        $slave.alloc_daq(*$count)
+    ($slave:ident $packet:ident AllocDaq $count:ident) => {
+        $slave.alloc_daq(*$count, $packet)
     };
-    ($slave:ident AllocOdt $list:ident $count:ident) => {
-        $slave.alloc_odt(*$list, *$count)
+    ($slave:ident $packet:ident AllocOdt $list:ident $count:ident) => {
+        $slave.alloc_odt(*$list, *$count, $packet)
     };
-    ($slave:ident AllocOdtEntry $list:ident $odt:ident $count:ident) => {
-        $slave.alloc_odt_entry(*$list, *$odt, *$count)
+    ($slave:ident $packet:ident AllocOdtEntry $list:ident $odt:ident $count:ident) => {
+        $slave.alloc_odt_entry(*$list, *$odt, *$count, $packet)
     };
 }
 
 macro_rules! dispatch {
-    ([$slave:ident $command:ident] $($variant:ident $value:literal $least:literal { $($name:ident: $kind:ident $place:literal),* })*) => {
+    ([$slave:ident $command:ident $packet:ident] $($variant:ident $value:literal $least:literal { $($name:ident: $kind:ident $place:literal),* })*) => {
         match $command {
-            $(Command::$variant { $($name),* } => handle!($slave $variant $($name)*),)*
+            $(Command::$variant { $($name),* } => handle!($slave $packet $variant $($name)*),)*
         }
     };
 }
@@ -224,40 +228,49 @@ impl Slave {
     pub fn submit(&mut self, request: &Request) -> Answer
         ensures { Answers self.old request.now result self.new }
     {
+        let mut packet = Packet::new();
+        let told = self.submit_into(request, &mut packet);
+        told.with(packet)
+    }
+
+    /// Executes one request, as `submit` does. Where the answer is a packet, it stands in the one
+    /// that is lent, and is made nowhere else; for any other answer that packet has any bytes.
+    pub fn submit_into(&mut self, request: &Request, packet: &mut Packet) -> Told
+        ensures { Answers self.old request.now (answer_in result packet.new) self.new }
+    {
         match request {
-            Request::Command(packet) => self.answer_packet(packet),
+            Request::Command(bytes) => self.answer_packet(bytes, packet),
             Request::Event(channel, signals) => self.fire(*channel, signals),
-            Request::Drain => self.drain(),
+            Request::Drain => self.drain(packet),
             Request::FinishStore => self.finish_store(),
             Request::Hangup => {
                 self.end_session();
-                Answer::Silent
+                Told::Silent
             }
         }
     }
 
-    #[tactic(auto, unfolding(crate::specs::Rows::MeetsRow))]
-    fn answer_packet(&mut self, bytes: &[u8]) -> Answer
+    fn answer_packet(&mut self, bytes: &[u8], packet: &mut Packet) -> Told
         requires { length bytes.now ≤ 255 }
-        ensures { AnswersPacket self.old bytes.now result self.new }
+        ensures { AnswersPacket self.old bytes.now (answer_in result packet.new) self.new }
     {
-        let order = self.order();
-        match decode(bytes, order) {
-            Err(Refuse::Empty) => Answer::Silent,
-            Ok(Command::Connect { mode }) => sent(self.connect(mode), order),
-            _ if !self.connected => Answer::Silent,
-            Ok(command) => self.obey(&command),
-            Err(Refuse::Unknown) => self.refuse(Code::CmdUnknown),
-            Err(Refuse::Short) => self.refuse(Code::CmdSyntax),
+        match decode(bytes, self.order()) {
+            Err(Refuse::Empty) => Told::Silent,
+            Ok(Command::Connect { mode }) => self.obey(&Command::Connect { mode }, packet),
+            _ if !self.connected => Told::Silent,
+            Ok(command) => self.obey(&command, packet),
+            Err(Refuse::Unknown) => self.refuse(Code::CmdUnknown, packet),
+            Err(Refuse::Short) => self.refuse(Code::CmdSyntax, packet),
         }
     }
 
-    fn obey(&mut self, command: &Command) -> Answer
-        ensures { Executes command.now self.old result self.new }
+    fn obey(&mut self, command: &Command, packet: &mut Packet) -> Told
+        ensures { Executes command.now self.old (answer_in result packet.new) self.new }
     {
         let order = self.order();
         self.find(command);
-        sent(self.execute(command), order)
+        let outcome = self.execute(command, packet);
+        Told::of(outcome, packet, order)
     }
 
     /// Any command but DOWNLOAD_NEXT gives a block under way up.
@@ -270,21 +283,28 @@ impl Slave {
         }
     }
 
-    fn refuse(&mut self, code: Code) -> Answer
-        ensures answer { result ≡ answer_of (layout_of self.old).order (Some (Reply.Error code)) }
+    fn refuse(&mut self, code: Code, packet: &mut Packet) -> Told
+        ensures answer { answer_in result packet.new ≡ answer_of (layout_of self.old).order (Some (Reply.Error code)) }
         ensures left { self.new ≡ noblock self.old }
     {
-        let order = self.order();
         self.transfer.give_up_block();
-        sent(Err(Reply::Error(code)), order)
+        Told::of(Err(Fault::Code(code)), packet, self.order())
     }
 
-    #[tactic(auto, unfolding(crate::specs::Rows::MeetsRow))]
-    fn execute(&mut self, command: &Command) -> Outcome
-        ensures row { MeetsRow command.now self.old result self.new }
-        ensures fits { FitsPacket result }
+    #[tactic(auto, unfolding(crate::specs::Rows::TellsRow))]
+    fn execute(&mut self, command: &Command, packet: &mut Packet) -> Outcome
+        ensures { TellsRow command.now self.old result packet.new.items self.new }
     {
-        commands!(dispatch [self command])
+        commands!(dispatch [self command packet])
+    }
+
+    /// Writes a reply into the packet that is lent.
+    fn tell(&self, reply: &Reply, packet: &mut Packet) -> Sent
+        requires { Fits reply.now }
+        ensures { sent_bytes result packet.new.items ≡ reply_bytes (layout_of self.now).order (Some reply.now) }
+    {
+        write_reply(packet, reply, self.order());
+        Sent::Lent
     }
 
     fn end_session(&mut self)
@@ -295,16 +315,5 @@ impl Slave {
         self.transfer.set_mta(Mta::Nowhere);
         self.daq.reset();
         self.outbox.clear();
-    }
-}
-
-/// What is sent of an outcome.
-fn sent(outcome: Outcome, order: Order) -> Answer
-    requires { FitsPacket outcome }
-    ensures { result ≡ answer_of order (sent_reply outcome) }
-{
-    match outcome {
-        Ok(None) => Answer::Silent,
-        Ok(Some(reply)) | Err(reply) => Answer::Packet(encode_reply(&reply, order)),
     }
 }

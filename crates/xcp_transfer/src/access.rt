@@ -1,5 +1,5 @@
 //! Reads and writes of the pages at a memory transfer address (MTA).
-ghost use Rattle.std.specs.Prelude.{◌≡◌, ◌≤◌, ◌<◌, ◌+◌, length, drop, take, true, false, None, Some, IfOk, IfErr, nat_le};
+ghost use Rattle.std.specs.Prelude.{◌≡◌, ◌≤◌, ◌<◌, ◌+◌, ◌∷◌, length, drop, take, true, false, None, Some, IfOk, OnOk, IfErr, nat_le};
 ghost use Rattle.xcp_memory.specs.Words.{lies_inside, tool_bytes, write_refusal, pages_written};
 ghost use Rattle.xcp_packet.specs.Order.{double_at, double_bytes};
 ghost use Rattle.xcp_transfer.specs.Value.{text_of, IsText, IsMta};
@@ -7,67 +7,73 @@ ghost use Rattle.xcp_transfer.specs.Words.{is_readable, sum_refusal_at, sum_at, 
 
 use crate::{Mta, TextId};
 use xcp_memory::{Layout, Pages};
-use xcp_packet::{Code, Data};
+use xcp_packet::{Code, Packet, write_blank};
 
-/// Reads n bytes from an MTA on: the bytes, and the MTA behind them. `AccessDenied` where they
-/// don't lie in one area, or a text has fewer left.
-pub(crate) fn read(pages: &Pages, mta: Mta, n: u8) -> Result<(Data, Mta), Code>
+/// Reads n bytes from an MTA on into a packet, as the reply that tells them, and answers the MTA
+/// behind them. `AccessDenied` where they don't lie in one area, or a text has fewer left.
+pub(crate) fn read(pages: &Pages, mta: Mta, n: u8, packet: &mut Packet) -> Result<Mta, Code>
     requires some { 0 < n }
+    requires most { n ≤ 254 }
     requires there { IsMta pages.now.layout mta }
-    ensures ok { IfOk result (λ r. (is_readable pages.now mta n ≡ true) × (r.0.items ≡ bytes_at pages.now mta n) × (length r.0.items ≡ n) × (r.1 ≡ moved mta n)) }
-    ensures next { IfOk result (λ r. IsMta pages.now.layout r.1) }
+    ensures ok { IfOk result (λ next. (is_readable pages.now mta n ≡ true) × (packet.new.items ≡ 0xFF ∷ bytes_at pages.now mta n) × (next ≡ moved mta n)) }
+    ensures next { IfOk result (λ next. IsMta pages.now.layout next) }
     ensures refused { IfErr result (λ code. (is_readable pages.now mta n ≡ false) × (code ≡ Code.AccessDenied)) }
 {
+    write_blank(packet, n);
+    read_through(pages, mta, &mut packet.as_mut_slice()[1..])
+}
+
+/// Reads as many bytes as the buffer has.
+fn read_through(pages: &Pages, mta: Mta, buffer: &mut [u8]) -> Result<Mta, Code>
+    requires some { 0 < length buffer.old }
+    requires most { length buffer.old ≤ 254 }
+    requires there { IsMta pages.now.layout mta }
+    ensures ok { IfOk result (λ next. (is_readable pages.now mta (length buffer.old) ≡ true) × (buffer.new ≡ bytes_at pages.now mta (length buffer.old)) × (next ≡ moved mta (length buffer.old))) }
+    ensures next { IfOk result (λ next. IsMta pages.now.layout next) }
+    ensures refused { IfErr result (λ code. (is_readable pages.now mta (length buffer.old) ≡ false) × (code ≡ Code.AccessDenied)) }
+{
+    let n = buffer.len() as u8;
     match mta {
         Mta::Nowhere => Err(Code::AccessDenied),
         Mta::Memory(address) => {
-            let bytes = read_memory(pages, address, n)?;
-            Ok((bytes, Mta::Memory(address + u32::from(n))))
+            read_memory(pages, address, buffer)?;
+            Ok(Mta::Memory(address + u32::from(n)))
         }
         Mta::Text(id, place) => {
-            let bytes = read_text(pages.layout(), id, place, n)?;
-            Ok((bytes, Mta::Text(id, place + n)))
+            read_text(pages.layout(), id, place, buffer)?;
+            Ok(Mta::Text(id, place + n))
         }
     }
 }
 
-fn read_memory(pages: &Pages, address: u32, n: u8) -> Result<Data, Code>
-    requires { 0 < n }
-    ensures ok { IfOk result (λ bytes. (lies_inside pages.now.layout address n ≡ true) × (bytes.items ≡ tool_bytes pages.now address n) × (length bytes.items ≡ n)) }
-    ensures last { IfOk result (λ bytes. address + n ≤ 0xFFFF_FFFF) }
-    ensures refused { IfErr result (λ code. (lies_inside pages.now.layout address n ≡ false) × (code ≡ Code.AccessDenied)) }
-{
-    let mut buffer = [0; 255];
-    read_through(pages, address, &mut buffer[..n as usize])
-}
-
-/// Reads as many bytes as the buffer has.
 #[tactic(auto, using(crate::proofs::Ends::inside_last))]
-fn read_through(pages: &Pages, address: u32, buffer: &mut [u8]) -> Result<Data, Code>
+fn read_memory(pages: &Pages, address: u32, buffer: &mut [u8]) -> Result<(), Code>
     requires some { 0 < length buffer.old }
-    requires most { length buffer.old ≤ 255 }
-    ensures ok { IfOk result (λ bytes. (lies_inside pages.now.layout address (length buffer.old) ≡ true) × (bytes.items ≡ tool_bytes pages.now address (length buffer.old)) × (length bytes.items ≡ length buffer.old)) }
-    ensures last { IfOk result (λ bytes. address + length buffer.old ≤ 0xFFFF_FFFF) }
+    requires most { length buffer.old ≤ 254 }
+    ensures ok { OnOk result ((lies_inside pages.now.layout address (length buffer.old) ≡ true) × (buffer.new ≡ tool_bytes pages.now address (length buffer.old))) }
+    ensures last { OnOk result (address + length buffer.old ≤ 0xFFFF_FFFF) }
     ensures refused { IfErr result (λ code. (lies_inside pages.now.layout address (length buffer.old) ≡ false) × (code ≡ Code.AccessDenied)) }
 {
     pages.audit();
     pages.read_xcp(address, buffer)?;
-    Ok(data(buffer))
+    Ok(())
 }
 
-fn read_text(layout: &Layout, id: TextId, place: u8, n: u8) -> Result<Data, Code>
+fn read_text(layout: &Layout, id: TextId, place: u8, buffer: &mut [u8]) -> Result<(), Code>
     requires text { IsText layout.now id }
-    ensures ok { IfOk result (λ bytes. (nat_le (place + n) (length (text_of layout.now id)) ≡ true) × (bytes.items ≡ take n (drop place (text_of layout.now id))) × (length bytes.items ≡ n)) }
-    ensures last { IfOk result (λ bytes. (place + n ≤ length (text_of layout.now id)) × (place + n ≤ 64)) }
-    ensures refused { IfErr result (λ code. (nat_le (place + n) (length (text_of layout.now id)) ≡ false) × (code ≡ Code.AccessDenied)) }
+    requires most { length buffer.old ≤ 254 }
+    ensures ok { OnOk result ((nat_le (place + length buffer.old) (length (text_of layout.now id)) ≡ true) × (buffer.new ≡ take (length buffer.old) (drop place (text_of layout.now id)))) }
+    ensures last { OnOk result ((place + length buffer.old ≤ length (text_of layout.now id)) × (place + length buffer.old ≤ 64)) }
+    ensures refused { IfErr result (λ code. (nat_le (place + length buffer.old) (length (text_of layout.now id)) ≡ false) × (code ≡ Code.AccessDenied)) }
 {
     let text = text(layout, id);
     let place = place as usize;
-    let end = place + n as usize;
+    let end = place + buffer.len();
     if end > text.len() {
         return Err(Code::AccessDenied);
     }
-    Ok(data(&text[place..end]))
+    buffer.copy_from_slice(&text[place..end]);
+    Ok(())
 }
 
 /// Sums up `size` bytes from an MTA on: the checksum, and the MTA behind them. `OutOfRange` where
@@ -98,15 +104,6 @@ fn text(layout: &Layout, id: TextId) -> &[u8]
         TextId::Id => layout.id(),
         TextId::Name(event) => layout.event_name(event as usize),
     }
-}
-
-fn data(bytes: &[u8]) -> Data
-    requires { length bytes.now ≤ 255 }
-    ensures { result.items ≡ bytes.now }
-{
-    let mut data = Data::new();
-    let _ = data.try_extend_from_slice(bytes);
-    data
 }
 
 /// The address of n bytes at an MTA that may be written. `AccessDenied` nowhere and where they

@@ -14,7 +14,7 @@ use crate::Mta;
 use crate::block::Block;
 use std::marker::Model;
 use xcp_memory::Pages;
-use xcp_packet::Code;
+use xcp_packet::{Code, Order};
 
 /// The pages that a tool reads and writes, its memory transfer address (MTA), and the block that
 /// a DOWNLOAD began.
@@ -69,6 +69,12 @@ impl Transfer {
         ensures { result ≡ self.now.mta }
     {
         self.mta
+    }
+
+    fn order(&self) -> Order
+        ensures { result ≡ self.now.pages.layout.order }
+    {
+        self.pages.layout().order()
     }
 
     /// Sets the memory transfer address: any address, or a text that there is, and a place in it.

@@ -46,14 +46,16 @@ id = "ENGINE-4CYL 2.1.0"
 max_cto = 64
 max_dto = 128
 
-# Optional: the order of the bytes of a word. "intel", the lowest first, is the only one so far.
+# Optional: the order of the bytes of a word in packets: "intel", the lowest first, or "motorola", the highest.
 byte_order = "intel"
 
-# Optional: how BUILD_CHECKSUM adds bytes, into one (ADD_11), two (ADD_12) or four (ADD_14, where none is given).
+# Optional: what BUILD_CHECKSUM adds, and into how many bytes: bytes into one (ADD_11), two (ADD_12) or four (ADD_14, where none
+# is given), words into two (ADD_22) or four (ADD_24), double words into four (ADD_44).
 checksum = "ADD_12"
 
 # Segment 0: ignition angles in half degrees, four loads by eight speeds.
 # Long data goes over several lines between three quotes; a backslash takes away the line's end and the blanks behind it.
+# Optional: how many pages there are, 2 (where none is given) to 4; page 0 is the reference page, the others are working pages.
 [[segment]]
 address = 0x0008_0000
 data = """\
@@ -61,6 +63,7 @@ data = """\
     12141618181A1C1E\
     1012141414161818\
     0C0E101010121414"""
+pages = 3
 
 # Segment 1: injection times in units of 4 microseconds, eight words.
 [[segment]]

@@ -1,66 +1,69 @@
 //! The commands that move the tool's bytes: SET_MTA, uploads, BUILD_CHECKSUM, downloads.
-#![tactic(auto, unfolding(crate::specs::Rows::MeetsRow))]
+#![tactic(auto, unfolding(crate::specs::Rows::TellsRow))]
 
-ghost use Rattle.xcp_slave.specs.Rows.{MeetsRow};
-ghost use Rattle.xcp_packet.specs.Rows.{FitsPacket};
+ghost use Rattle.xcp_slave.specs.Rows.{TellsRow};
 
 use super::{Outcome, Slave};
-use xcp_packet::{Code, Command, Data, Reply};
+use xcp_packet::{Code, Command, Data, Fault, Packet, Reply};
 use xcp_transfer::Mta;
 
 impl Slave {
-    pub(super) fn set_mta(&mut self, extension: u8, address: u32) -> Outcome
-        ensures row { MeetsRow (Command.SetMta extension address) self.old result self.new }
-        ensures fits { FitsPacket result }
+    pub(super) fn set_mta(&mut self, extension: u8, address: u32, packet: &mut Packet) -> Outcome
+        ensures { TellsRow (Command.SetMta extension address) self.old result packet.new.items self.new }
     {
         if extension != 0 {
             self.transfer.give_up_block();
-            return Err(Reply::Error(Code::OutOfRange));
+            return Err(Fault::Code(Code::OutOfRange));
         }
         self.transfer.set_mta(Mta::Memory(address));
-        Ok(Some(Reply::Done))
+        Ok(self.tell(&Reply::Done, packet))
     }
 
-    pub(super) fn upload(&mut self, n: u8) -> Outcome
-        ensures row { MeetsRow (Command.Upload n) self.old result self.new }
-        ensures fits { FitsPacket result }
+    pub(super) fn upload(&mut self, n: u8, packet: &mut Packet) -> Outcome
+        ensures { TellsRow (Command.Upload n) self.old result packet.new.items self.new }
     {
-        self.transfer.upload(n)
+        self.transfer.upload(n, packet)
     }
 
-    pub(super) fn short_upload(&mut self, n: u8, extension: u8, address: u32) -> Outcome
-        ensures row { MeetsRow (Command.ShortUpload n extension address) self.old result self.new }
-        ensures fits { FitsPacket result }
+    pub(super) fn short_upload(
+        &mut self,
+        n: u8,
+        extension: u8,
+        address: u32,
+        packet: &mut Packet,
+    ) -> Outcome
+        ensures { TellsRow (Command.ShortUpload n extension address) self.old result packet.new.items self.new }
     {
-        self.transfer.short_upload(n, extension, address)
+        self.transfer.short_upload(n, extension, address, packet)
     }
 
-    pub(super) fn build_checksum(&mut self, size: u32) -> Outcome
-        ensures row { MeetsRow (Command.BuildChecksum size) self.old result self.new }
-        ensures fits { FitsPacket result }
+    pub(super) fn build_checksum(&mut self, size: u32, packet: &mut Packet) -> Outcome
+        ensures { TellsRow (Command.BuildChecksum size) self.old result packet.new.items self.new }
     {
-        self.transfer.build_checksum(size)
+        self.transfer.build_checksum(size, packet)
     }
 
-    pub(super) fn download(&mut self, n: u8, bytes: &Data) -> Outcome
-        ensures row { MeetsRow (Command.Download n bytes.now) self.old result self.new }
-        ensures fits { FitsPacket result }
+    pub(super) fn download(&mut self, n: u8, bytes: &Data, packet: &mut Packet) -> Outcome
+        ensures { TellsRow (Command.Download n bytes.now) self.old result packet.new.items self.new }
     {
-        self.transfer.download(n, bytes)
+        self.transfer.download(n, bytes, packet)
     }
 
-    pub(super) fn download_next(&mut self, remaining: u8, bytes: &Data) -> Outcome
-        ensures row { MeetsRow (Command.DownloadNext remaining bytes.now) self.old result self.new }
-        ensures fits { FitsPacket result }
+    pub(super) fn download_next(
+        &mut self,
+        remaining: u8,
+        bytes: &Data,
+        packet: &mut Packet,
+    ) -> Outcome
+        ensures { TellsRow (Command.DownloadNext remaining bytes.now) self.old result packet.new.items self.new }
     {
-        self.transfer.download_next(remaining, bytes)
+        self.transfer.download_next(remaining, bytes, packet)
     }
 
-    pub(super) fn download_max(&mut self, bytes: &Data) -> Outcome
-        ensures row { MeetsRow (Command.DownloadMax bytes.now) self.old result self.new }
-        ensures fits { FitsPacket result }
+    pub(super) fn download_max(&mut self, bytes: &Data, packet: &mut Packet) -> Outcome
+        ensures { TellsRow (Command.DownloadMax bytes.now) self.old result packet.new.items self.new }
     {
-        self.transfer.download_max(bytes)
+        self.transfer.download_max(bytes, packet)
     }
 
     pub(super) fn short_download(
@@ -69,17 +72,17 @@ impl Slave {
         extension: u8,
         address: u32,
         bytes: &Data,
+        packet: &mut Packet,
     ) -> Outcome
-        ensures row { MeetsRow (Command.ShortDownload n extension address bytes.now) self.old result self.new }
-        ensures fits { FitsPacket result }
+        ensures { TellsRow (Command.ShortDownload n extension address bytes.now) self.old result packet.new.items self.new }
     {
-        self.transfer.short_download(n, extension, address, bytes)
+        self.transfer
+            .short_download(n, extension, address, bytes, packet)
     }
 
-    pub(super) fn modify_bits(&mut self, s: u8, ma: u16, mx: u16) -> Outcome
-        ensures row { MeetsRow (Command.ModifyBits s ma mx) self.old result self.new }
-        ensures fits { FitsPacket result }
+    pub(super) fn modify_bits(&mut self, s: u8, ma: u16, mx: u16, packet: &mut Packet) -> Outcome
+        ensures { TellsRow (Command.ModifyBits s ma mx) self.old result packet.new.items self.new }
     {
-        self.transfer.modify_bits(s, ma, mx)
+        self.transfer.modify_bits(s, ma, mx, packet)
     }
 }

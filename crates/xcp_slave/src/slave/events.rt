@@ -1,10 +1,12 @@
 //! What the controller and the transport ask: events, packets that wait, and stores.
-ghost use Rattle.std.specs.Prelude.{◌≡◌, MatchBool};
+ghost use Rattle.std.specs.Prelude.{◌≡◌, ℕ, MatchBool};
+ghost use Rattle.arrayvec.specs.ArrayVec.{ArrayVec};
 ghost use Rattle.xcp_slave.specs.Step.{Drains, Fires, Samples, Stores, store_event};
+ghost use Rattle.xcp_slave.specs.Told.{answer_in};
 ghost use Rattle.xcp_daq.specs.Sample.{sampled};
 
 use super::Slave;
-use crate::Answer;
+use crate::{Answer, Told};
 use xcp_packet::Packet;
 
 /// The first byte of an event packet, and the event's code.
@@ -14,60 +16,61 @@ const EV_STORE_CAL: u8 = 0x03;
 
 impl Slave {
     /// An event channel fires: its signals are taken over, and the lists that are due are sampled.
-    pub(super) fn fire(&mut self, channel: u16, signals: &[u8]) -> Answer
-        ensures { Fires channel signals.now self.old result self.new }
+    pub(super) fn fire(&mut self, channel: u16, signals: &[u8]) -> Told
+        ensures { (packet : ArrayVec ℕ) → Fires channel signals.now self.old (answer_in result packet) self.new }
     {
         let layout = self.transfer.pages().layout();
         if channel as usize >= layout.event_count() {
-            return Answer::NoChannel;
+            return Told::NoChannel;
         }
         if signals.len() != layout.signals_length() {
-            return Answer::BadSignals;
+            return Told::BadSignals;
         }
         self.transfer.set_signals(signals);
         self.sample(channel)
     }
 
     /// All packets of a sample wait, or none.
-    fn sample(&mut self, channel: u16) -> Answer
-        ensures { Samples channel (sampled channel self.old.transfer.pages self.old.daq) self.old result self.new }
+    fn sample(&mut self, channel: u16) -> Told
+        ensures { (packet : ArrayVec ℕ) → Samples channel (sampled channel self.old.transfer.pages self.old.daq) self.old (answer_in result packet) self.new }
     {
         self.sample.clear();
         let pages = self.transfer.pages();
         self.daq.sample(channel, pages, &mut self.sample);
         if self.sample.len() > self.outbox.room() {
-            return Answer::Overrun;
+            return Told::Overrun;
         }
         self.outbox.append(&self.sample);
-        Answer::Sampled(self.sample.len() as u8)
+        Told::Sampled(self.sample.len() as u8)
     }
 
     /// The first packet that waits.
-    pub(super) fn drain(&mut self) -> Answer
-        ensures { Drains self.old.outbox self.old result self.new }
+    pub(super) fn drain(&mut self, packet: &mut Packet) -> Told
+        ensures { Drains self.old.outbox self.old (answer_in result packet.new) self.new }
     {
-        match self.outbox.take_first() {
-            Some(packet) => Answer::Packet(packet),
-            None => Answer::Nothing,
+        if self.outbox.take_first(packet) {
+            Told::Packet
+        } else {
+            Told::Nothing
         }
     }
 
     /// Stores the segments that are in FREEZE mode, where it was asked for.
-    pub(super) fn finish_store(&mut self) -> Answer
-        ensures { MatchBool self.old.store (Stores self.old result self.new) ((result ≡ Answer.NoStore) × (self.new ≡ self.old)) }
+    pub(super) fn finish_store(&mut self) -> Told
+        ensures { (packet : ArrayVec ℕ) → MatchBool self.old.store (Stores self.old (answer_in result packet) self.new) ((answer_in result packet ≡ Answer.NoStore) × (self.new ≡ self.old)) }
     {
         if !self.store {
-            return Answer::NoStore;
+            return Told::NoStore;
         }
         if self.connected && self.outbox.room() == 0 {
-            return Answer::Later;
+            return Told::Later;
         }
         let count = self.transfer.freeze();
         self.store = false;
         if self.connected {
             self.outbox.push(stored_packet());
         }
-        Answer::Stored(count)
+        Told::Stored(count)
     }
 }
 

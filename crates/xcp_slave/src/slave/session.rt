@@ -1,12 +1,11 @@
 //! The commands of a session: CONNECT, DISCONNECT, GET_STATUS, SYNCH, GET_COMM_MODE_INFO, GET_ID.
-#![tactic(auto, unfolding(crate::specs::Rows::MeetsRow))]
+#![tactic(auto, unfolding(crate::specs::Rows::TellsRow))]
 
-ghost use Rattle.xcp_slave.specs.Rows.{MeetsRow};
-ghost use Rattle.xcp_packet.specs.Rows.{FitsPacket};
+ghost use Rattle.xcp_slave.specs.Rows.{TellsRow};
 
 use super::{Outcome, Slave};
 use crate::SessionStatus;
-use xcp_packet::{Code, Command, Reply};
+use xcp_packet::{Code, Command, Packet, Reply};
 use xcp_transfer::Mta;
 
 /// COMM_MODE_BASIC of CONNECT but for the byte order, which is bit 0: optional information can be
@@ -14,54 +13,49 @@ use xcp_transfer::Mta;
 const COMM_MODE_BASIC: u8 = 0x80;
 
 impl Slave {
-    pub(super) fn connect(&mut self, _mode: u8) -> Outcome
-        ensures row { MeetsRow (Command.Connect _mode) self.old result self.new }
-        ensures fits { FitsPacket result }
+    pub(super) fn connect(&mut self, _mode: u8, packet: &mut Packet) -> Outcome
+        ensures { TellsRow (Command.Connect _mode) self.old result packet.new.items self.new }
     {
         self.connected = true;
         self.transfer.give_up_block();
         self.transfer.set_mta(Mta::Nowhere);
-        Ok(Some(Reply::Connect {
+        let reply = Reply::Connect {
             basic: COMM_MODE_BASIC + self.order().bit(),
             max_cto: self.layout().max_cto(),
             max_dto: u16::from(self.layout().max_dto()),
-        }))
+        };
+        Ok(self.tell(&reply, packet))
     }
 
-    pub(super) fn disconnect(&mut self) -> Outcome
-        ensures row { MeetsRow Command.Disconnect self.old result self.new }
-        ensures fits { FitsPacket result }
+    pub(super) fn disconnect(&mut self, packet: &mut Packet) -> Outcome
+        ensures { TellsRow Command.Disconnect self.old result packet.new.items self.new }
     {
         self.end_session();
-        Ok(Some(Reply::Done))
+        Ok(self.tell(&Reply::Done, packet))
     }
 
-    pub(super) fn get_status(&mut self) -> Outcome
-        ensures row { MeetsRow Command.GetStatus self.old result self.new }
-        ensures fits { FitsPacket result }
+    pub(super) fn get_status(&mut self, packet: &mut Packet) -> Outcome
+        ensures { TellsRow Command.GetStatus self.old result packet.new.items self.new }
     {
         let status = SessionStatus::bits_of(self.store, self.daq.any_running());
-        Ok(Some(Reply::Status(status)))
+        Ok(self.tell(&Reply::Status(status), packet))
     }
 
-    pub(super) fn synch(&mut self) -> Outcome
-        ensures row { MeetsRow Command.Synch self.old result self.new }
-        ensures fits { FitsPacket result }
+    pub(super) fn synch(&mut self, packet: &mut Packet) -> Outcome
+        ensures { TellsRow Command.Synch self.old result packet.new.items self.new }
     {
-        Ok(Some(Reply::Error(Code::CmdSynch)))
+        Ok(self.tell(&Reply::Error(Code::CmdSynch), packet))
     }
 
-    pub(super) fn get_comm_mode_info(&mut self) -> Outcome
-        ensures row { MeetsRow Command.GetCommModeInfo self.old result self.new }
-        ensures fits { FitsPacket result }
+    pub(super) fn get_comm_mode_info(&mut self, packet: &mut Packet) -> Outcome
+        ensures { TellsRow Command.GetCommModeInfo self.old result packet.new.items self.new }
     {
-        Ok(Some(Reply::CommMode))
+        Ok(self.tell(&Reply::CommMode, packet))
     }
 
-    pub(super) fn get_id(&mut self, kind: u8) -> Outcome
-        ensures row { MeetsRow (Command.GetId kind) self.old result self.new }
-        ensures fits { FitsPacket result }
+    pub(super) fn get_id(&mut self, kind: u8, packet: &mut Packet) -> Outcome
+        ensures { TellsRow (Command.GetId kind) self.old result packet.new.items self.new }
     {
-        self.transfer.get_id(kind)
+        self.transfer.get_id(kind, packet)
     }
 }

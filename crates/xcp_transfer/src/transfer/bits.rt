@@ -1,12 +1,12 @@
 //! MODIFY_BITS.
 ghost use Rattle.std.specs.Prelude.{◌≡◌, ◌≤◌, None, Some};
 ghost use Rattle.xcp_transfer.specs.Downloads.{modify_bits_row, modified};
-ghost use Rattle.xcp_packet.specs.Rows.{Meets, FitsPacket};
+ghost use Rattle.xcp_packet.specs.Rows.{Tells};
 ghost use Rattle.xcp_transfer.specs.Value.{without_block};
 
 use super::Transfer;
 use crate::access::{read_double, writable, write_double};
-use xcp_packet::{Code, Reply};
+use xcp_packet::{Code, Fault, Packet, Reply, Sent, write_reply};
 
 /// How many bytes a double word has.
 const DOUBLE: u8 = 4;
@@ -18,19 +18,25 @@ impl Transfer {
     ///
     /// `OutOfRange` for s, then `AccessDenied`, then `WriteProtected`.
     /// ASAM MCD-1 XCP, protocol layer, description of commands: MODIFY_BITS.
-    pub fn modify_bits(&mut self, s: u8, ma: u16, mx: u16) -> Result<Option<Reply>, Reply>
-        ensures row { Meets (modify_bits_row s ma mx self.old) (without_block self.old) result self.new }
-        ensures fits { FitsPacket result }
+    pub fn modify_bits(
+        &mut self,
+        s: u8,
+        ma: u16,
+        mx: u16,
+        packet: &mut Packet,
+    ) -> Result<Sent, Fault>
+        ensures { Tells self.old.pages.layout.order (modify_bits_row s ma mx self.old) (without_block self.old) result packet.new.items self.new }
     {
         self.block = None;
         if s > 31 {
-            return Err(Reply::Error(Code::OutOfRange));
+            return Err(Fault::Code(Code::OutOfRange));
         }
-        let address = writable(&self.pages, self.mta, DOUBLE).map_err(Reply::Error)?;
+        let address = writable(&self.pages, self.mta, DOUBLE)?;
         let old = read_double(&self.pages, address);
         let new = modified(s, ma, mx, old);
         write_double(&mut self.pages, address, new);
-        Ok(Some(Reply::Done))
+        write_reply(packet, &Reply::Done, self.order());
+        Ok(Sent::Lent)
     }
 }
 

@@ -1,7 +1,7 @@
 //! The commands by which a tool writes: DOWNLOAD, DOWNLOAD_NEXT, DOWNLOAD_MAX, SHORT_DOWNLOAD,
 //! MODIFY_BITS.
 ghost use Rattle.std.specs.Prelude.{◌≡◌, ◌≤◌, ◌<◌, length, None};
-ghost use Rattle.xcp_packet.specs.Rows.{Meets, FitsPacket};
+ghost use Rattle.xcp_packet.specs.Rows.{Tells};
 ghost use Rattle.xcp_transfer.specs.Downloads.{download_row, download_next_row, download_max_row, short_download_row, write_row, packet_room, greatest_download};
 ghost use Rattle.xcp_transfer.specs.Value.{without_block};
 
@@ -9,7 +9,7 @@ use super::Transfer;
 use crate::Mta;
 use crate::access::{writable, write, write_allowed};
 use crate::block::Block;
-use xcp_packet::{Code, Reply};
+use xcp_packet::{Code, Fault, Packet, Reply, Sent, write_reply};
 
 /// MAX_BS: the greatest number of packets in a block.
 const MAX_BS: usize = 8;
@@ -22,24 +22,23 @@ impl Transfer {
     /// `OutOfRange` for n, `CmdSyntax` where data bytes are missing, then `AccessDenied` and
     /// `WriteProtected` for all n bytes.
     /// ASAM MCD-1 XCP, protocol layer, description of commands: DOWNLOAD.
-    pub fn download(&mut self, n: u8, bytes: &[u8]) -> Result<Option<Reply>, Reply>
-        ensures row { Meets (download_row n bytes.now self.old) (without_block self.old) result self.new }
-        ensures fits { FitsPacket result }
+    pub fn download(&mut self, n: u8, bytes: &[u8], packet: &mut Packet) -> Result<Sent, Fault>
+        ensures { Tells self.old.pages.layout.order (download_row n bytes.now self.old) (without_block self.old) result packet.new.items self.new }
     {
         self.block = None;
         if n == 0 || n as usize > self.greatest_download() {
-            return Err(Reply::Error(Code::OutOfRange));
+            return Err(Fault::Code(Code::OutOfRange));
         }
         let room = self.packet_room();
         if bytes.len() < n.min(room) as usize {
-            return Err(Reply::Error(Code::CmdSyntax));
+            return Err(Fault::Code(Code::CmdSyntax));
         }
         if n <= room {
-            return self.write_first(self.mta, n, bytes);
+            return self.write_first(self.mta, n, bytes, packet);
         }
-        let address = writable(&self.pages, self.mta, n).map_err(Reply::Error)?;
+        let address = writable(&self.pages, self.mta, n)?;
         self.block = Some(Block::begin(address, n - room, &bytes[..room as usize]));
-        Ok(None)
+        Ok(Sent::Nothing)
     }
 
     /// DOWNLOAD_NEXT: adds bytes to the block under way. `remaining` tells how many are left,
@@ -50,44 +49,48 @@ impl Transfer {
     /// `remaining` is another number; then `CmdSyntax` where data bytes are missing. Either ends
     /// the block.
     /// ASAM MCD-1 XCP, protocol layer, description of commands: DOWNLOAD_NEXT.
-    pub fn download_next(&mut self, remaining: u8, bytes: &[u8]) -> Result<Option<Reply>, Reply>
-        ensures row { Meets (download_next_row remaining bytes.now self.old) (without_block self.old) result self.new }
-        ensures fits { FitsPacket result }
+    pub fn download_next(
+        &mut self,
+        remaining: u8,
+        bytes: &[u8],
+        packet: &mut Packet,
+    ) -> Result<Sent, Fault>
+        ensures { Tells self.old.pages.layout.order (download_next_row remaining bytes.now self.old) (without_block self.old) result packet.new.items self.new }
     {
         let Some(mut block) = self.block.take() else {
-            return Err(Reply::ErrorCount(Code::Sequence, 0));
+            return Err(Fault::Count(Code::Sequence, 0));
         };
         if remaining != block.expected() {
-            return Err(Reply::ErrorCount(Code::Sequence, block.expected()));
+            return Err(Fault::Count(Code::Sequence, block.expected()));
         }
         let room = self.packet_room();
         if bytes.len() < remaining.min(room) as usize {
-            return Err(Reply::Error(Code::CmdSyntax));
+            return Err(Fault::Code(Code::CmdSyntax));
         }
         if remaining <= room {
             block.add(&bytes[..remaining as usize]);
             self.mta = write_allowed(&mut self.pages, block.address(), block.bytes());
-            return Ok(Some(Reply::Done));
+            write_reply(packet, &Reply::Done, self.order());
+            return Ok(Sent::Lent);
         }
         block.add(&bytes[..room as usize]);
         self.block = Some(block);
-        Ok(None)
+        Ok(Sent::Nothing)
     }
 
     /// DOWNLOAD_MAX: writes MAX_CTO - 1 bytes from the MTA on, and moves it on by as many.
     ///
     /// `CmdSyntax` where data bytes are missing, then `AccessDenied`, then `WriteProtected`.
     /// ASAM MCD-1 XCP, protocol layer, description of commands: DOWNLOAD_MAX.
-    pub fn download_max(&mut self, bytes: &[u8]) -> Result<Option<Reply>, Reply>
-        ensures row { Meets (download_max_row bytes.now self.old) (without_block self.old) result self.new }
-        ensures fits { FitsPacket result }
+    pub fn download_max(&mut self, bytes: &[u8], packet: &mut Packet) -> Result<Sent, Fault>
+        ensures { Tells self.old.pages.layout.order (download_max_row bytes.now self.old) (without_block self.old) result packet.new.items self.new }
     {
         self.block = None;
         let n = self.pages.layout().max_cto() - 1;
         if bytes.len() < n as usize {
-            return Err(Reply::Error(Code::CmdSyntax));
+            return Err(Fault::Code(Code::CmdSyntax));
         }
-        self.write_first(self.mta, n, bytes)
+        self.write_first(self.mta, n, bytes, packet)
     }
 
     /// SHORT_DOWNLOAD: writes n bytes, 1 to MAX_CTO - 8, at an address, and leaves the MTA behind
@@ -102,18 +105,18 @@ impl Transfer {
         extension: u8,
         address: u32,
         bytes: &[u8],
-    ) -> Result<Option<Reply>, Reply>
-        ensures row { Meets (short_download_row n extension address bytes.now self.old) (without_block self.old) result self.new }
-        ensures fits { FitsPacket result }
+        packet: &mut Packet,
+    ) -> Result<Sent, Fault>
+        ensures { Tells self.old.pages.layout.order (short_download_row n extension address bytes.now self.old) (without_block self.old) result packet.new.items self.new }
     {
         self.block = None;
         if n == 0 || n > self.pages.layout().max_cto() - 8 || extension != 0 {
-            return Err(Reply::Error(Code::OutOfRange));
+            return Err(Fault::Code(Code::OutOfRange));
         }
         if bytes.len() < n as usize {
-            return Err(Reply::Error(Code::CmdSyntax));
+            return Err(Fault::Code(Code::CmdSyntax));
         }
-        self.write_first(Mta::Memory(address), n, bytes)
+        self.write_first(Mta::Memory(address), n, bytes, packet)
     }
 
     /// The most data bytes in a packet of DOWNLOAD and DOWNLOAD_NEXT.
@@ -132,15 +135,21 @@ impl Transfer {
     }
 
     /// Writes the first n bytes from an MTA on, and leaves the MTA behind them.
-    fn write_first(&mut self, mta: Mta, n: u8, bytes: &[u8]) -> Result<Option<Reply>, Reply>
+    fn write_first(
+        &mut self,
+        mta: Mta,
+        n: u8,
+        bytes: &[u8],
+        packet: &mut Packet,
+    ) -> Result<Sent, Fault>
         requires some { 0 < n }
         requires enough { n ≤ length bytes.now }
         requires no_block { self.old.block ≡ None }
-        ensures row { Meets (write_row mta n bytes.now self.old) self.old result self.new }
-        ensures fits { FitsPacket result }
+        ensures { Tells self.old.pages.layout.order (write_row mta n bytes.now self.old) self.old result packet.new.items self.new }
     {
         let bytes = &bytes[..n as usize];
-        self.mta = write(&mut self.pages, mta, bytes).map_err(Reply::Error)?;
-        Ok(Some(Reply::Done))
+        self.mta = write(&mut self.pages, mta, bytes)?;
+        write_reply(packet, &Reply::Done, self.order());
+        Ok(Sent::Lent)
     }
 }

@@ -1,9 +1,19 @@
-use Rattle.std.proofs.Common.{◌≡◌, ◌-◌, ◌∙◌, ℕ, List, length, take, drop, ap, arith, length-drop}
+use Rattle.std.proofs.Common.{◌≡◌, ◌-◌, ◌∙◌, ℕ, List, length, take, drop, ap, arith, length-drop, refl}
 use Rattle.std.proofs.lemmas.List.{take_all}
 use Rattle.xcp_framing.proofs.Answering.{passed_on, cons≢nil}
-use Rattle.xcp_framing.proofs.Consuming.{consumes_all, consumes_more, consumes_bad, consumes_part}
+use Rattle.xcp_framing.proofs.Consuming.{consumes_none, consumes_all, consumes_more, consumes_bad, consumes_part}
 use Rattle.xcp_framing.proofs.Refusing.{on_refusal_map, refused_in_piece}
 use Rattle.xcp_framing.proofs.serving.consume.Goals as goal
+
+pub loop-length-init : goal.loop-length-init
+loop-length-init g c = record {
+  consumes = consumes_none _ _ _ _ _ _ _;
+  within = omega arith;
+  bound = omega arith;
+  few = omega arith;
+  quiet = refl;
+  kept = refl;
+}
 
 pub returns-in-BadLength-clause-answers : goal.returns-in-BadLength-clause-answers
 returns-in-BadLength-clause-answers g c =
@@ -52,10 +62,10 @@ loop-length-preserved g c =
     let limit = c.loop-length.invariant.within in
     let front = fed.front in
     record {
-      consumes = rw (c.in_ok-exchange-in-Packet.ensures.frames) counted;
+      consumes = counted;
       within = omega (arith, front, left, limit);
       bound = omega (arith, c.in_ok-exchange-in-Packet.ensures.bound, c.loop-length.invariant.bound, some);
-      few = omega (arith, c.in_ok-exchange-in-Packet.ensures.frames, c.loop-length.invariant.few, some);
+      few = omega (arith, c.loop-length.invariant.few, some);
       quiet = c.in_ok-exchange-in-Packet.ensures.quiet (λ e. cc) ∙ c.loop-length.invariant.quiet;
       kept = c.feed-fed.ensures.kept ∙ c.loop-length.invariant.kept;
     }

@@ -11,8 +11,8 @@ returns-in_err-send-clause-drains g c =
     let x : Exchange = record { request = requests.Drain; answer = c.in_ok-packet.field-0 } in
     let packet : packet_of c.in_ok-packet.field-0 ≡ c.in-Packet.packet.items ∷ [] = rw (c.in-Packet.is) refl in
     rw (passed_on c.from_residual-in_err-send.result c.in_err-send.field-0.0 c.from_residual-in_err-send.ensures.1)
-    (grows_more (Err c.in_err-send.field-0.0) {to = c.send.new.served.sent} c.loop-drain.invariant.drains
-    (grows_sent (Err c.in_err-send.field-0.0) x c.in-Packet.packet.items c.in_ok-packet.ensures.ok packet c.in_err-send.ensures.writes tt)
+    (grows_more (Err c.in_err-send.field-0.0) {to = c.send.new.self.sent} c.loop-drain.invariant.drains
+    (grows_sent (Err c.in_err-send.field-0.0) x c.in-Packet.packet.items c.in_ok-packet.ensures.ok packet c.in_err-send.ensures.sends tt)
     (λ xs ys f e. let d = drains_one c.loop-drain._drain x _ refl packet xs ys f e in (d.0, omega (arith, d.1, c.loop-drain-test.true))))
 
 pub loop-drain-preserved : goal.loop-drain-preserved
@@ -21,9 +21,8 @@ loop-drain-preserved g c =
     let packet : packet_of c.in_ok-packet.field-0 ≡ c.in-Packet.packet.items ∷ [] = rw (c.in-Packet.is) refl in
     record {
       drains = grows_more fine c.loop-drain.invariant.drains
-          (grows_sent fine x c.in-Packet.packet.items c.in_ok-packet.ensures.ok packet c.in_ok-send.ensures.writes c.in_ok-send.ensures.counts)
+          (grows_sent fine x c.in-Packet.packet.items c.in_ok-packet.ensures.ok packet c.in_ok-send.ensures.sends c.in_ok-send.ensures.counts)
           (drains_one c.loop-drain._drain x _ refl packet);
       bound = omega (arith, c.in_ok-send.ensures.counts, c.loop-drain.invariant.bound);
-      frames = c.in_ok-send.ensures.frames ∙ c.loop-drain.invariant.frames;
       quiet = c.in_ok-send.ensures.fine ∙ c.loop-drain.invariant.quiet;
     }

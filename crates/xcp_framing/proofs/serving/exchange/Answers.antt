@@ -1,6 +1,7 @@
 use Rattle.std.proofs.Common.{◌≡◌, [], ◌∷◌, refl, ap}
 use Rattle.xcp_slave.specs.declared.Exchange.{Exchange}
 use Rattle.xcp_slave.specs.declared.Request.TheVariants as requests
+use Rattle.xcp_framing.specs.Gathered.{output}
 use Rattle.xcp_framing.specs.Serve.{refused_with}
 use Rattle.xcp_framing.specs.Turns.{Grows, fine}
 use Rattle.xcp_framing.proofs.Answering.{grows_more, grows_quiet, grows_sent, grows_refused, passed_on, answers_none, answers_one, no_packet}
@@ -16,10 +17,10 @@ returns-in_err-packet-clause-answers g c =
 pub returns-clause-answers : goal.returns-clause-answers
 returns-clause-answers g c =
     let x : Exchange = record { request = requests.Command c.args.packet; answer = c.in_ok-packet.field-0 } in
-    let asked : Grows fine (λ xs. xs ≡ x ∷ []) (g.S.Station.exchanges c.args.station.now) (g.S.Station.exchanges c.submit.new.self) (g.W.Write.contents c.args.writer.now.inner) (g.W.Write.contents c.match-branch-2.writer.inner) c.args.served.now.sent c.match-branch-2.served.sent =
+    let asked : Grows fine (λ xs. xs ≡ x ∷ []) (g.S.Station.exchanges c.args.station.now) (g.S.Station.exchanges c.submit.new.self) (output (g.W.Write.contents c.args.writer.now.inner) c.args.sender.now) (output (g.W.Write.contents c.match-branch-2.writer.inner) c.match-branch-2.sender) c.args.sender.now.sent c.match-branch-2.sender.sent =
     elim c.match-branch-2.branch [
-      | in-Packet+in_ok-send w ↦ rw (w.writer-is, w.served-is) (grows_sent fine x w.in-Packet.packet.items c.in_ok-packet.ensures.ok (rw (w.in-Packet.is) refl) w.in_ok-send.ensures.writes w.in_ok-send.ensures.counts)
-      | in_default w ↦ rw (w.writer-is, w.served-is) (grows_quiet x _ _ c.in_ok-packet.ensures.ok (no_packet _ w.in_default.not-Packet))
+      | in-Packet+in_ok-send w ↦ rw (w.writer-is, w.sender-is) (grows_sent fine x w.in-Packet.packet.items c.in_ok-packet.ensures.ok (rw (w.in-Packet.is) refl) w.in_ok-send.ensures.sends w.in_ok-send.ensures.counts)
+      | in_default w ↦ rw (w.writer-is, w.sender-is) (grows_quiet x _ _ c.in_ok-packet.ensures.ok (no_packet _ w.in_default.not-Packet))
     ] in
     grows_more c.drain.result asked c.drain.ensures.drains (answers_one c.drain.result c.args.packet.items x refl c.drain.ensures.stops)
 

@@ -10,10 +10,10 @@ returns-clause-packet c =
     let first = c.self.inside.first in
     let slots = c.self.inside.slots.items in
     let some : 0 < c.self.inside.count = omega (arith, c.if-self-eq0.false) in
-    let packet = c.copied-packet.result in
+    let packet = c.copy_into.new.packet in
     let there : first < length slots = omega (arith, c.self.invariant.slots_are, c.self.invariant.begins) in
-    let is = c.copied-packet.ensures ∙ c.index-deref-self.is ∙ ap (λ (xs : List (ArrayVec ℕ)). get_or xs first c.index-deref-self.result) c.deref.ensures.0 ∙ get_or_default slots first c.index-deref-self.result packet there in
-    sym (ap first_of (sym c.self.view_is ∙ taken first c.self.inside.count slots packet c.self.invariant some is))
+    let is = c.copy_into.ensures ∙ c.index-deref-self.is ∙ ap (λ (xs : List (ArrayVec ℕ)). get_or xs first c.index-deref-self.result) c.deref.ensures.0 ∙ get_or_default slots first c.index-deref-self.result packet there in
+    ap first_of (sym c.self.view_is ∙ taken first c.self.inside.count slots packet c.self.invariant some is)
 
 pub returns-clause-others : goal.returns-clause-others
 returns-clause-others c =

@@ -1,0 +1,5 @@
+use Rattle.xcp_framing.proofs.Pairs.{in_table}
+use Rattle.xcp_framing.proofs.digits.digit_value.Goals as goal
+
+pub returns : goal.returns
+returns c = in_table c.args.digit c.ranges.digit.fits

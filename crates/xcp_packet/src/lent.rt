@@ -1,0 +1,45 @@
+//! What comes of a command whose reply is written where it is sent from: into a packet that the
+//! caller lends.
+ghost use Rattle.std.specs.Prelude.{◌≡◌};
+ghost use Rattle.xcp_packet.specs.Layout.{layout};
+ghost use Rattle.xcp_packet.specs.Lent.{fault_reply};
+
+use crate::{Code, Order, Packet, Reply, write_reply};
+
+/// What is sent of a command that was not refused.
+#[derive(Clone, Copy, Debug, PartialEq, Eq)]
+pub enum Sent {
+    /// The packet that was lent, in which the reply now stands.
+    Lent,
+    /// Nothing.
+    Nothing,
+}
+
+/// Why a command is refused, as its error packet tells it.
+#[derive(Clone, Copy, Debug, PartialEq, Eq)]
+pub enum Fault {
+    /// An error code.
+    Code(Code),
+    /// An error code, and the number of data elements that DOWNLOAD_NEXT was expected to tell.
+    Count(Code, u8),
+}
+
+impl From<Code> for Fault {
+    ghost use Rattle.xcp_packet.specs.declared.lent.Fault.TheVariants as faults;
+
+    ghost from_gives = { λ code fault. fault ≡ faults.Code code };
+
+    fn from(code: Code) -> Fault {
+        Fault::Code(code)
+    }
+}
+
+/// Makes the error packet of a refusal the packet's bytes.
+pub fn write_fault(packet: &mut Packet, fault: Fault, order: Order)
+    ensures { packet.new.items ≡ layout order (fault_reply fault) }
+{
+    match fault {
+        Fault::Code(code) => write_reply(packet, &Reply::Error(code), order),
+        Fault::Count(code, count) => write_reply(packet, &Reply::ErrorCount(code, count), order),
+    }
+}

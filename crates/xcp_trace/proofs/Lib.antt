@@ -1,0 +1,3 @@
+mod Cursor
+mod Joined
+mod Spelled

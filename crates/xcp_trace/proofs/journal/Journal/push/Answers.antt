@@ -1,0 +1,15 @@
+use Rattle.std.proofs.Common.{ap, arith, ◌∙◌, ◌++◌, ◌∷◌, []}
+use Rattle.xcp_trace.specs.declared.journal.Entry.{Entry}
+use Rattle.xcp_trace.specs.Entries.{IsEntry, JournalValue}
+use Rattle.xcp_trace.proofs.Spelled.{all_more, entry_pushed}
+use Rattle.xcp_trace.proofs.journal.Journal.push.Goals as goal
+
+pub invariant_of-self : goal.invariant_of-self
+invariant_of-self c =
+    rw (c.push.ensures, c.spell-spelled.ensures.string)
+    (all_more IsEntry _ _ c.self.invariant (record { caller = omega arith; exchange = c.spell-spelled.ensures.fits }))
+
+pub returns : goal.returns
+returns c =
+    let e : Entry = record { caller = c.args.caller; exchange = record { request = c.args.request.now; answer = c.args.answer.now } } in
+    rw (c.push.ensures, c.spell-spelled.ensures.string) (entry_pushed c.self.inside.tape.strings e ∙ ap (λ (j : JournalValue). j.entries ++ e ∷ []) c.self.view_is)

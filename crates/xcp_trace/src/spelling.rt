@@ -1,0 +1,138 @@
+//! The string of an exchange, in its parts.
+ghost use Rattle.std.specs.Prelude.{◌≡◌, ◌≤◌, ◌<◌, ◌++◌, length};
+ghost use Rattle.xcp_trace.specs.Spelling.{IsSpelling, answer_bytes, answer_count, answer_of, answer_tag, exchange_in, request_bytes, request_channel, request_of, request_tag, spelling};
+
+use arrayvec::ArrayVec;
+use xcp_slave::{Answer, Exchange, Request};
+
+/// The bytes of a head: the request's tag and its channel, the answer's tag and its number, and the
+/// length of the request's bytes.
+pub(crate) const HEAD_BYTES: usize = 6;
+
+/// The most bytes of a command or a packet.
+const PACKET_BYTES: usize = 255;
+
+/// The most bytes of an exchange's string: its head, a command and a packet.
+pub(crate) const EXCHANGE_BYTES: usize = HEAD_BYTES + PACKET_BYTES + PACKET_BYTES;
+
+/// The parts of an exchange's string.
+#[derive(Drop)]
+pub(crate) struct Spelled<'a> {
+    pub(crate) head: [u8; HEAD_BYTES],
+    pub(crate) asked: &'a [u8],
+    pub(crate) told: &'a [u8],
+}
+
+/// The string of an exchange, from its request and its answer.
+pub(crate) fn spell<'a>(request: &'a Request, answer: &'a Answer) -> Spelled<'a>
+    ensures string { result.head ++ result.asked.now ++ result.told.now
+        ≡ spelling (record { request = request.now; answer = answer.now }) }
+    ensures fits { IsSpelling (spelling (record { request = request.now; answer = answer.now })) }
+    ensures asked { length result.asked.now ≤ PACKET_BYTES }
+    ensures told { length result.told.now ≤ PACKET_BYTES }
+{
+    let (tag, channel, asked) = request_parts(request);
+    let (kind, count, told) = answer_parts(answer);
+    let channel = channel.to_le_bytes();
+    Spelled {
+        head: [tag, channel[0], channel[1], kind, count, asked.len() as u8],
+        asked,
+        told,
+    }
+}
+
+/// The exchange that a string spells.
+pub(crate) fn read_exchange(string: &[u8]) -> Exchange
+    requires { IsSpelling string.now }
+    ensures { result ≡ exchange_in string.now }
+{
+    let (head, bytes) = string.split_at(HEAD_BYTES);
+    let (asked, told) = bytes.split_at(head[5] as usize);
+    Exchange {
+        request: request_of(head[0], u16::from_le_bytes([head[1], head[2]]), asked),
+        answer: answer_of(head[3], head[4], told),
+    }
+}
+
+/// The tag of a request, its channel and its bytes.
+fn request_parts(request: &Request) -> (u8, u16, &[u8])
+    ensures tag { result.0 ≡ request_tag request.now }
+    ensures channel { result.1 ≡ request_channel request.now }
+    ensures word { result.1 < 65536 }
+    ensures bytes { result.2.now ≡ request_bytes request.now }
+    ensures short { length result.2.now ≤ 255 }
+    ensures signals { result.0 ≡ 1 → length result.2.now ≤ 64 }
+{
+    match request {
+        Request::Command(packet) => (0, 0, packet.as_slice()),
+        Request::Event(channel, signals) => (1, *channel, signals.as_slice()),
+        Request::Drain => (2, 0, &[]),
+        Request::FinishStore => (3, 0, &[]),
+        Request::Hangup => (4, 0, &[]),
+    }
+}
+
+/// The tag of an answer, its number and its bytes.
+fn answer_parts(answer: &Answer) -> (u8, u8, &[u8])
+    ensures tag { result.0 ≡ answer_tag answer.now }
+    ensures count { result.1 ≡ answer_count answer.now }
+    ensures bytes { result.2.now ≡ answer_bytes answer.now }
+    ensures short { length result.2.now ≤ 255 }
+{
+    match answer {
+        Answer::Silent => (0, 0, &[]),
+        Answer::Packet(packet) => (1, 0, packet.as_slice()),
+        Answer::Sampled(count) => (2, *count, &[]),
+        Answer::Overrun => (3, 0, &[]),
+        Answer::NoChannel => (4, 0, &[]),
+        Answer::BadSignals => (5, 0, &[]),
+        Answer::Nothing => (6, 0, &[]),
+        Answer::Stored(count) => (7, *count, &[]),
+        Answer::NoStore => (8, 0, &[]),
+        Answer::Later => (9, 0, &[]),
+    }
+}
+
+/// The request of these parts.
+fn request_of(tag: u8, channel: u16, bytes: &[u8]) -> Request
+    requires short { length bytes.now ≤ 255 }
+    requires signals { tag ≡ 1 → length bytes.now ≤ 64 }
+    ensures { result ≡ request_of tag channel bytes.now }
+{
+    match tag {
+        0 => Request::Command(taken(bytes)),
+        1 => Request::Event(channel, taken(bytes)),
+        2 => Request::Drain,
+        3 => Request::FinishStore,
+        _ => Request::Hangup,
+    }
+}
+
+/// The answer of these parts.
+fn answer_of(tag: u8, count: u8, bytes: &[u8]) -> Answer
+    requires { length bytes.now ≤ 255 }
+    ensures { result ≡ answer_of tag count bytes.now }
+{
+    match tag {
+        0 => Answer::Silent,
+        1 => Answer::Packet(taken(bytes)),
+        2 => Answer::Sampled(count),
+        3 => Answer::Overrun,
+        4 => Answer::NoChannel,
+        5 => Answer::BadSignals,
+        6 => Answer::Nothing,
+        7 => Answer::Stored(count),
+        8 => Answer::NoStore,
+        _ => Answer::Later,
+    }
+}
+
+/// These bytes, in place.
+fn taken<const N: usize>(bytes: &[u8]) -> ArrayVec<u8, N>
+    requires { length bytes.now ≤ N }
+    ensures { result ≡ record { items = bytes.now } }
+{
+    let mut taken = ArrayVec::new();
+    let _ = taken.try_extend_from_slice(bytes);
+    taken
+}

@@ -1,0 +1,166 @@
+//! Byte strings, one behind another in one buffer.
+ghost use Rattle.std.specs.Prelude.{◌≡◌, ◌≤◌, ◌<◌, ◌+◌, [], ◌∷◌, ◌++◌, length, Some, None, OnOk, OnErr, MatchOption, slice_get, vec_len, vec_capacity};
+ghost use Rattle.xcp_trace.specs.Tape.{behind_string, framed, length_at, string_at};
+
+use std::alloc::{AllocError, Global};
+use std::marker::Model;
+
+/// The bytes before a string, which say its length.
+const LENGTH_BYTES: usize = 2;
+
+/// Byte strings of at most 65,535 bytes each, one behind another in one growing buffer.
+#[derive(Drop)]
+pub struct Tape {
+    bytes: Vec<u8>,
+    count: usize,
+}
+
+impl Model for Tape {
+    ghost use Rattle.std.specs.Prelude.{◌≡◌, ◌-◌, vec_len, vec_capacity};
+    ghost use Rattle.xcp_trace.specs.Tape.{TapeValue, spelt, strings_in};
+
+    ghost Value = { TapeValue };
+
+    ghost view = { λ t. record { strings = strings_in t.count t.bytes.items; room = vec_capacity t.bytes - vec_len t.bytes } };
+
+    // the bytes are those strings' and nothing else
+    ghost invariant = { λ t. spelt (strings_in t.count t.bytes.items) ≡ t.bytes.items };
+}
+
+impl Tape {
+    /// A tape with no string on it. It takes no memory yet.
+    pub fn new(alloc: Global) -> Tape
+        ensures { result.strings ≡ [] }
+    {
+        Tape {
+            bytes: Vec::new(alloc),
+            count: 0,
+        }
+    }
+
+    /// How many strings are on the tape.
+    pub fn len(&self) -> usize
+        ensures { result ≡ length self.now.strings }
+    {
+        self.count
+    }
+
+    /// Makes room for a string of at most so many bytes.
+    pub fn reserve(&mut self, most: usize) -> Result<(), AllocError>
+        requires { most < 65536 }
+        ensures strings { self.new.strings ≡ self.old.strings }
+        ensures ok { OnOk result (2 + most ≤ self.new.room) }
+        ensures err { OnErr result (self.new ≡ self.old) }
+    {
+        self.bytes.reserve(LENGTH_BYTES + most)
+    }
+
+    /// Puts a string behind the others, of which these are the parts. It takes no memory.
+    pub fn push(&mut self, first: &[u8], second: &[u8], third: &[u8], fourth: &[u8])
+        requires short { length first.now + length second.now + length third.now + length fourth.now
+            < 65536 }
+        requires room { 2 + (length first.now + length second.now + length third.now
+            + length fourth.now) ≤ self.old.room }
+        ensures { self.new.strings
+            ≡ self.old.strings ++ (first.now ++ second.now ++ third.now ++ fourth.now) ∷ [] }
+    {
+        put_string(&mut self.bytes, first, second, third, fourth);
+        self.count += 1;
+    }
+
+    /// The string at an index from 0 on, if there is one. It passes over those before it.
+    pub fn get(&self, index: usize) -> Option<&[u8]>
+        ensures { MatchOption result (slice_get self.now.strings index ≡ None)
+            (λ string. slice_get self.now.strings index ≡ Some string.now) }
+    {
+        let mut strings = self.strings();
+        for _passed in 0..index {
+            match strings.next() {
+                None => return None,
+                Some(_) => {}
+            }
+        }
+        strings.next()
+    }
+
+    /// The strings, from the first one on.
+    pub fn strings(&self) -> Strings<'_>
+        ensures { result ≡ self.now.strings }
+    {
+        Strings {
+            left: &self.bytes,
+            count: self.count,
+        }
+    }
+}
+
+/// Appends bytes for which there is room.
+fn put(bytes: &mut Vec<u8>, more: &[u8])
+    requires { vec_len bytes.old + length more.now ≤ vec_capacity bytes.old }
+    ensures items { bytes.new.items ≡ bytes.old.items ++ more.now }
+    ensures len { vec_len bytes.new ≡ vec_len bytes.old + length more.now }
+    ensures capacity { vec_capacity bytes.old ≤ vec_capacity bytes.new }
+{
+    let _ = bytes.extend_from_slice(more);
+}
+
+/// Appends a string behind its length.
+fn put_string(bytes: &mut Vec<u8>, first: &[u8], second: &[u8], third: &[u8], fourth: &[u8])
+    requires short { length first.now + length second.now + length third.now + length fourth.now
+        < 65536 }
+    requires room { vec_len bytes.old + (2 + (length first.now + length second.now
+        + length third.now + length fourth.now)) ≤ vec_capacity bytes.old }
+    ensures { bytes.new.items
+        ≡ bytes.old.items ++ framed (first.now ++ second.now ++ third.now ++ fourth.now) }
+{
+    let length = first.len() + second.len() + third.len() + fourth.len();
+    put(bytes, &(length as u16).to_le_bytes());
+    put(bytes, first);
+    put(bytes, second);
+    put(bytes, third);
+    put(bytes, fourth);
+}
+
+/// The string at the head of bytes, and the bytes behind it.
+fn split_string(bytes: &[u8]) -> (&[u8], &[u8])
+    requires { 2 + length_at bytes.now ≤ length bytes.now }
+    ensures string { result.0.now ≡ string_at bytes.now }
+    ensures behind { result.1.now ≡ behind_string bytes.now }
+{
+    let (head, more) = bytes.split_at(LENGTH_BYTES);
+    more.split_at(u16::from_le_bytes([head[0], head[1]]) as usize)
+}
+
+/// The strings of a tape that are still to be read.
+#[derive(Drop)]
+pub struct Strings<'a> {
+    left: &'a [u8],
+    count: usize,
+}
+
+impl<'a> Model for Strings<'a> {
+    ghost use Rattle.std.specs.Prelude.{◌≡◌, List, ℕ};
+    ghost use Rattle.xcp_trace.specs.Tape.{spelt, strings_in};
+
+    ghost Value = { List (List ℕ) };
+
+    ghost view = { λ s. strings_in s.count s.left.now };
+
+    ghost invariant = { λ s. spelt (strings_in s.count s.left.now) ≡ s.left.now };
+}
+
+impl<'a> Strings<'a> {
+    /// The next string, if there is one.
+    pub fn next(&mut self) -> Option<&'a [u8]>
+        ensures { MatchOption result ((self.old ≡ []) × (self.new ≡ []))
+            (λ string. self.old ≡ string.now ∷ self.new) }
+    {
+        if self.count == 0 {
+            return None;
+        }
+        let (string, left) = split_string(self.left);
+        self.left = left;
+        self.count -= 1;
+        Some(string)
+    }
+}
