@@ -3,10 +3,12 @@
 use crate::fakes::{Full, desk};
 use crate::ordered::{Noting, Order, Patient, Piece, Telling};
 use crate::serves::synch_stream;
-use crate::stations::Pending;
+use crate::stations::{Pending, Refusing};
 use std::alloc::Global;
 use std::test::Fail;
-use xcp_framing::{ReplayError, ServeError, Served, Station, Watched, replay_on, serve};
+use xcp_framing::{
+    ReplayError, ServeError, Served, Station, StationError, Watched, replay_on, serve,
+};
 
 /// Serves these pieces over a station, to a writer with so much room.
 fn served<S: Station + Drop>(
@@ -208,6 +210,31 @@ fn a_failed_write_is_behind_the_last_drain(rt: HostRuntime) {
             "{room}"
         );
     }
+}
+
+/// CONNECT, and a bad LEN behind it.
+const BAD_BEHIND: &[Piece<'static>] = &[(0, &[2, 0, 0, 0, 0xFF, 0, 33, 0])];
+
+/// A desk that refuses what comes behind CONNECT and its Drain.
+fn refusing(alloc: Global) -> Result<Refusing, Fail> {
+    Ok(Refusing {
+        desk: desk(alloc)?,
+        takes: 2,
+        error: StationError::JournalFull,
+    })
+}
+
+/// What answers the first packet is written before a fault behind it is told.
+#[test]
+fn a_failed_write_comes_before_a_fault(rt: HostRuntime) -> Result<(), Fail> {
+    for room in 0..12 {
+        let desk = desk(rt.alloc())?;
+        let bad = is_last(rt.alloc(), desk, BAD_BEHIND, room, Full::Fails);
+        let refusing = refusing(rt.alloc())?;
+        let refused = is_last(rt.alloc(), refusing, AT_ONCE, room, Full::Fails);
+        assert!(rt; bad && refused, "{room}");
+    }
+    Ok(())
 }
 
 /// How a script in these pieces ends, and how many exchanges there were.

@@ -84,7 +84,8 @@ fn a_journal_gives_back_its_entries(rt: HostRuntime) -> Result<(), Fail> {
 }
 
 /// Whether a tape gives back a string of so many bytes in four parts, between two others.
-fn is_taped(alloc: Global, length: usize) -> Result<bool, AllocError> {
+fn is_taped(alloc: Global, length: u16) -> Result<bool, AllocError> {
+    let length = length as usize;
     let string = vec![in alloc; 0xA5; length]?;
     let (front, back) = string.split_at(length / 2);
     let mut tape = Tape::new(alloc);

@@ -5,7 +5,7 @@ use xcp_memory::{Area, Key};
 /// The place of a line, what stands there, and the fault.
 pub type Row = (usize, &'static str, Option<ConfigError>);
 
-pub static OF_THE_SLAVE: [Row; 24] = [
+pub static OF_THE_SLAVE: [Row; 26] = [
     (0, "id = ", Some(ConfigError::Text)),
     (0, "id = \"ECU1", Some(ConfigError::Text)),
     (1, "max_cto = 9223372036854775808", Some(ConfigError::Text)),
@@ -33,9 +33,15 @@ pub static OF_THE_SLAVE: [Row; 24] = [
         "max_dto = 64\nbyte_order = 1",
         Some(ConfigError::Kind(Key::ByteOrder)),
     ),
+    (2, "max_dto = 64\nbyte_order = \"motorola\"", None),
     (
         2,
-        "max_dto = 64\nbyte_order = \"motorola\"",
+        "max_dto = 64\nbyte_order = \"x\"",
+        Some(ConfigError::Range(Key::ByteOrder)),
+    ),
+    (
+        2,
+        "max_dto = 64\nbyte_order = \"Motorola\"",
         Some(ConfigError::Range(Key::ByteOrder)),
     ),
     (2, "max_dto = 64\nchecksum = \"ADD_11\"", None),
@@ -46,7 +52,7 @@ pub static OF_THE_SLAVE: [Row; 24] = [
     ),
     (
         2,
-        "max_dto = 64\nchecksum = \"ADD_22\"",
+        "max_dto = 64\nchecksum = \"ADD_33\"",
         Some(ConfigError::Range(Key::Checksum)),
     ),
     (2, "max_dto = 64\nanything = { a = [1, \"b\"] }", None),

@@ -3,6 +3,7 @@ use std::alloc::{AllocError, Global};
 use std::test::Fail;
 use xcp_config::ConfigError;
 use xcp_memory::{Area, Key};
+use xcp_packet::Refuse;
 
 static FAULTS: [(ConfigError, u8, &str); 7] = [
     (ConfigError::Text, 1, "the text is no TOML document"),
@@ -41,4 +42,14 @@ fn wrong(alloc: Global) -> Result<Option<usize>, AllocError> {
 fn faults_have_numbers_and_texts(rt: HostRuntime) -> Result<(), Fail> {
     assert_eq!(rt; wrong(rt.alloc())?, None);
     Ok(())
+}
+
+#[test]
+fn reasons_have_numbers(rt: HostRuntime) {
+    let numbers = [
+        Refuse::Empty.number(),
+        Refuse::Unknown.number(),
+        Refuse::Short.number(),
+    ];
+    assert_eq!(rt; numbers, [1, 2, 3]);
 }

@@ -54,7 +54,7 @@ const LONG: &[u8] = b"a name of thirty-three characters";
 static ROWS: [Row; 31] = [
     Row {
         id: b"",
-        own: (7, 256, 4),
+        own: (7, 256, 7),
         segments: &[],
         signals: (-1, 65),
         events: &[],
@@ -62,7 +62,7 @@ static ROWS: [Row; 31] = [
     },
     Row {
         id: b"ECU\x7F",
-        own: (7, 256, 4),
+        own: (7, 256, 7),
         segments: &[],
         signals: (-1, 65),
         events: &[],
@@ -86,7 +86,7 @@ static ROWS: [Row; 31] = [
     },
     Row {
         id: b"ECU1",
-        own: (255, 255, 4),
+        own: (255, 255, 7),
         segments: &[],
         signals: (-1, 65),
         events: &[],

@@ -99,21 +99,21 @@ fn ranges_lie_in_areas(rt: HostRuntime) -> Result<(), Fail> {
 }
 
 fn text(alloc: Global, fault: LayoutFault) -> Result<String, AllocError> {
-    format!(in alloc; "{fault}")
+    format!(in alloc; "{}: {fault}", fault.number())
 }
 
 #[test]
-fn faults_have_texts(rt: HostRuntime) -> Result<(), Fail> {
+fn faults_have_numbers_and_texts(rt: HostRuntime) -> Result<(), Fail> {
     let rows = [
         (
             LayoutFault::Range(Key::Address(0)),
-            "Address(0) is out of its range",
+            "1: Address(0) is out of its range",
         ),
         (
             LayoutFault::Overlap(Area::Segment(0), Area::Signals),
-            "Segment(0) and Signals share an address",
+            "2: Segment(0) and Signals share an address",
         ),
-        (LayoutFault::TooMany(Key::Data(1)), "too many: Data(1)"),
+        (LayoutFault::TooMany(Key::Data(1)), "3: too many: Data(1)"),
     ];
     for (fault, wanted) in rows {
         assert_eq!(rt; text(rt.alloc(), fault)?.as_str(), wanted);

@@ -163,6 +163,14 @@ fn ask(lists: &mut Lists, verb: &str, numbers: &[u32]) -> Option<Packet> {
             Some(byte(lists.daq.start_stop_daq_list(layout, mode, list)))
         }
         ("event", [channel]) => event(lists, word_of(*channel)?),
+        ("sample_len", [channel]) => {
+            let len = lists.daq.sample_len(word_of(*channel)?, &lists.pages);
+            Some(told(&[u8::try_from(len).ok()?]))
+        }
+        ("count_event", [channel]) => {
+            lists.daq.count_event(word_of(*channel)?);
+            Some(told(&[]))
+        }
         ("read_daq", []) => Some(read_daq(&mut lists.daq)),
         ("any_running", []) => Some(told(&[u8::from(lists.daq.any_running())])),
         ("get_daq_list_mode", [list]) => Some(list_mode(lists.daq.daq_list_mode(word_of(*list)?))),

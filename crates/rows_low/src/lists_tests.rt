@@ -300,6 +300,27 @@ fn prescalers_count_events(rt: HostRuntime) -> Result<(), Fail> {
     Ok(())
 }
 
+/// With prescaler 2.
+#[test]
+fn events_are_counted_without_a_sample(rt: HostRuntime) -> Result<(), Fail> {
+    let rows = "
+        sample_len 0 > FF 00
+        set_daq_list_mode 0 0 0 2 0 > FF
+        start_stop_daq_list 1 0 > FF 00
+        sample_len 0 > FF 01
+        sample_len 1 > FF 00
+        count_event 1 > FF
+        sample_len 0 > FF 01
+        count_event 0 > FF
+        sample_len 0 > FF 00
+        event 0 > FF
+        sample_len 0 > FF 01
+        event 0 > FF 03 00 01 02
+    ";
+    assert_eq!(rt; first_wrong_of_one_list(rt.alloc(), rows)?, None);
+    Ok(())
+}
+
 #[test]
 fn packets_come_in_the_order_of_the_lists(rt: HostRuntime) -> Result<(), Fail> {
     let rows = "
@@ -320,6 +341,7 @@ fn packets_come_in_the_order_of_the_lists(rt: HostRuntime) -> Result<(), Fail> {
         start_stop_daq_list 2 0 > FF 00
         start_stop_daq_list 1 1 > FF 02
         start_stop_synch 1 > FF
+        sample_len 0 > FF 02
         event 0 > FF 02 01 AA 04 03 08 0E 0F
     ";
     assert_eq!(rt; first_wrong_of(rt.alloc(), 64, rows)?, None);

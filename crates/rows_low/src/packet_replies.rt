@@ -47,8 +47,14 @@ fn pages(rt: HostRuntime) {
     let rows = [
         (Reply::CalPage(1), &[0xFF, 0, 0, 1][..]),
         (Reply::PagInfo(2), &[0xFF, 2, 1][..]),
-        (Reply::SegmentWord(0x1000), &[0xFF, 0, 0, 0, 0, 0x10, 0, 0][..]),
-        (Reply::SegmentStandard { pages: 2 }, &[0xFF, 2, 0, 0, 0, 0][..]),
+        (
+            Reply::SegmentWord(0x1000),
+            &[0xFF, 0, 0, 0, 0, 0x10, 0, 0][..],
+        ),
+        (
+            Reply::SegmentStandard { pages: 2 },
+            &[0xFF, 2, 0, 0, 0, 0][..],
+        ),
         (page, &[0xFF, 0x3F, 1][..]),
         (Reply::SegmentMode(1), &[0xFF, 0, 1][..]),
     ];

@@ -79,15 +79,17 @@ fn pages_are_switched(rt: HostRuntime) -> Result<(), Fail> {
 #[test]
 fn checksums_have_their_width(rt: HostRuntime) -> Result<(), Fail> {
     let refusals = "
-        checksum 1000 10 > FF 00 00 00 78
         checksum 0 0 > FE 22
-        checksum 1000 11 > FE 24
-        checksum 1000 FFFFFFFF > FE 24
+        checksum 1000 14 > FE 24
+        checksum 1000 FFFFFFFC > FE 24
     ";
     for (checksum, row) in [
         (1, "checksum 2000 8 > FF 00 00 00 50"),
         (2, "checksum 2000 8 > FF 00 00 05 50"),
         (3, "checksum 2000 8 > FF 00 00 05 50"),
+        (4, "checksum 2000 8 > FF 00 00 AA A8"),
+        (5, "checksum 2000 8 > FF 00 02 AA A8"),
+        (6, "checksum 2000 8 > FF 55 55 55 54"),
     ] {
         let mut pages = pages(rt.alloc(), Kind { checksum, ..USUAL })?;
         assert_eq!(rt; first_wrong(&mut pages, row), None, "type {checksum}");

@@ -151,8 +151,17 @@ fn checksums(rt: HostRuntime) -> Result<(), Fail> {
         F6 00 00 00 00 20 00 00 > FF
         F3 00 00 00 08 00 00 00 > FF 03 00 00 50 05 00 00
         ",
+        // Nowhere, and at a text: the size is looked at first.
+        "
+        F3 00 00 00 00 00 00 00 > FE 22
+        F3 00 00 00 03 00 00 00 > FE 22
+        F3 00 00 00 02 00 00 00 > FE 24
+        FA 00 > FF 00 00 00 04 00 00 00
+        F3 00 00 00 03 00 00 00 > FE 22
+        F3 00 00 00 02 00 00 00 > FE 24
+        ",
     ];
-    for (rows, kind) in rows.iter().zip(1..4) {
+    for (rows, kind) in rows.iter().zip(1..5) {
         assert_eq!(rt; first_wrong_sum(rt.alloc(), kind, rows)?, None, "{kind}");
     }
     Ok(())

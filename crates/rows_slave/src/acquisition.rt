@@ -45,6 +45,37 @@ fn a_list_is_sampled_until_there_is_no_room(rt: HostRuntime) -> Result<(), Fail>
     Ok(())
 }
 
+#[test]
+fn an_overrun_counts_the_event(rt: HostRuntime) -> Result<(), Fail> {
+    let rows = [
+        "
+            D6 > FF
+            D5 00 01 00 > FF
+            D4 00 00 00 01 > FF
+            D3 00 00 00 00 01 > FF
+            E2 00 00 00 00 00 > FF
+            E1 FF 02 00 00 80 00 00 > FF
+            E0 00 00 00 00 00 02 00 > FF
+            DE 01 00 00 > FF 00
+        ",
+        "
+            event 0 01 02 03 04 05 06 07 08 > sampled 1
+            event 0 01 02 03 04 05 06 07 08 > sampled 0
+        ",
+        "
+            event 0 11 12 13 14 15 16 17 18 > overrun
+            F4 02 00 00 00 80 00 00 > FF 11 12
+            event 0 01 02 03 04 05 06 07 08 > sampled 0
+            drain > 00 01 02
+            event 0 11 12 13 14 15 16 17 18 > sampled 1
+            event 0 01 02 03 04 05 06 07 08 > sampled 0
+            event 0 01 02 03 04 05 06 07 08 > overrun
+        ",
+    ];
+    assert_eq!(rt; first_wrong_of_64(rt.alloc(), rows)?, None);
+    Ok(())
+}
+
 /// Behind these a list of one ODT samples two bytes of the signals.
 const ALLOCATED: &str = "
     D6 > FF

@@ -133,3 +133,31 @@ fn types_of_checksums(rt: HostRuntime) -> Result<(), Fail> {
     }
     Ok(())
 }
+
+#[test]
+fn sums_of_words(rt: HostRuntime) -> Result<(), Fail> {
+    let rows = [
+        // Size 3 is no multiple in an area and outside; size 2 behind the area is.
+        "
+            F6 00 00 00 00 10 00 00 > FF
+            F3 00 00 00 03 00 00 00 > FE 22
+            F3 00 00 00 10 00 00 00 > FF 04 00 00 38 40 00 00
+            F3 00 00 00 03 00 00 00 > FE 22
+            F3 00 00 00 02 00 00 00 > FE 24
+        ",
+        "
+            F6 00 00 00 00 10 00 00 > FF
+            F3 00 00 00 10 00 00 00 > FF 05 00 00 38 40 00 00
+        ",
+        "
+            F6 00 00 00 00 10 00 00 > FF
+            F3 00 00 00 06 00 00 00 > FE 22
+            F3 00 00 00 10 00 00 00 > FF 06 00 00 18 1C 20 24
+        ",
+    ];
+    for (rows, checksum) in rows.iter().zip(4..7) {
+        let kind = Kind { checksum, ..USUAL };
+        assert_eq!(rt; first_wrong_of(rt.alloc(), kind, rows)?, None, "{checksum}");
+    }
+    Ok(())
+}

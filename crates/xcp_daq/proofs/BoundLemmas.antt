@@ -10,15 +10,11 @@ use Rattle.xcp_daq.specs.Daq.{DaqValue, DaqList, all_odts, odt_size, first_pid}
 use Rattle.xcp_daq.specs.Lawful.{IsList, IsDaq}
 use Rattle.xcp_daq.specs.Sample.{due, odt_bytes, packet_of, odt_packets, packets_from, list_packets, sampled}
 use Rattle.xcp_daq.proofs.DueLemmas.{first_true}
-use Rattle.xcp_daq.proofs.SampleLemmas.{short_odt}
+use Rattle.xcp_daq.proofs.SampleLemmas.{one_packet, short_odt}
 
 -- a data packet has 1 to 255 bytes
 abbrev IsPacket : ArrayVec ℕ → Type 0
 IsPacket p = (1 ≤ length p.items) × (length p.items ≤ 255)
-
-one_packet : (pid : ℕ) (bytes : List ℕ) → length (packet_of pid bytes) ≤ 1
-one_packet pid [] = omega arith
-one_packet pid (b ∷ bytes) = omega arith
 
 -- a fact of one element
 all_one : (p : ArrayVec ℕ) → IsPacket p → All IsPacket (p ∷ [])

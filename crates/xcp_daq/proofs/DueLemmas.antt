@@ -1,9 +1,9 @@
 -- The packets of the lists that are due.
-use Rattle.std.proofs.Common.{◌≡◌, ℕ, ◌+◌, ◌<◌, ◌≤◌, Bool, true, false, ◌&&◌, List, [], ◌∷◌, ◌++◌, length, take, get_or, Option, None, ap, sym, ◌∙◌, refl, arith, length-append, All}
+use Rattle.std.proofs.Common.{◌≡◌, ℕ, ◌+◌, ◌<◌, ◌≤◌, Bool, true, false, ◌&&◌, List, [], ◌∷◌, ◌++◌, length, take, drop, get_or, Option, None, ap, sym, ◌∙◌, refl, arith, length-append, All}
 use Rattle.std.specs.Prelude.{◌==◌, if◌then◌else◌}
 use Rattle.std.specs.List.{flat_map, enumerate_from}
 use Rattle.std.proofs.lemmas.Grind.{flat_map-append}
-use Rattle.std.proofs.lemmas.List.{take_more, flat_map_more}
+use Rattle.std.proofs.lemmas.List.{take_more, take-append-drop, flat_map_more}
 use Rattle.std.proofs.lemmas.List.FromFn.{get_or-enumerate_from, length-enumerate_from}
 use Rattle.arrayvec.specs.ArrayVec.{ArrayVec}
 use Rattle.xcp_memory.specs.Pages.{PagesValue}
@@ -63,3 +63,17 @@ due_more f ms os i out now same place so_far e =
     ∙ ap (λ (ps : List (ArrayVec ℕ)). ps ++ f (i, list_of (get_or ms i new_mode) (get_or os i []))) so_far
     ∙ ap (λ (l : DaqList). done ++ f (i, l)) (sym (list_of_is ms os i same))
     ∙ packets_more f (lists_of ms os) i (omega (arith, length-lists ms os same))
+
+-- what the first elements give is no more than what all give
+fewer : {X : Type 0} (f : X → List (ArrayVec ℕ)) (k : ℕ) (xs : List X) → length (flat_map f (take k xs)) ≤ length (flat_map f xs)
+fewer f k xs = omega (arith, ap (λ ys. length (flat_map f ys)) (take-append-drop k xs), ap length (flat_map-append f (take k xs) (drop k xs)), length-append (flat_map f (take k xs)) (flat_map f (drop k xs)))
+
+-- the same of how many packets there are
+pub count_more : (f : ℕ × DaqList → List (ArrayVec ℕ)) (ms : List Mode) (os : List Os) (i n here : ℕ) → length ms ≡ length os → i < length ms → n ≡ length (flat_map f (take i (enumerate_from 0 (lists_of ms os)))) → here ≡ length (f (i, list_of (get_or ms i new_mode) (get_or os i []))) → n + here ≡ length (flat_map f (take (i + 1) (enumerate_from 0 (lists_of ms os))))
+count_more f ms os i n here same place so_far e =
+    let out : List (ArrayVec ℕ) = flat_map f (take i (enumerate_from 0 (lists_of ms os))) in
+    let next : List (ArrayVec ℕ) = f (i, list_of (get_or ms i new_mode) (get_or os i [])) in
+    omega (arith, length-append out next, ap length (due_more f ms os i out (out ++ next) same place refl refl))
+
+pub count_most : (f : ℕ × DaqList → List (ArrayVec ℕ)) (ms : List Mode) (os : List Os) (i n here : ℕ) → length ms ≡ length os → i < length ms → n ≡ length (flat_map f (take i (enumerate_from 0 (lists_of ms os)))) → here ≡ length (f (i, list_of (get_or ms i new_mode) (get_or os i []))) → n + here ≤ length (flat_map f (enumerate_from 0 (lists_of ms os)))
+count_most f ms os i n here same place so_far e = omega (arith, count_more f ms os i n here same place so_far e, fewer f (i + 1) (enumerate_from 0 (lists_of ms os)))

@@ -1,5 +1,6 @@
 -- The bytes of ODTs, and their packets.
-use Rattle.std.proofs.Common.{◌≡◌, ℕ, ◌+◌, ◌<◌, ◌≤◌, Bool, true, false, List, [], ◌∷◌, ◌++◌, length, take, drop, get_or, Option, Some, None, ap, sym, ◌∙◌, arith, append_assoc, length-append, if◌then◌else◌}
+use Rattle.std.proofs.Common.{◌≡◌, ℕ, ◌+◌, ◌<◌, ◌≤◌, Bool, true, false, List, [], ◌∷◌, ◌++◌, length, take, drop, get_or, Option, Some, None, ap, sym, ◌∙◌, refl, arith, append_assoc, length-append, if◌then◌else◌}
+use Rattle.std.proofs.lemmas.Grind.{flat_map-append}
 use Rattle.std.proofs.lemmas.List.{take_more, length-take}
 use Rattle.std.proofs.lemmas.List.Sums.{sum_by_push, sum_by-cons, sum_by-take-le}
 use Rattle.arrayvec.specs.ArrayVec.{ArrayVec}
@@ -8,7 +9,7 @@ use Rattle.xcp_memory.specs.Words.{lies_inside, controller_bytes, bytes_by, segm
 use Rattle.xcp_daq.specs.declared.element.Element.{Element}
 use Rattle.xcp_daq.specs.Daq.{entry_size, odt_size}
 use Rattle.xcp_daq.specs.Pools.{parts}
-use Rattle.xcp_daq.specs.Sample.{entry_bytes, odt_bytes, packet_of, packets_from}
+use Rattle.xcp_daq.specs.Sample.{entry_bytes, odt_bytes, packet_of, odt_packets, packets_from}
 use Rattle.xcp_daq.proofs.OdtLemmas.{parts_step}
 
 short_range : (page_of : SegmentPages → List ℕ) (o : Option ℕ) (pages : PagesValue) (a n : ℕ) → length (bytes_by page_of o pages a n) ≤ n
@@ -28,6 +29,41 @@ short_entry pages (Some e) = short_by (lies_inside pages.layout e.address e.size
 pub short_odt : (pages : PagesValue) (odt : List (Option Element)) → length (odt_bytes pages odt) ≤ odt_size odt
 short_odt pages [] = omega arith
 short_odt pages (x ∷ xs) = omega (arith, length-append (entry_bytes pages x) (odt_bytes pages xs), sum_by-cons entry_size x xs, short_entry pages x, short_odt pages xs)
+
+-- the bytes of one more entry
+pub longer_odt : (pages : PagesValue) (es : List (Option Element)) (i : ℕ) → i < length es → length (odt_bytes pages (take (i + 1) es)) ≡ length (odt_bytes pages (take i es)) + length (entry_bytes pages (get_or es i None))
+longer_odt pages es i h =
+    let x : Option Element = get_or es i None in
+    omega (arith, ap (λ (xs : List (Option Element)). length (odt_bytes pages xs)) (take_more es i None h), ap length (flat_map-append (entry_bytes pages) (take i es) (x ∷ [])), length-append (odt_bytes pages (take i es)) (odt_bytes pages (x ∷ [])), length-append (entry_bytes pages x) [])
+
+-- an ODT gives one packet at most: none without bytes, and one with some
+pub one_packet : (pid : ℕ) (bytes : List ℕ) → length (packet_of pid bytes) ≤ 1
+one_packet pid [] = omega arith
+one_packet pid (b ∷ bytes) = omega arith
+
+pub no_packet : (pid : ℕ) (bytes : List ℕ) → length bytes ≡ 0 → length (packet_of pid bytes) ≡ 0
+no_packet pid [] h = refl
+no_packet pid (b ∷ bytes) h = absurd (omega arith)
+
+pub some_packet : (pid : ℕ) (bytes : List ℕ) → 1 ≤ length bytes → length (packet_of pid bytes) ≡ 1
+some_packet pid [] h = absurd (omega arith)
+some_packet pid (b ∷ bytes) h = refl
+
+same_packet : (p q : ℕ) (bytes : List ℕ) → length (packet_of p bytes) ≡ length (packet_of q bytes)
+same_packet p q [] = refl
+same_packet p q (b ∷ bytes) = refl
+
+-- ODTs give as many packets whatever the first PID
+pub same_packets : (pages : PagesValue) (p q : ℕ) (odts : List (List (Option Element))) → length (packets_from pages p odts) ≡ length (packets_from pages q odts)
+same_packets pages p q [] = refl
+same_packets pages p q (o ∷ odts) = omega (arith, length-append (odt_packets pages (p, o)) (packets_from pages (p + 1) odts), length-append (odt_packets pages (q, o)) (packets_from pages (q + 1) odts), same_packet p q (odt_bytes pages o), same_packets pages (p + 1) (q + 1) odts)
+
+-- how many packets one ODT and those behind it give
+pub count_step : (pages : PagesValue) (ns : List ℕ) (es : List (Option Element)) (j at : ℕ) → j < length ns → length (packets_from pages 0 (parts (drop j ns) (drop at es))) ≡ length (packet_of 0 (odt_bytes pages (take (get_or ns j 0) (drop at es)))) + length (packets_from pages 0 (parts (drop (j + 1) ns) (drop (at + get_or ns j 0) es)))
+count_step pages ns es j at h =
+    let odt : List (Option Element) = take (get_or ns j 0) (drop at es) in
+    let rest : List (List (Option Element)) = parts (drop (j + 1) ns) (drop (at + get_or ns j 0) es) in
+    omega (arith, ap (λ (odts : List (List (Option Element))). length (packets_from pages 0 odts)) (parts_step ns es j at h), length-append (odt_packets pages (0, odt)) (packets_from pages (0 + 1) rest), same_packets pages (0 + 1) 0 rest)
 
 -- there is room for one more entry
 pub room_for : (pages : PagesValue) (es : List (Option Element)) (i : ℕ) → i < length es → length (odt_bytes pages (take i es)) + entry_size (get_or es i None) ≤ odt_size es

@@ -1,10 +1,10 @@
 -- Digits that are read in pairs.
-use Rattle.std.proofs.Common.{◌≡◌, ◌<◌, ◌≤◌, ℕ, zero, suc, ◌+◌, ◌*◌, ◌%◌, Bool, true, false, cond, List, [], ◌∷◌, ◌++◌, length, drop, refl, sym, ap, ◌∙◌, arith, rules, Option, Some, None, Result, Ok, Err, append_assoc, drop-cons, add-one, ◌⊎◌, inl, inr}
-use Rattle.std.specs.Prelude.{slice_index, unwrap_or, filter, not, map, ◌==◌, nat_lt, nat_le, ◌||◌}
+use Rattle.std.proofs.Common.{◌≡◌, ◌<◌, ◌≤◌, ℕ, suc, ◌+◌, ◌*◌, ◌%◌, Bool, true, false, cond, List, [], ◌∷◌, ◌++◌, length, drop, refl, sym, ap, ◌∙◌, arith, Option, Some, None, Result, Ok, Err, append_assoc, drop-cons, ◌⊎◌, inl, inr}
+use Rattle.std.specs.Prelude.{slice_index, unwrap_or, filter, not, map, ◌==◌, ◌||◌}
 use Rattle.std.specs.List.{list_any, range_with_len}
 use Rattle.std.proofs.lemmas.List.{append-nil, drop_all}
 use Rattle.std.proofs.lemmas.List.FromFn.{get_or-map-range_with_len}
-use Rattle.hex.specs.Hex.{decode_pairs, pair_value, value_at, digit_or_error, hex_digit_value, ◌>>=◌}
+use Rattle.hex.specs.Hex.{decode_pairs, digit_or_error, hex_digit_value, ◌>>=◌}
 use Rattle.hex.specs.declared.error.FromHexError.{FromHexError}
 use Rattle.xcp_framing.specs.Digits.{value_or}
 use Rattle.xcp_framing.specs.Meaning.{bytes_if_ok, hex_bytes, is_space}
@@ -23,16 +23,16 @@ pair_of (Some h) (Some l) rest = behind ((h * 16 + l) ∷ []) rest
 pair_of (Some h) None rest = None
 pair_of None l rest = None
 
-bound : (c i d j : ℕ) (o p : Option ℕ) (r : Result (List ℕ) FromHexError)
+opened : (c i d j : ℕ) (o p : Option ℕ) (r : Result (List ℕ) FromHexError)
     → bytes_if_ok ((digit_or_error c i o >>= (λ h. digit_or_error d j p >>= (λ l. Ok (h * 16 + l)))) >>= (λ byte. r >>= (λ bytes. Ok (byte ∷ bytes)))) ≡ pair_of o p (bytes_if_ok r)
-bound c i d j None p r = refl
-bound c i d j (Some h) None r = refl
-bound c i d j (Some h) (Some l) (Ok bytes) = refl
-bound c i d j (Some h) (Some l) (Err e) = refl
+opened c i d j None p r = refl
+opened c i d j (Some h) None r = refl
+opened c i d j (Some h) (Some l) (Ok bytes) = refl
+opened c i d j (Some h) (Some l) (Err e) = refl
 
 pairs_are : (i h l : ℕ) (rest : List ℕ) → bytes_if_ok (decode_pairs i (h ∷ l ∷ rest)) ≡ pair_of (hex_digit_value h) (hex_digit_value l) (bytes_if_ok (decode_pairs (i + 2) rest))
 unfolding decode_pairs
-pairs_are i h l rest = bound h i l (i + 1) (hex_digit_value h) (hex_digit_value l) (decode_pairs (i + 2) rest)
+pairs_are i h l rest = opened h i l (i + 1) (hex_digit_value h) (hex_digit_value l) (decode_pairs (i + 2) rest)
 
 -- where the digits stand doesn't matter
 anywhere : (i j : ℕ) (digits : List ℕ) → bytes_if_ok (decode_pairs i digits) ≡ bytes_if_ok (decode_pairs j digits)

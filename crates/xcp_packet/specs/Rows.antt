@@ -7,7 +7,6 @@ use Rattle.xcp_packet.specs.declared.reply.Reply.TheVariants.{Error}
 use Rattle.xcp_packet.specs.declared.order.Order.{Order}
 use Rattle.xcp_packet.specs.declared.lent.Sent.{Sent}
 use Rattle.xcp_packet.specs.declared.lent.Fault.{Fault}
-use Rattle.xcp_packet.specs.Layout.{Fits}
 use Rattle.xcp_packet.specs.Lent.{fault_reply, sent_bytes, reply_bytes}
 
 -- what stands beside the first test that holds, where one does
@@ -42,12 +41,6 @@ Meets r left (Err e) w = (first_holding r.refusals ≡ Some e) × (w ≡ left)
 abbrev pub Tells : {V : Type 0} → Order → Row V → V → Result Sent Fault → List ℕ → V → Type 0
 Tells order r left (Ok sent) bytes w = (first_holding r.refusals ≡ None) × (sent_bytes sent bytes ≡ reply_bytes order r.reply) × (w ≡ r.after)
 Tells order r left (Err fault) bytes w = (first_holding r.refusals ≡ Some (fault_reply fault)) × (w ≡ left)
-
--- one packet holds what is sent
-abbrev pub FitsPacket : Result (Option Reply) Reply → Type 0
-FitsPacket (Ok None) = Unit {0}
-FitsPacket (Ok (Some reply)) = Fits reply
-FitsPacket (Err e) = Fits e
 
 -- the same row over a greater value, of which what it changes is a part
 abbrev pub row_within : {V W : Type 0} → (V → W) → Row V → Row W

@@ -1,5 +1,5 @@
 -- The rows of the commands of data acquisition (DAQ).
-use Rattle.std.specs.Prelude.{ℕ, Option, Some, None, Result, Ok, Err}
+use Rattle.std.specs.Prelude.{ℕ, Option, Some, None}
 use Rattle.xcp_packet.specs.declared.Reply.{Reply}
 use Rattle.xcp_packet.specs.declared.Reply.TheVariants as replies
 use Rattle.xcp_packet.specs.declared.Code.{Code}
@@ -25,11 +25,6 @@ daq_row refusal reply daq v = record {
 -- a row that only tells
 abbrev pub told_row : Option Code → Reply → SlaveValue → Row SlaveValue
 told_row refusal reply v = record { refusals = refused refusal; reply = Some reply; after = noblock v }
-
--- what comes of a command that replies nothing but that it is done
-abbrev pub done_or_error : Result (Unit {0}) Code → Result (Option Reply) Reply
-done_or_error (Ok ended) = Ok (Some replies.Done)
-done_or_error (Err code) = Err (replies.Error code)
 
 -- an entry as READ_DAQ tells it: no bit of it, and all zeros where it is unwritten
 -- (ASAM MCD-1 XCP, protocol layer, description of commands: READ_DAQ.)

@@ -4,7 +4,6 @@ use Rattle.xcp_packet.specs.Order.{byte_order}
 use Rattle.xcp_packet.specs.declared.Order.{Order}
 use Rattle.xcp_packet.specs.declared.Command.{Command}
 use Rattle.xcp_packet.specs.declared.Command.TheVariants as commands
-use Rattle.xcp_packet.specs.declared.Reply.{Reply}
 use Rattle.xcp_packet.specs.declared.Reply.TheVariants as replies
 use Rattle.xcp_packet.specs.declared.Code.TheVariants.{CmdSynch, OutOfRange}
 use Rattle.xcp_transfer.specs.declared.Mta.TheVariants.{Nowhere, Memory}

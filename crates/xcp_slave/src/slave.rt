@@ -233,8 +233,8 @@ impl Slave {
         told.with(packet)
     }
 
-    /// Executes one request, as `submit` does. Where the answer is a packet, it stands in the one
-    /// that is lent, and is made nowhere else; for any other answer that packet has any bytes.
+    /// Executes one request, as `submit` does. Where the answer is a packet, its bytes stand in the
+    /// packet that is lent; with any other answer that one may have any bytes.
     pub fn submit_into(&mut self, request: &Request, packet: &mut Packet) -> Told
         ensures { Answers self.old request.now (answer_in result packet.new) self.new }
     {
@@ -254,11 +254,11 @@ impl Slave {
         requires { length bytes.now ≤ 255 }
         ensures { AnswersPacket self.old bytes.now (answer_in result packet.new) self.new }
     {
-        match decode(bytes, self.order()) {
+        match &decode(bytes, self.order()) {
             Err(Refuse::Empty) => Told::Silent,
-            Ok(Command::Connect { mode }) => self.obey(&Command::Connect { mode }, packet),
+            Ok(Command::Connect { mode }) => self.obey(&Command::Connect { mode: *mode }, packet),
             _ if !self.connected => Told::Silent,
-            Ok(command) => self.obey(&command, packet),
+            Ok(command) => self.obey(command, packet),
             Err(Refuse::Unknown) => self.refuse(Code::CmdUnknown, packet),
             Err(Refuse::Short) => self.refuse(Code::CmdSyntax, packet),
         }

@@ -1,11 +1,11 @@
 //! The commands that write and read what a list samples, and when.
 ghost use Rattle.std.specs.Prelude.{◌≡◌, ◌<◌, ◌≤◌, length, map, None, Some, OnOk, IfOk, IfErr, false};
-ghost use Rattle.xcp_memory.specs.Words.{lies_inside};
 ghost use Rattle.xcp_memory.specs.Refusals.{Checks};
 ghost use Rattle.xcp_daq.specs.Daq.{list_at, with_list};
 ghost use Rattle.xcp_daq.specs.Configuring.{clear_daq_list_refusal, clear_daq_list_after, set_daq_ptr_refusal, set_daq_ptr_after, write_daq_refusal, element_refusal, write_daq_after, written_at, moved_on, read_daq_refusal, read_daq_reply, read_daq_after, set_daq_list_mode_refusal, set_daq_list_mode_after};
 
 use super::Daq;
+use crate::element::lies_inside;
 use crate::mode::Mode;
 use crate::{Element, Pointer};
 use xcp_memory::Layout;
@@ -288,12 +288,4 @@ fn check_element(
         return Err(Code::AccessDenied);
     }
     Ok(())
-}
-
-/// Whether a range lies in one area of the layout.
-fn lies_inside(layout: &Layout, address: u32, size: u8) -> bool
-    ensures { result ≡ lies_inside layout.now address size }
-{
-    layout.segment_of(address, size as usize).is_some()
-        || layout.is_in_signals(address, size as usize)
 }

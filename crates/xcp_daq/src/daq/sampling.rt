@@ -13,6 +13,14 @@ use xcp_memory::Pages;
 use xcp_packet::Packet;
 
 impl Daq {
+    /// How many data packets `sample` would give at an event of a channel, at most 64. No byte of the memory is read.
+    pub fn sample_len(&self, channel: u16, pages: &Pages) -> usize
+        ensures value { result ≡ length (sampled channel pages.now self.now) }
+        ensures bound { result ≤ 64 }
+    {
+        count_due(&self.modes, &self.odts, channel, pages)
+    }
+
     /// Counts an event of a channel, and gives the data packets of the lists that are due: for each ODT with bytes its PID
     /// and then what the controller has at its elements. `out` has to be empty; it gets up to 64 packets.
     pub fn sample(&mut self, channel: u16, pages: &Pages, out: &mut ArrayVec<Packet, 64>)
@@ -24,11 +32,40 @@ impl Daq {
         self.count_event(channel);
     }
 
-    /// Counts the event in the lists that run on its channel.
-    fn count_event(&mut self, channel: u16)
+    /// Counts an event of a channel in the lists that run on it, and samples nothing: what is left to do where the packets
+    /// have no room.
+    pub fn count_event(&mut self, channel: u16)
         ensures { self.new ≡ after_event channel self.old }
     {
         count_each(&mut self.modes, channel);
+    }
+}
+
+/// How many packets the lists that are due give.
+fn count_due(modes: &[Mode], odts: &Odts, channel: u16, pages: &Pages) -> usize
+    requires same { length modes.now ≡ length odts.now }
+    requires written { All IsEntry (joined (joined odts.now)) }
+    requires few { length (sampled channel pages.now (record { lists = lists_of modes.now odts.now; pointer = None; last = None })) ≤ 64 }
+    ensures { result ≡ length (sampled channel pages.now (record { lists = lists_of modes.now odts.now; pointer = None; last = None })) }
+{
+    let mut n = 0;
+    for i in 0..modes.len() {
+        n += count_list(modes, odts, i, channel, pages);
+    }
+    n
+}
+
+/// How many packets a list gives: none, if it isn't due.
+fn count_list(modes: &[Mode], odts: &Odts, i: usize, channel: u16, pages: &Pages) -> usize
+    requires place { i < length modes.now }
+    requires same { length modes.now ≡ length odts.now }
+    requires written { All IsEntry (joined (joined odts.now)) }
+    ensures { result ≡ length (list_packets channel pages.now (record { lists = lists_of modes.now odts.now; pointer = None; last = None }) (i, list_of (get_or modes.now i NEW_LIST) (get_or odts.now i []))) }
+{
+    if modes[i].is_due(channel) {
+        odts.sample_len(i, pages)
+    } else {
+        0
     }
 }
 

@@ -1,5 +1,5 @@
 //! The data packets of a list.
-ghost use Rattle.std.specs.Prelude.{◌≡◌, ◌<◌, ◌≤◌, ◌+◌, ◌++◌, ◌∷◌, [], ◌^◌, All, length, take, slice_index_or as get_or, OnOk, OnErr, true, false};
+ghost use Rattle.std.specs.Prelude.{◌≡◌, ◌<◌, ◌≤◌, ◌+◌, ◌++◌, ◌∷◌, [], ◌^◌, All, length, take, slice_index_or as get_or, OnOk, OnErr, true, false, nat_lt};
 ghost use Rattle.xcp_memory.specs.Words.{lies_inside, controller_bytes};
 ghost use Rattle.arrayvec.specs.ArrayVec.{array_vec_len};
 ghost use Rattle.xcp_daq.specs.Daq.{entry_size, odt_size};
@@ -8,16 +8,26 @@ ghost use Rattle.xcp_daq.specs.Pools.{joined, parts, total};
 ghost use Rattle.xcp_daq.specs.Sample.{element_bytes, entry_bytes, odt_bytes, packet_of, packets_from};
 
 use super::Odts;
-use crate::Element;
+use crate::element::{Element, lies_inside};
 use crate::pools::cut;
 use arrayvec::ArrayVec;
-use xcp_memory::Pages;
+use xcp_memory::{Pages, controller_is_read};
 use xcp_packet::{Code, Packet};
 
 /// What an element's place in a packet holds before the element is read.
 const ZEROS: [u8; 254] = [0; 254];
 
 impl Odts {
+    /// How many packets a list gives, whatever its first PID.
+    pub(crate) fn sample_len(&self, i: usize, pages: &Pages) -> usize
+        requires list { i < length self.now }
+        requires written { All IsEntry (joined (joined self.now)) }
+        ensures { result ≡ length (packets_from pages.now 0 (get_or self.now i [])) }
+    {
+        let (counts, entries) = self.list(i);
+        count_packets(counts, entries, pages)
+    }
+
     /// Appends the packets of a list.
     pub(crate) fn sample(&self, i: usize, pages: &Pages, out: &mut ArrayVec<Packet, 64>)
         requires list { i < length self.now }
@@ -32,6 +42,57 @@ impl Odts {
         let (counts, entries) = self.list(i);
         sample_odts(counts, entries, first as u8, pages, out);
     }
+}
+
+/// How many packets ODTs with so many entries each give.
+fn count_packets(counts: &[u16], entries: &[Option<Element>], pages: &Pages) -> usize
+    requires cut { total counts.now ≤ length entries.now }
+    requires few { length entries.now ≤ 256 }
+    requires written { All IsEntry entries.now }
+    ensures { result ≡ length (packets_from pages.now 0 (parts counts.now entries.now)) }
+{
+    let mut at = 0;
+    let mut packets = 0;
+    for count in counts {
+        let n = *count as usize;
+        packets += count_packet(cut(entries, at, n), pages);
+        at += n;
+    }
+    packets
+}
+
+/// How many packets an ODT gives: one, if an entry of it has bytes.
+fn count_packet(entries: &[Option<Element>], pages: &Pages) -> usize
+    requires { All IsEntry entries.now }
+    ensures { result ≡ length (packet_of 0 (odt_bytes pages.now entries.now)) }
+{
+    for entry in entries {
+        if gives_bytes(entry, pages) {
+            return 1;
+        }
+    }
+    0
+}
+
+/// Whether an entry gives bytes: it is written, and the controller has its element.
+fn gives_bytes(entry: &Option<Element>, pages: &Pages) -> bool
+    requires { IsEntry entry.now }
+    ensures { result ≡ nat_lt 0 (length (entry_bytes pages.now entry.now)) }
+{
+    match entry {
+        Some(element) => has_bytes(element, pages),
+        None => false,
+    }
+}
+
+/// Whether the controller has bytes at an element: where it lies in one area, all of them.
+fn has_bytes(element: &Element, pages: &Pages) -> bool
+    requires { 1 ≤ element.now.size }
+    ensures { result ≡ nat_lt 0 (length (element_bytes pages.now element.now)) }
+{
+    pages.audit();
+    controller_is_read();
+    lies_inside(pages.layout(), element.address, element.size)
 }
 
 /// Appends the packets of ODTs with so many entries each; the first ODT has this PID.

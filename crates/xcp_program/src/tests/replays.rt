@@ -49,6 +49,19 @@ fn the_worked_run(rt: HostRuntime) -> Result<(), Fail> {
 }
 
 #[test]
+fn a_motorola_slave(rt: HostRuntime) -> Result<(), Fail> {
+    let names = "max_dto = 64\nbyte_order = \"motorola\"\nchecksum = \"ADD_24\"";
+    let config = changed(rt.alloc(), 2, names)?;
+    // BUILD_CHECKSUM of segment 0; SET_CAL_PAGE, MODIFY_BITS and UPLOAD on its working page.
+    let script =
+        "FF00\nF600000000001000\nF300000000000010\nEB020001\nF600000000001000\nEC08FFFE0002\nF504\n";
+    let text = "7 requests, FF05812000400101\nFF\nFF05000000003840\nFF\nFF\nFF\nFF00010003\n";
+    let found = told(rt.alloc(), config.as_str(), script, 100)?;
+    assert_eq!(rt; found.as_str(), text);
+    Ok(())
+}
+
+#[test]
 fn each_fault_of_a_configuration_has_its_number(rt: HostRuntime) -> Result<(), Fail> {
     let five =
         "[[segment]]\naddress = 1\ndata = \"00\"\n[[segment]]\naddress = 2\ndata = \"00\"\n[[segment]]\naddress = 3\ndata = \"00\"\n[[segment]]";

@@ -30,18 +30,20 @@ impl Slave {
         self.sample(channel)
     }
 
-    /// All packets of a sample wait, or none.
+    /// All packets of a sample wait, or none: without room for them the event is counted alone, and nothing is sampled.
     fn sample(&mut self, channel: u16) -> Told
         ensures { (packet : ArrayVec ℕ) → Samples channel (sampled channel self.old.transfer.pages self.old.daq) self.old (answer_in result packet) self.new }
     {
-        self.sample.clear();
         let pages = self.transfer.pages();
-        self.daq.sample(channel, pages, &mut self.sample);
-        if self.sample.len() > self.outbox.room() {
+        let count = self.daq.sample_len(channel, pages);
+        if count > self.outbox.room() {
+            self.daq.count_event(channel);
             return Told::Overrun;
         }
+        self.sample.clear();
+        self.daq.sample(channel, pages, &mut self.sample);
         self.outbox.append(&self.sample);
-        Told::Sampled(self.sample.len() as u8)
+        Told::Sampled(count as u8)
     }
 
     /// The first packet that waits.

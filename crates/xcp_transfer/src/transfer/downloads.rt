@@ -57,25 +57,28 @@ impl Transfer {
     ) -> Result<Sent, Fault>
         ensures { Tells self.old.pages.layout.order (download_next_row remaining bytes.now self.old) (without_block self.old) result packet.new.items self.new }
     {
-        let Some(mut block) = self.block.take() else {
+        let room = self.packet_room();
+        let Some(block) = &mut self.block else {
             return Err(Fault::Count(Code::Sequence, 0));
         };
-        if remaining != block.expected() {
-            return Err(Fault::Count(Code::Sequence, block.expected()));
+        let expected = block.expected();
+        if remaining != expected {
+            self.block = None;
+            return Err(Fault::Count(Code::Sequence, expected));
         }
-        let room = self.packet_room();
         if bytes.len() < remaining.min(room) as usize {
+            self.block = None;
             return Err(Fault::Code(Code::CmdSyntax));
         }
-        if remaining <= room {
-            block.add(&bytes[..remaining as usize]);
-            self.mta = write_allowed(&mut self.pages, block.address(), block.bytes());
-            write_reply(packet, &Reply::Done, self.order());
-            return Ok(Sent::Lent);
+        if remaining > room {
+            block.add(&bytes[..room as usize]);
+            return Ok(Sent::Nothing);
         }
-        block.add(&bytes[..room as usize]);
-        self.block = Some(block);
-        Ok(Sent::Nothing)
+        block.add(&bytes[..remaining as usize]);
+        self.mta = write_allowed(&mut self.pages, block.address(), block.bytes());
+        self.block = None;
+        write_reply(packet, &Reply::Done, self.order());
+        Ok(Sent::Lent)
     }
 
     /// DOWNLOAD_MAX: writes MAX_CTO - 1 bytes from the MTA on, and moves it on by as many.

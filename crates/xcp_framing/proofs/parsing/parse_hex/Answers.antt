@@ -1,4 +1,4 @@
-use Rattle.std.proofs.Common.{◌≡◌, ◌<◌, ◌≤◌, ◌*◌, ◌+◌, ◌⊎◌, length, slice_index, ap, sym, ◌∙◌, arith, inl, inr}
+use Rattle.std.proofs.Common.{◌<◌, ◌≤◌, ◌*◌, ◌+◌, ◌⊎◌, length, slice_index, ◌∙◌, arith, inl, inr}
 use Rattle.xcp_framing.specs.Digits.{value_or}
 use Rattle.xcp_framing.proofs.Pairs.{whole, one_more, no_more, no_digit_left}
 use Rattle.xcp_framing.proofs.parsing.parse_hex.Goals as goal

@@ -1,0 +1,26 @@
+use Rattle.std.proofs.Common.{rules, ◌≡◌, length, vec_len, arith}
+use Rattle.xcp_locked.specs.Running.{IsTaskOf, WorkedAs}
+use Rattle.xcp_locked.specs.Tasks.{Worked}
+use Rattle.xcp_locked.proofs.Places.{each_of, each_through, each_length}
+use Rattle.xcp_locked.proofs.Runs.{worked_as}
+use Rattle.xcp_locked.proofs.running.run_tasks.Goals as goal
+
+pub collect-requires : goal.collect-requires
+collect-requires g c =
+    let done : vec_len c.in_ok-_none.done ≡ length c.in_ok-_none.done.items = search rules in
+    let workers : vec_len c.args.workers ≡ length c.args.workers.items = search rules in
+    let tasks = each_length (IsTaskOf {N = g.row.N.Denot} {G = g.row.G.Denot} c.args.cycles) 0 c.args.workers.items c.in_ok-tasks.tasks.items c.in_ok-tasks.ensures in
+    let all = c.in_ok-_none.ensures.others.all in
+    let room = c.in_ok-back.ensures.capacity in
+    let asked = c.len.ensures in (c.in_ok-back.ensures.items, omega (arith, done, workers, tasks, all, room, asked))
+
+pub returns-clause-ran : goal.returns-clause-ran
+returns-clause-ran g c =
+    let came = c.in_ok-_none.ensures.others in record {
+      done = c.in_ok-_none.done.items;
+      worked = each_through (IsTaskOf {N = g.row.N.Denot} {G = g.row.G.Denot} c.args.cycles) (λ n t d. Worked t.cycles t.task t.worker.caller d.worker.caller d.fault) (WorkedAs {N = g.row.N.Denot} c.args.cycles)
+          (λ n w t d is h. worked_as c.args.cycles t.cycles n t.task w t.worker d.worker.caller d.fault is.number is.cycles_are is.worker h) 0 c.args.workers.items c.in_ok-tasks.tasks.items c.in_ok-_none.done.items
+          c.in_ok-tasks.ensures (each_of (λ t d. Worked t.cycles t.task t.worker.caller d.worker.caller d.fault) 0 c.in_ok-tasks.tasks.items c.in_ok-_none.done.items came.all came.each);
+      back = c.collect.ensures.workers;
+      fault = c.collect.ensures.fault;
+    }

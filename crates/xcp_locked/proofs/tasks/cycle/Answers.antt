@@ -1,0 +1,47 @@
+use Rattle.std.proofs.Common.{rules, ◌≡◌, ℕ, ◌+◌, List, [], ◌∷◌, Bool, true, false, sym, subst}
+use Rattle.xcp_locked.specs.Tasks.{Duty, Grew, Adds, closing_of, duty, event_of}
+use Rattle.xcp_locked.specs.declared.entry.Receipt.{Receipt}
+use Rattle.xcp_locked.proofs.Plans.{nothing_done, event_done, all_done}
+use Rattle.xcp_locked.proofs.tasks.cycle.Goals as goal
+
+pub returns-then-not-before-clause-grew : goal.returns-then-not-before-clause-grew
+returns-then-not-before-clause-grew g c old n is gr = nothing_done _ n old _ gr
+
+pub returns-in-Some-clause-grew : goal.returns-in-Some-clause-grew
+returns-in-Some-clause-grew g c old n is gr =
+    let p : Duty = duty c.args.caller.now c.args.task in
+    let e : c.step.new.caller.receipts ≡ c.args.caller.now.receipts = search rules in
+    subst (λ (z : List Receipt). Grew p (n + 1) false old z) (sym e) (nothing_done p n old _ gr)
+
+pub returns-in-Some-close-clause-grew : goal.returns-in-Some-close-clause-grew
+returns-in-Some-close-clause-grew g c old n is gr =
+    let p : Duty = duty c.args.caller.now c.args.task in
+    let k : ℕ = c.args.cycle in
+    let a : Adds (event_of p k ∷ []) c.args.caller.now.receipts c.step.new.caller.receipts = search rules in
+    let e : c.close.new.caller.receipts ≡ c.step.new.caller.receipts = search rules in
+    subst (λ (z : List Receipt). Grew p (n + 1) false old z) (sym e)
+    (subst (λ (j : ℕ). Grew p (j + 1) false old c.step.new.caller.receipts) (sym is) (event_done p k old _ _ (subst (λ (j : ℕ). Grew p j true old c.args.caller.now.receipts) is gr) a))
+
+-- the whole cycle was submitted
+whole_cycle : (p : Duty) (k n : ℕ) (whole : Bool) (old was mid now : List Receipt) → n ≡ k → Grew p n true old was → Adds (event_of p k ∷ []) was mid → Adds (closing_of p) mid now → Grew p (n + 1) whole old now
+whole_cycle p k n whole old was mid now is gr a b = subst (λ (j : ℕ). Grew p (j + 1) whole old now) (sym is) (all_done p k whole old was mid now (subst (λ (j : ℕ). Grew p j true old was) is gr) a b)
+
+pub returns-then-not-after-clause-grew : goal.returns-then-not-after-clause-grew
+returns-then-not-after-clause-grew g c old n is gr =
+    let p : Duty = duty c.args.caller.now c.args.task in
+    let a : Adds (event_of p c.args.cycle ∷ []) c.args.caller.now.receipts c.step.new.caller.receipts = search rules in
+    let b : Adds (closing_of p) c.step.new.caller.receipts c.close.new.caller.receipts = search rules in
+    whole_cycle p c.args.cycle n false old _ _ _ is gr a b
+
+pub returns-clause-grew : goal.returns-clause-grew
+returns-clause-grew g c old n is gr =
+    let p : Duty = duty c.args.caller.now c.args.task in
+    let a : Adds (event_of p c.args.cycle ∷ []) c.args.caller.now.receipts c.step.new.caller.receipts = search rules in
+    let b : Adds (closing_of p) c.step.new.caller.receipts c.close.new.caller.receipts = search rules in
+    whole_cycle p c.args.cycle n true old _ _ _ is gr a b
+
+pub returns-in-Some-clause-own : goal.returns-in-Some-clause-own
+returns-in-Some-clause-own g c = c.in-Some.ensures.own c.args.task
+
+pub returns-in-Some-close-clause-own : goal.returns-in-Some-close-clause-own
+returns-in-Some-close-clause-own g c = c.in-Some-close.ensures.own c.args.task

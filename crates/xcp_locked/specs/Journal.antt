@@ -1,0 +1,23 @@
+-- A journal: the calls that a slave has had.
+use Rattle.std.specs.Prelude.{ℕ, List, map}
+use Rattle.xcp_slave.specs.declared.Exchange.{Exchange}
+use Rattle.xcp_slave.specs.declared.Request.{Request}
+use Rattle.xcp_slave.specs.declared.Answer.{Answer}
+use Rattle.xcp_locked.specs.declared.entry.Entry.{Entry}
+
+-- the entries, in order, and for how many more there is memory
+pub record JournalValue : Type 0 where
+  pub entries : List Entry
+  pub room : ℕ
+
+-- the most entries of a journal
+abbrev pub journal_limit : ℕ
+journal_limit = 65536
+
+-- a call by this caller
+abbrev pub entry : ℕ → Request → Answer → Entry
+entry by request answer = record { caller = by; exchange = record { request = request; answer = answer } }
+
+-- the exchanges of the entries, without their callers
+abbrev pub exchanges : List Entry → List Exchange
+exchanges entries = map (λ (e : Entry). e.exchange) entries

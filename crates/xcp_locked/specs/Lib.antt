@@ -1,0 +1,11 @@
+pub mod Caller
+pub mod Journal
+pub mod Locked
+pub mod Numbers
+pub mod Opening
+pub mod Places
+pub mod Receipts
+pub mod Refusals
+pub mod Running
+pub mod Settling
+pub mod Tasks

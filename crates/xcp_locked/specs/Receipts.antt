@@ -1,0 +1,18 @@
+-- Receipts: what callers have of their calls.
+use Rattle.std.specs.Prelude.{ℕ, List, map}
+use Rattle.xcp_slave.specs.declared.Exchange.{Exchange}
+use Rattle.xcp_slave.specs.declared.Request.{Request}
+use Rattle.xcp_slave.specs.declared.Answer.{Answer}
+use Rattle.xcp_locked.specs.declared.entry.Entry.{Entry}
+use Rattle.xcp_locked.specs.declared.entry.Receipt.{Receipt}
+
+abbrev pub receipt : ℕ → Request → Answer → Receipt
+receipt at request answer = record { at = at; request = request; answer = answer }
+
+-- the receipt for the entry at this place of the journal
+abbrev pub receipt_of : ℕ → Entry → Receipt
+receipt_of at e = receipt at e.exchange.request e.exchange.answer
+
+-- the exchanges that receipts have, in order
+abbrev pub exchanges_of : List Receipt → List Exchange
+exchanges_of receipts = map (λ (r : Receipt). record { request = r.request; answer = r.answer }) receipts

@@ -1,0 +1,74 @@
+-- What a task submits.
+use Rattle.std.specs.Prelude.{◌≡◌, ℕ, zero, suc, ◌%◌, Bool, true, List, [], ◌∷◌, ◌++◌, map, ◌==◌, if◌then◌else◌, replicate, Option, Some, None, is_none, IfSome, ⊤}
+use Rattle.xcp_slave.specs.declared.Request.{Request}
+use Rattle.xcp_slave.specs.declared.Request.TheVariants as requests
+use Rattle.xcp_locked.specs.declared.entry.Receipt.{Receipt}
+use Rattle.xcp_locked.specs.declared.errors.LockedError.{LockedError}
+use Rattle.xcp_locked.specs.declared.errors.LockedError.TheVariants as refusals
+use Rattle.xcp_locked.specs.declared.tasks.TaskError.{TaskError}
+use Rattle.xcp_locked.specs.declared.tasks.TaskError.TheVariants as faults
+use Rattle.xcp_locked.specs.Caller.{CallerValue}
+
+-- A task's duty: by how many event channels and how many bytes of signals it goes, and its number.
+pub record Duty : Type 0 where
+  pub events : ℕ
+  pub signals : ℕ
+  pub task : ℕ
+
+abbrev pub duty : CallerValue → ℕ → Duty
+duty c task = record { events = c.events; signals = c.signals; task = task }
+
+-- the requests of receipts, in order
+abbrev pub requests_of : List Receipt → List Request
+requests_of receipts = map (λ (r : Receipt). r.request) receipts
+
+-- the event of a cycle: on the task's channel, with all signals as the cycle's number says
+abbrev pub event_of : Duty → ℕ → Request
+event_of p cycle = requests.Event (p.task % p.events) (record { items = replicate p.signals (cycle % 256) })
+
+-- task 0 finishes a store too
+abbrev pub closing_of : Duty → List Request
+closing_of p = if p.task == 0 then requests.FinishStore ∷ [] else []
+
+abbrev pub cycle_of : Duty → ℕ → List Request
+cycle_of p cycle = event_of p cycle ∷ closing_of p
+
+-- what so many cycles submit, in order
+abbrev pub plan : Duty → ℕ → List Request
+plan p zero = []
+plan p (suc n) = plan p n ++ cycle_of p n
+
+-- The receipts grew by a beginning of the plan, and by all of it where the task did its whole work.
+pub record Grew (p : Duty) (cycles : ℕ) (whole : Bool) (old new : List Receipt) : Type 0 where
+  pub more : List Receipt
+  pub new_is : new ≡ old ++ more
+  pub rest : List Request
+  pub planned : plan p cycles ≡ requests_of more ++ rest
+  pub all : whole ≡ true → rest ≡ []
+
+-- the receipts grew by those of these requests
+abbrev pub Adds : List Request → List Receipt → List Receipt → Type 0
+Adds requests old new = (more : List Receipt) × (requests_of more ≡ requests) × (new ≡ old ++ more)
+
+-- the caller is the same one: its receipts, and how many of its calls were accepted, may be others
+pub record Same (old new : CallerValue) : Type 0 where
+  pub number : new.number ≡ old.number
+  pub events : new.events ≡ old.events
+  pub signals : new.signals ≡ old.signals
+
+-- a refusal as a task's fault
+abbrev pub refused_with : LockedError → TaskError
+refused_with refusals.Memory = faults.Memory
+refused_with refusals.JournalFull = faults.JournalFull
+
+-- a gate's end names its own task
+abbrev pub IsOwn : ℕ → TaskError → Type 0
+IsOwn task faults.Memory = ⊤
+IsOwn task faults.JournalFull = ⊤
+IsOwn task (faults.GateSpent of) = of ≡ task
+
+-- what a task of so many cycles did: its receipts grew by its plan, where it has a fault by a beginning of it
+pub record Worked (cycles task : ℕ) (old new : CallerValue) (fault : Option TaskError) : Type 0 where
+  pub grew : Grew (duty old task) cycles (is_none fault) old.receipts new.receipts
+  pub same : Same old new
+  pub own : IfSome fault (IsOwn task)

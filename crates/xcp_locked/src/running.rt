@@ -1,0 +1,80 @@
+//! Tasks, each in a thread of its own.
+ghost use Rattle.std.specs.Prelude.{◌≡◌, ◌<◌, ◌≤◌, [], IfErr, IfOk, map, length, vec_len, vec_capacity};
+ghost use Rattle.xcp_locked.specs.Places.{EachFrom};
+ghost use Rattle.xcp_locked.specs.Running.{IsTaskOf, RanTasks, first_fault};
+
+use crate::{Done, Gate, Locked, Name, Ran, Task, TaskError, Worker};
+use std::alloc::{AllocError, Global};
+use std::sync::{Mutex, Wait};
+use std::thread::Threads;
+use together::run_both;
+
+/// Runs a task for each worker, at most 16 of them, all at the same time. They are numbered from 0.
+/// In each of its cycles a task asks the gate, submits an event on the channel of its number (modulo
+/// the number of channels) with all signals the cycle's number (modulo 256), takes the image, as task
+/// 0 also finishes a store, and asks the gate again.
+///
+/// Where memory or a thread is refused, the answer is `Memory`, and no task has begun. Else all
+/// workers come back, in order, with the fault of the least task number that has one.
+pub fn run_tasks<N: Name + Send + Sync, G: Gate + Sync, R: Threads + Wait + Sync>(
+    rt: &R,
+    alloc: Global,
+    lock: &Mutex<Locked<N>>,
+    workers: Vec<Worker<N>>,
+    cycles: u32,
+    gate: &G,
+) -> Result<Ran<N>, TaskError>
+    requires { vec_len workers ≤ 16 }
+    ensures ran { IfOk result (λ r. RanTasks cycles workers.items r) }
+    ensures err { IfErr result (λ e. e ≡ TaskError.Memory) }
+{
+    let back = Vec::with_capacity(alloc, workers.len())?;
+    let tasks = number_tasks(alloc, lock, workers, cycles, gate)?;
+    let none: Vec<Task<N, G>> = Vec::new(alloc);
+    let (_none, done) = run_both(rt, alloc, none, tasks)?;
+    Ok(collect(done, back))
+}
+
+/// The tasks of the workers, in order.
+pub(crate) fn number_tasks<'a, N: Name, G: Gate>(
+    alloc: Global,
+    lock: &'a Mutex<Locked<N>>,
+    workers: Vec<Worker<N>>,
+    cycles: u32,
+    gate: &'a G,
+) -> Result<Vec<Task<'a, N, G>>, AllocError>
+    requires { vec_len workers ≤ 16 }
+    ensures { IfOk result (λ tasks. EachFrom (IsTaskOf cycles) 0 workers.items tasks.items) }
+{
+    let mut tasks = Vec::with_capacity(alloc, workers.len())?;
+    let mut task = 0;
+    for worker in workers {
+        tasks.push_reserved(Task {
+            task,
+            worker,
+            cycles,
+            gate,
+            lock,
+        });
+        task += 1;
+    }
+    Ok(tasks)
+}
+
+/// The workers of the tasks that are done, for which there is room, and the first fault.
+pub(crate) fn collect<N: Name>(done: Vec<Done<N>>, room: Vec<Worker<N>>) -> Ran<N>
+    requires { (room.items ≡ []) × (vec_len done ≤ vec_capacity room) }
+    ensures workers { result.workers.items ≡ map (λ d. d.worker) done.items }
+    ensures fault { result.fault ≡ first_fault done.items }
+{
+    let mut workers = room;
+    let mut fault = None;
+    for one in done {
+        workers.push_reserved(one.worker);
+        fault = match fault {
+            None => one.fault,
+            first => first,
+        };
+    }
+    Ran { workers, fault }
+}

@@ -1,0 +1,239 @@
+//! Tasks of the controller: what each submits, cycle by cycle.
+ghost use Rattle.std.specs.Prelude.{◌≡◌, ◌≤◌, ◌+◌, ℕ, List, [], ◌∷◌, IfSome, MatchBool, is_none, replicate, true};
+ghost use Rattle.xcp_locked.specs.Numbers.{task_number};
+ghost use Rattle.xcp_locked.specs.Tasks.{Adds, Grew, IsOwn, Same, closing_of, duty, event_of};
+
+use crate::{Caller, Gate, Locked, LockedError, Name};
+use arrayvec::ArrayVec;
+use std::alloc::AllocError;
+use std::sync::{Mutex, Wait};
+use thiserror::Error;
+use together::Work;
+use xcp_slave::Request;
+
+/// Why a task ended before its cycles were done.
+#[derive(Clone, Copy, Debug, Error, PartialEq, Eq, Drop)]
+pub enum TaskError {
+    /// There was no memory for an entry, or no thread.
+    #[error("no memory is left")]
+    Memory,
+    /// The journal has all the entries that it takes.
+    #[error("the journal is full")]
+    JournalFull,
+    /// The gate ended this task.
+    #[error("the gate ended task {0}")]
+    GateSpent(u8),
+}
+
+impl TaskError {
+    /// The error's number: 1 Memory, 2 JournalFull, 4 GateSpent.
+    pub fn number(&self) -> u8
+        ensures { result ≡ task_number self.now }
+    {
+        match self {
+            TaskError::Memory => 1,
+            TaskError::JournalFull => 2,
+            TaskError::GateSpent(_) => 4,
+        }
+    }
+}
+
+impl From<LockedError> for TaskError {
+    ghost use Rattle.xcp_locked.specs.Tasks.{refused_with};
+
+    ghost from_gives = { λ e r. r ≡ refused_with e };
+
+    fn from(error: LockedError) -> TaskError {
+        match error {
+            LockedError::Memory => TaskError::Memory,
+            LockedError::JournalFull => TaskError::JournalFull,
+        }
+    }
+}
+
+impl From<AllocError> for TaskError {
+    ghost use Rattle.std.specs.Prelude.{◌≡◌};
+    ghost use Rattle.xcp_locked.specs.declared.tasks.TaskError.TheVariants as faults;
+
+    ghost from_gives = { λ e r. r ≡ faults.Memory };
+
+    fn from(_error: AllocError) -> TaskError {
+        TaskError::Memory
+    }
+}
+
+/// Who works: a caller.
+#[derive(Drop)]
+pub struct Worker<N: Name> {
+    pub caller: Caller<N>,
+}
+
+/// A task: its number, its worker, and how many cycles it has.
+#[derive(Drop)]
+pub struct Task<'a, N: Name, G: Gate> {
+    pub task: u8,
+    pub worker: Worker<N>,
+    pub cycles: u32,
+    pub gate: &'a G,
+    pub lock: &'a Mutex<Locked<N>>,
+}
+
+/// What comes of a task.
+#[derive(Drop)]
+pub struct Done<N: Name> {
+    pub worker: Worker<N>,
+    pub fault: Option<TaskError>,
+}
+
+/// What comes of tasks: their workers, in order, and the fault of the least task number.
+#[derive(Drop)]
+pub struct Ran<N: Name> {
+    pub workers: Vec<Worker<N>>,
+    pub fault: Option<TaskError>,
+}
+
+impl<'a, N: Name + Send + Sync, G: Gate + Sync> Work<Done<N>> for Task<'a, N, G> {
+    ghost use Rattle.xcp_locked.specs.Tasks.{Worked};
+
+    ghost gives = { λ t d. Worked t.cycles t.task t.worker.caller d.worker.caller d.fault };
+
+    fn run<R: Wait>(self, rt: &R) -> Done<N> {
+        let Task {
+            task,
+            worker,
+            cycles,
+            gate,
+            lock,
+        } = self;
+        let Worker { mut caller } = worker;
+        let fault = run_cycles(rt, lock, task, &mut caller, cycles, gate);
+        Done {
+            worker: Worker { caller },
+            fault,
+        }
+    }
+
+    fn leave(self) -> Done<N> {
+        Done {
+            worker: self.worker,
+            fault: Some(TaskError::Memory),
+        }
+    }
+}
+
+/// The cycles of a task, until one has a fault.
+fn run_cycles<N: Name, G: Gate>(
+    rt: &impl Wait,
+    lock: &Mutex<Locked<N>>,
+    task: u8,
+    caller: &mut Caller<N>,
+    cycles: u32,
+    gate: &G,
+) -> Option<TaskError>
+    ensures grew { Grew (duty caller.old task) cycles (is_none result)
+        caller.old.receipts caller.new.receipts }
+    ensures same { Same caller.old caller.new }
+    ensures own { IfSome result (IsOwn task) }
+{
+    for n in 0..cycles {
+        if let Some(fault) = cycle(rt, lock, task, caller, n, gate) {
+            return Some(fault);
+        }
+    }
+    None
+}
+
+/// One cycle: the gate is asked, an event is submitted, the image is taken, task 0 finishes a
+/// store, and the gate is asked again.
+fn cycle<N: Name, G: Gate>(
+    rt: &impl Wait,
+    lock: &Mutex<Locked<N>>,
+    task: u8,
+    caller: &mut Caller<N>,
+    cycle: u32,
+    gate: &G,
+) -> Option<TaskError>
+    ensures grew { (old : List _) (n : ℕ) → n ≡ cycle
+        → Grew (duty caller.old task) n true old caller.old.receipts
+        → Grew (duty caller.old task) (n + 1) (is_none result) old caller.new.receipts }
+    ensures same { Same caller.old caller.new }
+    ensures own { IfSome result (IsOwn task) }
+{
+    if !gate.before(task, cycle) {
+        return Some(TaskError::GateSpent(task));
+    }
+    let event = event(caller, task, cycle);
+    if let Some(fault) = step(rt, lock, caller, event) {
+        return Some(fault);
+    }
+    take_image(rt, lock);
+    if let Some(fault) = close(rt, lock, task, caller) {
+        return Some(fault);
+    }
+    if !gate.after(task, cycle) {
+        return Some(TaskError::GateSpent(task));
+    }
+    None
+}
+
+/// The event that a task submits in a cycle.
+fn event<N: Name>(caller: &Caller<N>, task: u8, cycle: u32) -> Request
+    ensures { result ≡ event_of (duty caller.now task) cycle }
+{
+    let channel = (task as usize % caller.events) as u16;
+    Request::Event(channel, all_signals(caller.signals, (cycle % 256) as u8))
+}
+
+fn all_signals(length: usize, byte: u8) -> ArrayVec<u8, 64>
+    requires { length ≤ 64 }
+    ensures { result.items ≡ replicate length byte }
+{
+    let all = [byte; 64];
+    let mut signals = ArrayVec::new();
+    let _ = signals.try_extend_from_slice(&all[..length]);
+    signals
+}
+
+/// Takes and reads the image of the moment.
+fn take_image<N: Name>(rt: &impl Wait, lock: &Mutex<Locked<N>>) {
+    let mut image = [0; 2040];
+    lock.lock(rt).image(&mut image);
+}
+
+/// Submits a request.
+fn step<N: Name>(
+    rt: &impl Wait,
+    lock: &Mutex<Locked<N>>,
+    caller: &mut Caller<N>,
+    request: Request,
+) -> Option<TaskError>
+    ensures adds { MatchBool (is_none result)
+        (Adds (request ∷ []) caller.old.receipts caller.new.receipts)
+        (caller.new.receipts ≡ caller.old.receipts) }
+    ensures same { Same caller.old caller.new }
+    ensures own { (task : ℕ) → IfSome result (IsOwn task) }
+{
+    match lock.lock(rt).submit(caller, request) {
+        Ok(_) => None,
+        Err(error) => Some(TaskError::from(error)),
+    }
+}
+
+/// Of task 0, finishes a store.
+fn close<N: Name>(
+    rt: &impl Wait,
+    lock: &Mutex<Locked<N>>,
+    task: u8,
+    caller: &mut Caller<N>,
+) -> Option<TaskError>
+    ensures adds { MatchBool (is_none result)
+        (Adds (closing_of (duty caller.old task)) caller.old.receipts caller.new.receipts)
+        (caller.new.receipts ≡ caller.old.receipts) }
+    ensures same { Same caller.old caller.new }
+    ensures own { (task : ℕ) → IfSome result (IsOwn task) }
+{
+    if task != 0 {
+        return None;
+    }
+    step(rt, lock, caller, Request::FinishStore)
+}
