@@ -203,6 +203,30 @@ fn an_odt_that_a_packet_does_not_hold(rt: HostRuntime) -> Result<(), Fail> {
 }
 
 #[test]
+fn a_selected_list_may_outgrow_a_packet(rt: HostRuntime) -> Result<(), Fail> {
+    let rows = "
+        FF 00 > FF 05 80 20 08 00 01 01
+        D6 > FF
+        D5 00 01 00 > FF
+        D4 00 00 00 01 > FF
+        D3 00 00 00 00 02 > FF
+        E2 00 00 00 00 00 > FF
+        E1 FF 07 00 00 80 00 00 > FF
+        DE 02 00 00 > FF 00
+        E1 FF 07 00 00 80 00 00 > FF
+        # What starts it looks at its sizes again.
+        DD 01 > FE 2A
+        DF 00 00 00 > FF 01 00 00 00 00 01 00
+    ";
+    let kind = Kind {
+        max_dto: 8,
+        ..USUAL
+    };
+    assert_eq!(rt; first_wrong_of_new(rt.alloc(), kind, rows)?, None);
+    Ok(())
+}
+
+#[test]
 fn a_sessions_end_takes_its_lists(rt: HostRuntime) -> Result<(), Fail> {
     let rows = "
         D6 > FF

@@ -60,3 +60,20 @@ fn a_session_ends_and_keeps_what_was_written(rt: HostRuntime) -> Result<(), Fail
     assert_eq!(rt; first_wrong_of(rt.alloc(), USUAL, rows)?, None);
     Ok(())
 }
+
+#[test]
+fn a_second_connect_keeps_what_waits(rt: HostRuntime) -> Result<(), Fail> {
+    let rows = "
+        F6 00 00 00 00 10 00 00 > FF
+        F9 01 00 00 > FF
+        store > stored 0
+        F9 01 00 00 > FF
+        FF 00 > FF 05 80 20 40 00 01 01
+        FD > FF 01 00 00 00 00
+        F5 01 > FE 24
+        drain > FD 03
+        drain > nothing
+    ";
+    assert_eq!(rt; first_wrong_of(rt.alloc(), USUAL, rows)?, None);
+    Ok(())
+}

@@ -16,6 +16,8 @@ fn freeze_modes_are_set_and_told(rt: HostRuntime) -> Result<(), Fail> {
         E6 01 07 > FE 28
         E5 00 02 > FE 28
         F9 02 00 00 > FE 22
+        F9 03 00 00 > FE 22
+        FD > FF 00 00 00 00 00
     ";
     assert_eq!(rt; first_wrong_of(rt.alloc(), USUAL, rows)?, None);
     Ok(())
@@ -118,6 +120,22 @@ fn a_store_waits_for_room(rt: HostRuntime) -> Result<(), Fail> {
         store > stored 0
         FE > FF
         drain > nothing
+    ";
+    assert_eq!(rt; first_wrong_behind_64(rt.alloc(), store, rest)?, None);
+    Ok(())
+}
+
+#[test]
+fn an_event_with_nothing_due_needs_no_room(rt: HostRuntime) -> Result<(), Fail> {
+    let store = "
+        F9 01 00 00 > FF
+        store > stored 0
+    ";
+    let rest = "
+        event 0 01 02 03 04 05 06 07 08 > sampled 0
+        F4 02 00 00 00 80 00 00 > FF 01 02
+        F9 01 00 00 > FF
+        store > later
     ";
     assert_eq!(rt; first_wrong_behind_64(rt.alloc(), store, rest)?, None);
     Ok(())

@@ -102,6 +102,12 @@ fn blocks(rt: HostRuntime) -> Result<(), Fail> {
         FC > FE 00
         EF 02 07 08 > FE 29 00
         F5 02 > FF D1 D2
+        # A packet of no bytes is no command.
+        F6 00 00 00 00 10 00 00 > FF
+        F0 08 01 02 03 04 05 06 > -
+        > -
+        EF 02 07 08 > FF
+        F4 02 00 00 06 10 00 00 > FF 07 08
     ";
     let kind = Kind {
         max_cto: 8,

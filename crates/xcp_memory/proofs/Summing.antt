@@ -1,11 +1,16 @@
 -- The sum of the numbers that bytes are.
-use Rattle.std.proofs.Common.{◌≡◌, ◌+◌, ◌*◌, ◌/◌, ℕ, zero, suc, List, [], ◌∷◌, length, drop, sum, refl, sym, ap, ◌∙◌, arith, add-one, add_assoc, add_comm, mul-zero, mul-suc}
+use Rattle.std.proofs.Common.{◌≡◌, ◌+◌, ◌*◌, ◌/◌, ◌<◌, ℕ, zero, suc, List, [], ◌∷◌, length, drop, get_or, sum, refl, sym, ap, ◌∙◌, arith, add-one, add_assoc, add_comm, mul-zero, mul-suc}
+use Rattle.std.specs.Prelude.{◌%◌}
 use Rattle.std.proofs.lemmas.List.{drop-drop}
 use Rattle.std.proofs.lemmas.List.Sums.{sum_by-cons}
 use Rattle.xcp_packet.specs.declared.Order.{Order}
 use Rattle.xcp_packet.specs.declared.Order.TheVariants.{Intel, Motorola}
 use Rattle.xcp_packet.specs.Order.{number_in}
-use Rattle.xcp_memory.specs.Checksum.{numbers}
+use Rattle.xcp_memory.specs.Checksum.{numbers, unit, modulus, summed, checksum_of}
+use Rattle.xcp_memory.specs.Layout.{IsLayout}
+use Rattle.xcp_memory.specs.Memory.{Reads, Tool}
+use Rattle.xcp_memory.specs.Pages.{PagesValue, IsPages}
+use Rattle.xcp_memory.proofs.Reading.{tool_is_read}
 
 -- one number more
 pub one_more_number : (order : Order) (n k : ℕ) (bytes : List ℕ) → sum (numbers order n (k + 1) bytes) ≡ sum (numbers order n k bytes) + number_in order n (drop (n * k) bytes)
@@ -33,3 +38,25 @@ pub byte_numbers : (order : Order) (bytes : List ℕ) → sum (numbers order 1 (
 byte_numbers order bytes =
     let n : length bytes / 1 ≡ length bytes = omega arith in
     ap (λ k. sum (numbers order 1 k bytes)) n ∙ ap sum (each_byte order bytes)
+
+-- number i of those that bytes are
+pub number-at : (order : Order) (n k i : ℕ) (bytes : List ℕ) → i < k → get_or (numbers order n k bytes) i 0 ≡ number_in order n (drop (n * i) bytes)
+number-at order n zero i bytes h = absurd (omega arith)
+number-at order n (suc k) zero bytes h = rw mul-zero refl
+number-at order n (suc k) (suc i) bytes h =
+    let place : drop (n * i) (drop n bytes) ≡ drop (n * suc i) bytes = drop-drop (n * i) n bytes ∙ ap (λ (j : ℕ). drop j bytes) (add_comm n (n * i) ∙ sym (mul-suc n i)) in
+    number-at order n k i (drop n bytes) (omega arith) ∙ ap (λ (ys : List ℕ). number_in order n ys) place
+
+pub length-numbers : (order : Order) (n k : ℕ) (bytes : List ℕ) → length (numbers order n k bytes) ≡ k
+length-numbers order n zero bytes = refl
+length-numbers order n (suc k) bytes = ap suc (length-numbers order n k (drop n bytes))
+
+-- a checksum is the sum of what a read gives
+pub checksum-sums : (v : PagesValue) (a n : ℕ) (read : List ℕ) → IsLayout v.layout → IsPages v → Reads Tool v a n read → checksum_of v a n ≡ summed v.layout.checksum v.layout.order read
+checksum-sums v a n read l g r = ap (summed v.layout.checksum v.layout.order) (sym ((tool_is_read v a n read l g).0 r).1)
+
+pub checksum-bytes : (v : PagesValue) (a n : ℕ) (read : List ℕ) → IsLayout v.layout → IsPages v → Reads Tool v a n read → unit v.layout.checksum ≡ 1 → checksum_of v a n ≡ sum read % modulus v.layout.checksum
+checksum-bytes v a n read l g r e =
+    checksum-sums v a n read l g r
+    ∙ ap (λ (u : ℕ). sum (numbers v.layout.order u (length read / u) read) % modulus v.layout.checksum) e
+    ∙ ap (λ (m : ℕ). m % modulus v.layout.checksum) (byte_numbers v.layout.order read)

@@ -42,7 +42,7 @@ next-layout : (o : Option BlockValue) (remaining : ℕ) (bytes : List ℕ) (t : 
 next-layout None remaining bytes t = refl
 next-layout (Some b) remaining bytes t = chosen-layout _ _ _ t.pages.layout (written_at-layout t.pages (Memory b.address) _) refl
 
-row-layout : (c : Command) (v : SlaveValue) → layout_of (row c v).after ≡ layout_of v
+pub row-layout : (c : Command) (v : SlaveValue) → layout_of (row c v).after ≡ layout_of v
 row-layout (commands.Download n bytes) v = chosen-layout _ _ _ (layout_of v) (written_at-layout v.transfer.pages v.transfer.mta _) refl
 row-layout (commands.DownloadNext remaining bytes) v = next-layout v.transfer.block remaining bytes.items v.transfer
 row-layout (commands.DownloadMax bytes) v = written_at-layout v.transfer.pages v.transfer.mta _

@@ -30,7 +30,7 @@ differ : (n m : ℕ) → n ≡ 0xFF → m ≡ 0xFE → n ≡ m → ⊥
 differ n m a b e = omega arith
 
 -- a list that begins with FF doesn't begin with FE
-ff-fe : (xs ys : List ℕ) → 0xFF ∷ xs ≡ 0xFE ∷ ys → ⊥
+pub ff-fe : (xs ys : List ℕ) → 0xFF ∷ xs ≡ 0xFE ∷ ys → ⊥
 ff-fe xs ys e = differ 0xFF 0xFE refl refl (ap (λ (zs : List ℕ). slice_index zs 0) e)
 
 -- a reply whose bytes begin with FF is no error packet
@@ -53,22 +53,25 @@ entry-positive : (order : Order) (o : Option Element) (reply : Reply) (rest : Li
 entry-positive order None reply rest s e = positive order (replies.DaqEntry 0 0 0) reply _ rest s refl e
 entry-positive order (Some x) reply rest s e = positive order (told_entry (Some x)) reply _ rest s refl e
 
--- A row that replies with an error packet changes nothing. It is SYNCH's.
-row-error : (c : Command) (v : SlaveValue) (reply : Reply) (rest : List ℕ) → (row c (found_by c v)).reply ≡ Some reply → layout (layout_of v).order reply ≡ 0xFE ∷ rest → (row c (found_by c v)).after ≡ noblock v
-row-error (commands.DownloadNext remaining bytes) v reply rest s e = absurd (next-positive (layout_of v).order v.transfer.block remaining bytes.items v.transfer reply rest s e)
-row-error (commands.Synch) v reply rest s e = refl
-row-error (commands.Download n bytes) v reply rest s e = absurd (chosen (layout_of v).order _ reply rest s e)
-row-error (commands.GetSegmentInfo mode segment info mapping) v reply rest s e = absurd (info-positive (layout_of v).order (mode == 0) _ _ reply rest s e)
-row-error commands.ReadDaq v reply rest s e = absurd (entry-positive (layout_of v).order (read_daq_reply v.daq) reply rest s e)
-row-error _ v reply rest s e = absurd (positive (layout_of v).order _ reply _ rest s refl e)
+-- A row that replies with an error packet is SYNCH's.
+pub row-synch : (c : Command) (v : SlaveValue) (reply : Reply) (rest : List ℕ) → (row c (found_by c v)).reply ≡ Some reply → layout (layout_of v).order reply ≡ 0xFE ∷ rest → c ≡ commands.Synch
+row-synch (commands.DownloadNext remaining bytes) v reply rest s e = absurd (next-positive (layout_of v).order v.transfer.block remaining bytes.items v.transfer reply rest s e)
+row-synch (commands.Synch) v reply rest s e = refl
+row-synch (commands.Download n bytes) v reply rest s e = absurd (chosen (layout_of v).order _ reply rest s e)
+row-synch (commands.GetSegmentInfo mode segment info mapping) v reply rest s e = absurd (info-positive (layout_of v).order (mode == 0) _ _ reply rest s e)
+row-synch commands.ReadDaq v reply rest s e = absurd (entry-positive (layout_of v).order (read_daq_reply v.daq) reply rest s e)
+row-synch _ v reply rest s e = absurd (positive (layout_of v).order _ reply _ rest s refl e)
 
-items_of : Answer → List ℕ
+row-error : (c : Command) (v : SlaveValue) (reply : Reply) (rest : List ℕ) → (row c (found_by c v)).reply ≡ Some reply → layout (layout_of v).order reply ≡ 0xFE ∷ rest → (row c (found_by c v)).after ≡ noblock v
+row-error c v reply rest s e = subst (λ (d : Command). (row d (found_by d v)).after ≡ noblock v) (sym (row-synch c v reply rest s e)) refl
+
+-- the bytes of an answer that is a packet
+abbrev pub items_of : Answer → List ℕ
 items_of (answers.Packet p) = p.items
 items_of _ = []
 
 -- the reply that an error packet shows
 shown : (order : Order) (o : Option Reply) (a : Answer) (r : IsErrorPacket a) → a ≡ answer_of order o → (reply : Reply) × (o ≡ Some reply) × (layout order reply ≡ 0xFE ∷ r.code ∷ r.rest)
-unfolding items_of
 shown order None a r h = let e : answers.Silent ≡ answers.Packet (record { items = 0xFE ∷ r.code ∷ r.rest }) = sym h ∙ r.packet in absurd (let z : ⊥ = cc in z)
 shown order (Some reply) a r h = (reply, refl, ap items_of (sym h ∙ r.packet))
 

@@ -1,5 +1,5 @@
 -- What the rows of commands reply.
-use Rattle.std.proofs.Common.{◌≡◌, ℕ, ◌-◌, ◌≤◌, Bool, true, false, not, ◌&&◌, ◌||◌, ◌==◌, nat_lt, List, [], ◌∷◌, length, take, refl, sym, ap, ◌∙◌, subst, arith, Option, Some, None}
+use Rattle.std.proofs.Common.{◌≡◌, ℕ, ◌-◌, ◌≤◌, Bool, true, false, not, ◌||◌, ◌==◌, nat_lt, List, [], ◌∷◌, length, take, refl, sym, ap, ◌∙◌, subst, arith, Option, Some, None}
 use Rattle.std.specs.Prelude.{if◌then◌else◌}
 use Rattle.std.proofs.lemmas.List.{length-take}
 use Rattle.std.proofs.lemmas.Bool.Decides.{nat_tests}
@@ -8,7 +8,6 @@ use Rattle.xcp_packet.specs.declared.Command.{Command}
 use Rattle.xcp_packet.specs.declared.Command.TheVariants as commands
 use Rattle.xcp_packet.specs.declared.Reply.{Reply}
 use Rattle.xcp_packet.specs.declared.Reply.TheVariants as replies
-use Rattle.xcp_packet.specs.declared.Code.{Code}
 use Rattle.xcp_packet.specs.declared.Code.TheVariants.{OutOfRange, AccessDenied}
 use Rattle.xcp_memory.specs.Pages.{PagesValue, SegmentPages, xcp_page}
 use Rattle.xcp_memory.specs.Words.{segment_of, bytes_by}
@@ -16,82 +15,23 @@ use Rattle.xcp_transfer.specs.declared.Mta.{Mta}
 use Rattle.xcp_transfer.specs.declared.Mta.TheVariants.{Nowhere, Memory, Text}
 use Rattle.xcp_transfer.specs.Value.{BlockValue, TransferValue}
 use Rattle.xcp_transfer.specs.Words.{bytes_at, is_readable}
-use Rattle.xcp_packet.specs.Rows.{first_holding, refused}
+use Rattle.xcp_packet.specs.Rows.{first_holding}
 use Rattle.xcp_transfer.specs.Downloads.{next_row}
 use Rattle.xcp_daq.specs.declared.Element.{Element}
 use Rattle.xcp_daq.specs.Configuring.{read_daq_reply}
 use Rattle.xcp_slave.specs.DaqRows.{told_entry}
 use Rattle.xcp_slave.specs.Value.{SlaveValue, layout_of}
 use Rattle.xcp_slave.specs.Rows.{row}
-
--- an error packet
-abbrev is_error : Reply → Bool
-is_error (replies.Error code) = true
-is_error (replies.ErrorCount code count) = true
-is_error _ = false
-
-abbrev are_errors : List (Bool × Reply) → Bool
-are_errors [] = true
-are_errors (t ∷ ts) = is_error t.1 && are_errors ts
-
-refused-errors : (o : Option Code) → are_errors (refused o) ≡ true
-refused-errors None = refl
-refused-errors (Some code) = refl
-
-next-errors : (o : Option BlockValue) (remaining : ℕ) (bytes : List ℕ) (t : TransferValue) → are_errors (next_row o remaining bytes t).refusals ≡ true
-next-errors None remaining bytes t = refl
-next-errors (Some b) remaining bytes t = refl
-
--- each refusal is an error packet
-row-errors : (c : Command) (v : SlaveValue) → are_errors (row c v).refusals ≡ true
-row-errors (commands.BuildChecksum size) v = refused-errors _
-row-errors (commands.Download n bytes) v = refused-errors _
-row-errors (commands.DownloadNext remaining bytes) v = next-errors v.transfer.block remaining bytes.items v.transfer
-row-errors (commands.DownloadMax bytes) v = refused-errors _
-row-errors (commands.ShortDownload n extension address bytes) v = refused-errors _
-row-errors (commands.ModifyBits s ma mx) v = refused-errors _
-row-errors (commands.SetCalPage mode segment page) v = refused-errors _
-row-errors (commands.GetCalPage mode segment) v = refused-errors _
-row-errors (commands.GetPageInfo segment page) v = refused-errors _
-row-errors (commands.SetSegmentMode mode segment) v = refused-errors _
-row-errors (commands.GetSegmentMode segment) v = refused-errors _
-row-errors (commands.CopyCalPage source source_page target target_page) v = refused-errors _
-row-errors (commands.ClearDaqList list) v = refused-errors _
-row-errors (commands.SetDaqPtr list odt entry) v = refused-errors _
-row-errors (commands.WriteDaq offset size extension address) v = refused-errors _
-row-errors (commands.SetDaqListMode mode list event prescaler priority) v = refused-errors _
-row-errors (commands.GetDaqListMode list) v = refused-errors _
-row-errors (commands.StartStopDaqList mode list) v = refused-errors _
-row-errors (commands.StartStopSynch mode) v = refused-errors _
-row-errors (commands.ReadDaq) v = refused-errors _
-row-errors (commands.GetDaqEventInfo channel) v = refused-errors _
-row-errors (commands.AllocDaq count) v = refused-errors _
-row-errors (commands.AllocOdt list count) v = refused-errors _
-row-errors (commands.AllocOdtEntry list odt count) v = refused-errors _
-row-errors _ v = refl
+use Rattle.xcp_slave.proofs.ErrorLemmas.{is_error, refusal-error}
 
 error-data : (reply : Reply) → is_error reply ≡ true → data_length reply ≡ 0
 error-data (replies.Error code) h = refl
 error-data (replies.ErrorCount code count) h = refl
 error-data _ h = cc
 
-both-true : (a b : Bool) → (a && b) ≡ true → (a ≡ true) × (b ≡ true)
-both-true true b h = (refl, h)
-both-true false b h = (h, cc)
-
-first-of : (b : Bool) (x : Reply) (rest : Option Reply) (e : Reply) → is_error x ≡ true → (rest ≡ Some e → is_error e ≡ true) → (if b then Some x else rest) ≡ Some e → is_error e ≡ true
-first-of true x rest e a k h = let s : x ≡ e = cc in subst (λ (y : Reply). is_error y ≡ true) s a
-first-of false x rest e a k h = k h
-
-first-error : (ts : List (Bool × Reply)) (e : Reply) → are_errors ts ≡ true → first_holding ts ≡ Some e → is_error e ≡ true
-first-error [] e a h = cc
-first-error (t ∷ ts) e a h =
-    let b = both-true (is_error t.1) (are_errors ts) a in
-    first-of t.0 t.1 (first_holding ts) e b.0 (λ k. first-error ts e b.1 k) h
-
 -- a refusal has no data
 pub refusal-data : (c : Command) (v : SlaveValue) (e : Reply) → first_holding (row c v).refusals ≡ Some e → data_length e ≡ 0
-refusal-data c v e h = error-data e (first-error (row c v).refusals e (row-errors c v) h)
+refusal-data c v e h = error-data e (refusal-error c v e h)
 
 -- no more than n bytes are read
 short-take : (n : ℕ) (xs : List ℕ) → length (take n xs) ≤ n

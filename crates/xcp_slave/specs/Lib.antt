@@ -7,3 +7,6 @@ pub mod Run
 pub mod Refused
 pub mod Outbox
 pub mod Told
+pub mod Lawful
+pub mod Accepting
+pub mod Steady

@@ -1,5 +1,6 @@
 -- Answers that refuse.
-use Rattle.std.specs.Prelude.{◌≡◌, ◌≢◌, ℕ, List, ◌∷◌}
+use Rattle.std.specs.Prelude.{◌≡◌, ◌≢◌, ℕ, Bool, true, ◌==◌, ◌⊎◌, List, [], ◌∷◌}
+use Rattle.std.specs.List.{list_any}
 use Rattle.xcp_slave.specs.declared.answer.Answer.{Answer}
 use Rattle.xcp_slave.specs.declared.answer.Answer.TheVariants as answers
 
@@ -19,3 +20,18 @@ IsRefusal answers.Nothing = Unit {0}
 IsRefusal answers.NoStore = Unit {0}
 IsRefusal answers.Later = Unit {0}
 IsRefusal _ = ⊥
+
+-- the codes that commands are refused with
+-- (ASAM MCD-1 XCP, protocol layer: table of error codes.)
+abbrev pub refusal_codes : List ℕ
+refusal_codes = 0x11 ∷ 0x20 ∷ 0x21 ∷ 0x22 ∷ 0x23 ∷ 0x24 ∷ 0x26 ∷ 0x27 ∷ 0x28 ∷ 0x29 ∷ 0x2A ∷ 0x30 ∷ []
+
+abbrev pub is_refusal_code : ℕ → Bool
+is_refusal_code code = list_any (λ c. c == code) refusal_codes
+
+-- An error packet that refuses: FE and such a code, and nothing behind; only out of sequence (29) DOWNLOAD_NEXT tells also
+-- how many bytes it expected.
+pub record IsRefusing (bytes : List ℕ) : Type 0 where
+  pub code : ℕ
+  pub known : is_refusal_code code ≡ true
+  pub shape : (bytes ≡ 0xFE ∷ code ∷ []) ⊎ ((count : ℕ) × (code ≡ 0x29) × (bytes ≡ 0xFE ∷ 0x29 ∷ count ∷ []))

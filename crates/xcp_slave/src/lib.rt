@@ -5,6 +5,7 @@
 //! command.
 #![tactic(auto)]
 
+mod accepting;
 mod answer;
 mod exchange;
 mod law;
@@ -12,10 +13,15 @@ mod outbox;
 mod packet;
 mod page_properties;
 mod request;
+mod runs;
 mod slave;
 mod status;
 mod told;
 
+pub use accepting::{
+    a_block_gathers_its_bytes, a_copy_spares_the_reference_page, a_switch_gives_what_it_names,
+    a_tool_is_told_its_bytes, a_tool_writes_its_bytes, transfers_move_the_mta,
+};
 pub use answer::Answer;
 pub use exchange::Exchange;
 pub use law::{
@@ -24,6 +30,12 @@ pub use law::{
 };
 pub use page_properties::PageProperties;
 pub use request::Request;
+pub use runs::{
+    a_block_may_be_written, a_reference_page_is_kept, a_store_fills_the_reference_pages,
+    a_store_request_stands, each_run_stays_within_its_limits, error_packets_have_codes,
+    memory_changes_by_writes, the_controllers_page_is_kept, what_is_written_reads_back,
+    what_waits_is_no_response,
+};
 pub use slave::Slave;
 pub use status::SessionStatus;
 pub use told::Told;

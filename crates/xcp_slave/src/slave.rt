@@ -7,6 +7,8 @@ ghost use Rattle.xcp_slave.specs.Rows.{TellsRow};
 ghost use Rattle.xcp_slave.specs.Step.{Answers, AnswersPacket, Executes, answer_of, found_by};
 ghost use Rattle.xcp_slave.specs.Told.{answer_in};
 ghost use Rattle.xcp_slave.specs.Value.{ended, layout_of, noblock, opening};
+ghost use Rattle.xcp_transfer.specs.Laws.{IsLawful};
+ghost use Rattle.xcp_daq.specs.Lawful.{IsDaq};
 
 mod acquisition;
 mod allocation;
@@ -215,6 +217,18 @@ impl Slave {
         ensures { result ≡ (layout_of self.now).order }
     {
         self.layout().order()
+    }
+
+    /// Tells a caller's proof what is true of all slaves: transfers and lists are within their
+    /// limits, and at most 64 packets wait. It does nothing.
+    pub fn audit(&self)
+        ensures transfer { IsLawful self.now.transfer }
+        ensures daq { IsDaq self.now.daq }
+        ensures outbox { length self.now.outbox ≤ 64 }
+    {
+        self.transfer.audit();
+        self.daq.audit();
+        let _ = self.outbox.room();
     }
 
     /// Writes the ECU image out: the ECU pages of the segments in order, then zeros.

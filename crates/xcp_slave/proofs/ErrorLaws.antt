@@ -1,0 +1,137 @@
+-- Error packets.
+use Rattle.std.proofs.Common.{◌≡◌, ◌≢◌, ℕ, zero, ◌+◌, Bool, true, false, List, [], ◌∷◌, length, Option, Some, None, Result, Ok, Err, ap, sym, ◌∙◌, refl, subst, arith, inl, inr, nat_le, nat_lt, slice_index, All}
+use Rattle.std.specs.Prelude.{◌==◌, ◌&&◌, ◌||◌, ◌⊎◌}
+use Rattle.std.proofs.lemmas.Bool.Decides.{nat_tests}
+use Rattle.arrayvec.specs.ArrayVec.{ArrayVec}
+use Rattle.xcp_packet.specs.Layout.{layout, number_of}
+use Rattle.xcp_packet.specs.Form.{code}
+use Rattle.xcp_packet.specs.Spelling.{spells}
+use Rattle.xcp_packet.specs.Refusal.{Decodes}
+use Rattle.xcp_packet.specs.Rows.{Meets}
+use Rattle.xcp_packet.specs.declared.Order.{Order}
+use Rattle.xcp_packet.specs.declared.Command.{Command}
+use Rattle.xcp_packet.specs.declared.Command.TheVariants as commands
+use Rattle.xcp_packet.specs.declared.Refuse.{Refuse}
+use Rattle.xcp_packet.specs.declared.Refuse.TheVariants as refuses
+use Rattle.xcp_packet.specs.declared.Reply.{Reply}
+use Rattle.xcp_packet.specs.declared.Reply.TheVariants as replies
+use Rattle.xcp_packet.specs.declared.Code.{Code}
+use Rattle.xcp_packet.specs.declared.Code.TheVariants.{CmdSynch, CmdUnknown, CmdSyntax}
+use Rattle.xcp_memory.specs.Freeze.{frozen_count}
+use Rattle.xcp_memory.specs.Layout.{LayoutValue}
+use Rattle.xcp_slave.specs.declared.request.Request.{Request}
+use Rattle.xcp_slave.specs.declared.request.Request.TheVariants as requests
+use Rattle.xcp_slave.specs.declared.answer.Answer.{Answer}
+use Rattle.xcp_slave.specs.declared.answer.Answer.TheVariants as answers
+use Rattle.xcp_slave.specs.Value.{SlaveValue, layout_of, noblock}
+use Rattle.xcp_slave.specs.Refused.{IsErrorPacket, IsRefusing, is_refusal_code}
+use Rattle.xcp_slave.specs.Rows.{row}
+use Rattle.xcp_slave.specs.Step.{Answers, Heeds, Executes, Drains, Samples, outbox_size, with_signals, found_by, answer_of, sent_reply, is_connect}
+use Rattle.xcp_slave.specs.Lawful.{IsSlave, IsWaiting}
+use Rattle.xcp_slave.proofs.StepLaws.{either}
+use Rattle.xcp_slave.proofs.RefusalLaws.{items_of, error-leaves, row-synch}
+use Rattle.xcp_slave.proofs.ErrorLemmas.{is_error, refusal-error}
+
+-- what waits is no response
+no-response : (l : LayoutValue) (p : ArrayVec ℕ) → IsWaiting l p → (slice_index p.items 0 ≢ 0xFF) × (slice_index p.items 0 ≢ 0xFE)
+no-response l p (inl e) =
+    let first : slice_index p.items 0 ≡ 0xFD = ap (λ (x : ArrayVec ℕ). slice_index x.items 0) e in
+    (λ k. omega arith, λ k. omega arith)
+no-response l p (inr d) = let b = d.pid in (λ k. omega arith, λ k. omega arith)
+
+pub waiting-responds : (v : SlaveValue) → IsSlave v → All (λ (p : ArrayVec ℕ). (slice_index p.items 0 ≢ 0xFF) × (slice_index p.items 0 ≢ 0xFE)) v.outbox
+waiting-responds v h = λ k d below. no-response (layout_of v) _ (h.waiting k d below)
+
+-- an error packet, whatever the request
+drains-error : (o : List (ArrayVec ℕ)) (v : SlaveValue) (a : Answer) (w : SlaveValue) (R : Type 0) → All (IsWaiting (layout_of v)) o → Drains o v a w → IsErrorPacket a → R
+drains-error [] v a w R h k r = let e : answers.Nothing ≡ answers.Packet (record { items = 0xFE ∷ r.code ∷ r.rest }) = sym k.0 ∙ r.packet in cc
+drains-error (p ∷ rest) v a w R h k r =
+    let e : answers.Packet p ≡ answers.Packet (record { items = 0xFE ∷ r.code ∷ r.rest }) = sym k.0 ∙ r.packet in
+    let same : p ≡ record { items = 0xFE ∷ r.code ∷ r.rest } = cc in
+    let first : slice_index p.items 0 ≡ 0xFE = ap (λ (x : ArrayVec ℕ). slice_index x.items 0) same in
+    absurd ((no-response (layout_of v) p (h zero p (omega arith))).1 first)
+
+-- other answers are no packets
+abbrev is_packet : Answer → Bool
+is_packet (answers.Packet p) = true
+is_packet _ = false
+
+other-error : (x a : Answer) (R : Type 0) → is_packet x ≡ false → a ≡ x → IsErrorPacket a → R
+other-error x a R n e r = let z : is_packet x ≡ true = ap (λ (y : Answer). is_packet y) (sym e ∙ r.packet) in let t : true ≡ false = sym z ∙ n in cc
+
+samples-error : (channel : ℕ) (packets : List (ArrayVec ℕ)) (v : SlaveValue) (a : Answer) (w : SlaveValue) (R : Type 0) → IsErrorPacket a → Samples channel packets v a w → R
+samples-error channel packets v a w R r k = either (nat_le (length v.outbox + length packets) outbox_size) _ _ _ k (λ o. other-error (answers.Sampled (length packets)) a _ refl o.0 r) (λ o. other-error answers.Overrun a _ refl o.0 r)
+
+pub every-error : (v : SlaveValue) (q : Request) (a : Answer) (w : SlaveValue) → IsSlave v → Answers v q a w → IsErrorPacket a → w ≡ noblock v
+every-error v (requests.Command p) a w h k r = error-leaves v p a w k r
+every-error v (requests.Event channel signals) a w h k r =
+    either (nat_lt channel (length (layout_of v).events)) _ _ _ k
+    (λ m. either (length signals.items == (layout_of v).signals_length) _ _ _ m (λ n. samples-error channel _ (with_signals signals.items v) a w _ r n) (λ n. other-error answers.BadSignals a _ refl n.0 r))
+    (λ m. other-error answers.NoChannel a _ refl m.0 r)
+every-error v requests.Drain a w h k r = drains-error v.outbox v a w _ h.waiting k r
+every-error v requests.FinishStore a w h k r = either v.store _ _ _ k (λ m. either (v.connected && nat_le outbox_size (length v.outbox)) _ _ _ m (λ n. other-error answers.Later a _ refl n.0 r) (λ n. other-error (answers.Stored (frozen_count v.transfer.pages)) a _ refl n.0 r)) (λ m. other-error answers.NoStore a _ refl m.0 r)
+every-error v requests.Hangup a w h k r = other-error answers.Silent a _ refl k.0 r
+
+-- the bytes of an error packet of a command
+
+-- the reply whose packet an answer is
+shown : (order : Order) (o : Option Reply) (p : ArrayVec ℕ) → answers.Packet p ≡ answer_of order o → (reply : Reply) × (o ≡ Some reply) × (p.items ≡ layout order reply)
+shown order None p e = absurd (let z : ⊥ = cc in z)
+shown order (Some reply) p e = (reply, refl, ap items_of e)
+
+-- a refusal's packet
+refusing : (order : Order) (reply : Reply) → is_error reply ≡ true → IsRefusing (layout order reply)
+refusing order (replies.Error code) h = record { code = number_of code; known = h; shape = inl refl }
+refusing order (replies.ErrorCount code count) h =
+    let same : number_of code ≡ 0x29 = grind (arith, nat_tests, h) in
+    record { code = number_of code; known = ap is_refusal_code same; shape = inr (count, same, ap (λ (n : ℕ). 0xFE ∷ n ∷ count ∷ []) same) }
+refusing order _ h = cc
+
+-- the answer to SYNCH, or to a command that is refused
+Codes : Command → List ℕ → Type 0
+Codes c bytes = ((c ≡ commands.Synch) × (bytes ≡ 0xFE ∷ 0x00 ∷ [])) ⊎ IsRefusing bytes
+
+synch-bytes : (c : Command) (v : SlaveValue) (reply : Reply) → c ≡ commands.Synch → (row c (found_by c v)).reply ≡ Some reply → layout (layout_of v).order reply ≡ 0xFE ∷ 0x00 ∷ []
+synch-bytes c v reply e s =
+    let now : (row commands.Synch (found_by commands.Synch v)).reply ≡ Some reply = subst (λ (d : Command). (row d (found_by d v)).reply ≡ Some reply) e s in
+    let same : replies.Error CmdSynch ≡ reply = cc in
+    ap (layout (layout_of v).order) (sym same)
+
+meets-codes : (c : Command) (v : SlaveValue) (x : Result (Option Reply) Reply) (w : SlaveValue) (reply : Reply) (rest : List ℕ) → Meets (row c (found_by c v)) (noblock v) x w → sent_reply x ≡ Some reply → layout (layout_of v).order reply ≡ 0xFE ∷ rest → Codes c (layout (layout_of v).order reply)
+unfolding Codes
+meets-codes c v (Ok o) w reply rest m s e = let y = row-synch c v reply rest (sym m.1 ∙ s) e in inl (y, synch-bytes c v reply y (sym m.1 ∙ s))
+meets-codes c v (Err f) w reply rest m s e =
+    let same : f ≡ reply = cc in
+    inr (refusing (layout_of v).order reply (subst (λ (y : Reply). is_error y ≡ true) same (refusal-error c (found_by c v) f m.0)))
+
+executes-codes : (c : Command) (v : SlaveValue) (p : ArrayVec ℕ) (w : SlaveValue) (rest : List ℕ) → Executes c v (answers.Packet p) w → p.items ≡ 0xFE ∷ rest → Codes c p.items
+executes-codes c v p w rest k e =
+    let s = shown (layout_of v).order (sent_reply k.0) p k.2 in
+    subst (Codes c) (sym s.2) (meets-codes c v k.0 w s.0 rest k.1 s.1 (sym s.2 ∙ e))
+
+-- the same in the packet's words
+abbrev Told : List ℕ → List ℕ → Type 0
+Told packet bytes = ((slice_index packet 0 ≡ 0xFC) × (bytes ≡ 0xFE ∷ 0x00 ∷ [])) ⊎ IsRefusing bytes
+
+spelt-codes : (order : Order) (c : Command) (packet bytes : List ℕ) → spells order c packet → Codes c bytes → Told packet bytes
+unfolding Codes
+spelt-codes order c packet bytes s (inl k) = inl (s.0.first ∙ ap code k.0, k.1)
+spelt-codes order c packet bytes s (inr k) = inr k
+
+ignored-packet : (p : ArrayVec ℕ) (R : Type 0) → answers.Packet p ≡ answers.Silent → R
+ignored-packet p R e = cc
+
+refused-packet : (v : SlaveValue) (code : Code) (p : ArrayVec ℕ) (packet : List ℕ) → is_refusal_code (number_of code) ≡ true → answers.Packet p ≡ answer_of (layout_of v).order (Some (replies.Error code)) → Told packet p.items
+refused-packet v code p packet h e =
+    let s = shown (layout_of v).order (Some (replies.Error code)) p e in
+    let same : replies.Error code ≡ s.0 = (let k = s.1 in cc) in
+    inr (subst IsRefusing (ap (layout (layout_of v).order) same ∙ sym s.2) (refusing (layout_of v).order (replies.Error code) h))
+
+heeds-codes : (v : SlaveValue) (packet : List ℕ) (d : Result Command Refuse) (p : ArrayVec ℕ) (w : SlaveValue) (rest : List ℕ) → Decodes (layout_of v).order packet d → Heeds v d (answers.Packet p) w → p.items ≡ 0xFE ∷ rest → Told packet p.items
+heeds-codes v packet (Ok c) p w rest s h e = either (v.connected || is_connect c) _ _ _ h (λ k. spelt-codes (layout_of v).order c packet p.items s (executes-codes c v p w rest k e)) (λ k. ignored-packet p _ k.0)
+heeds-codes v packet (Err refuses.Empty) p w rest s h e = ignored-packet p _ h.0
+heeds-codes v packet (Err refuses.Unknown) p w rest s h e = either v.connected _ _ _ h (λ k. refused-packet v CmdUnknown p packet refl k.0) (λ k. ignored-packet p _ k.0)
+heeds-codes v packet (Err refuses.Short) p w rest s h e = either v.connected _ _ _ h (λ k. refused-packet v CmdSyntax p packet refl k.0) (λ k. ignored-packet p _ k.0)
+
+pub error-codes : (v : SlaveValue) (q p : ArrayVec ℕ) (w : SlaveValue) (rest : List ℕ) → Answers v (requests.Command q) (answers.Packet p) w → p.items ≡ 0xFE ∷ rest → ((slice_index q.items 0 ≡ 0xFC) × (p.items ≡ 0xFE ∷ 0x00 ∷ [])) ⊎ IsRefusing p.items
+error-codes v q p w rest h e = heeds-codes v q.items h.0 p w rest h.1 h.2 e
