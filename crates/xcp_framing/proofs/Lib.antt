@@ -3,6 +3,7 @@ pub mod Bytes
 pub mod ComesBack
 pub mod Consuming
 pub mod Cuts
+pub mod Ends
 pub mod Events
 pub mod Gathering
 pub mod LongLines

@@ -1,12 +1,13 @@
 -- Lines that are faulty for their length, and the last line of a text.
-use Rattle.std.proofs.Common.{◌≡◌, ◌≢◌, ◌<◌, ◌≤◌, ◌+◌, ◌==◌, ℕ, true, false, List, [], ◌∷◌, ◌++◌, length, drop, slice_index, nat_lt, if◌then◌else◌, Option, Some, refl, sym, ◌∙◌, arith, add-one, drop-cons, length-append, length-take}
+use Rattle.std.proofs.Common.{◌≡◌, ◌<◌, ◌≤◌, ◌+◌, ◌==◌, ℕ, true, false, List, [], ◌∷◌, ◌++◌, length, nat_lt, if◌then◌else◌, Some, refl, sym, subst, arith, length-append, length-take}
 use Rattle.std.proofs.lemmas.Bool.Decides.{nat_tests}
 use Rattle.std.proofs.lemmas.List.{append-nil}
 use Rattle.xcp_slave.specs.declared.Request.{Request}
 use Rattle.xcp_framing.specs.declared.line.Line.TheVariants.{Faulty}
-use Rattle.xcp_framing.specs.Lines.{unless_empty, without_return}
+use Rattle.xcp_framing.specs.Lines.{HasNoFeed, unless_empty, without_return}
 use Rattle.xcp_framing.specs.Meaning.{meaning}
-use Rattle.xcp_framing.specs.Reading.{asked_before, faulty_from, lines_from}
+use Rattle.xcp_framing.specs.Reading.{asked_before, ended_line, faulty_from, lines_from}
+use Rattle.xcp_framing.proofs.Ends.{none_ends}
 
 -- a last line that is not empty
 pub last_is_one : (xs : List ℕ) → false ≡ (length xs == 0) → unless_empty xs ≡ xs ∷ []
@@ -41,26 +42,18 @@ begun_stops m n begun (b ∷ bs) h =
       | false ↦ begun_stops m n (begun ++ b ∷ []) bs (omega (arith, h, length-append begun (b ∷ [])))
     ]
 
-one_more_stops : (m n : ℕ) (begun bs : List ℕ) (b : ℕ) → length begun ≡ 1025 → b ≢ 10 → Stops m n (lines_from begun (b ∷ bs))
-one_more_stops m n begun bs b h k =
-    let other : (b == 10) ≡ false = grind (arith, nat_tests) in
-    rw other (begun_stops m n (begun ++ b ∷ []) bs (omega (arith, h, length-append begun (b ∷ []))))
+-- a line that ends after more than 1,025 bytes is faulty
+pub ended_stops : (m n : ℕ) (begun last : List ℕ) (lines : List (List ℕ)) → 1025 < length (begun ++ last) → Stops m n (ended_line begun last ∷ lines)
+ended_stops m n begun last lines h = long_stops m n (ended_line begun last) lines (omega (arith, h, length_without_return (begun ++ last)))
 
--- the bytes of a piece from place i on, and what follows it
-pub from_place : (piece rest : List ℕ) (i : ℕ) → i < length piece → drop i piece ++ rest ≡ slice_index piece i ∷ (drop (i + 1) piece ++ rest)
-from_place piece rest i h = rw (add-one, drop-cons piece i 0 h) refl
+-- a line that has begun with more than 1,025 bytes, the last of a piece
+pub piece_stops : (m n : ℕ) (begun piece rest : List ℕ) → HasNoFeed piece → 1025 < length (begun ++ piece) → Stops m n (lines_from begun (piece ++ rest))
+piece_stops m n begun piece rest h k = subst (λ (ls : List (List ℕ)). Stops m n ls) (sym (none_ends begun piece rest h)) (begun_stops m n (begun ++ piece) rest k)
 
--- a full line, and a byte more that is no line feed
-pub too_long : (m n : ℕ) (line piece rest : List ℕ) (i : ℕ) (requests all : List Request) (fault : Option ℕ)
-    → i < length piece → length line ≡ 1025 → slice_index piece i ≢ 10
-    → requests ++ asked_before m (lines_from line (drop i piece ++ rest)) ≡ all
-    → faulty_from m n (lines_from line (drop i piece ++ rest)) ≡ fault
-    → (requests ≡ all) × (fault ≡ Some (n + 1))
-too_long m n line piece rest i requests all fault within full other h k =
-    let stops : Stops m n (lines_from line (slice_index piece i ∷ (drop (i + 1) piece ++ rest))) = one_more_stops m n line (drop (i + 1) piece ++ rest) (slice_index piece i) full other in
-    let asked : requests ++ [] ≡ all = rw (from_place piece rest i within, stops.asked) at h in
-    let first : Some (n + 1) ≡ fault = rw (from_place piece rest i within, stops.fault) at k in
-    (sym (append-nil requests) ∙ asked, sym first)
+-- what is known at a faulty line, of which n lines come before
+pub stopped : (m n n' : ℕ) (lines : List (List ℕ)) (requests : List Request) → Stops m n lines → n' ≡ n
+    → (requests ≡ requests ++ asked_before m lines) × (faulty_from m n lines ≡ Some (n' + 1))
+stopped m n n' lines requests h k = (rw h.asked (sym (append-nil requests)), rw k h.fault)
 
 -- nothing stands behind the last line feed
 pub last_is_none : (xs : List ℕ) → true ≡ (length xs == 0) → unless_empty xs ≡ []

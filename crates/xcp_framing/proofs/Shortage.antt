@@ -1,5 +1,6 @@
 -- Where memory is short, told of a part of a script and of all of it.
-use Rattle.std.proofs.Common.{◌≡◌, ◌<◌, ◌+◌, ℕ, List, [], ◌∷◌, ◌++◌, inl, inr, length, drop, slice_index, Option, Some, None, Result, Err, refl, sym, subst, ◌∙◌}
+use Rattle.std.proofs.Common.{◌≡◌, ℕ, List, [], ◌∷◌, ◌++◌, inl, inr, Option, Some, None, Result, Err, refl, sym, ap, subst, ◌∙◌, append_assoc}
+use Rattle.std.proofs.lemmas.List.{map-append}
 use Rattle.std.specs.Io.KnownBytes.{Consumes, IsAtEnd}
 use Rattle.xcp_slave.specs.declared.Exchange.{Exchange}
 use Rattle.xcp_slave.specs.declared.Request.{Request}
@@ -7,18 +8,18 @@ use Rattle.xcp_slave.specs.Run.{requests_of}
 use Rattle.xcp_framing.specs.declared.fault.ReplayError.{ReplayError}
 use Rattle.xcp_framing.specs.declared.fault.ReplayError.TheVariants as errors
 use Rattle.xcp_framing.specs.Front.{IsFront, AppendsFront}
-use Rattle.xcp_framing.specs.Lines.{unless_empty, without_return}
+use Rattle.xcp_framing.specs.Lines.{unless_empty}
 use Rattle.xcp_framing.specs.Reading.{asked_before, lines_from, OfRead, ShortOf}
 use Rattle.xcp_framing.specs.Replay.{asked, EndsShort, Tells}
 use Rattle.xcp_framing.specs.Told.{told}
 use Rattle.xcp_framing.proofs.Bytes.{front_all}
-use Rattle.xcp_framing.proofs.LongLines.{from_place}
 use Rattle.xcp_framing.proofs.Midway.{Midway}
 
--- a line feed ends the line that has begun
-pub line_ends : (m : ℕ) (line piece rest : List ℕ) (i : ℕ) → i < length piece → slice_index piece i ≡ 10
-    → asked_before m (lines_from line (drop i piece ++ rest)) ≡ asked_before m (without_return line ∷ lines_from [] (drop (i + 1) piece ++ rest))
-line_ends m line piece rest i within feed = rw (from_place piece rest i within, feed) refl
+-- one more request was taken, of those that are asked
+pub front_taken : (old new : List Exchange) (x : Exchange) (later : List Request) → new ≡ old ++ x ∷ [] → IsFront (requests_of new) (requests_of old ++ x.request ∷ later)
+front_taken old new x later e =
+    let more : requests_of new ≡ requests_of old ++ x.request ∷ [] = ap requests_of e ∙ map-append (λ (y : Exchange). y.request) old (x ∷ []) in
+    record { rest = later; joined = ap (λ (qs : List Request). qs ++ later) more ∙ append_assoc (requests_of old) (x.request ∷ []) later }
 
 -- the same, told from an earlier place on
 pub short_since : (asks asks' : List Request) (old now new : List Exchange) → asks ≡ asks' → ((text : List ℕ) → IsFront text (told old) → IsFront text (told now)) → ShortOf asks now new → ShortOf asks' old new

@@ -43,7 +43,7 @@ pub faulty_is : (m : ℕ) (lines : List (List ℕ)) → faulty_from m 0 lines �
 faulty_is m lines = faulty_from_is m 0 lines ∙ ap (λ (o : Option ℕ). option_map (λ i. i + 1) o) (sym (position_from-zero (λ line. is_faulty (meaning m line)) lines))
 
 -- a line feed ends a line
-line_read : (begun line bs : List ℕ) → HasNoFeed line → lines_from begun (line ++ 10 ∷ bs) ≡ without_return (begun ++ line) ∷ lines_from [] bs
+pub line_read : (begun line bs : List ℕ) → HasNoFeed line → lines_from begun (line ++ 10 ∷ bs) ≡ without_return (begun ++ line) ∷ lines_from [] bs
 line_read begun [] bs h = ap (λ (xs : List ℕ). without_return xs ∷ lines_from [] bs) (sym (append-nil begun))
 line_read begun (b ∷ line) bs h =
     let other : (b == 10) ≡ false = grind (arith, nat_tests, All-head (λ x. x ≢ 10) b line h) in

@@ -6,6 +6,7 @@ pub mod Front
 pub mod Gathered
 pub mod Lines
 pub mod Meaning
+pub mod Parsed
 pub mod Reading
 pub mod Refusal
 pub mod Replay

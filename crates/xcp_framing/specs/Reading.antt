@@ -15,6 +15,10 @@ lines_from begun [] = unless_empty begun
 lines_from begun (b ∷ bs) =
     if b == 10 then without_return begun ∷ lines_from [] bs else lines_from (begun ++ b ∷ []) bs
 
+-- the line whose last bytes these are, before its line feed
+abbrev pub ended_line : List ℕ → List ℕ → List ℕ
+ended_line begun last = without_return (begun ++ last)
+
 -- the requests of the lines before the first faulty one
 abbrev pub asked_before : ℕ → List (List ℕ) → List Request
 asked_before max_cto [] = []

@@ -2,12 +2,14 @@
 ghost use Rattle.std.specs.Prelude.{◌≡◌, [], ◌∷◌, ◌++◌, IfOk, OnErr, IfErr};
 ghost use Rattle.xcp_slave.specs.Run.{Run};
 ghost use Rattle.xcp_slave.specs.Step.{Answers};
+ghost use Rattle.xcp_slave.specs.Told.{answer_in};
 ghost use Rattle.xcp_slave.specs.Value.{layout_of, opening};
 
 use crate::{Station, StationError};
 use std::alloc::Global;
 use std::marker::Model;
-use xcp_slave::{Answer, Request, Slave};
+use xcp_packet::Packet;
+use xcp_slave::{Answer, Request, Slave, Told};
 use xcp_trace::Trace;
 
 /// A slave with all the exchanges that it has had. They are a run of the slave, from the opening
@@ -56,6 +58,29 @@ impl Desk {
         &self.trace
     }
 
+    /// Answers a request, as `submit` does. The answer's packet, if it is one, stands in the lent
+    /// one, which has any bytes otherwise.
+    pub fn submit_into(
+        &mut self,
+        request: &Request,
+        packet: &mut Packet,
+    ) -> Result<Told, StationError>
+        ensures answers { IfOk result (λ told.
+            Answers self.old.slave request.now (answer_in told packet.new) self.new.slave) }
+        ensures ok { IfOk result (λ told. self.new.exchanges ≡ self.old.exchanges
+            ++ record { request = request.now; answer = answer_in told packet.new } ∷ []) }
+        ensures err { OnErr result (self.new ≡ self.old) }
+        ensures memory { IfErr result (λ e. e ≡ StationError.Memory) }
+        ensures layout { layout_of self.new.slave ≡ layout_of self.old.slave }
+    {
+        if self.trace.reserve().is_err() {
+            return Err(StationError::Memory);
+        }
+        let told = self.slave.submit_into(request, packet);
+        self.trace.push_told(request, told, packet);
+        Ok(told)
+    }
+
     /// Does nothing: its contract says that the exchanges are a run, which each desk keeps.
     pub fn audit(&self)
         ensures { Run (opening (layout_of self.now.slave)) self.now.exchanges self.now.slave }
@@ -81,11 +106,8 @@ impl Station for Desk {
         ensures memory { IfErr result (λ e. e ≡ StationError.Memory) }
         ensures layout { layout_of self.new.slave ≡ layout_of self.old.slave }
     {
-        if self.trace.reserve().is_err() {
-            return Err(StationError::Memory);
-        }
-        let answer = self.slave.submit(&request);
-        self.trace.push(&request, &answer);
-        Ok(answer)
+        let mut packet = Packet::new();
+        let told = self.submit_into(&request, &mut packet)?;
+        Ok(told.with(packet))
     }
 }

@@ -23,6 +23,7 @@ mod plain;
 mod replaying;
 mod script;
 mod serving;
+mod slot;
 mod station;
 mod stream;
 mod tally;

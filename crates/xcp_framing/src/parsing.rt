@@ -1,9 +1,11 @@
 //! The lines of a script, read one by one.
-ghost use Rattle.std.specs.Prelude.{◌≡◌, ◌≤◌, MatchOption, position, length, false, Some, None};
-ghost use Rattle.xcp_framing.specs.Meaning.{meaning, channel_of, command_of, event_of, hex_bytes, is_skipped, is_space};
+ghost use Rattle.std.specs.Prelude.{◌≡◌, ◌≤◌, MatchBool, position, length, false, Some, None};
+ghost use Rattle.xcp_framing.specs.Meaning.{meaning, channel_of, command_of, command_with, event_of, event_with, hex_bytes, is_skipped, is_space};
+ghost use Rattle.xcp_framing.specs.Parsed.{line_in};
 
 use crate::Line;
 use crate::digits::{GREATEST_VALUE, digit_value};
+use crate::slot::{Parsed, Slot, Word};
 use arrayvec::ArrayVec;
 use xcp_packet::Packet;
 use xcp_slave::Request;
@@ -19,55 +21,61 @@ const SIGNAL_BYTES: usize = 64;
 /// A line of more than 1,024 bytes is faulty. An empty line and one that begins with `#` are
 /// skipped. `drain`, `store`, `hangup` and `event C HEX` are the requests of these names; any other
 /// line is a command packet in hex.
-#[tactic(auto, unfolding(crate::specs::Meaning::meaning))]
 pub fn parse_line(max_cto: u8, line: &[u8]) -> Line
     ensures { result ≡ meaning max_cto line.now }
 {
+    let mut slot = Slot::new();
+    let parsed = parse_into(max_cto, line, &mut slot);
+    slot.with(parsed)
+}
+
+/// What a line says, as `parse_line` has it. A command or an event stands in the slot then.
+#[tactic(auto, unfolding(crate::specs::Meaning::meaning))]
+pub(crate) fn parse_into(max_cto: u8, line: &[u8], slot: &mut Slot) -> Parsed
+    ensures { line_in result slot.new ≡ meaning max_cto line.now }
+{
     if line.len() > LINE_BYTES {
-        return Line::Faulty;
+        return Parsed::Faulty;
     }
     match line {
-        [] => Line::Skip,
-        [b'#', ..] => Line::Skip,
-        _ => parse_request(max_cto, line),
+        [] => Parsed::Skip,
+        [b'#', ..] => Parsed::Skip,
+        _ => parse_request(max_cto, line, slot),
     }
 }
 
 #[tactic(auto, unfolding(crate::specs::Meaning::meaning))]
-fn parse_request(max_cto: u8, line: &[u8]) -> Line
+fn parse_request(max_cto: u8, line: &[u8], slot: &mut Slot) -> Parsed
     requires some { is_skipped line.now ≡ false }
     requires short { length line.now ≤ 1024 }
-    ensures { result ≡ meaning max_cto line.now }
+    ensures { line_in result slot.new ≡ meaning max_cto line.now }
 {
     if line == b"drain".as_slice() {
-        return Line::Ask(Request::Drain);
+        return Parsed::Word(Word::Drain);
     }
     if line == b"store".as_slice() {
-        return Line::Ask(Request::FinishStore);
+        return Parsed::Word(Word::FinishStore);
     }
     if line == b"hangup".as_slice() {
-        return Line::Ask(Request::Hangup);
+        return Parsed::Word(Word::Hangup);
     }
     match line.strip_prefix(b"event ") {
-        Some(text) => parse_event(text),
-        None => parse_command(max_cto, line),
+        Some(text) => parse_event(text, slot),
+        None => parse_command(max_cto, line, slot),
     }
 }
 
 /// What `event C HEX` says, from behind its first space.
-fn parse_event(text: &[u8]) -> Line
-    ensures { result ≡ event_of text.now }
+fn parse_event(text: &[u8], slot: &mut Slot) -> Parsed
+    ensures { line_in result slot.new ≡ event_of text.now }
 {
     let Some(space) = first_space(text) else {
-        return Line::Faulty;
+        return Parsed::Faulty;
     };
     let Some(channel) = parse_channel(&text[..space]) else {
-        return Line::Faulty;
+        return Parsed::Faulty;
     };
-    match parse_hex(SIGNAL_BYTES, &text[space + 1..]) {
-        Some(signals) => Line::Ask(Request::Event(channel, signals)),
-        None => Line::Faulty,
-    }
+    read_event(channel, &text[space + 1..], slot)
 }
 
 fn first_space(text: &[u8]) -> Option<usize>
@@ -76,24 +84,43 @@ fn first_space(text: &[u8]) -> Option<usize>
     text.iter().position(|byte| *byte == b' ')
 }
 
+/// Reads an event's signals straight into the slot's event.
+fn read_event(channel: u16, digits: &[u8], slot: &mut Slot) -> Parsed
+    ensures { line_in result slot.new ≡ event_with (Some channel) (hex_bytes 64 digits.now) }
+{
+    match &mut slot.event {
+        Request::Event(number, signals) => {
+            *number = channel;
+            if !read_hex(SIGNAL_BYTES, digits, signals) {
+                return Parsed::Faulty;
+            }
+        }
+        other => {
+            let mut signals = ArrayVec::new();
+            if !read_hex(SIGNAL_BYTES, digits, &mut signals) {
+                return Parsed::Faulty;
+            }
+            *other = Request::Event(channel, signals);
+        }
+    }
+    Parsed::Event
+}
+
 /// What a line says that is a command packet, if anything.
-fn parse_command(max_cto: u8, line: &[u8]) -> Line
+fn parse_command(max_cto: u8, line: &[u8], slot: &mut Slot) -> Parsed
     requires { length line.now ≤ 1024 }
-    ensures { result ≡ command_of max_cto line.now }
+    ensures { line_in result slot.new ≡ command_of max_cto line.now }
 {
     if line.contains(&b' ') {
-        return parse_spaced(max_cto, line);
+        return parse_spaced(max_cto, line, slot);
     }
-    match parse_hex(max_cto as usize, line) {
-        Some(packet) => Line::Ask(Request::Command(packet)),
-        None => Line::Faulty,
-    }
+    read_command(max_cto, line, slot)
 }
 
 /// The same of a line in which spaces stand: it is copied without them.
-fn parse_spaced(max_cto: u8, line: &[u8]) -> Line
+fn parse_spaced(max_cto: u8, line: &[u8], slot: &mut Slot) -> Parsed
     requires { length line.now ≤ 1024 }
-    ensures { result ≡ command_of max_cto line.now }
+    ensures { line_in result slot.new ≡ command_of max_cto line.now }
 {
     let mut digits: ArrayVec<u8, LINE_BYTES> = ArrayVec::new();
     for byte in line {
@@ -101,33 +128,52 @@ fn parse_spaced(max_cto: u8, line: &[u8]) -> Line
             digits.push(*byte);
         }
     }
-    match parse_hex(max_cto as usize, digits.as_slice()) {
-        Some(packet) => Line::Ask(Request::Command(packet)),
-        None => Line::Faulty,
-    }
+    read_command(max_cto, digits.as_slice(), slot)
 }
 
-/// The bytes that hex digits write, if they are 1 to `most` bytes.
+/// Reads a command packet straight into the slot's command.
+fn read_command(max_cto: u8, digits: &[u8], slot: &mut Slot) -> Parsed
+    ensures { line_in result slot.new ≡ command_with (hex_bytes max_cto digits.now) }
+{
+    match &mut slot.command {
+        Request::Command(packet) => {
+            if !read_hex(max_cto as usize, digits, packet) {
+                return Parsed::Faulty;
+            }
+        }
+        other => {
+            let mut packet = Packet::new();
+            if !read_hex(max_cto as usize, digits, &mut packet) {
+                return Parsed::Faulty;
+            }
+            *other = Request::Command(packet);
+        }
+    }
+    Parsed::Command
+}
+
+/// Reads the bytes that hex digits write, if they are 1 to `most` bytes. If they are not, any may
+/// stand there.
 #[tactic(auto, unfolding(crate::specs::Meaning::hex_bytes))]
-fn parse_hex<const N: usize>(most: usize, digits: &[u8]) -> Option<ArrayVec<u8, N>>
+fn read_hex<const N: usize>(most: usize, digits: &[u8], read: &mut ArrayVec<u8, N>) -> bool
     requires bounded { most ≤ 255 }
     requires room { most ≤ N }
-    ensures { MatchOption result (hex_bytes most digits.now ≡ None)
-        (λ bytes. hex_bytes most digits.now ≡ Some bytes.items) }
+    ensures { MatchBool result (hex_bytes most digits.now ≡ Some read.new.items)
+        (hex_bytes most digits.now ≡ None) }
 {
+    read.clear();
     if digits.is_empty() || digits.len() > 2 * most || digits.len() % 2 == 1 {
-        return None;
+        return false;
     }
-    let mut read = ArrayVec::new();
     for i in 0..digits.len() / 2 {
         let high = digit_value(digits[2 * i]);
         let low = digit_value(digits[2 * i + 1]);
         if high > GREATEST_VALUE || low > GREATEST_VALUE {
-            return None;
+            return false;
         }
         read.push(high * 16 + low);
     }
-    Some(read)
+    true
 }
 
 /// The number of an event channel, if the digits write one.

@@ -1,29 +1,33 @@
 //! The text of an answer.
 ghost use Rattle.std.specs.Prelude.{◌≡◌, ◌++◌, ◌∷◌, [], OnOk, decimal, length, ◌≤◌, ◌+◌, vec_len, vec_capacity};
 ghost use Rattle.hex.specs.Hex.{encode_upper};
+ghost use Rattle.xcp_slave.specs.Told.{answer_in};
 ghost use Rattle.xcp_framing.specs.Told.{text_of};
 
 use std::alloc::AllocError;
-use xcp_slave::Answer;
+use xcp_packet::Packet;
+use xcp_slave::Told;
 
 const HEX_DIGITS: [u8; 16] = *b"0123456789ABCDEF";
 
-/// Appends the line of an answer. After an `Err` a front of it may have been appended.
+/// Appends the line of an answer, whose packet, if it is one, stands in the lent one. After an
+/// `Err` a front of it may have been appended.
 #[tactic(auto, unfolding(crate::specs::Told::text_of))]
-pub fn push_text(texts: &mut Vec<u8>, answer: &Answer) -> Result<(), AllocError>
-    ensures { OnOk result (texts.new.items ≡ texts.old.items ++ text_of answer.now) }
+pub fn push_text(texts: &mut Vec<u8>, told: Told, packet: &Packet) -> Result<(), AllocError>
+    ensures { OnOk result (texts.new.items
+        ≡ texts.old.items ++ text_of (answer_in told packet.now)) }
 {
-    match answer {
-        Answer::Packet(packet) => push_packet(texts, packet.as_slice()),
-        Answer::Sampled(count) => push_count(texts, b"sampled ", *count),
-        Answer::Stored(count) => push_count(texts, b"stored ", *count),
-        Answer::Silent => texts.extend_from_slice(b"-\n"),
-        Answer::Overrun => texts.extend_from_slice(b"overrun\n"),
-        Answer::NoChannel => texts.extend_from_slice(b"no channel\n"),
-        Answer::BadSignals => texts.extend_from_slice(b"bad signals\n"),
-        Answer::Nothing => texts.extend_from_slice(b"nothing\n"),
-        Answer::NoStore => texts.extend_from_slice(b"no store\n"),
-        Answer::Later => texts.extend_from_slice(b"later\n"),
+    match told {
+        Told::Packet => push_packet(texts, packet.as_slice()),
+        Told::Sampled(count) => push_count(texts, b"sampled ", count),
+        Told::Stored(count) => push_count(texts, b"stored ", count),
+        Told::Silent => texts.extend_from_slice(b"-\n"),
+        Told::Overrun => texts.extend_from_slice(b"overrun\n"),
+        Told::NoChannel => texts.extend_from_slice(b"no channel\n"),
+        Told::BadSignals => texts.extend_from_slice(b"bad signals\n"),
+        Told::Nothing => texts.extend_from_slice(b"nothing\n"),
+        Told::NoStore => texts.extend_from_slice(b"no store\n"),
+        Told::Later => texts.extend_from_slice(b"later\n"),
     }
 }
 

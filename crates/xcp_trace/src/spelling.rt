@@ -1,9 +1,12 @@
 //! The string of an exchange, in its parts.
 ghost use Rattle.std.specs.Prelude.{◌≡◌, ◌≤◌, ◌<◌, ◌++◌, length};
+ghost use Rattle.xcp_slave.specs.declared.Answer.{Answer};
+ghost use Rattle.xcp_slave.specs.Told.{answer_in};
 ghost use Rattle.xcp_trace.specs.Spelling.{IsSpelling, answer_bytes, answer_count, answer_of, answer_tag, exchange_in, request_bytes, request_channel, request_of, request_tag, spelling};
 
 use arrayvec::ArrayVec;
-use xcp_slave::{Answer, Exchange, Request};
+use xcp_packet::Packet;
+use xcp_slave::{Answer, Exchange, Request, Told};
 
 /// The bytes of a head: the request's tag and its channel, the answer's tag and its number, and the
 /// length of the request's bytes.
@@ -31,8 +34,35 @@ pub(crate) fn spell<'a>(request: &'a Request, answer: &'a Answer) -> Spelled<'a>
     ensures asked { length result.asked.now ≤ PACKET_BYTES }
     ensures told { length result.told.now ≤ PACKET_BYTES }
 {
-    let (tag, channel, asked) = request_parts(request);
     let (kind, count, told) = answer_parts(answer);
+    spell_parts(request, kind, count, told)
+}
+
+/// The string of an exchange, from its request and from what was told beside a lent packet.
+pub(crate) fn spell_told<'a>(request: &'a Request, told: Told, packet: &'a Packet) -> Spelled<'a>
+    ensures string { result.head ++ result.asked.now ++ result.told.now
+        ≡ spelling (record { request = request.now; answer = answer_in told packet.now }) }
+    ensures fits { IsSpelling (spelling
+        (record { request = request.now; answer = answer_in told packet.now })) }
+    ensures asked { length result.asked.now ≤ PACKET_BYTES }
+    ensures told { length result.told.now ≤ PACKET_BYTES }
+{
+    let (kind, count, bytes) = told_parts(told, packet);
+    spell_parts(request, kind, count, bytes)
+}
+
+/// The string of an exchange, from its request and the parts of its answer.
+fn spell_parts<'a>(request: &'a Request, kind: u8, count: u8, told: &'a [u8]) -> Spelled<'a>
+    requires { length told.now ≤ PACKET_BYTES }
+    ensures string { (answer : Answer) → kind ≡ answer_tag answer → count ≡ answer_count answer
+        → told.now ≡ answer_bytes answer → result.head ++ result.asked.now ++ result.told.now
+        ≡ spelling (record { request = request.now; answer = answer }) }
+    ensures fits { (answer : Answer) → told.now ≡ answer_bytes answer
+        → IsSpelling (spelling (record { request = request.now; answer = answer })) }
+    ensures asked { length result.asked.now ≤ PACKET_BYTES }
+    ensures told { length result.told.now ≤ PACKET_BYTES }
+{
+    let (tag, channel, asked) = request_parts(request);
     let channel = channel.to_le_bytes();
     Spelled {
         head: [tag, channel[0], channel[1], kind, count, asked.len() as u8],
@@ -90,6 +120,27 @@ fn answer_parts(answer: &Answer) -> (u8, u8, &[u8])
         Answer::Stored(count) => (7, *count, &[]),
         Answer::NoStore => (8, 0, &[]),
         Answer::Later => (9, 0, &[]),
+    }
+}
+
+/// The same parts of what was told beside a lent packet.
+fn told_parts(told: Told, packet: &Packet) -> (u8, u8, &[u8])
+    ensures tag { result.0 ≡ answer_tag (answer_in told packet.now) }
+    ensures count { result.1 ≡ answer_count (answer_in told packet.now) }
+    ensures bytes { result.2.now ≡ answer_bytes (answer_in told packet.now) }
+    ensures short { length result.2.now ≤ 255 }
+{
+    match told {
+        Told::Silent => (0, 0, &[]),
+        Told::Packet => (1, 0, packet.as_slice()),
+        Told::Sampled(count) => (2, count, &[]),
+        Told::Overrun => (3, 0, &[]),
+        Told::NoChannel => (4, 0, &[]),
+        Told::BadSignals => (5, 0, &[]),
+        Told::Nothing => (6, 0, &[]),
+        Told::Stored(count) => (7, count, &[]),
+        Told::NoStore => (8, 0, &[]),
+        Told::Later => (9, 0, &[]),
     }
 }
 

@@ -1,12 +1,14 @@
 //! The exchanges that a slave has had.
 ghost use Rattle.std.specs.Prelude.{◌≡◌, ◌≤◌, ◌++◌, ◌∷◌, [], length, OnOk, OnErr, MatchOption, slice_get};
+ghost use Rattle.xcp_slave.specs.Told.{answer_in};
 ghost use Rattle.xcp_trace.specs.Spelling.{room_for_any};
 
-use crate::spelling::{EXCHANGE_BYTES, read_exchange, spell};
+use crate::spelling::{EXCHANGE_BYTES, read_exchange, spell, spell_told};
 use crate::{Strings, Tape};
 use std::alloc::{AllocError, Global};
 use std::marker::Model;
-use xcp_slave::{Answer, Exchange, Request};
+use xcp_packet::Packet;
+use xcp_slave::{Answer, Exchange, Request, Told};
 
 /// Exchanges, in the order in which they were had.
 #[derive(Drop)]
@@ -59,6 +61,18 @@ impl Trace {
             ++ record { request = request.now; answer = answer.now } ∷ [] }
     {
         let spelled = spell(request, answer);
+        self.tape
+            .push(&[], &spelled.head, spelled.asked, spelled.told);
+    }
+
+    /// Puts an exchange behind the others, as `push` does. The answer's packet, if it is one, stands
+    /// in the lent one.
+    pub fn push_told(&mut self, request: &Request, told: Told, packet: &Packet)
+        requires { room_for_any ≤ self.old.room }
+        ensures { self.new.exchanges ≡ self.old.exchanges
+            ++ record { request = request.now; answer = answer_in told packet.now } ∷ [] }
+    {
+        let spelled = spell_told(request, told, packet);
         self.tape
             .push(&[], &spelled.head, spelled.asked, spelled.told);
     }

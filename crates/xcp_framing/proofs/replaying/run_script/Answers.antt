@@ -8,7 +8,7 @@ use Rattle.xcp_framing.proofs.replaying.run_script.Goals as goal
 
 pub loop-init : goal.loop-init
 loop-init g c = record {
-  midway = rw (c.new-pending.ensures, c.requires) (midway_init _ _);
+  midway = rw (c.new-pending.ensures.line, c.new-pending.ensures.count, c.requires) (midway_init _ _);
   written = rw c.requires (appends_none _);
   none_left = search rules;
   layout = search rules;

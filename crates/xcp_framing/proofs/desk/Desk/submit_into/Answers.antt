@@ -1,16 +1,17 @@
 use Rattle.std.proofs.Common.{ap, ◌∙◌, refl}
 use Rattle.xcp_slave.proofs.LayoutLaws.{answers-layout}
 use Rattle.xcp_slave.proofs.RunLaws.{run-extended}
+use Rattle.xcp_slave.specs.Told.{answer_in}
 use Rattle.xcp_slave.specs.Value.{layout_of}
 use Rattle.xcp_framing.specs.Desk.{DeskValue}
-use Rattle.xcp_framing.proofs.desk.DeskStation.submit.Goals as goal
+use Rattle.xcp_framing.proofs.desk.Desk.submit_into.Goals as goal
 
 pub returns-then-is_err-clause-memory : goal.returns-then-is_err-clause-memory
 returns-then-is_err-clause-memory c = refl
 
 pub invariant_of-self-2 : goal.invariant_of-self-2
-invariant_of-self-2 c = rw (c.push.ensures, c.reserve.ensures.exchanges) (run-extended _ _ _ _ _ c.self.invariant c.submit-answer.ensures)
+invariant_of-self-2 c = rw (c.push_told.ensures, c.reserve.ensures.exchanges) (run-extended _ _ _ _ _ c.self.invariant c.submit_into-told.ensures)
 
 pub returns-clause-layout : goal.returns-clause-layout
 returns-clause-layout c =
-    answers-layout c.self.inside.slave c.args.request c.submit-answer.result c.submit-answer.new.self c.submit-answer.ensures ∙ ap (λ (d : DeskValue). layout_of d.slave) c.self.view_is
+    answers-layout c.self.inside.slave c.args.request.now (answer_in c.submit_into-told.result c.submit_into-told.new.packet) c.submit_into-told.new.self c.submit_into-told.ensures ∙ ap (λ (d : DeskValue). layout_of d.slave) c.self.view_is

@@ -1,0 +1,14 @@
+use Rattle.std.proofs.Common.{ap, ◌∙◌, ◌++◌, ◌∷◌, []}
+use Rattle.xcp_slave.specs.declared.Exchange.{Exchange}
+use Rattle.xcp_slave.specs.Told.{answer_in}
+use Rattle.xcp_trace.specs.Spelling.{IsSpelling, TraceValue}
+use Rattle.xcp_trace.proofs.Spelled.{all_more, exchange_pushed}
+use Rattle.xcp_trace.proofs.trace.Trace.push_told.Goals as goal
+
+pub invariant_of-self : goal.invariant_of-self
+invariant_of-self c = rw (c.push.ensures, c.spell_told-spelled.ensures.string) (all_more IsSpelling _ _ c.self.invariant c.spell_told-spelled.ensures.fits)
+
+pub returns : goal.returns
+returns c =
+    let x : Exchange = record { request = c.args.request.now; answer = answer_in c.args.told c.args.packet.now } in
+    rw (c.push.ensures, c.spell_told-spelled.ensures.string) (exchange_pushed c.self.inside.tape.strings x ∙ ap (λ (t : TraceValue). t.exchanges ++ x ∷ []) c.self.view_is)
