@@ -40,10 +40,19 @@ each_length R k (x ∷ xs) (y ∷ ys) h = let e = each_length R (k + 1) xs ys h.
 each_length R k [] (y ∷ ys) h = absurd h
 each_length R k (x ∷ xs) [] h = absurd h
 
--- a list that is made of another one, element by element, got one more
+-- a list that is made of another one, element by element
+map_snoc : {A B : Type 0} (f : A → B) (xs : List A) (x : A) → map f (xs ++ x ∷ []) ≡ map f xs ++ f x ∷ []
+map_snoc f [] x = refl
+map_snoc f (y ∷ xs) x = ap (λ z. f y ∷ z) (map_snoc f xs x)
+
 pub map_more : {A B : Type 0} (f : A → B) (xs : List A) (x : A) (ys more : List B) → ys ≡ map f xs → more ≡ ys ++ f x ∷ [] → more ≡ map f (xs ++ x ∷ [])
 map_more f xs x ys more was is = is ∙ (ap (λ z. z ++ f x ∷ []) was ∙ sym (map_snoc f xs x))
-  where
-    map_snoc : {A B : Type 0} (f : A → B) (xs : List A) (x : A) → map f (xs ++ x ∷ []) ≡ map f xs ++ f x ∷ []
-    map_snoc f [] x = refl
-    map_snoc f (y ∷ xs) x = ap (λ z. f y ∷ z) (map_snoc f xs x)
+
+-- the same behind another list
+pub map_behind : {A B : Type 0} (f : A → B) (front : List B) (xs : List A) (x : A) (ys more : List B) → ys ≡ front ++ map f xs → more ≡ ys ++ f x ∷ [] → more ≡ front ++ map f (xs ++ x ∷ [])
+map_behind f front xs x ys more was is = is ∙ (ap (λ z. z ++ f x ∷ []) was ∙ (append_assoc front (map f xs) (f x ∷ []) ∙ ap (λ z. front ++ z) (sym (map_snoc f xs x))))
+
+-- one more of the callers that are dealt out was taken
+pub dealt_more : {A B : Type 0} (f : B → A) (taken more : List B) (b : B) (a : A) (rest left all : List A) → map f taken ++ rest ≡ all → rest ≡ a ∷ left → f b ≡ a → more ≡ taken ++ b ∷ [] → map f more ++ left ≡ all
+dealt_more f taken more b a rest left all was steps is grown =
+    ap (λ z. map f z ++ left) grown ∙ (ap (λ z. z ++ left) (map_snoc f taken b) ∙ (ap (λ z. (map f taken ++ z ∷ []) ++ left) is ∙ turn (map f taken) rest left all a was steps))

@@ -1,4 +1,7 @@
+pub mod Attending
 pub mod Caller
+pub mod Dealing
+pub mod HangingUp
 pub mod Journal
 pub mod Locked
 pub mod Numbers
@@ -6,6 +9,8 @@ pub mod Opening
 pub mod Places
 pub mod Receipts
 pub mod Refusals
+pub mod Room
 pub mod Running
+pub mod Serving
 pub mod Settling
 pub mod Tasks

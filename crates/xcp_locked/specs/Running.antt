@@ -18,6 +18,10 @@ pub record IsTaskOf {N G : Type 0} (cycles task : ℕ) (w : Worker N) (t : Task 
 abbrev pub WorkedAs : {N : Type 0} → ℕ → ℕ → Worker N → Done N → Type 0
 WorkedAs cycles task w d = Worked cycles task w.caller d.worker.caller d.fault
 
+-- what came of a task, at whichever place
+abbrev pub DoneAs : {N G : Type 0} → ℕ → Task N G → Done N → Type 0
+DoneAs place t d = Worked t.cycles t.task t.worker.caller d.worker.caller d.fault
+
 -- the first of two faults
 abbrev pub or_else : Option TaskError → Option TaskError → Option TaskError
 or_else (Some e) other = Some e

@@ -57,7 +57,7 @@ pub struct Unsettled {
 
 impl<N: Name> Locked<N> {
     /// Settles one caller after another, and answers how many calls the journal has.
-    pub fn settle_each(&mut self, callers: &[Caller<N>]) -> Result<u64, Unsettled>
+    pub(crate) fn settle_each(&mut self, callers: &[Caller<N>]) -> Result<u64, Unsettled>
         ensures count { IfOk result (λ n. n ≡ length self.old.journal) }
         ensures all { IfOk result (λ _. AreSettled self.old.journal (length callers.now) callers.now) }
         ensures first { IfErr result (λ u. FirstUnsettled self.old.journal callers.now u) }

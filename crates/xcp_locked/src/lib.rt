@@ -6,6 +6,9 @@
 #![tactic(auto)]
 
 mod caller;
+mod closing;
+mod connection;
+mod dealing;
 mod entry;
 mod errors;
 mod gate;
@@ -15,11 +18,14 @@ mod locked;
 mod name;
 mod opening;
 mod running;
+mod server;
 mod settling;
 mod tasks;
 mod tool;
 
 pub use caller::Caller;
+pub use closing::{Closing, settle_all};
+pub use connection::{Closed, Connection, Left};
 pub use entry::{Entry, Receipt};
 pub use errors::LockedError;
 pub use gate::Gate;
@@ -28,6 +34,7 @@ pub use locked::{JOURNAL, Locked};
 pub use name::Name;
 pub use opening::{Opening, Unnamed};
 pub use running::run_tasks;
+pub use server::run_server;
 pub use settling::Mismatch;
 pub use tasks::{Done, Ran, Task, TaskError, Worker};
 pub use tool::Tool;

@@ -1,0 +1,112 @@
+// What comes of servers whose streams are cut, fail, or wait for a task.
+
+use crate::servers::{Came, Open, serve_some};
+use crate::streams::{Hole, Pieces};
+use std::alloc::Global;
+use std::sync::Wait;
+use std::test::Fail;
+use std::thread::Threads;
+use xcp_framing::{ServeError, Served, Watched};
+use xcp_locked::Unsettled;
+
+// CONNECT in a frame, and CONNECT and GET_STATUS.
+const CONNECT: [u8; 6] = [2, 0, 0, 0, 0xFF, 0];
+
+const STATUS: [u8; 11] = [2, 0, 0, 0, 0xFF, 0, 1, 0, 1, 0, 0xFD];
+
+const ONE: Served = Served { frames: 1, sent: 1 };
+
+const TWO: Served = Served { frames: 2, sent: 2 };
+
+// A stream that ends well, of which the first read gives so many bytes, and the next ones so many.
+fn pieces(text: &[u8], first: usize, most: usize) -> (Watched<Pieces<'_>>, Watched<Hole>) {
+    let reader = Pieces {
+        text,
+        first,
+        most,
+        good_reads: 100,
+    };
+    (Watched::new(reader), Watched::new(Hole { room: 1_000 }))
+}
+
+#[test]
+fn calls_are_counted(rt: HostRuntime) -> Result<(), Fail> {
+    let alloc = rt.alloc();
+    let ends = Vec::from_array(alloc, [pieces(&CONNECT, 6, 6)])?;
+    let alone = serve_some(&rt, alloc, 1, ends, 0, &Open, None)?;
+    let ends = Vec::from_array(alloc, [pieces(&CONNECT, 6, 6)])?;
+    let busy = serve_some(&rt, alloc, 4, ends, 2, &Open, None)?;
+    let wanted: Came = (Vec::from_array(alloc, [Ok(ONE)])?, None, Ok(3));
+    assert!(rt; alone == wanted);
+    let wanted: Came = (Vec::from_array(alloc, [Ok(ONE)])?, None, Ok(9));
+    assert!(rt; busy == wanted);
+    Ok(())
+}
+
+// Two tools and two tasks, whose streams are so cut.
+fn two_tools<R: Threads + Wait + Sync>(
+    rt: &R,
+    alloc: Global,
+    first: usize,
+    most: usize,
+) -> Result<Came, Fail> {
+    let one = pieces(&STATUS, first, most);
+    let other = pieces(&STATUS, first, most);
+    let ends = Vec::from_array(alloc, [one, other])?;
+    serve_some(rt, alloc, 4, ends, 2, &Open, None)
+}
+
+#[test]
+fn cut_streams_settle(rt: HostRuntime) -> Result<(), Fail> {
+    let alloc = rt.alloc();
+    let wanted: Came = (Vec::from_array(alloc, [Ok(TWO), Ok(TWO)])?, None, Ok(15));
+    let mut good = two_tools(&rt, alloc, 1, 1)? == wanted;
+    for first in 1..12 {
+        good = good && two_tools(&rt, alloc, first, 11)? == wanted;
+    }
+    assert!(rt; good);
+    Ok(())
+}
+
+#[test]
+fn altered_receipt_is_found(rt: HostRuntime) -> Result<(), Fail> {
+    let alloc = rt.alloc();
+    let one = pieces(&STATUS, 11, 11);
+    let other = pieces(&STATUS, 11, 11);
+    let ends = Vec::from_array(alloc, [one, other])?;
+    let (_, _, settled) = serve_some(&rt, alloc, 4, ends, 2, &Open, Some((1, 3)))?;
+    assert!(rt; settled == Err(Unsettled { caller: 1, at: 3 }));
+    Ok(())
+}
+
+// A first connection that fails at its second read, or at its first write, beside a good one.
+fn one_fails<R: Threads + Wait + Sync>(
+    rt: &R,
+    alloc: Global,
+    good_reads: u32,
+    room: usize,
+) -> Result<Came, Fail> {
+    let reader = Pieces {
+        text: &CONNECT,
+        first: 6,
+        most: 6,
+        good_reads,
+    };
+    let failing = (Watched::new(reader), Watched::new(Hole { room }));
+    let ends = Vec::from_array(alloc, [failing, pieces(&CONNECT, 6, 6)])?;
+    serve_some(rt, alloc, 2, ends, 0, &Open, None)
+}
+
+#[test]
+fn one_connection_fails(rt: HostRuntime) -> Result<(), Fail> {
+    let alloc = rt.alloc();
+    let read = one_fails(&rt, alloc, 1, 1_000)?;
+    let write = one_fails(&rt, alloc, 2, 11)?;
+    let ends = Vec::from_array(alloc, [Err(ServeError::Read), Ok(ONE)])?;
+    let wanted: Came = (ends, None, Ok(5));
+    assert!(rt; read == wanted);
+    let ends = Vec::from_array(alloc, [Err(ServeError::Write), Ok(ONE)])?;
+    let wanted: Came = (ends, None, Ok(5));
+    assert!(rt; write == wanted);
+    Ok(())
+}

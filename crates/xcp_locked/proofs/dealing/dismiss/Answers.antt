@@ -1,0 +1,19 @@
+use Rattle.std.proofs.Common.{◌≡◌, ◌∷◌, [], ◌++◌, length, map, ap, sym, ◌∙◌, append_assoc, arith}
+use Rattle.xcp_locked.proofs.Places.{turn, map_behind}
+use Rattle.xcp_locked.proofs.dealing.dismiss.Goals as goal
+
+pub loop-worker-preserved : goal.loop-worker-preserved
+loop-worker-preserved g c =
+    let at = c.loop-worker in
+    let was = at.invariant in
+    let steps = c.in-Some.ensures.steps in
+    let short = ap length steps.0 in
+    let gone = steps.1 in
+    let pushed = c.push_reserved.ensures.len in
+    let room = c.push_reserved.ensures.capacity in (
+      turn at.yielded _ _ _ c.in-Some.worker was.0 steps.0,
+      omega (arith, short, gone, was.1),
+      omega (arith, gone, pushed, room, was.2),
+      map_behind (λ w. w.caller) _ at.yielded c.in-Some.worker _ _ was.3 c.push_reserved.ensures.items,
+      room ∙ was.4,
+    )

@@ -1,0 +1,12 @@
+use Rattle.std.specs.Prelude.{◌≡◌, ◌+◌, ◌≤◌, ◌++◌, map, length, vec_len, vec_capacity}
+use Rattle.std.specs.Vec.Iter.{into_iter_items, into_iter_len}
+use Rattle.xcp_locked.proofs.dealing.dismiss.Given as goal
+
+abbrev pub invariant-loop-worker : goal.invariant-loop-worker
+invariant-loop-worker g l =
+    let rest = l.worker-iterator in let first = l.initial.worker-iterator in
+    (l.yielded ++ into_iter_items rest ≡ into_iter_items first)
+    × (into_iter_len rest ≡ length (into_iter_items rest))
+    × (vec_len l.callers + into_iter_len rest ≤ vec_capacity l.callers)
+    × (l.callers.items ≡ l.initial.callers.items ++ map (λ w. w.caller) l.yielded)
+    × (vec_capacity l.callers ≡ vec_capacity l.initial.callers)

@@ -1,0 +1,10 @@
+use Rattle.std.specs.Prelude.{◌≡◌, ◌+◌, ◌≤◌, ◌++◌, map, length, vec_len, vec_capacity}
+use Rattle.std.specs.Vec.Iter.{into_iter_items}
+use Rattle.xcp_locked.proofs.dealing.employ.Given as goal
+
+abbrev pub invariant-loop-task : goal.invariant-loop-task
+invariant-loop-task g l =
+    (vec_len l.workers ≡ l._task)
+    × (l.tasks ≤ vec_capacity l.workers)
+    × (map (λ w. w.caller) l.workers.items ++ into_iter_items l.callers ≡ into_iter_items l.fn.callers)
+    × (l.tasks ≤ l._task + length (into_iter_items l.callers))

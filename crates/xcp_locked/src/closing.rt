@@ -1,0 +1,145 @@
+//! What a server gives back.
+ghost use Rattle.std.specs.Prelude.{◌≡◌, ◌<◌, ◌≤◌, ◌+◌, ◌++◌, IfErr, IfOk, length, map, sum_by, vec_capacity, vec_len};
+ghost use Rattle.std.specs.Vec.Iter.{into_iter_items};
+ghost use Rattle.xcp_locked.specs.Caller.{accepted_by};
+ghost use Rattle.xcp_locked.specs.Room.{IsRoom};
+ghost use Rattle.xcp_locked.specs.HangingUp.{HungUp};
+ghost use Rattle.xcp_locked.specs.Running.{first_fault};
+ghost use Rattle.xcp_locked.specs.Settling.{AreSettled, FirstUnsettled};
+
+use crate::dealing::{Ended, add_spare, dismiss, take_apart};
+use crate::running::collect;
+use crate::{Caller, Closed, Done, Left, Locked, Name, Ran, TaskError, Unsettled, Worker};
+use std::alloc::{AllocError, Global};
+use std::io::{Read, Write};
+use std::vec::IntoIter;
+use xcp_framing::{ServeError, Served};
+use xcp_slave::Request;
+
+/// What is left of a server: the slave, all callers (those of the connections first, then those of
+/// the tasks, then those that had nothing to do), the end of each connection with what its streams
+/// were then, and the fault of the tasks, else that of the last `Hangup`.
+#[derive(Drop)]
+pub struct Closing<N: Name, I: Read + Drop, O: Write + Drop> {
+    pub locked: Locked<N>,
+    pub callers: Vec<Caller<N>>,
+    pub ends: Vec<Result<Served, ServeError>>,
+    pub left: Vec<Left<I, O>>,
+    pub fault: Option<TaskError>,
+}
+
+/// Room for what a server gives back, made before anybody begins.
+#[derive(Drop)]
+pub struct Rooms<N: Name, I: Read + Drop, O: Write + Drop> {
+    pub ended: Ended<N, I, O>,
+    pub workers: Vec<Worker<N>>,
+}
+
+/// Room for so many callers, for the ends of so many connections, and for so many workers.
+pub(crate) fn make_rooms<N: Name, I: Read + Drop, O: Write + Drop>(
+    alloc: Global,
+    callers: usize,
+    ends: usize,
+    tasks: u8,
+) -> Result<Rooms<N, I, O>, AllocError>
+    ensures { IfOk result (λ r. IsRoom callers ends tasks r) }
+{
+    let callers = Vec::with_capacity(alloc, callers)?;
+    let left = Vec::with_capacity(alloc, ends)?;
+    let ends = Vec::with_capacity(alloc, ends)?;
+    let workers = Vec::with_capacity(alloc, tasks as usize)?;
+    let ended = Ended {
+        callers,
+        ends,
+        left,
+    };
+    Ok(Rooms { ended, workers })
+}
+
+/// Puts together what came of connections and tasks, for which there is room, and submits the last
+/// `Hangup`.
+pub(crate) fn close_all<N: Name, I: Read + Drop, O: Write + Drop>(
+    locked: Locked<N>,
+    closed: Vec<Closed<N, I, O>>,
+    done: Vec<Done<N>>,
+    spare: IntoIter<Caller<N>>,
+    rooms: Rooms<N, I, O>,
+) -> Closing<N, I, O>
+    requires some { 0 < vec_len closed }
+    requires room { IsRoom (vec_len closed + vec_len done + length (into_iter_items spare))
+        (vec_len closed) (vec_len done) rooms }
+    ensures hung_up { HungUp (first_fault done.items) result.fault
+        (map (λ d. d.caller) closed.items ++ map (λ d. d.worker.caller) done.items ++ into_iter_items spare)
+        result.callers.items }
+    ensures ends { result.ends.items ≡ map (λ d. d.end) closed.items }
+    ensures left { result.left.items ≡ map (λ d. d.left) closed.items }
+{
+    let ended = take_apart(closed, rooms.ended);
+    let ran = collect(done, rooms.workers);
+    put_together(locked, ended, ran, spare)
+}
+
+/// Gathers all callers again, in order, for which there is room, and submits the last `Hangup`.
+fn put_together<N: Name, I: Read + Drop, O: Write + Drop>(
+    locked: Locked<N>,
+    ended: Ended<N, I, O>,
+    ran: Ran<N>,
+    spare: IntoIter<Caller<N>>,
+) -> Closing<N, I, O>
+    requires some { 0 < vec_len ended.callers }
+    requires room { vec_len ended.callers + vec_len ran.workers + length (into_iter_items spare)
+        ≤ vec_capacity ended.callers }
+    ensures hung_up { HungUp ran.fault result.fault
+        (ended.callers.items ++ map (λ w. w.caller) ran.workers.items ++ into_iter_items spare)
+        result.callers.items }
+    ensures ends { result.ends.items ≡ ended.ends.items }
+    ensures left { result.left.items ≡ ended.left.items }
+{
+    let mut locked = locked;
+    let mut callers = add_spare(spare, dismiss(ran.workers, ended.callers));
+    let fault = hang_up(&mut locked, &mut callers, ran.fault);
+    Closing {
+        locked,
+        callers,
+        ends: ended.ends,
+        left: ended.left,
+        fault,
+    }
+}
+
+/// The last `Hangup`, by the first caller.
+fn hang_up<N: Name>(
+    locked: &mut Locked<N>,
+    callers: &mut [Caller<N>],
+    fault: Option<TaskError>,
+) -> Option<TaskError>
+    requires { 0 < length callers.old }
+    ensures { HungUp fault result callers.old callers.new }
+{
+    match locked.submit(&mut callers[0], Request::Hangup) {
+        Ok(_) => fault,
+        Err(error) => match fault {
+            None => Some(TaskError::from(error)),
+            first => first,
+        },
+    }
+}
+
+/// Settles all callers, one after another, and answers how many calls the journal has. With all
+/// callers of the slave together it is known that this is how many calls of theirs were accepted.
+pub fn settle_all<N: Name, I: Read + Drop, O: Write + Drop>(
+    closing: &mut Closing<N, I, O>,
+) -> Result<u64, Unsettled>
+    requires { (0 < vec_len closing.old.callers) × (vec_len closing.old.callers ≡ N.parts) }
+    ensures count { IfOk result (λ n. n ≡ length closing.old.locked.journal) }
+    ensures sum { IfOk result (λ n. n ≡ sum_by accepted_by closing.old.callers.items) }
+    ensures all { IfOk result (λ _. AreSettled closing.old.locked.journal
+        (vec_len closing.old.callers) closing.old.callers.items) }
+    ensures first { IfErr result (λ u. FirstUnsettled closing.old.locked.journal
+        closing.old.callers.items u) }
+    ensures same { (closing.new.locked ≡ closing.old.locked)
+        × (closing.new.callers.items ≡ closing.old.callers.items) }
+{
+    closing.locked.gather(&mut closing.callers);
+    closing.locked.settle_each(&closing.callers)
+}
