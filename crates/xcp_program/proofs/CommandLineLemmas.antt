@@ -1,32 +1,50 @@
--- What clap's matches say of a replay.
-use Rattle.std.proofs.Common.{◌≡◌, List, ℕ, codes, Option, Some, None, IfSome, Bor, Box, refl, sym, ◌∙◌, ap}
+-- What clap's matches say of the options of a subcommand.
+use Rattle.std.proofs.Common.{◌≡◌, ℕ, List, Option, Some, None, IfSome, Bor, Box, refl, sym, ◌∙◌, ap, subst}
 use Rattle.std.specs.Option.{option_map, option_and_then}
 use Rattle.std.specs.Box.{box_value}
 use Rattle.clap.specs.Words.{Row, Text, first_of, subcommand_rows}
 use Rattle.clap.specs.declared.parser.matches.SubCommand.{SubCommand}
 use Rattle.clap.specs.declared.parser.matches.ArgMatches.TheViews.{out-SubCommand}
-use Rattle.xcp_program.specs.CommandLine.{IsReplay}
+use Rattle.std.specs.Str.Parse.{digits_value, without_leading_plus}
+use Rattle.xcp_program.specs.CommandLine.{HasNumber, HasText, Numeric, Spells}
 
 -- the name that stands beside a subcommand's rows
 pub name_beside_rows : {Z : Type 0} (o : Option (Box SubCommand Z)) → option_map (λ p. p.0) (subcommand_rows o) ≡ option_map (λ b. (out-SubCommand (box_value b)).name.now) o
 name_beside_rows None = refl
 name_beside_rows (Some b) = refl
 
--- the configuration file by the rows alone
-by_rows : (found : Option (Text × List Row)) → option_and_then (λ p. first_of (codes "config") p.1) found ≡ option_and_then (first_of (codes "config")) (option_map (λ p. p.1) found)
-by_rows None = refl
-by_rows (Some p) = refl
+-- an option's text by the rows alone
+by_rows : (option : Text) (found : Option (Text × List Row)) → option_and_then (λ p. first_of option p.1) found ≡ option_and_then (first_of option) (option_map (λ p. p.1) found)
+by_rows option None = refl
+by_rows option (Some p) = refl
 
--- the value that was found is that of a replay
-pub replay_found : (found : Option (Text × List Row)) (rows : List Row) (r : Option (Bor Text)) → option_map (λ p. p.0) found ≡ Some (codes "replay") → option_map (λ p. p.1) found ≡ Some rows → option_map (λ s. s.now) r ≡ first_of (codes "config") rows → IfSome r (λ s. IsReplay found s.now)
-replay_found found rows None h i j = tt
-replay_found found rows (Some s) h i j = record {
+-- the text that was found is that of the option
+pub text_found : (command option : Text) (found : Option (Text × List Row)) (rows : List Row) (r : Option (Bor Text)) → option_map (λ p. p.0) found ≡ Some command → option_map (λ p. p.1) found ≡ Some rows
+    → option_map (λ s. s.now) r ≡ first_of option rows → IfSome r (λ s. HasText found command option s.now)
+text_found command option found rows None h i j = tt
+text_found command option found rows (Some s) h i j = record {
   name = h;
-  value = by_rows found ∙ ap (option_and_then (first_of (codes "config"))) i ∙ sym j;
+  value = by_rows option found ∙ ap (option_and_then (first_of option)) i ∙ sym j;
 }
 
--- where none was found, there is no replay
-pub no_replay_found : (found : Option (Text × List Row)) (rows : List Row) (r : Option (Bor Text)) → option_map (λ p. p.1) found ≡ Some rows → option_map (λ s. s.now) r ≡ first_of (codes "config") rows → r ≡ None → (config : List ℕ) → ¬ (IsReplay found config)
-no_replay_found found rows r i j e config h =
-    let value = sym h.value ∙ by_rows found ∙ ap (option_and_then (first_of (codes "config"))) i ∙ sym j ∙ ap (option_map (λ s. s.now)) e in
+-- where none was found, there is none
+pub no_text_found : (command option : Text) (found : Option (Text × List Row)) (rows : List Row) (r : Option (Bor Text)) → option_map (λ p. p.1) found ≡ Some rows → option_map (λ s. s.now) r ≡ first_of option rows → r ≡ None
+    → (text : Text) → ¬ (HasText found command option text)
+no_text_found command option found rows r i j e text h =
+    let value = sym h.value ∙ by_rows option found ∙ ap (option_and_then (first_of option)) i ∙ sym j ∙ ap (option_map (λ s. s.now)) e in
     cc
+
+some_is : (a b : Text) → Some a ≡ Some b → a ≡ b
+some_is a b e = cc
+
+-- an option has one text
+pub same_text : {command option a b : Text} {found : Option (Text × List Row)} → HasText found command option a → HasText found command option b → a ≡ b
+same_text {command} {option} {a} {b} h k = some_is a b (sym h.value ∙ k.value)
+
+-- and so one number
+pub same_number : (found : Option (Text × List Row)) (option : Text) (n m : ℕ) → Spells found option n → Spells found option m → n ≡ m
+same_number found option n m h k = h.number ∙ ap (λ (t : Text). digits_value 10 (without_leading_plus t)) (same_text h.value k.value) ∙ sym k.number
+
+-- the number that an option's text spells is the one that it has
+pub has_spelt : (found : Option (Text × List Row)) (o : Numeric) (n m : ℕ) → HasNumber found o n → Spells found o.name m → HasNumber found o m
+has_spelt found o n m h k = subst (λ (x : ℕ). HasNumber found o x) (same_number found o.name n m h.spelt k) h

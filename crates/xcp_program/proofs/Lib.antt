@@ -1,4 +1,5 @@
 pub mod SourceLemmas
 pub mod CommandLineLemmas
+pub mod RowLemmas
 pub mod WalkLemmas
 pub mod NoFaultLemmas

@@ -1,16 +1,21 @@
--- Words in which clap finds no fault name a replay with its file.
-use Rattle.std.proofs.Common.{◌≡◌, ◌∙◌, ◌||◌, ℕ, Bool, codes, true, false, not, refl, sym, true≢false, List, [], ◌∷◌, drop, Option, Some, None, IfSome, is_some, if◌then◌else◌, option_map, find, bytes_eq}
+-- Words in which clap finds no fault name a replay with its file, or a server with its file and its numbers.
+use Rattle.std.proofs.Common.{◌≡◌, inl, inr, ◌∙◌, ◌||◌, ℕ, Bool, codes, true, false, not, refl, sym, ap, subst, true≢false, List, [], ◌∷◌, drop, take, Option, Some, None, IfSome, is_some, if◌then◌else◌, option_and_then, option_map, find, slice_get, bytes_eq, unwrap_or}
 use Rattle.std.specs.Option.{option_map_or}
 use Rattle.std.proofs.lemmas.Slice.Eq.{bytes_eq-Decides}
-use Rattle.clap.specs.Walk.{Row, Rule, Text, answers_to, finished, first_of, nothing_held, rows_after, settled, walk, walk_from}
+use Rattle.clap.specs.Facts.{explicit_source}
+use Rattle.clap.specs.Walk.{Held, Row, Rule, Text, answers_to, arg_by_id, finished, first_of, nothing_held, rows_after, settled, walk, walk_from}
 use Rattle.clap.specs.Simple.{Shape, argument_words, built, entered, help_rule, help_shape, label_of, names_of, rows_at, subcommand_of}
-use Rattle.clap.specs.Takes.{is_given}
+use Rattle.clap.specs.Takes.{is_given, value_passes}
 use Rattle.clap.specs.Faults.{check_fault, defaults_fault, entered_fault, fault_of, level_fault, settle_fault, walk_fault}
+use Rattle.clap.specs.Values.{IsUnsignedIn}
+use Rattle.clap.proofs.ValueTestLemmas.{accepts-Accepts}
+use Rattle.clap.specs.declared.builder.value_parser.ValueParser.TheVariants.{Unsigned}
 use Rattle.clap.specs.declared.error.kind.ErrorKind.TheVariants as kind
-use Rattle.xcp_program.specs.CommandLine.{IsReplay, program}
-use Rattle.xcp_program.proofs.WalkLemmas.{Keeps, NoHelp, given_value, no_default, no_kinds, parts, settles, valued_with, valued_without, walk_kept, walk_stops}
+use Rattle.xcp_program.specs.CommandLine.{AsksSomething, HasNumber, Numeric, cycles, port, program, tasks, tools}
+use Rattle.xcp_program.proofs.RowLemmas.{Each, EachRule, Good, IsGiven, Keeps, default_row, defaults_leave, found_row, found_rule, keeps_set, no_kinds, default_among, parts, row_for}
+use Rattle.xcp_program.proofs.WalkLemmas.{NoHelp, settles, walk_kept, walk_stops}
 
--- ---- the program as clap builds it: `replay` and `help`, and the arguments of `replay`
+-- ---- the program as clap builds it: `replay`, `serve` and `help`, and the arguments of each
 
 abbrev shape_at : List Shape → Shape
 shape_at [] = help_shape
@@ -23,51 +28,200 @@ rule_at (r ∷ rs) = r
 abbrev replay_shape : Shape
 replay_shape = shape_at (built program).subs
 
+abbrev serve_shape : Shape
+serve_shape = shape_at (drop 1 (built program).subs)
+
 abbrev help_of : Shape
-help_of = shape_at (drop 1 (built program).subs)
+help_of = shape_at (drop 2 (built program).subs)
 
-abbrev config_of : Rule
-config_of = rule_at replay_shape.rules
+-- the nth argument of a subcommand
+abbrev nth : ℕ → Shape → Rule
+nth n s = rule_at (drop n s.rules)
 
-abbrev help_flag : Rule
-help_flag = rule_at (drop 1 replay_shape.rules)
+-- a use of an option with no fault keeps the rows good, and so does `--help`, of which each use is a fault
+keeps_replay : EachRule (Keeps (Good replay_shape.rules)) replay_shape.rules
+keeps_replay = (
+  keeps_set replay_shape.rules (nth 0 replay_shape) refl refl (λ again rows e. no_kinds _ _ e),
+  (λ again values rows e v. v, tt),
+)
 
-keeps_config : Keeps config_of
-keeps_config again [] rows e v = absurd (no_kinds _ _ e)
-keeps_config again (x ∷ xs) rows e v = valued_with _ _ _ x xs _ (valued_without _ rows v)
+keeps_serve : EachRule (Keeps (Good serve_shape.rules)) serve_shape.rules
+keeps_serve = (
+  keeps_set serve_shape.rules (nth 0 serve_shape) refl refl (λ again rows e. no_kinds _ _ e),
+  (
+    keeps_set serve_shape.rules (nth 1 serve_shape) refl refl (λ again rows e. no_kinds _ _ e),
+    (
+      keeps_set serve_shape.rules (nth 2 serve_shape) refl refl (λ again rows e. no_kinds _ _ e),
+      (
+        keeps_set serve_shape.rules (nth 3 serve_shape) refl refl (λ again rows e. no_kinds _ _ e),
+        (
+          keeps_set serve_shape.rules (nth 4 serve_shape) refl refl (λ again rows e. no_kinds _ _ e),
+          (λ again values rows e v. v, tt),
+        ),
+      ),
+    ),
+  ),
+)
 
-keeps_help : Keeps help_flag
-keeps_help again values rows e v = v
+-- ---- below a subcommand
 
-good : (p : Rule → Bool) → IfSome (find p replay_shape.rules) Keeps
-good p = go (p config_of) (p help_flag)
+-- the rows that the words gave it, and the same with the defaults
+abbrev given_rows : Shape → List Text → List Row
+given_rows s words = (settled s.rules (walk s.rules [] nothing_held words).held).rows
+
+abbrev all_rows : Shape → List Text → List Row
+all_rows s words = rows_after s.rules [] words
+
+module _ (s : Shape) (words : List Text) (kept : EachRule (Keeps (Good s.rules)) s.rules) (e : level_fault s [] nothing_held words false [] ≡ []) where
+  abbrev held : Held
+  held = (walk s.rules [] nothing_held words).held
+
+  steps : (walk_fault s [] (walk_from nothing_held) words ≡ []) × (settle_fault s.rules s.args_override_self held ≡ []) × (check_fault s (finished s.rules held) false ≡ [])
+  steps =
+      let a = parts (walk_fault s [] (walk_from nothing_held) words) _ e in
+      let b = parts (settle_fault s.rules s.args_override_self held) _ a.1 in
+      let d = parts (defaults_fault (settled s.rules held).rows s.rules) _ b.1 in
+      (a.0, b.0, d.1)
+
+  pub checked : check_fault s (all_rows s words) false ≡ []
+  checked = steps.2
+
+  rows_are_good : Each (Good s.rules) (given_rows s words)
+  rows_are_good =
+      let good : (p : Rule → Bool) → IfSome (find p s.rules) (Keeps (Good s.rules)) = found_rule (Keeps (Good s.rules)) s.rules kept in
+      settles (Good s.rules) s.rules s.args_override_self good held steps.1 (walk_kept (Good s.rules) s [] good words (walk_from nothing_held) steps.0 tt)
+
+  -- the row that the words gave an argument is good
+  pub row_is_good : (a : Rule) → arg_by_id s.rules a.id ≡ Some a → IfSome (row_for a.id (given_rows s words)) (IsGiven a)
+  row_is_good a one = go (row_for a.id (given_rows s words)) (found_row (Good s.rules) a.id (given_rows s words) rows_are_good)
+    where
+      by_id : (r : Row) → Good s.rules r → bytes_eq r.id a.id ≡ true → IsGiven a r
+      by_id r good same =
+          let found : arg_by_id s.rules r.id ≡ Some a = ap (arg_by_id s.rules) ((bytes_eq-Decides r.id a.id).0 same) ∙ one in
+          subst (λ (o : Option Rule). IfSome o (λ b. IsGiven b r)) found good
+
+      go : (o : Option Row) → IfSome o (λ r. Good s.rules r × (bytes_eq r.id a.id ≡ true)) → IfSome o (IsGiven a)
+      go None h = tt
+      go (Some r) h = by_id r h.0 h.1
+
+-- ---- an option in the rows
+
+-- an option with its text: given, or by its default
+pub record Stands (a : Rule) (rows : List Row) (default : Option Text) : Type 0 where
+  pub text : Text
+  pub value : first_of a.id rows ≡ Some text
+  pub passes : value_passes a text ≡ true
+  pub otherwise : is_given a.id rows ≡ false → default ≡ Some text
+
+-- as the row says
+stands : (a : Rule) (rows : List Row) (default : Option Text) (r : Row) → row_for a.id rows ≡ Some r → IsGiven a r → Stands a rows default
+stands a rows default r found h = record {
+  text = h.text;
+  value = ap (option_and_then (λ q. slice_get q.values 0)) found ∙ h.value;
+  passes = h.passes;
+  otherwise = λ none. absurd (true≢false (sym h.explicit ∙ sym (ap (λ (o : Option Row). option_map_or (λ q. explicit_source q.source) o false) found) ∙ none));
+}
+
+-- an option that is wanted and has no default
+wanted_stands : (a : Rule) (rows all : List Row) → row_for a.id all ≡ row_for a.id rows → IfSome (row_for a.id rows) (IsGiven a) → is_given a.id all ≡ true → Stands a all None
+wanted_stands a rows all same good given = go (row_for a.id rows) refl good
   where
-    go : (x y : Bool) → IfSome (if x then Some config_of else (if y then Some help_flag else None)) Keeps
-    go true y = keeps_config
-    go false true = keeps_help
-    go false false = tt
+    go : (o : Option Row) → row_for a.id rows ≡ o → IfSome o (IsGiven a) → Stands a all None
+    go None e h = absurd (true≢false (sym given ∙ ap (λ (o : Option Row). option_map_or (λ q. explicit_source q.source) o false) (same ∙ e)))
+    go (Some r) e h = stands a all None r (same ∙ e) h
 
--- ---- below `replay`, the file is given
+-- an option with a default
+default_stands : (a : Rule) (v : Text) (rows all : List Row) → row_for a.id all ≡ Some (unwrap_or (row_for a.id rows) (default_row a v)) → IfSome (row_for a.id rows) (IsGiven a) → value_passes a v ≡ true → Stands a all (Some v)
+default_stands a v rows all same good passes = go (row_for a.id rows) refl good
+  where
+    go : (o : Option Row) → row_for a.id rows ≡ o → IfSome o (IsGiven a) → Stands a all (Some v)
+    go None e h = record {
+      text = v;
+      value = ap (option_and_then (λ q. slice_get q.values 0)) (same ∙ ap (λ (o : Option Row). Some (unwrap_or o (default_row a v))) e);
+      passes = passes;
+      otherwise = λ none. refl;
+    }
+    go (Some r) e h = stands a all (Some v) r (same ∙ ap (λ (o : Option Row). Some (unwrap_or o (default_row a v))) e) h
 
-missing : (g : Bool) → (if (not g || false) then kind.MissingRequiredArgument ∷ [] else []) ≡ [] → g ≡ true
-missing true e = refl
-missing false e = absurd (no_kinds _ _ e)
+-- ---- `replay`
 
-has_file : (words : List Text) → level_fault replay_shape [] nothing_held words false [] ≡ [] → is_some (first_of (codes "config") (rows_after replay_shape.rules [] words)) ≡ true
-has_file words e =
-    let held = (walk replay_shape.rules [] nothing_held words).held in
-    let a = parts (walk_fault replay_shape [] (walk_from nothing_held) words) _ e in
-    let b = parts (settle_fault replay_shape.rules replay_shape.args_override_self held) _ a.1 in
-    let d = parts (defaults_fault (settled replay_shape.rules held).rows replay_shape.rules) _ b.1 in
-    let kept = settles replay_shape.rules replay_shape.args_override_self good held b.0 (walk_kept replay_shape [] good words (walk_from nothing_held) a.0 tt) in
-    let rows = no_default help_flag _ refl (no_default config_of _ refl kept) in
-    given_value (codes "config") (finished replay_shape.rules held) rows (missing (is_given (codes "config") (finished replay_shape.rules held)) d.1)
+one_wanted : (g : Bool) → (if (not g || false) then kind.MissingRequiredArgument ∷ [] else []) ≡ [] → g ≡ true
+one_wanted true e = refl
+one_wanted false e = absurd (no_kinds _ _ e)
+
+replay_asked : (words : List Text) → level_fault replay_shape [] nothing_held words false [] ≡ [] → AsksSomething (Some (rows_at replay_shape words))
+replay_asked words e =
+    let config = nth 0 replay_shape in
+    let all = all_rows replay_shape words in
+    let rows = given_rows replay_shape words in
+    let given = one_wanted (is_given (codes "config") all) (checked replay_shape words keeps_replay e) in
+    let file = wanted_stands config rows all (defaults_leave config.id replay_shape.rules rows refl) (row_is_good replay_shape words keeps_replay e config refl) given in
+    inl (file.text, record { text = record { name = refl; value = file.value }; given = given })
+
+-- ---- `serve`
+
+two_wanted : (g h : Bool) → (if (not g || (not h || false)) then kind.MissingRequiredArgument ∷ [] else []) ≡ [] → (g ≡ true) × (h ≡ true)
+two_wanted true true e = (refl, refl)
+two_wanted true false e = absurd (no_kinds _ _ e)
+two_wanted false h e = absurd (no_kinds _ _ e)
+
+-- an option of `serve` with its text has its number
+number_stands : (words : List Text) (a : Rule) (o : Numeric) → a.id ≡ o.name → ((text : Text) → value_passes a text ≡ true → IsUnsignedIn o.least o.most text)
+    → Stands a (all_rows serve_shape words) o.default → (n : ℕ) × HasNumber (Some (rows_at serve_shape words)) o n
+number_stands words a o same bounds h =
+    let found : Option (Text × List Row) = Some (rows_at serve_shape words) in
+    let range = bounds h.text h.passes in
+    let value : first_of o.name (all_rows serve_shape words) ≡ Some h.text = subst (λ (id : Text). first_of id (all_rows serve_shape words) ≡ Some h.text) same h.value in
+    let otherwise : is_given o.name (all_rows serve_shape words) ≡ false → o.default ≡ Some h.text =
+    subst (λ (id : Text). is_given id (all_rows serve_shape words) ≡ false → o.default ≡ Some h.text) same h.otherwise in (
+      _,
+      record {
+        spelt = record { text = h.text; value = record { name = refl; value = value }; digits = range.0; number = refl };
+        least = range.2;
+        most = range.3;
+        otherwise = otherwise;
+      },
+    )
+
+module _ (words : List Text) (e : level_fault serve_shape [] nothing_held words false [] ≡ []) where
+  wants : (is_given (codes "config") (all_rows serve_shape words) ≡ true) × (is_given (codes "port") (all_rows serve_shape words) ≡ true)
+  wants = two_wanted _ _ (checked serve_shape words keeps_serve e)
+
+  good_row : (a : Rule) → arg_by_id serve_shape.rules a.id ≡ Some a → IfSome (row_for a.id (given_rows serve_shape words)) (IsGiven a)
+  good_row = row_is_good serve_shape words keeps_serve e
+
+  config_stands : Stands (nth 0 serve_shape) (all_rows serve_shape words) None
+  config_stands = wanted_stands (nth 0 serve_shape) (given_rows serve_shape words) (all_rows serve_shape words)
+      (defaults_leave (codes "config") serve_shape.rules (given_rows serve_shape words) refl) (good_row (nth 0 serve_shape) refl) wants.0
+
+  port_stands : Stands (nth 1 serve_shape) (all_rows serve_shape words) None
+  port_stands = wanted_stands (nth 1 serve_shape) (given_rows serve_shape words) (all_rows serve_shape words)
+      (defaults_leave (codes "port") serve_shape.rules (given_rows serve_shape words) refl) (good_row (nth 1 serve_shape) refl) wants.1
+
+  tools_stands : Stands (nth 2 serve_shape) (all_rows serve_shape words) tools.default
+  tools_stands = default_stands (nth 2 serve_shape) (codes "1") (given_rows serve_shape words) (all_rows serve_shape words)
+      (default_among (take 2 serve_shape.rules) (drop 3 serve_shape.rules) (nth 2 serve_shape) (codes "1") (given_rows serve_shape words) refl refl refl)
+      (good_row (nth 2 serve_shape) refl) refl
+
+  tasks_stands : Stands (nth 3 serve_shape) (all_rows serve_shape words) tasks.default
+  tasks_stands = default_stands (nth 3 serve_shape) (codes "1") (given_rows serve_shape words) (all_rows serve_shape words)
+      (default_among (take 3 serve_shape.rules) (drop 4 serve_shape.rules) (nth 3 serve_shape) (codes "1") (given_rows serve_shape words) refl refl refl)
+      (good_row (nth 3 serve_shape) refl) refl
+
+  cycles_stands : Stands (nth 4 serve_shape) (all_rows serve_shape words) cycles.default
+  cycles_stands = default_stands (nth 4 serve_shape) (codes "100") (given_rows serve_shape words) (all_rows serve_shape words)
+      (default_among (take 4 serve_shape.rules) (drop 5 serve_shape.rules) (nth 4 serve_shape) (codes "100") (given_rows serve_shape words) refl refl refl)
+      (good_row (nth 4 serve_shape) refl) refl
+
+  serve_asked : AsksSomething (Some (rows_at serve_shape words))
+  serve_asked =
+      let p = number_stands words (nth 1 serve_shape) port refl (λ text h. accepts-Accepts false (Unsigned 1024 65535) text h) port_stands in
+      let t = number_stands words (nth 2 serve_shape) tools refl (λ text h. accepts-Accepts false (Unsigned 1 2) text h) tools_stands in
+      let k = number_stands words (nth 3 serve_shape) tasks refl (λ text h. accepts-Accepts false (Unsigned 0 6) text h) tasks_stands in
+      let n = number_stands words (nth 4 serve_shape) cycles refl (λ text h. accepts-Accepts false (Unsigned 1 1000) text h) cycles_stands in
+      inr (config_stands.text, p.0, t.0, k.0, n.0, record { config = record { text = record { name = refl; value = config_stands.value }; given = wants.0 }; port = p.1; tools = t.1; tasks = k.1; cycles = n.1 })
 
 -- ---- the program's own words
-
-of_some : (o : Option Text) → is_some o ≡ true → (t : Text) × (o ≡ Some t)
-of_some None e = absurd (true≢false (sym e))
-of_some (Some t) e = (t, refl)
 
 first_true : (b : Bool) → (b || false) ≡ true → b ≡ true
 first_true true e = refl
@@ -80,23 +234,25 @@ wanted : (rows : List Row) (has : Bool) → check_fault (built program).top rows
 wanted rows true e = refl
 wanted rows false e = absurd (no_kinds _ _ e)
 
-entered_replay : (stop : Option (Text × List Text)) → NoHelp stop → entered_fault (built program) stop ≡ [] → is_some (entered (built program) stop) ≡ true → (config : Text) × IsReplay (entered (built program) stop) config
-entered_replay None n f h = absurd (true≢false (sym h))
-entered_replay (Some p) n f h = go (answers_to p.0 (label_of replay_shape)) (answers_to p.0 (label_of help_of)) (turned p.0 (codes "help") n) f h
+entered_asks : (stop : Option (Text × List Text)) → NoHelp stop → entered_fault (built program) stop ≡ [] → is_some (entered (built program) stop) ≡ true → AsksSomething (entered (built program) stop)
+entered_asks None n f h = absurd (true≢false (sym h))
+entered_asks (Some p) n f h = go (answers_to p.0 (label_of replay_shape)) (answers_to p.0 (label_of serve_shape)) (answers_to p.0 (label_of help_of)) (turned p.0 (codes "help") n) f h
   where
-    go : (x y : Bool) → (y ≡ true → ⊥)
-        → option_map_or (λ s. level_fault s [] nothing_held p.1 false []) (if x then Some replay_shape else (if y then Some help_of else None)) [] ≡ []
-        → is_some (option_map (λ s. rows_at s p.1) (if x then Some replay_shape else (if y then Some help_of else None))) ≡ true
-        → (config : Text) × IsReplay (option_map (λ s. rows_at s p.1) (if x then Some replay_shape else (if y then Some help_of else None))) config
-    go true y other f h =
-        let file = of_some _ (has_file p.1 f) in
-        (file.0, record { name = refl; value = file.1 })
-    go false true other f h = absurd (other refl)
-    go false false other f h = absurd (true≢false (sym h))
+    named : Bool → Bool → Bool → Option Shape
+    named x y z = if x then Some replay_shape else (if y then Some serve_shape else (if z then Some help_of else None))
 
--- words without a fault name a replay with its file
-pub names_a_replay : (words : List Text) → fault_of program words ≡ [] → (config : Text) × IsReplay (subcommand_of program words) config
-names_a_replay words e =
+    go : (x y z : Bool) → (z ≡ true → ⊥)
+        → option_map_or (λ s. level_fault s [] nothing_held p.1 false []) (named x y z) [] ≡ []
+        → is_some (option_map (λ s. rows_at s p.1) (named x y z)) ≡ true
+        → AsksSomething (option_map (λ s. rows_at s p.1) (named x y z))
+    go true y z other f h = replay_asked p.1 f
+    go false true z other f h = serve_asked p.1 f
+    go false false true other f h = absurd (other refl)
+    go false false false other f h = absurd (true≢false (sym h))
+
+-- words without a fault ask for something
+pub words_ask : (words : List Text) → fault_of program words ≡ [] → AsksSomething (subcommand_of program words)
+words_ask words e =
     let a = built program in
     let args = argument_words program words in
     let end = walk a.top.rules (names_of a) nothing_held args in
@@ -104,4 +260,4 @@ names_a_replay words e =
     let b = parts (entered_fault a end.stopped) _ w.1 in
     let c = parts (settle_fault a.top.rules a.top.args_override_self end.held) _ b.1 in
     let d = parts (defaults_fault (settled a.top.rules end.held).rows a.top.rules) _ c.1 in
-    entered_replay end.stopped (walk_stops a.top (names_of a) refl args (walk_from nothing_held) w.0 tt) b.0 (wanted (finished a.top.rules end.held) (is_some (entered a end.stopped)) d.1)
+    entered_asks end.stopped (walk_stops a.top (names_of a) refl args (walk_from nothing_held) w.0 tt) b.0 (wanted (finished a.top.rules end.held) (is_some (entered a end.stopped)) d.1)

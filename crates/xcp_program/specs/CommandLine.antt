@@ -1,9 +1,11 @@
 -- The words of the command line, as clap reads them.
-use Rattle.std.specs.Prelude.{◌≡◌, ◌⊎◌, ℕ, List, true, codes, Option, Some, string_bytes}
-use Rattle.std.specs.Option.{option_map, option_and_then}
+use Rattle.std.specs.Prelude.{◌≡◌, ◌⊎◌, ◌≤◌, ⊤, ℕ, Bool, List, [], ◌∷◌, true, false, codes, not, is_some, Option, Some, None, string_bytes}
+use Rattle.std.specs.Option.{option_map, option_and_then, option_map_or}
+use Rattle.std.specs.Str.Parse.{IsNumeral, digits_value, without_leading_plus}
+use Rattle.clap.specs.Takes.{is_given}
 use Rattle.clap.specs.Words.{App, IsAmong, Kinds, Row, Rule, Text, first_of, kind_of, new_app, new_rule, with_rule, with_subcommand}
 use Rattle.xcp_program.specs.declared.purpose.Options.{Options}
-use Rattle.xcp_program.specs.declared.purpose.Options.TheVariants.{Replay}
+use Rattle.xcp_program.specs.declared.purpose.Options.TheVariants.{Replay, Serve}
 use Rattle.xcp_program.specs.declared.purpose.OptionsFault.{OptionsFault}
 use Rattle.xcp_program.specs.declared.purpose.OptionsFault.TheVariants.{Memory, Words}
 use Rattle.xcp_program.specs.declared.words.Unasked.{Unasked}
@@ -11,6 +13,7 @@ use Rattle.xcp_program.specs.declared.words.Unasked.TheVariants as unasked
 use Rattle.clap.specs.declared.error.kind.ErrorKind.TheVariants.{DisplayHelp, DisplayVersion}
 use Rattle.clap.specs.declared.error.Error.{Error}
 use Rattle.clap.specs.declared.builder.ArgAction.TheVariants.{Set}
+use Rattle.clap.specs.declared.builder.value_parser.ValueParser.TheVariants.{Unsigned}
 
 -- `--config FILE`, which has to be there
 abbrev pub config_rule : Rule
@@ -20,6 +23,40 @@ config_rule = record (new_rule (codes "config")) { long = Some (codes "config");
 abbrev pub replay_app : App
 replay_app = with_rule (new_app (codes "replay")) config_rule
 
+-- an option of `serve` that has a number: its name, the bounds of the number, and the number's text where it isn't given
+pub record Numeric : Type 0 where
+  pub name : Text
+  pub least : ℕ
+  pub most : ℕ
+  pub default : Option Text
+
+abbrev pub port : Numeric
+port = record { name = codes "port"; least = 1024; most = 65535; default = None }
+
+abbrev pub tools : Numeric
+tools = record { name = codes "tools"; least = 1; most = 2; default = Some (codes "1") }
+
+abbrev pub tasks : Numeric
+tasks = record { name = codes "tasks"; least = 0; most = 6; default = Some (codes "1") }
+
+abbrev pub cycles : Numeric
+cycles = record { name = codes "cycles"; least = 1; most = 1000; default = Some (codes "100") }
+
+-- `--NAME NUMBER`, which has to be there where it has no default
+abbrev pub numeric_rule : Numeric → Rule
+numeric_rule o = record (new_rule o.name) {
+  long = Some o.name;
+  action = Some Set;
+  value_names = 1;
+  parser = Some (Unsigned o.least o.most);
+  defaults = option_map_or (λ v. v ∷ []) o.default [];
+  required = not (is_some o.default);
+}
+
+-- `serve --config FILE --port PORT [--tools T] [--tasks K] [--cycles N]`
+abbrev pub serve_app : App
+serve_app = with_rule (with_rule (with_rule (with_rule (with_rule (new_app (codes "serve")) config_rule) (numeric_rule port)) (numeric_rule tools)) (numeric_rule tasks)) (numeric_rule cycles)
+
 abbrev pub with_a_version : App → App
 with_a_version a = record a { top = record a.top { has_version = true } }
 
@@ -28,16 +65,64 @@ with_a_subcommand_wanted a = record a { top = record a.top { subcommand_required
 
 -- the program, which has a version and wants one of its subcommands
 abbrev pub program : App
-program = with_subcommand (with_a_subcommand_wanted (with_a_version (new_app (codes "xcpd")))) replay_app.top
+program = with_subcommand (with_subcommand (with_a_subcommand_wanted (with_a_version (new_app (codes "xcpd")))) replay_app.top) serve_app.top
+
+-- the words after a subcommand give this option
+abbrev pub gives : Text → Option (Text × List Row) → Bool
+gives option found = option_map_or (λ p. is_given option p.1) found false
+
+-- a subcommand of this name was named, and its option has this text: the first that the words give it, or its default
+pub record HasText (found : Option (Text × List Row)) (command option text : Text) : Type 0 where
+  pub name : option_map (λ p. p.0) found ≡ Some command
+  pub value : option_and_then (λ p. first_of option p.1) found ≡ Some text
+
+-- the same of `--config`, which the words give
+pub record HasFile (found : Option (Text × List Row)) (command file : Text) : Type 0 where
+  pub text : HasText found command (codes "config") file
+  pub given : gives (codes "config") found ≡ true
 
 -- a subcommand with its rows is a replay with this configuration file
-pub record IsReplay (found : Option (Text × List Row)) (config : Text) : Type 0 where
-  pub name : option_map (λ p. p.0) found ≡ Some (codes "replay")
-  pub value : option_and_then (λ p. first_of (codes "config") p.1) found ≡ Some config
+abbrev pub IsReplay : Option (Text × List Row) → Text → Type 0
+IsReplay found file = HasFile found (codes "replay") file
+
+-- an option of `serve` has a text of decimal digits (a plus may stand before them), and this is their number
+pub record Spells (found : Option (Text × List Row)) (option : Text) (n : ℕ) : Type 0 where
+  pub text : Text
+  pub value : HasText found (codes "serve") option text
+  pub digits : IsNumeral 10 (without_leading_plus text)
+  pub number : n ≡ digits_value 10 (without_leading_plus text)
+
+-- the same, in the option's bounds; where the words don't give the option, the text is its default (an option with none is given)
+pub record HasNumber (found : Option (Text × List Row)) (o : Numeric) (n : ℕ) : Type 0 where
+  pub spelt : Spells found o.name n
+  pub least : o.least ≤ n
+  pub most : n ≤ o.most
+  pub otherwise : gives o.name found ≡ false → o.default ≡ Some spelt.text
+
+-- a subcommand with its rows is a server with this configuration file and these numbers
+pub record IsServe (found : Option (Text × List Row)) (file : Text) (p t k n : ℕ) : Type 0 where
+  pub config : HasFile found (codes "serve") file
+  pub port : HasNumber found port p
+  pub tools : HasNumber found tools t
+  pub tasks : HasNumber found tasks k
+  pub cycles : HasNumber found cycles n
 
 -- what a subcommand with its rows asks for
 abbrev pub Asks : Option (Text × List Row) → Options → Type 0
 Asks found (Replay config) = IsReplay found (string_bytes config)
+Asks found (Serve config p t k n) = IsServe found (string_bytes config) p t k n
+
+-- each number is in its option's bounds
+abbrev pub InRange : Options → Type 0
+InRange (Replay config) = ⊤
+InRange (Serve config p t k n) = (port.least ≤ p) × (p ≤ port.most) × (tools.least ≤ t) × (t ≤ tools.most) × (tasks.least ≤ k) × (k ≤ tasks.most) × (cycles.least ≤ n) × (n ≤ cycles.most)
+
+-- it is a server, and it is a replay or a server
+abbrev pub AsksServe : Option (Text × List Row) → Type 0
+AsksServe found = (file : Text) × (p : ℕ) × (t : ℕ) × (k : ℕ) × (n : ℕ) × IsServe found file p t k n
+
+abbrev pub AsksSomething : Option (Text × List Row) → Type 0
+AsksSomething found = ((file : Text) × IsReplay found file) ⊎ AsksServe found
 
 -- Why the words ask for nothing, by the kinds of error of the first fault that clap finds in them (a wish for help is one): the error
 -- has one of these kinds. Memory may be wanting at any place.

@@ -48,11 +48,16 @@ pub record IsFaulty (config : List ℕ) (n : ℕ) : Type 0 where
   pub number : n ≡ number_of fault
   pub found : ((fault ≡ Text) × IsNoDocument config) ⊎ HasFault config fault
 
+-- it is told by this fault
+abbrev pub IsFault : List ℕ → Fault → Type 0
+IsFault config f = (n : ℕ) × (f ≡ faults.Configuration n) × IsFaulty config n
+
 -- What a replay did, by what it returned. Configuration(n): the configuration has the fault of that number, and nothing was
--- written. Memory may be wanting before a slave stands: then nothing was written either.
+-- written. Memory may be wanting before a slave stands: then nothing was written either. A mismatch is no end of a replay.
 abbrev pub Ends : List ℕ → Option (List ℕ) → Option (List ℕ) → Option (List ℕ) → Result ℕ Fault → Type 0
 Ends config script old new (Ok n) = Replays config script old new (Ok n)
 Ends config script old new (Err (faults.Configuration n)) = IsFaulty config n × (new ≡ old)
 Ends config script old new (Err (faults.Line k)) = Replays config script old new (Err (errors.Line k))
 Ends config script old new (Err (faults.Stream n)) = ((n ≡ 1) × Replays config script old new (Err errors.Read)) ⊎ ((n ≡ 2) × Replays config script old new (Err errors.Write))
 Ends config script old new (Err faults.Memory) = (new ≡ old) ⊎ Replays config script old new (Err errors.Memory)
+Ends config script old new (Err (faults.Mismatch caller at)) = ⊥

@@ -1,10 +1,14 @@
 //! The words of the command line.
-ghost use Rattle.std.specs.Prelude.{◌≡◌, ◌⊎◌, List, [], ℕ, map, false, true, None, IfOk, IfErr, IfSome, string_bytes};
-ghost use Rattle.clap.specs.Words.{app_of, fault_of as faults_in, kind_of, subcommand_of, subcommand_rows_of, takes};
+ghost use Rattle.std.specs.Prelude.{◌≡◌, ◌⊎◌, ◌<◌, ◌^◌, List, [], ℕ, map, option_map, false, true, None};
+ghost use Rattle.std.specs.Prelude.{IfOk, IfErr, IfSome, string_bytes};
+ghost use Rattle.clap.specs.Words.{app_of, kind_of, rule_of, subcommand_of, subcommand_rows_of, takes};
+ghost use Rattle.clap.specs.Words.{fault_of as faults_in};
 ghost use Rattle.clap.specs.declared.builder.command.Command.TheViews.{out-Command as fields_of};
-ghost use Rattle.xcp_program.specs.CommandLine.{Asks, IsMistake, IsReplay, program, replay_app};
+ghost use Rattle.xcp_program.specs.CommandLine.{Asks, AsksServe, InRange, AsksSomething, HasText, IsMistake, Spells};
+ghost use Rattle.xcp_program.specs.CommandLine.{config_rule, numeric_rule, program, replay_app, serve_app};
 
 use crate::purpose::{Options, OptionsFault};
+use clap::builder::ValueParser;
 use clap::error::ErrorKind;
 use clap::{Arg, ArgAction, ArgMatches, Command, Error};
 use std::alloc::{AllocError, Global};
@@ -29,25 +33,100 @@ with one line there, and this status:
   3  stream N: reading (1) or writing (2) failed
   4  memory: memory was wanting";
 
+/// What help says below the options of a server.
+const ENDS: &str =
+    "Its first line is: listening PORT. It accepts T connections, answers each until it ends, and runs the tasks meanwhile.
+When all have ended it prints: calls N (N is the number of all calls), and: settled (what was answered is what the
+slave's journal has). These two lines come before that of a fault, but for a mismatch.
+
+Wrong words end the program with status 1, and what is wrong with them on standard error. Any other fault ends it
+with one line there, and this status:
+  1  configuration N: the file can't be read (0), is no TOML (1), lacks a key (2), has a value of the wrong
+     type (3), out of its range (4), areas that overlap (5), or too many segments, bytes or events (6)
+  3  stream N: listening or accepting failed (0); of the first faulty connection, reading failed (1), writing
+     failed (2), a frame is too long (3) or cut short (4), the reads were spent (6); the journal is full (7)
+  4  memory: memory was wanting
+  5  mismatch caller C at I: what caller C was answered differs from the journal, first at its call I";
+
+/// The option `--config`, which both subcommands want.
+fn config_option<'a>(alloc: Global) -> Arg<'a>
+    ensures rule { rule_of result ≡ config_rule }
+    ensures local { result.global ≡ false }
+{
+    Arg::new(alloc, "config")
+        .long("config")
+        .value_name("FILE")
+        .required(true)
+        .action(ArgAction::Set)
+        .help("The layout file, in TOML: identification, packet lengths, segments, signals, events")
+}
+
 /// The subcommand `replay`.
 fn replay_command<'a>(alloc: Global) -> Result<Command<'a>, AllocError>
     ensures app { IfOk result (λ c. app_of c ≡ replay_app) }
     ensures local { IfOk result (λ c. (fields_of c).has_globals ≡ false) }
 {
-    let config = Arg::new(alloc, "config")
-        .long("config")
-        .value_name("FILE")
-        .required(true)
-        .action(ArgAction::Set)
-        .help(
-            "The layout file, in TOML: identification, packet lengths, segments, signals, events",
-        );
     let replay = Command::new(alloc, "replay")
         .about(
             "Answers command packets in hex, one line of standard input each, by one line of standard output each",
         )
         .after_help(LINES);
-    Ok(replay.arg(config)?)
+    Ok(replay.arg(config_option(alloc))?)
+}
+
+/// An option with a number from `least` to `most`, which has to be given where there is no fallback.
+fn numeric<'a>(
+    alloc: Global,
+    name: &'a str,
+    value: &'a str,
+    least: u64,
+    most: u64,
+    fallback: Option<&'a str>,
+) -> Arg<'a>
+    ensures rule { rule_of result ≡ numeric_rule (record {
+      name = name.entry.now;
+      least = least;
+      most = most;
+      default = option_map (λ s. s.now) fallback.entry;
+    }) }
+    ensures local { result.global ≡ false }
+{
+    let option = Arg::new(alloc, name)
+        .long(name)
+        .value_name(value)
+        .required(fallback.is_none())
+        .action(ArgAction::Set)
+        .value_parser(ValueParser::unsigned(least, most));
+    match fallback {
+        Some(text) => option.default_value(text),
+        None => option,
+    }
+}
+
+/// The subcommand `serve`.
+fn serve_command<'a>(alloc: Global) -> Result<Command<'a>, AllocError>
+    ensures app { IfOk result (λ c. app_of c ≡ serve_app) }
+    ensures local { IfOk result (λ c. (fields_of c).has_globals ≡ false) }
+{
+    let port = numeric(alloc, "port", "PORT", 1_024, 65_535, None).help(
+        "The port to listen on, 1,024 to 65,535",
+    );
+    let tools = numeric(alloc, "tools", "T", 1, 2, Some("1")).help(
+        "How many tools may connect, 1 or 2",
+    );
+    let tasks = numeric(alloc, "tasks", "K", 0, 6, Some("1")).help(
+        "How many tasks raise events, 0 to 6",
+    );
+    let cycles = numeric(alloc, "cycles", "N", 1, 1_000, Some("100")).help(
+        "How many cycles each task runs, 1 to 1,000",
+    );
+    let serve = Command::new(alloc, "serve")
+        .about(
+            "Answers calibration tools over TCP on 127.0.0.1, while tasks of the controller raise events",
+        )
+        .after_help(ENDS);
+    let serve = serve.arg(config_option(alloc))?.arg(port)?;
+    Ok(serve.arg(tools)?.arg(tasks)?.arg(cycles)?)
 }
 
 /// The program's command line.
@@ -55,23 +134,39 @@ fn program<'a>(alloc: Global) -> Result<Command<'a>, AllocError>
     ensures { IfOk result (λ c. app_of c ≡ program) }
 {
     let replay = replay_command(alloc)?;
+    let serve = serve_command(alloc)?;
     let top = Command::new(alloc, "xcpd")
         .about("A calibration slave: XCP of ASAM MCD-1, major version 1")
         .version(VERSION)
         .after_help(STATUS)
         .subcommand_required(true);
-    Ok(top.subcommand(replay)?)
+    Ok(top.subcommand(replay)?.subcommand(serve)?)
 }
 
-/// The configuration file of a replay, if these matches are of one.
-fn config_in<'a>(matches: &ArgMatches<'a>) -> Option<&'a str>
-    ensures some { IfSome result (λ s. IsReplay (subcommand_rows_of matches.now) s.now) }
-    ensures none { result ≡ None → (config : List ℕ) → ¬ (IsReplay (subcommand_rows_of matches.now) config) }
+/// The text of an option of a subcommand, if these matches are of that one.
+fn text_in<'a>(matches: &ArgMatches<'a>, command: &str, option: &str) -> Option<&'a str>
+    ensures some { IfSome result (λ s. HasText (subcommand_rows_of matches.now) command.now option.now s.now) }
+    ensures none { result ≡ None → (text : List ℕ)
+        → ¬ (HasText (subcommand_rows_of matches.now) command.now option.now text) }
 {
-    match matches.subcommand_matches("replay") {
-        Some(found) => found.get_str("config"),
+    match matches.subcommand_matches(command) {
+        Some(found) => found.get_str(option),
         None => None,
     }
+}
+
+/// The number of an option of a server.
+fn number_in(matches: &ArgMatches<'_>, option: &str) -> u32
+    requires { (n : ℕ) × Spells (subcommand_rows_of matches.now) option.now n × (n < 2 ^ 32) }
+    ensures { Spells (subcommand_rows_of matches.now) option.now result }
+{
+    let Some(text) = text_in(matches, "serve", option) else {
+        unreachable!()
+    };
+    let Ok(number) = text.parse::<u32>() else {
+        unreachable!()
+    };
+    number
 }
 
 /// What the words ask for, of which the first is the program's name: only where clap finds no fault in them. `Words`
@@ -79,6 +174,7 @@ fn config_in<'a>(matches: &ArgMatches<'a>) -> Option<&'a str>
 /// place.
 pub fn options(alloc: Global, words: &[String]) -> Result<Options, OptionsFault>
     ensures asked { IfOk result (λ o. Asks (subcommand_of program (map string_bytes words.now)) o) }
+    ensures range { IfOk result InRange }
     ensures taken { IfOk result (λ o. faults_in program (map string_bytes words.now) ≡ []) }
     ensures mistake { IfErr result (λ e. IsMistake (faults_in program (map string_bytes words.now)) e) }
     ensures refused { IfErr result (λ e. takes program (map string_bytes words.now) ≡ true → e ≡ OptionsFault.Memory) }
@@ -101,15 +197,35 @@ fn fault_of(e: Error) -> OptionsFault
     }
 }
 
-/// What the matches of a replay ask for.
+/// What the matches of a subcommand ask for.
 fn asked(alloc: Global, matches: &ArgMatches<'_>) -> Result<Options, OptionsFault>
-    requires { (config : List ℕ) × IsReplay (subcommand_rows_of matches.now) config }
+    requires { AsksSomething (subcommand_rows_of matches.now) }
     ensures asked { IfOk result (λ o. Asks (subcommand_rows_of matches.now) o) }
     ensures refused { IfErr result (λ e. e ≡ OptionsFault.Memory) }
 {
-    let Some(config) = config_in(matches) else {
+    match text_in(matches, "replay", "config") {
+        Some(config) => {
+            let config = String::from_str(alloc, config)?;
+            Ok(Options::Replay { config })
+        }
+        None => server_asked(alloc, matches),
+    }
+}
+
+/// What the matches of a server ask for.
+fn server_asked(alloc: Global, matches: &ArgMatches<'_>) -> Result<Options, OptionsFault>
+    requires { AsksServe (subcommand_rows_of matches.now) }
+    ensures asked { IfOk result (λ o. Asks (subcommand_rows_of matches.now) o) }
+    ensures refused { IfErr result (λ e. e ≡ OptionsFault.Memory) }
+{
+    let Some(config) = text_in(matches, "serve", "config") else {
         unreachable!()
     };
-    let config = String::from_str(alloc, config)?;
-    Ok(Options::Replay { config })
+    Ok(Options::Serve {
+        config: String::from_str(alloc, config)?,
+        port: number_in(matches, "port") as u16,
+        tools: number_in(matches, "tools") as u8,
+        tasks: number_in(matches, "tasks") as u8,
+        cycles: number_in(matches, "cycles"),
+    })
 }

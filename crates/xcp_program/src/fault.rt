@@ -13,18 +13,29 @@ pub enum Fault {
     /// The first faulty line, where all lines are counted from 1.
     #[error("line {0}")]
     Line(u64),
-    /// A stream: 1 where reading failed or took too many reads, 2 where writing failed.
+    /// A stream: 1 where reading failed (or a replay took too many reads), 2 where writing failed. Of a server also
+    /// 0 where listening or accepting failed, 3 where a frame is too long, 4 where it is cut short, 6 where a
+    /// connection took too many reads, 7 where the journal is full; of several faulty connections the first that was
+    /// accepted counts.
     #[error("stream {0}")]
     Stream(u8),
     /// Memory was wanting.
     #[error("memory")]
     Memory,
+    /// The answers that a caller got differ from the journal's calls of that caller, first at this place among them.
+    #[error("mismatch caller {caller} at {at}")]
+    Mismatch {
+        /// The caller's number, from 0.
+        caller: u8,
+        /// The first place that differs, from 0; the shorter length where one list ends.
+        at: usize,
+    },
 }
 
 impl Fault {
     ghost use Rattle.xcp_program.specs.Fault.{status_of};
 
-    /// The status with which the program ends, 1 to 4.
+    /// The status with which the program ends, 1 to 5.
     pub fn status(&self) -> u8
         ensures { result ≡ status_of self.now }
     {
@@ -33,6 +44,7 @@ impl Fault {
             Fault::Line(_) => 2,
             Fault::Stream(_) => 3,
             Fault::Memory => 4,
+            Fault::Mismatch { .. } => 5,
         }
     }
 }

@@ -7,6 +7,7 @@
 
 mod command_line;
 mod fault;
+mod layout;
 mod purpose;
 mod replaying;
 mod source;
@@ -14,6 +15,7 @@ mod words;
 
 pub use command_line::options;
 pub use fault::Fault;
+pub use layout::layout_of;
 pub use purpose::{Options, OptionsFault};
 pub use replaying::replay;
 pub use source::{read_text, read_whole};

@@ -12,6 +12,19 @@ pub enum Options {
         /// The name of the configuration file.
         config: String,
     },
+    /// To answer tools over TCP on the slave that this file describes, while tasks raise events.
+    Serve {
+        /// The name of the configuration file.
+        config: String,
+        /// The port to listen on, 1,024 to 65,535.
+        port: u16,
+        /// How many connections are accepted, 1 or 2.
+        tools: u8,
+        /// How many tasks run, 0 to 6.
+        tasks: u8,
+        /// How many cycles each task runs, 1 to 1,000.
+        cycles: u32,
+    },
 }
 
 /// Why the words ask for nothing that the program does.

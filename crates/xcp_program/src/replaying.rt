@@ -3,9 +3,9 @@ ghost use Rattle.std.specs.Prelude.{◌≡◌, ◌≢◌, ◌<◌, ◌≤◌, �
 ghost use Rattle.xcp_program.specs.Replay.{AnswersScript, Ends, ReplaysShort, RunsShort};
 
 use crate::fault::Fault;
+use crate::layout::layout_of;
 use std::alloc::Global;
 use std::io::{Read, Write};
-use xcp_config::{ConfigError, read_layout};
 use xcp_framing::{Desk, ReplayError, Watched, replay_on};
 use xcp_memory::Layout;
 use xcp_slave::Slave;
@@ -38,11 +38,7 @@ pub fn replay<R: Read, W: Write>(
         ⊎ ReplaysShort config.now (R.remaining reader.old.inner) (W.contents writer.old.inner) (W.contents writer.new.inner) }
     ensures configuration { (n : ℕ) → result ≡ Err (Fault.Configuration n) → (reader.new ≡ reader.old) × (writer.new ≡ writer.old) }
 {
-    let layout = match read_layout(alloc, config) {
-        Ok(layout) => layout,
-        Err(ConfigError::Memory) => return Err(Fault::Memory),
-        Err(fault) => return Err(Fault::Configuration(fault.number())),
-    };
+    let layout = layout_of(alloc, config)?;
     match answer_script(alloc, layout, reader, writer, turns) {
         Ok(requests) => Ok(requests),
         Err(ReplayError::Line(number)) => Err(Fault::Line(number)),

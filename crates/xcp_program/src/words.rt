@@ -1,7 +1,7 @@
 //! The words that the program was started with.
-ghost use Rattle.std.specs.Prelude.{◌≡◌};
+ghost use Rattle.std.specs.Prelude.{◌≡◌, IfOk};
 ghost use Rattle.std.specs.IoError.{error_kind};
-ghost use Rattle.xcp_program.specs.CommandLine.{EndsWith};
+ghost use Rattle.xcp_program.specs.CommandLine.{EndsWith, InRange};
 
 use crate::command_line::options;
 use crate::fault::Fault;
@@ -78,7 +78,9 @@ fn unread(e: &io::Error) -> Unasked
 
 /// What the words that the program was started with ask for, as `options` reads them. A word that is no UTF-8 is `NoText`,
 /// before any of them is looked at.
-pub fn asked<R: Env + AllocGlobal>(rt: &R) -> Result<Options, Unasked> {
+pub fn asked<R: Env + AllocGlobal>(rt: &R) -> Result<Options, Unasked>
+    ensures { IfOk result InRange }
+{
     let words = match env::args(rt) {
         Ok(words) => words.collect::<Vec<String>>(rt.alloc())?,
         Err(e) => return Err(unread(&e)),

@@ -1,12 +1,17 @@
-//! The XCP slave as a program: `xcpd replay --config FILE`. What it does is in `xcp_program`; here are the system's words, the
-//! file, the streams and the status.
+//! The XCP slave as a program: `xcpd replay` and `xcpd serve`. What it does is in `xcp_program` and `xcp_server`; here are the
+//! system's words, the file, the streams, the port and the status.
 #![tactic(auto)]
+
+ghost use Rattle.std.specs.Prelude.{◌≡◌, ◌≤◌, ◌+◌, IfOk, vec_len};
 
 use std::fs::File;
 use std::io;
+use std::net::TcpListener;
 use std::process::ExitCode;
 use xcp_framing::Watched;
-use xcp_program::{Fault, Options, Unasked, asked, read_text, replay};
+use xcp_locked::Unnamed;
+use xcp_program::{Fault, Options, Unasked, asked, layout_of, read_text, replay};
+use xcp_server::{Report, Tools, accept_tools, serve_ends};
 
 /// The most reads of one replay.
 const TURNS: u32 = 1_000_000;
@@ -27,6 +32,41 @@ fn run(rt: &HostRuntime, path: &str) -> Result<u64, Fault> {
     replay(rt.alloc(), text.as_str(), &mut reader, &mut writer, TURNS)
 }
 
+/// A slave of the configuration file's layout with a caller for each tool and task, and the tools
+/// that have connected.
+fn admit(
+    rt: &HostRuntime,
+    path: &str,
+    port: u16,
+    tools: u8,
+    tasks: u8,
+) -> Result<(Unnamed, Tools), Fault>
+    requires { (1 ≤ tools) × (tools ≤ 2) × (tasks ≤ 6) }
+    ensures { IfOk result (λ r. (vec_len r.1 ≡ tools) × (r.0.callers ≡ tools + tasks)) }
+{
+    let text = text_of(rt, path)?;
+    let layout = layout_of(rt.alloc(), text.as_str())?;
+    let Ok(unnamed) = Unnamed::new(rt.alloc(), layout, tools + tasks) else {
+        return Err(Fault::Memory);
+    };
+    let Ok(listener) = TcpListener::bind(rt, ("127.0.0.1", port)) else {
+        return Err(Fault::Stream(0));
+    };
+    let _ = println!(rt; "listening {port}");
+    Ok((unnamed, accept_tools(rt.alloc(), &listener, tools)?))
+}
+
+/// Tells what came of a server: once its callers are settled its calls, and then its fault.
+fn print_end(rt: &HostRuntime, ended: Result<Report, Fault>) -> Option<Fault> {
+    match ended {
+        Ok(report) => {
+            let _ = println!(rt; "calls {}\nsettled", report.calls);
+            report.fault
+        }
+        Err(fault) => Some(fault),
+    }
+}
+
 /// Tells why the program is asked nothing.
 fn tell(rt: &HostRuntime, unasked: &Unasked) -> ExitCode {
     let status = unasked.status();
@@ -39,13 +79,28 @@ fn tell(rt: &HostRuntime, unasked: &Unasked) -> ExitCode {
 }
 
 fn main(rt: HostRuntime) -> ExitCode {
-    let Options::Replay { config } = match asked(&rt) {
-        Ok(options) => options,
+    let fault = match asked(&rt) {
+        Ok(Options::Replay { config }) => run(&rt, config.as_str()).err(),
+        Ok(
+            Options::Serve {
+                config,
+                port,
+                tools,
+                tasks,
+                cycles,
+            },
+        ) => match admit(&rt, config.as_str(), port, tools, tasks) {
+            Ok((unnamed, ends)) => print_end(
+                &rt,
+                serve_ends(&rt, rt.alloc(), unnamed, ends, tasks, cycles),
+            ),
+            Err(fault) => Some(fault),
+        },
         Err(unasked) => return tell(&rt, &unasked),
     };
-    match run(&rt, config.as_str()) {
-        Ok(_) => ExitCode::from(0),
-        Err(fault) => {
+    match fault {
+        None => ExitCode::from(0),
+        Some(fault) => {
             let _ = eprintln!(rt; "xcpd: {fault}");
             ExitCode::from(fault.status())
         }

@@ -116,6 +116,10 @@ fn faults_are_told(rt: HostRuntime) -> Result<(), Fail> {
         (Fault::Line(4), "line 4, 2"),
         (Fault::Stream(2), "stream 2, 3"),
         (Fault::Memory, "memory, 4"),
+        (
+            Fault::Mismatch { caller: 1, at: 3 },
+            "mismatch caller 1 at 3, 5",
+        ),
     ];
     for (fault, text) in rows {
         let found = format!(in rt.alloc(); "{fault}, {}", fault.status())?;

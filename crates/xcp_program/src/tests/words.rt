@@ -40,10 +40,20 @@ impl Env for Started<'_> {
     }
 }
 
-/// What a program that was started with these words does: the file of a replay, or the status, a blank and what it tells.
+/// What a program that was started with these words does: the file of a replay, the file of a server with its port,
+/// tools, tasks and cycles, or the status, a blank and what it tells.
 fn told(alloc: Global, words: &[u8]) -> Result<String, AllocError> {
     match asked(&(Started(words), alloc)) {
         Ok(Options::Replay { config }) => Ok(config),
+        Ok(
+            Options::Serve {
+                config,
+                port,
+                tools,
+                tasks,
+                cycles,
+            },
+        ) => format!(in alloc; "{config} {port} {tools} {tasks} {cycles}"),
         Err(e) => format!(in alloc; "{} {e}", e.status()),
     }
 }
@@ -54,6 +64,7 @@ Usage: xcpd <COMMAND>
 
 Commands:
   replay  Answers command packets in hex, one line of standard input each, by one line of standard output each
+  serve   Answers calibration tools over TCP on 127.0.0.1, while tasks of the controller raise events
   help    Print this message or the help of the given subcommand(s)
 
 Options:
@@ -83,6 +94,133 @@ with one line there, and this status:
   3  stream N: reading (1) or writing (2) failed
   4  memory: memory was wanting
 ";
+
+const SERVE_HELP: &str =
+    "0 Answers calibration tools over TCP on 127.0.0.1, while tasks of the controller raise events
+
+Usage: xcpd serve [OPTIONS] --config <FILE> --port <PORT>
+
+Options:
+      --config <FILE>  The layout file, in TOML: identification, packet lengths, segments, signals, events
+      --port <PORT>    The port to listen on, 1,024 to 65,535
+      --tools <T>      How many tools may connect, 1 or 2 [default: 1]
+      --tasks <K>      How many tasks raise events, 0 to 6 [default: 1]
+      --cycles <N>     How many cycles each task runs, 1 to 1,000 [default: 100]
+  -h, --help           Print help
+
+Its first line is: listening PORT. It accepts T connections, answers each until it ends, and runs the tasks meanwhile.
+When all have ended it prints: calls N (N is the number of all calls), and: settled (what was answered is what the
+slave's journal has). These two lines come before that of a fault, but for a mismatch.
+
+Wrong words end the program with status 1, and what is wrong with them on standard error. Any other fault ends it
+with one line there, and this status:
+  1  configuration N: the file can't be read (0), is no TOML (1), lacks a key (2), has a value of the wrong
+     type (3), out of its range (4), areas that overlap (5), or too many segments, bytes or events (6)
+  3  stream N: listening or accepting failed (0); of the first faulty connection, reading failed (1), writing
+     failed (2), a frame is too long (3) or cut short (4), the reads were spent (6); the journal is full (7)
+  4  memory: memory was wanting
+  5  mismatch caller C at I: what caller C was answered differs from the journal, first at its call I
+";
+
+/// What the program does with words of `serve` behind a configuration file F and a port.
+const SERVERS: [(&[u8], &str); 7] = [
+    (b"xcpd|serve|--config|F|--port|5555", "F 5555 1 1 100"),
+    (b"xcpd|serve|--port=+5555|--config=F", "F 5555 1 1 100"),
+    (
+        b"xcpd|serve|--config|F|--port|1024|--tools|1|--tasks|0|--cycles|1",
+        "F 1024 1 0 1",
+    ),
+    (
+        b"xcpd|serve|--cycles|1000|--tasks|6|--tools|2|--port|65535|--config|F",
+        "F 65535 2 6 1000",
+    ),
+    (
+        b"xcpd|serve|--config|F|--port|2000|--tools|2",
+        "F 2000 2 1 100",
+    ),
+    (
+        b"xcpd|serve|--config|F|--port|2000|--tasks|2",
+        "F 2000 1 2 100",
+    ),
+    (b"xcpd|serve|--help", SERVE_HELP),
+];
+
+/// What it tells of words of `serve` that are wrong.
+const WRONG_SERVERS: [(&[u8], &str); 15] = [
+    (
+        b"xcpd|serve",
+        "1 error: the following required arguments were not provided:\n  --config <FILE>\n  --port <PORT>\n",
+    ),
+    (
+        b"xcpd|serve|--config|F",
+        "1 error: the following required arguments were not provided:\n  --port <PORT>\n",
+    ),
+    (
+        b"xcpd|serve|--port|5555",
+        "1 error: the following required arguments were not provided:\n  --config <FILE>\n",
+    ),
+    (
+        b"xcpd|serve|--config|F|--port|1023",
+        "1 error: invalid value '1023' for '--port <PORT>'",
+    ),
+    (
+        b"xcpd|serve|--config|F|--port|65536",
+        "1 error: invalid value '65536' for '--port <PORT>'",
+    ),
+    (
+        b"xcpd|serve|--config|F|--port|x",
+        "1 error: invalid value 'x' for '--port <PORT>'",
+    ),
+    (
+        b"xcpd|serve|--config|F|--port|",
+        "1 error: invalid value '' for '--port <PORT>'",
+    ),
+    (
+        b"xcpd|serve|--config|F|--port|5555|--tools|0",
+        "1 error: invalid value '0' for '--tools <T>'",
+    ),
+    (
+        b"xcpd|serve|--config|F|--port|5555|--tools|3",
+        "1 error: invalid value '3' for '--tools <T>'",
+    ),
+    (
+        b"xcpd|serve|--config|F|--port|5555|--tasks|7",
+        "1 error: invalid value '7' for '--tasks <K>'",
+    ),
+    (
+        b"xcpd|serve|--config|F|--port|5555|--tasks=-1",
+        "1 error: invalid value '-1' for '--tasks <K>'",
+    ),
+    (
+        b"xcpd|serve|--config|F|--port|5555|--cycles|0",
+        "1 error: invalid value '0' for '--cycles <N>'",
+    ),
+    (
+        b"xcpd|serve|--config|F|--port|5555|--cycles|1001",
+        "1 error: invalid value '1001' for '--cycles <N>'",
+    ),
+    (
+        b"xcpd|serve|--config|F|--port|5555|more",
+        "1 error: unexpected argument 'more' found",
+    ),
+    (
+        b"xcpd|serve|--config|F|--port|5555|--port|5556",
+        "1 error: the argument '--port <PORT>' cannot",
+    ),
+];
+
+#[test]
+fn the_words_of_a_server(rt: HostRuntime) -> Result<(), Fail> {
+    for (words, text) in SERVERS {
+        let found = told(rt.alloc(), words)?;
+        assert_eq!(rt; found.as_str(), text);
+    }
+    for (words, text) in WRONG_SERVERS {
+        let found = told(rt.alloc(), words)?;
+        assert!(rt; found.as_str().starts_with(text), "{found}");
+    }
+    Ok(())
+}
 
 #[test]
 fn the_words_of_the_command_line(rt: HostRuntime) -> Result<(), Fail> {
@@ -130,8 +268,8 @@ fn the_faults_of_words(rt: HostRuntime) -> Result<(), Fail> {
             "1 error: unexpected argument 'b' found",
         ),
         (
-            &b"xcpd|serve"[..],
-            "1 error: unrecognized subcommand 'serve'",
+            &b"xcpd|server"[..],
+            "1 error: unrecognized subcommand 'server'",
         ),
     ];
     for (words, text) in rows {

@@ -1,4 +1,8 @@
+use Rattle.std.proofs.Common.{inl, inr}
 use Rattle.xcp_program.proofs.command_line.asked.Goals as goal
 
-pub unreachable-requires : goal.unreachable-requires
-unreachable-requires c = absurd (c.config_in.ensures.none c.in_default.is c.requires.0 c.requires.1)
+pub server_asked-requires : goal.server_asked-requires
+server_asked-requires c = elim c.requires [
+  | inl replay ↦ absurd (c.text_in.ensures.none c.in-None.is replay.0 replay.1.text)
+  | inr serve ↦ serve
+]

@@ -1,0 +1,55 @@
+// Streams over memory.
+use crate::slaves::small;
+use std::alloc::Global;
+use std::sync::Wait;
+use std::test::Fail;
+use std::thread::Threads;
+use xcp_framing::Watched;
+use xcp_program::Fault;
+use xcp_server::{Report, serve_ends};
+
+// What a tool sends; how many tasks run beside it, and how many cycles; the calls and the fault that
+// are told.
+type Row = (&'static [u8], u8, u32, u64, Option<Fault>);
+
+const CONNECT: &[u8] = &[2, 0, 0, 0, 0xff, 0];
+
+// CONNECT, and the first bytes of a frame that is too long.
+const TOO_LONG: &[u8] = &[2, 0, 0, 0, 0xff, 0, 0x21, 0];
+
+// CONNECT, and half a frame.
+const HALF: &[u8] = &[2, 0, 0, 0, 0xff, 0, 2, 0, 0];
+
+fn served<R: Threads + Wait + Sync>(
+    rt: &R,
+    alloc: Global,
+    sent: &'static [u8],
+    tasks: u8,
+    cycles: u32,
+) -> Result<Report, Fail> {
+    let tasks = tasks.min(6);
+    let unnamed = small(alloc, 1 + tasks).ok_or("a slave")?;
+    let writer: Vec<u8> = Vec::new(alloc);
+    let ends = Vec::from_array(alloc, [(Watched::new(sent), Watched::new(writer))])?;
+    Ok(
+        serve_ends(rt, alloc, unnamed, ends, tasks, cycles)
+            .ok()
+            .ok_or("a report")?,
+    )
+}
+
+#[test]
+fn a_server_tells_its_calls(rt: HostRuntime) -> Result<(), Fail> {
+    let rows: [Row; 5] = [
+        (&[], 0, 1, 1, None),
+        (CONNECT, 0, 1, 3, None),
+        (CONNECT, 2, 2, 9, None),
+        (TOO_LONG, 0, 1, 3, Some(Fault::Stream(3))),
+        (HALF, 1, 1, 5, Some(Fault::Stream(4))),
+    ];
+    for (sent, tasks, cycles, calls, fault) in rows {
+        let found = served(&rt, rt.alloc(), sent, tasks, cycles)?;
+        assert_eq!(rt; found, Report { calls, fault });
+    }
+    Ok(())
+}

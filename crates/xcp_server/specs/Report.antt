@@ -1,0 +1,62 @@
+-- What is told at the end of a server.
+use Rattle.std.specs.Prelude.{◌≡◌, ℕ, List, [], ◌∷◌, Option, Some, None, Result, Ok, Err, MatchResult, length, vec_len}
+use Rattle.std.specs.List.{slice_get}
+use Rattle.xcp_framing.specs.Serve.{number_of}
+use Rattle.xcp_framing.specs.Watched.{Watched}
+use Rattle.xcp_framing.specs.declared.serving.ServeError.{ServeError}
+use Rattle.xcp_framing.specs.declared.serving.ServeError.TheVariants as errors
+use Rattle.xcp_framing.specs.declared.serving.Served.{Served}
+use Rattle.xcp_locked.specs.Caller.{CallerValue}
+use Rattle.xcp_locked.specs.Serving.{Closes}
+use Rattle.xcp_locked.specs.Settling.{AreSettled, DifferAt, tally}
+use Rattle.xcp_locked.specs.declared.closing.Closing.{Closing}
+use Rattle.xcp_locked.specs.declared.entry.Entry.{Entry}
+use Rattle.xcp_locked.specs.declared.tasks.TaskError.{TaskError}
+use Rattle.xcp_locked.specs.declared.tasks.TaskError.TheVariants as tasks
+use Rattle.xcp_program.specs.declared.fault.Fault.{Fault}
+use Rattle.xcp_program.specs.declared.fault.Fault.TheVariants.{Memory, Mismatch, Stream}
+use Rattle.xcp_server.specs.declared.report.Report.{Report}
+
+-- the fault that is told where a connection ended so
+abbrev pub told_end : ServeError → Fault
+told_end errors.Memory = Memory
+told_end e = Stream (number_of e)
+
+-- the fault of the first faulty connection
+abbrev pub told_ends : List (Result Served ServeError) → Option Fault
+told_ends [] = None
+told_ends (Ok _ ∷ ends) = told_ends ends
+told_ends (Err e ∷ ends) = Some (told_end e)
+
+-- the fault that is told where this ended the tasks, or the last Hangup; a gate that ends a task is none
+abbrev pub told_task : Option TaskError → Option Fault
+told_task None = None
+told_task (Some tasks.Memory) = Some Memory
+told_task (Some tasks.JournalFull) = Some (Stream (number_of errors.JournalFull))
+told_task (Some (tasks.GateSpent _)) = None
+
+abbrev pub first_of : Option Fault → Option Fault → Option Fault
+first_of None other = other
+first_of (Some f) other = Some f
+
+-- the fault names the first caller whose receipts aren't the journal's, and the first of its receipts that differs
+pub record IsMismatch (journal : List Entry) (callers : List CallerValue) (f : Fault) : Type 0 where
+  pub place : ℕ
+  pub caller : CallerValue
+  pub at_place : slice_get callers place ≡ Some caller
+  pub at : ℕ
+  pub told : f ≡ Mismatch caller.number at
+  pub differs : DifferAt at caller.receipts (tally caller.number 0 journal)
+  pub before : AreSettled journal place callers
+
+-- what is told of a server that left this: all callers are settled
+pub record IsReport {N I O : Type 0} (c : Closing N I O) (r : Report) : Type 0 where
+  pub calls : r.calls ≡ length c.locked.journal
+  pub settled : AreSettled c.locked.journal (vec_len c.callers) c.callers.items
+  pub fault : r.fault ≡ first_of (told_ends c.ends.items) (told_task c.fault)
+
+-- a server's work was done, and this is what is told of it
+pub record IsServed {I O : Type 0} (N : Type 0) (remaining : I → Option (List ℕ)) (contents : O → Option (List ℕ)) (m turns cycles tasks : ℕ) (opened : List CallerValue) (ends : List (Watched I × Watched O)) (result : Result Report Fault) : Type 0 where
+  pub closing : Closing N I O
+  pub closes : Closes remaining contents m turns cycles tasks opened ends closing
+  pub told : MatchResult result (IsReport closing) (IsMismatch closing.locked.journal closing.callers.items)

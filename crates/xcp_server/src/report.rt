@@ -1,0 +1,65 @@
+//! What is told at the end of a server.
+ghost use Rattle.std.specs.Prelude.{◌≡◌, ◌<◌, IfOk, MatchResult, sum_by, vec_len};
+ghost use Rattle.xcp_locked.specs.Caller.{accepted_by};
+ghost use Rattle.xcp_server.specs.Report.{IsMismatch, IsReport, first_of, told_end, told_ends, told_task};
+
+use std::io::{Read, Write};
+use xcp_framing::{ServeError, Served};
+use xcp_locked::{Closing, Name, TaskError, settle_all};
+use xcp_program::Fault;
+
+/// What is told of a server whose callers are all settled.
+#[derive(Clone, Copy, Debug, PartialEq, Eq)]
+pub struct Report {
+    /// How many calls were accepted, all of them in the journal.
+    pub calls: u64,
+    /// The fault of the first faulty connection, in the order of accepting, else that of the tasks
+    /// or of the last Hangup.
+    pub fault: Option<Fault>,
+}
+
+/// Settles all callers of a server, one after another, and tells how many calls there were.
+/// `Mismatch` comes where the receipts of a caller aren't the journal's, and no other fault does.
+pub fn conclude<N: Name, I: Read + Drop, O: Write + Drop>(
+    closing: &mut Closing<N, I, O>,
+) -> Result<Report, Fault>
+    requires { (0 < vec_len closing.old.callers) × (vec_len closing.old.callers ≡ N.parts) }
+    ensures told { MatchResult result (IsReport closing.old)
+        (IsMismatch closing.old.locked.journal closing.old.callers.items) }
+    ensures sum { IfOk result (λ r. r.calls ≡ sum_by accepted_by closing.old.callers.items) }
+{
+    let fault = told_fault(&closing.ends, closing.fault);
+    match settle_all(closing) {
+        Ok(calls) => Ok(Report { calls, fault }),
+        Err(unsettled) => Err(Fault::Mismatch {
+            caller: closing.callers[unsettled.caller].number(),
+            at: unsettled.at,
+        }),
+    }
+}
+
+/// The fault that is told, of the ends of the connections and of what ended the tasks.
+fn told_fault(ends: &[Result<Served, ServeError>], tasks: Option<TaskError>) -> Option<Fault>
+    ensures { result ≡ first_of (told_ends ends.now) (told_task tasks) }
+{
+    for end in ends {
+        if let Err(error) = end {
+            return Some(told_end(error));
+        }
+    }
+    match tasks {
+        Some(TaskError::Memory) => Some(Fault::Memory),
+        Some(TaskError::JournalFull) => Some(Fault::Stream(ServeError::JournalFull.number())),
+        Some(TaskError::GateSpent(_)) | None => None,
+    }
+}
+
+/// The fault that is told where a connection ended so.
+fn told_end(error: &ServeError) -> Fault
+    ensures { result ≡ told_end error.now }
+{
+    match error {
+        ServeError::Memory => Fault::Memory,
+        other => Fault::Stream(other.number()),
+    }
+}

@@ -1,0 +1,67 @@
+//! Connections and tasks, up to what is told of them.
+ghost use Rattle.std.specs.Prelude.{◌≡◌, ◌⊎◌, ◌<◌, ◌≤◌, ◌+◌, Err, vec_len};
+ghost use Rattle.xcp_locked.specs.Caller.{callers_of};
+ghost use Rattle.xcp_server.specs.Report.{IsServed};
+
+use crate::open_gate::OpenGate;
+use crate::report::{Report, conclude};
+use std::alloc::Global;
+use std::io::{Read, Write};
+use std::marker::Brand;
+use std::sync::Wait;
+use std::thread::Threads;
+use xcp_framing::Watched;
+use xcp_locked::{Name, Unnamed, run_server};
+use xcp_program::Fault;
+
+/// The most reads of one connection.
+const TURNS: u32 = 1_000_000;
+
+/// Serves each reader and writer by frames on this slave, and runs so many tasks of so many cycles,
+/// all at the same time; joins them, ends the session, settles all callers and tells how many calls
+/// there were. `Memory` comes where memory or a thread is refused, before anybody has begun,
+/// `Mismatch` where a caller's receipts aren't the journal's.
+pub fn serve_ends<I: Read + Send + Drop, O: Write + Send + Drop, R: Threads + Wait + Sync>(
+    rt: &R,
+    alloc: Global,
+    unnamed: Unnamed,
+    ends: Vec<(Watched<I>, Watched<O>)>,
+    tasks: u8,
+    cycles: u32,
+) -> Result<Report, Fault>
+    requires some { 0 < vec_len ends }
+    requires callers { vec_len ends + tasks ≤ unnamed.callers }
+    ensures served { (result ≡ Err Fault.Memory) ⊎ IsServed Brand I.remaining O.contents unnamed.layout.max_cto 1000000 cycles tasks
+        (callers_of unnamed.layout unnamed.callers) ends.items result }
+{
+    serve_named::<Brand, I, O, R>(rt, alloc, unnamed, ends, tasks, cycles)
+}
+
+/// The same, for a slave that has a name.
+fn serve_named<
+    N: Name + Send + Sync,
+    I: Read + Send + Drop,
+    O: Write + Send + Drop,
+    R: Threads + Wait + Sync,
+>(
+    rt: &R,
+    alloc: Global,
+    unnamed: Unnamed,
+    ends: Vec<(Watched<I>, Watched<O>)>,
+    tasks: u8,
+    cycles: u32,
+) -> Result<Report, Fault>
+    requires name { (unnamed.name ≡ N.name) × (unnamed.callers ≡ N.parts) }
+    requires some { 0 < vec_len ends }
+    requires callers { vec_len ends + tasks ≤ unnamed.callers }
+    ensures served { (result ≡ Err Fault.Memory) ⊎ IsServed N I.remaining O.contents unnamed.layout.max_cto 1000000 cycles tasks
+        (callers_of unnamed.layout unnamed.callers) ends.items result }
+{
+    let gate = OpenGate;
+    let Ok(mut closing) = run_server::<N, _, _, _, _>(
+        rt, alloc, unnamed, ends, tasks, cycles, TURNS, &gate,
+    ) else {
+        return Err(Fault::Memory);
+    };
+    conclude(&mut closing)
+}

@@ -1,0 +1,100 @@
+// A calibration tool that asks as fast as it can, and, with other words, a plain slave that echoes frames.
+//
+// plain_tool echo PORT           accepts one tool, and sends each frame back as it came, with one buffer of 512 bytes
+// plain_tool trips PORT N        N times: sends one GET_STATUS, waits for its answer; prints the microseconds of all
+// plain_tool pipe PORT N         sends N of them behind one another, reads all answers meanwhile; prints the same
+use std::io::{Read, Write};
+use std::net::{TcpListener, TcpStream};
+use std::time::Instant;
+
+const CONNECT: [u8; 6] = [2, 0, 0, 0, 0xff, 0];
+const STATUS: [u8; 5] = [1, 0, 0, 0, 0xfd];
+
+// Sends back what came, frame by frame: a frame that is cut is kept until the rest comes.
+fn echo(mut stream: TcpStream) -> std::io::Result<()> {
+    stream.set_nodelay(true)?;
+    let mut held = Vec::with_capacity(1024);
+    let mut piece = [0; 512];
+    loop {
+        let count = stream.read(&mut piece)?;
+        if count == 0 {
+            return Ok(());
+        }
+        held.extend_from_slice(&piece[..count]);
+        let mut from = 0;
+        while held.len() - from >= 4 {
+            let length = 4 + usize::from(u16::from_le_bytes([held[from], held[from + 1]]));
+            if held.len() - from < length {
+                break;
+            }
+            from += length;
+        }
+        stream.write_all(&held[..from])?;
+        held.drain(..from);
+    }
+}
+
+fn connect(port: u16) -> TcpStream {
+    for _ in 0..500 {
+        if let Ok(stream) = TcpStream::connect(("127.0.0.1", port)) {
+            stream.set_nodelay(true).unwrap();
+            return stream;
+        }
+        std::thread::sleep(std::time::Duration::from_millis(10));
+    }
+    panic!("nobody listens");
+}
+
+// Reads so many frames.
+fn take(stream: &mut TcpStream, frames: usize) {
+    let mut held = Vec::with_capacity(1 << 17);
+    let mut piece = [0; 65536];
+    let mut seen = 0;
+    let mut from = 0;
+    while seen < frames {
+        let count = stream.read(&mut piece).unwrap();
+        assert!(count > 0, "the slave is gone");
+        held.drain(..from);
+        from = 0;
+        held.extend_from_slice(&piece[..count]);
+        while held.len() - from >= 4 {
+            let length = 4 + usize::from(u16::from_le_bytes([held[from], held[from + 1]]));
+            if held.len() - from < length {
+                break;
+            }
+            from += length;
+            seen += 1;
+        }
+    }
+}
+
+fn main() {
+    let words: Vec<String> = std::env::args().collect();
+    let port: u16 = words[2].parse().unwrap();
+    if words[1] == "echo" {
+        let listener = TcpListener::bind(("127.0.0.1", port)).unwrap();
+        let (stream, _) = listener.accept().unwrap();
+        let _ = echo(stream);
+        return;
+    }
+    let times: usize = words[3].parse().unwrap();
+    let mut stream = connect(port);
+    stream.write_all(&CONNECT).unwrap();
+    take(&mut stream, 1);
+    let begun;
+    if words[1] == "trips" {
+        begun = Instant::now();
+        for _ in 0..times {
+            stream.write_all(&STATUS).unwrap();
+            take(&mut stream, 1);
+        }
+    } else {
+        let all = STATUS.repeat(times);
+        let mut writer = stream.try_clone().unwrap();
+        begun = Instant::now();
+        let sends = std::thread::spawn(move || writer.write_all(&all).unwrap());
+        take(&mut stream, times);
+        sends.join().unwrap();
+    }
+    println!("{}", begun.elapsed().as_micros());
+}
