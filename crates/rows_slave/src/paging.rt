@@ -44,6 +44,9 @@ fn pages_are_told(rt: HostRuntime) -> Result<(), Fail> {
         E8 00 02 00 00 > FE 28
         E8 00 00 02 00 > FE 22
         E8 01 01 09 00 > FF 02 00 00 00 00
+        # The mode is looked at before the segment, and the segment before the information.
+        E8 02 02 00 00 > FE 22
+        E8 00 02 02 00 > FE 28
     ";
     assert_eq!(rt; first_wrong_of(rt.alloc(), USUAL, rows)?, None);
     Ok(())

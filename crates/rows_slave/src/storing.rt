@@ -68,14 +68,24 @@ fn the_last_page_is_stored(rt: HostRuntime) -> Result<(), Fail> {
 #[test]
 fn a_block_goes_on_behind_a_store(rt: HostRuntime) -> Result<(), Fail> {
     let rows = "
+        E6 01 00 > FF
         EB 83 00 01 > FF
+        F9 01 00 00 > FF
         F6 00 00 00 00 10 00 00 > FF
         F0 08 01 02 03 04 05 06 > -
+        store > stored 1
         store > no store
+        drain > FD 03
         drain > nothing
+        event 0 01 02 03 04 05 06 07 08 > sampled 0
         EF 02 07 08 > FF
-        F6 00 00 00 00 10 00 00 > FF
-        F5 02 > FF 01 02
+        F5 02 > FF 08 09
+        F4 02 00 00 00 10 00 00 > FF 01 02
+        F4 02 00 00 06 10 00 00 > FF 07 08
+        # What was stored has no byte of the block.
+        EB 83 00 00 > FF
+        F4 02 00 00 00 10 00 00 > FF 00 01
+        F4 02 00 00 06 10 00 00 > FF 06 07
     ";
     let kind = Kind {
         max_cto: 8,

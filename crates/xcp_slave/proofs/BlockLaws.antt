@@ -1,21 +1,23 @@
 -- Packets of a block that have no answer.
-use Rattle.std.proofs.Common.{◌≡◌, ℕ, ◌-◌, Bool, true, false, List, [], ◌∷◌, ◌++◌, length, take, min, Option, Some, None, Result, Ok, Err, ap, sym, ◌∙◌, refl, subst, nat_le, nat_lt}
+use Rattle.std.proofs.Common.{◌≡◌, ℕ, ◌-◌, Bool, true, false, List, [], ◌∷◌, ◌++◌, length, take, min, Option, Some, None, Result, Ok, Err, ap, sym, ◌∙◌, refl, subst, arith, nat_le, nat_lt, ◌<◌, ◌≤◌}
 use Rattle.std.specs.Prelude.{◌==◌, not, ◌||◌, if◌then◌else◌}
+use Rattle.std.proofs.lemmas.Bool.Decides.{nat_tests}
 use Rattle.std.proofs.lemmas.List.{length-take-le}
 use Rattle.arrayvec.specs.ArrayVec.{ArrayVec}
 use Rattle.xcp_packet.proofs.Deciding.{decodes_once}
-use Rattle.xcp_packet.specs.Rows.{Meets, first_holding}
+use Rattle.xcp_packet.specs.Rows.{Meets, first_holding, refused}
 use Rattle.xcp_packet.specs.Spelling.{spells}
 use Rattle.xcp_packet.specs.declared.Command.{Command}
 use Rattle.xcp_packet.specs.declared.Command.TheVariants as commands
 use Rattle.xcp_packet.specs.declared.Refuse.{Refuse}
 use Rattle.xcp_packet.specs.declared.Reply.{Reply}
 use Rattle.xcp_packet.specs.declared.Reply.TheVariants.{Done, Error, ErrorCount}
-use Rattle.xcp_packet.specs.declared.Code.TheVariants.{CmdSyntax, Sequence}
+use Rattle.xcp_packet.specs.declared.Code.TheVariants.{CmdSyntax, OutOfRange, Sequence}
 use Rattle.xcp_transfer.specs.declared.Mta.{Mta}
 use Rattle.xcp_transfer.specs.declared.Mta.TheVariants.{Memory}
 use Rattle.xcp_transfer.specs.Value.{TransferValue, BlockValue}
-use Rattle.xcp_transfer.specs.Downloads.{next_row, packet_room, downloaded, block_begun, block_with}
+use Rattle.xcp_transfer.specs.Words.{write_refusal_at}
+use Rattle.xcp_transfer.specs.Downloads.{next_row, packet_room, greatest_download, downloaded, block_begun, block_with}
 use Rattle.xcp_slave.specs.declared.request.Request.TheVariants as requests
 use Rattle.xcp_slave.specs.declared.answer.Answer.TheVariants as answers
 use Rattle.xcp_slave.specs.Value.{SlaveValue, layout_of, noblock}
@@ -47,6 +49,29 @@ is_unsaid : (b : Bool) → (if b then Some Done else None) ≡ None → b ≡ fa
 is_unsaid true h = cc
 is_unsaid false h = refl
 
+begin-sizes : (n room long : ℕ) → nat_lt long (min n room) ≡ false → nat_le n room ≡ false → (room < n) × (room ≤ long)
+begin-sizes n room long a b = (grind (arith, nat_tests, b), grind (arith, nat_tests, a, b))
+
+-- a DOWNLOAD with no answer has more bytes than its packet, which is full
+pub begin-room : (v w : SlaveValue) (n : ℕ) (items packet : ArrayVec ℕ) → v.connected ≡ true → spells (layout_of v).order (commands.Download n items) packet.items → Answers v (requests.Command packet) answers.Silent w → (packet_room (layout_of v) < n) × (packet_room (layout_of v) ≤ length items.items)
+begin-room v w n items packet on s h =
+    let k = unanswered (commands.Download n items) v w packet on s h in
+    let room : ℕ = packet_room (layout_of v) in
+    let a = none-holds ((n == 0 || nat_lt (greatest_download (layout_of v)) n, Error OutOfRange) ∷ (nat_lt (length items.items) (min n room), Error CmdSyntax) ∷ refused (write_refusal_at v.transfer.pages v.transfer.mta n)) k.allowed in
+    begin-sizes n room (length items.items) a.1.0 (is_unsaid (nat_le n room) k.unsaid)
+
+-- and so has a DOWNLOAD_NEXT, which tells how many are left
+pub next-room : (v w : SlaveValue) (remaining : ℕ) (items packet : ArrayVec ℕ) (b : BlockValue) → v.connected ≡ true → v.transfer.block ≡ Some b → spells (layout_of v).order (commands.DownloadNext remaining items) packet.items → Answers v (requests.Command packet) answers.Silent w → (remaining ≡ b.expected) × (packet_room (layout_of v) < remaining) × (packet_room (layout_of v) ≤ length items.items)
+next-room v w remaining items packet b on e s h =
+    let k = unanswered (commands.DownloadNext remaining items) v w packet on s h in
+    let room : ℕ = packet_room (layout_of v) in
+    let r = none-holds ((not (remaining == b.expected), ErrorCount Sequence b.expected) ∷ (nat_lt (length items.items) (min remaining room), Error CmdSyntax) ∷ []) (ap (λ (o : Option BlockValue). first_holding (next_row o remaining items.items v.transfer).refusals) (sym e) ∙ k.allowed) in
+    let more : nat_le remaining room ≡ false = is_unsaid (nat_le remaining room) (ap (λ (o : Option BlockValue). (next_row o remaining items.items v.transfer).reply) (sym e) ∙ k.unsaid) in
+    next-sizes remaining b.expected room (length items.items) r.0 r.1.0 more
+
+is-more : (n room : ℕ) → room < n → nat_le n room ≡ false
+is-more n room h = grind (arith, nat_tests, h)
+
 -- the first packet of a block
 pub block-begins : (v w : SlaveValue) (n a : ℕ) (items packet : ArrayVec ℕ) → v.connected ≡ true → v.transfer.mta ≡ Memory a → spells (layout_of v).order (commands.Download n items) packet.items → Answers v (requests.Command packet) answers.Silent w → w ≡ record v { transfer = record v.transfer { block = Some (record { address = a; expected = n - ((layout_of v).max_cto - 2); bytes = take ((layout_of v).max_cto - 2) items.items }) } }
 block-begins v w n a items packet on e s h =
@@ -66,9 +91,8 @@ block-goes-on v w remaining items packet b on e s h =
     let room : ℕ = packet_room (layout_of v) in
     let t : TransferValue = v.transfer in
     let with : TransferValue → SlaveValue = λ x. record v { transfer = x } in
-    let r = none-holds ((not (remaining == b.expected), ErrorCount Sequence b.expected) ∷ (nat_lt (length items.items) (min remaining room), Error CmdSyntax) ∷ []) (ap (λ (o : Option BlockValue). first_holding (next_row o remaining items.items t).refusals) (sym e) ∙ k.allowed) in
-    let more : nat_le remaining room ≡ false = is_unsaid (nat_le remaining room) (ap (λ (o : Option BlockValue). (next_row o remaining items.items t).reply) (sym e) ∙ k.unsaid) in
-    let sizes = next-sizes remaining b.expected room (length items.items) r.0 r.1.0 more in
+    let sizes = next-room v w remaining items packet b on e s h in
+    let more : nat_le remaining room ≡ false = is-more remaining room sizes.1 in
     let all : List ℕ = b.bytes ++ take remaining items.items in
     let part : List ℕ = take room items.items in (
       sizes.0,

@@ -19,3 +19,6 @@ pub mod WriteLaws
 pub mod KeepLaws
 pub mod MemoryLaws
 pub mod BlockLaws
+pub mod PartLaws
+pub mod QueueLaws
+pub mod GatherLaws

@@ -121,7 +121,7 @@ bits-writes v w s ma mx a bytes h e k0 =
     (put.1, put.2, (tool_is_written p w.transfer.pages a new h.transfer.layout h.transfer.pages allowed).1 pages)
 
 -- the last packet of a block writes all of it and leaves the MTA behind it
-block-both : (v w : SlaveValue) (remaining : ℕ) (items : ArrayVec ℕ) (bytes : List ℕ) (b : BlockValue) → IsSlave v → v.transfer.block ≡ Some b → Accepts v (commands.DownloadNext remaining items) bytes w → Writes v.transfer.pages b.address (b.bytes ++ take remaining items.items) w.transfer.pages × (w.transfer.mta ≡ Memory (b.address + (length b.bytes + b.expected)))
+pub block-both : (v w : SlaveValue) (remaining : ℕ) (items : ArrayVec ℕ) (bytes : List ℕ) (b : BlockValue) → IsSlave v → v.transfer.block ≡ Some b → Accepts v (commands.DownloadNext remaining items) bytes w → Writes v.transfer.pages b.address (b.bytes ++ take remaining items.items) w.transfer.pages × (w.transfer.mta ≡ Memory (b.address + (length b.bytes + b.expected))) × (length (b.bytes ++ take remaining items.items) ≡ length b.bytes + b.expected) × (w.transfer.block ≡ None)
 block-both v w remaining items bytes b h e k0 =
     let k = accepted (commands.DownloadNext remaining items) v bytes w k0 in
     let room : ℕ = packet_room (layout_of v) in
@@ -136,7 +136,8 @@ block-both v w remaining items bytes b h e k0 =
     let i : IsBlock t.pages b = subst (λ (o : Option BlockValue). IsUnderWay t.pages o) e h.transfer.transfer.block in
     let have : remaining ≤ length items.items = enough (length items.items) remaining room r.1.0 one in
     let long : length all ≡ length b.bytes + b.expected = omega (arith, length-append b.bytes (take remaining items.items), length-take-le remaining items.items have, is_same remaining b.expected r.0) in
-    at-address v w (Memory b.address) b.address (length b.bytes + b.expected) all h refl i.writable long led
+    let ends = at-address v w (Memory b.address) b.address (length b.bytes + b.expected) all h refl i.writable long led in
+    (ends.0, ends.1, long, ap (λ (x : TransferValue). x.block) led)
 
 pub block-writes : (v w : SlaveValue) (remaining : ℕ) (items : ArrayVec ℕ) (bytes : List ℕ) (b : BlockValue) → IsSlave v → v.transfer.block ≡ Some b → Accepts v (commands.DownloadNext remaining items) bytes w → Writes v.transfer.pages b.address (b.bytes ++ take remaining items.items) w.transfer.pages
 block-writes v w remaining items bytes b h e k = (block-both v w remaining items bytes b h e k).0

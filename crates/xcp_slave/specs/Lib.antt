@@ -10,3 +10,6 @@ pub mod Told
 pub mod Lawful
 pub mod Accepting
 pub mod Steady
+pub mod Queue
+pub mod Gathering
+pub mod Beside

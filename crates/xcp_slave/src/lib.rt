@@ -7,11 +7,14 @@
 
 mod accepting;
 mod answer;
+mod beside;
+mod blocks;
 mod exchange;
 mod law;
 mod outbox;
 mod packet;
 mod page_properties;
+mod queue;
 mod request;
 mod runs;
 mod slave;
@@ -23,12 +26,15 @@ pub use accepting::{
     a_tool_is_told_its_bytes, a_tool_writes_its_bytes, transfers_move_the_mta,
 };
 pub use answer::Answer;
+pub use beside::{requests_beside_change_their_own, sessions_begin_and_end};
+pub use blocks::a_block_is_written_at_its_end;
 pub use exchange::Exchange;
 pub use law::{
     each_request_has_one_answer, each_run_has_one_outcome, no_reply_is_longer_than_max_cto,
     refusals_leave_the_slave,
 };
 pub use page_properties::PageProperties;
+pub use queue::{an_event_waits_whole, what_waits_is_a_queue};
 pub use request::Request;
 pub use runs::{
     a_block_may_be_written, a_reference_page_is_kept, a_store_fills_the_reference_pages,
