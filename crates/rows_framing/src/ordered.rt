@@ -4,7 +4,8 @@ use crate::fakes::Full;
 use std::cell::Cell;
 use std::io::{self, Read, Write};
 use xcp_framing::{Station, StationError};
-use xcp_slave::{Answer, Request};
+use xcp_packet::Packet;
+use xcp_slave::{Request, Told};
 
 /// What has happened to the streams and the station of one test.
 #[derive(Drop)]
@@ -121,8 +122,12 @@ impl<S: Station> Station for Noting<'_, S> {
 
     ghost refuses = { λ s request e. S.refuses s.station request e };
 
-    fn submit(&mut self, request: Request) -> Result<Answer, StationError> {
+    fn submit_into(
+        &mut self,
+        request: &Request,
+        packet: &mut Packet,
+    ) -> Result<Told, StationError> {
         self.order.note();
-        self.station.submit(request)
+        self.station.submit_into(request, packet)
     }
 }

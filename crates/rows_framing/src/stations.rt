@@ -4,9 +4,9 @@ ghost use Rattle.xcp_slave.specs.declared.Exchange.{Exchange};
 ghost use Rattle.xcp_framing.specs.declared.station.StationError.TheVariants as refusals;
 
 use std::marker::Model;
-use xcp_framing::{Desk, Station, StationError};
+use xcp_framing::{Desk, Station, StationError, told_of};
 use xcp_packet::Packet;
-use xcp_slave::{Answer, Exchange, Request};
+use xcp_slave::{Answer, Exchange, Request, Told};
 
 /// A desk that takes so many requests, and then refuses all with one error: a full journal is told
 /// only there.
@@ -22,13 +22,17 @@ impl Station for Refusing {
 
     ghost refuses = { λ s request e. (e ≡ refusals.Memory) ⊎ ((s.takes ≡ 0) × (e ≡ s.error)) };
 
-    fn submit(&mut self, request: Request) -> Result<Answer, StationError> {
+    fn submit_into(
+        &mut self,
+        request: &Request,
+        packet: &mut Packet,
+    ) -> Result<Told, StationError> {
         if self.takes == 0 {
             return Err(self.error);
         }
-        let answer = self.desk.submit(request)?;
+        let told = self.desk.submit_into(request, packet)?;
         self.takes -= 1;
-        Ok(answer)
+        Ok(told)
     }
 }
 
@@ -50,7 +54,11 @@ impl Station for Pending {
 
     ghost refuses = { λ s request e. e ≡ refusals.Memory };
 
-    fn submit(&mut self, request: Request) -> Result<Answer, StationError> {
+    fn submit_into(
+        &mut self,
+        request: &Request,
+        packet: &mut Packet,
+    ) -> Result<Told, StationError> {
         if self.exchanges.reserve(1).is_err() {
             return Err(StationError::Memory);
         }
@@ -62,12 +70,12 @@ impl Station for Pending {
         if let Answer::Packet(_) = &answer {
             self.packets -= 1;
         }
-        let stored = answer.copy();
+        let told = told_of(&answer, packet);
         self.exchanges.push_reserved(Exchange {
-            request,
-            answer: stored,
+            request: request.copy(),
+            answer,
         });
-        Ok(answer)
+        Ok(told)
     }
 }
 

@@ -3,10 +3,11 @@ use Rattle.std.proofs.Common.{◌≡◌, ◌≤◌, ◌+◌, ℕ, List, [], ◌�
 use Rattle.std.proofs.lemmas.List.{append-nil}
 use Rattle.std.proofs.lemmas.Grind.{flat_map-append}
 use Rattle.std.proofs.lemmas.List.Elements.{All-append}
-use Rattle.arrayvec.specs.declared.ArrayVec.{ArrayVec}
+use Rattle.arrayvec.specs.ArrayVec.{ArrayVec}
 use Rattle.xcp_slave.specs.declared.Exchange.{Exchange}
-use Rattle.xcp_slave.specs.declared.Answer.{Answer}
-use Rattle.xcp_slave.specs.declared.Answer.TheVariants as answers
+use Rattle.xcp_slave.specs.declared.told.Told.{Told}
+use Rattle.xcp_slave.specs.declared.told.Told.TheVariants as tolds
+use Rattle.xcp_slave.specs.Told.{answer_in}
 use Rattle.xcp_slave.specs.declared.Request.TheVariants as requests
 use Rattle.xcp_framing.specs.declared.serving.ServeError.{ServeError}
 use Rattle.xcp_framing.specs.declared.serving.ServeError.TheVariants as errors
@@ -42,18 +43,18 @@ on_any (Err e) h = tt
 pub cons≢nil : {A : Type 0} {x : A} {xs : List A} → ◌≡◌ {A = List A} (x ∷ xs) [] → ⊥
 cons≢nil h = cc
 
--- what isn't a packet has none
-pub no_packet : (a : Answer) → ((p : ArrayVec ℕ 255 (Unit {0})) → a ≡ answers.Packet p → ⊥) → packet_of a ≡ []
-no_packet (answers.Packet p) h = absurd (h p refl)
-no_packet answers.Silent h = refl
-no_packet (answers.Sampled n) h = refl
-no_packet answers.Overrun h = refl
-no_packet answers.NoChannel h = refl
-no_packet answers.BadSignals h = refl
-no_packet answers.Nothing h = refl
-no_packet (answers.Stored n) h = refl
-no_packet answers.NoStore h = refl
-no_packet answers.Later h = refl
+-- what isn't told as a packet has none
+pub no_packet : (t : Told) (packet : ArrayVec ℕ) → (t ≡ tolds.Packet → ⊥) → packet_of (answer_in t packet) ≡ []
+no_packet tolds.Packet packet h = absurd (h refl)
+no_packet tolds.Silent packet h = refl
+no_packet (tolds.Sampled n) packet h = refl
+no_packet tolds.Overrun packet h = refl
+no_packet tolds.NoChannel packet h = refl
+no_packet tolds.BadSignals packet h = refl
+no_packet tolds.Nothing packet h = refl
+no_packet (tolds.Stored n) packet h = refl
+no_packet tolds.NoStore packet h = refl
+no_packet tolds.Later packet h = refl
 
 -- no exchange yet
 pub grows_none : (Fact : List Exchange → Type 0) (old : List Exchange) (a : Output) (from : ℕ) → Fact [] → Grows fine Fact old old a a from from

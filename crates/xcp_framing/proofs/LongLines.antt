@@ -1,12 +1,13 @@
 -- Lines that are faulty for their length, and the last line of a text.
-use Rattle.std.proofs.Common.{◌≡◌, ◌<◌, ◌≤◌, ◌+◌, ◌==◌, ℕ, true, false, List, [], ◌∷◌, ◌++◌, length, nat_lt, if◌then◌else◌, Some, refl, sym, subst, arith, length-append, length-take}
+use Rattle.std.proofs.Common.{◌≡◌, ◌<◌, ◌≤◌, ◌+◌, ◌==◌, ℕ, true, false, List, [], ◌∷◌, ◌++◌, length, nat_lt, if◌then◌else◌, Some, refl, sym, ap, subst, ◌∙◌, arith, append_assoc, length-append, length-take}
 use Rattle.std.proofs.lemmas.Bool.Decides.{nat_tests}
 use Rattle.std.proofs.lemmas.List.{append-nil}
 use Rattle.xcp_slave.specs.declared.Request.{Request}
 use Rattle.xcp_framing.specs.declared.line.Line.TheVariants.{Faulty}
 use Rattle.xcp_framing.specs.Lines.{HasNoFeed, unless_empty, without_return}
 use Rattle.xcp_framing.specs.Meaning.{meaning}
-use Rattle.xcp_framing.specs.Reading.{asked_before, ended_line, faulty_from, lines_from}
+use Rattle.xcp_framing.specs.Reading.{asked_before, faulty_from, lines_from, IsTooLong}
+use Rattle.xcp_framing.specs.Replay.{is_faulty}
 use Rattle.xcp_framing.proofs.Ends.{none_ends}
 
 -- a last line that is not empty
@@ -42,13 +43,19 @@ begun_stops m n begun (b ∷ bs) h =
       | false ↦ begun_stops m n (begun ++ b ∷ []) bs (omega (arith, h, length-append begun (b ∷ [])))
     ]
 
--- a line that ends after more than 1,025 bytes is faulty
-pub ended_stops : (m n : ℕ) (begun last : List ℕ) (lines : List (List ℕ)) → 1025 < length (begun ++ last) → Stops m n (ended_line begun last ∷ lines)
-ended_stops m n begun last lines h = long_stops m n (ended_line begun last) lines (omega (arith, h, length_without_return (begun ++ last)))
-
 -- a line that has begun with more than 1,025 bytes, the last of a piece
-pub piece_stops : (m n : ℕ) (begun piece rest : List ℕ) → HasNoFeed piece → 1025 < length (begun ++ piece) → Stops m n (lines_from begun (piece ++ rest))
+piece_stops : (m n : ℕ) (begun piece rest : List ℕ) → HasNoFeed piece → 1025 < length (begun ++ piece) → Stops m n (lines_from begun (piece ++ rest))
 piece_stops m n begun piece rest h k = subst (λ (ls : List (List ℕ)). Stops m n ls) (sym (none_ends begun piece rest h)) (begun_stops m n (begun ++ piece) rest k)
+
+pub too_long_stops : (m n : ℕ) (begun piece rest : List ℕ) → IsTooLong begun piece → Stops m n (lines_from begun (piece ++ rest))
+too_long_stops m n begun piece rest t =
+    let parts : lines_from begun (piece ++ rest) ≡ lines_from begun (t.last ++ (t.behind ++ rest)) =
+    ap (λ (xs : List ℕ). lines_from begun (xs ++ rest)) t.joined ∙ ap (λ (xs : List ℕ). lines_from begun xs) (append_assoc t.last t.behind rest) in
+    subst (λ (ls : List (List ℕ)). Stops m n ls) (sym parts) (piece_stops m n begun t.last (t.behind ++ rest) t.no_feed t.long)
+
+-- a faulty line, and others behind it
+pub faulty_stops : (m n : ℕ) (line : List ℕ) (lines : List (List ℕ)) → is_faulty (meaning m line) ≡ true → Stops m n (line ∷ lines)
+faulty_stops m n line lines f = record { asked = rw f refl; fault = rw f refl }
 
 -- what is known at a faulty line, of which n lines come before
 pub stopped : (m n n' : ℕ) (lines : List (List ℕ)) (requests : List Request) → Stops m n lines → n' ≡ n

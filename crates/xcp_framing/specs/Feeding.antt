@@ -1,8 +1,11 @@
 -- What contracts see of a framer, and what a piece of the stream brings it (ASAM MCD-1 XCP, transport layer, XCP on
 -- Ethernet: TCP gives a stream in pieces of any size).
 use Rattle.std.specs.Prelude.{◌≡◌, ◌<◌, ◌≤◌, ◌+◌, ◌-◌, ◌++◌, ℕ, List, [], ◌∷◌, length, take, nat_lt, if◌then◌else◌}
+use Rattle.arrayvec.specs.ArrayVec.{ArrayVec}
 use Rattle.xcp_framing.specs.declared.framer.Got.{Got}
-use Rattle.xcp_framing.specs.declared.framer.Got.TheVariants.{Packet}
+use Rattle.xcp_framing.specs.declared.framer.Got.TheVariants as gots
+use Rattle.xcp_framing.specs.declared.framer.Brought.{Brought}
+use Rattle.xcp_framing.specs.declared.framer.Brought.TheVariants as broughts
 use Rattle.xcp_framing.specs.Wire.{IsBadLength, len_of}
 use Rattle.xcp_framing.specs.Frames.{frames, rest}
 
@@ -13,8 +16,14 @@ pub record FramerValue : Type 0 where
 
 -- the packet that was given, if any
 abbrev pub packets_given : Got → List (List ℕ)
-packets_given (Packet packet) = packet.items ∷ []
+packets_given (gots.Packet packet) = packet.items ∷ []
 packets_given _ = []
+
+-- what was brought, where this is the packet that was lent
+abbrev pub got_in : Brought → ArrayVec ℕ → Got
+got_in broughts.More packet = gots.More
+got_in broughts.Packet packet = gots.Packet packet
+got_in (broughts.BadLength n) packet = gots.BadLength n
 
 -- no packet is whole yet, and no LEN is above m
 pub record IsQuiet (m : ℕ) (stream : List ℕ) : Type 0 where

@@ -4,6 +4,7 @@ pub mod Feeding
 pub mod Frames
 pub mod Front
 pub mod Gathered
+pub mod Lent
 pub mod Lines
 pub mod Meaning
 pub mod Parsed

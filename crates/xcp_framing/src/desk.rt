@@ -58,13 +58,24 @@ impl Desk {
         &self.trace
     }
 
-    /// Answers a request, as `submit` does. The answer's packet, if it is one, stands in the lent
-    /// one, which has any bytes otherwise.
-    pub fn submit_into(
-        &mut self,
-        request: &Request,
-        packet: &mut Packet,
-    ) -> Result<Told, StationError>
+    /// Does nothing: its contract says that the exchanges are a run, which each desk keeps.
+    pub fn audit(&self)
+        ensures { Run (opening (layout_of self.now.slave)) self.now.exchanges self.now.slave }
+    {
+        let _ = &self.slave;
+    }
+}
+
+impl Station for Desk {
+    ghost use Rattle.xcp_framing.specs.declared.station.StationError.TheVariants as refusals;
+
+    ghost exchanges = { λ d. d.exchanges };
+
+    ghost refuses = { λ d request e. e ≡ refusals.Memory };
+
+    /// Answers a request that is lent. The one refusal is `Memory`, which comes before anything is
+    /// executed.
+    fn submit_into(&mut self, request: &Request, packet: &mut Packet) -> Result<Told, StationError>
         ensures answers { IfOk result (λ told.
             Answers self.old.slave request.now (answer_in told packet.new) self.new.slave) }
         ensures ok { IfOk result (λ told. self.new.exchanges ≡ self.old.exchanges
@@ -80,21 +91,6 @@ impl Desk {
         self.trace.push_told(request, told, packet);
         Ok(told)
     }
-
-    /// Does nothing: its contract says that the exchanges are a run, which each desk keeps.
-    pub fn audit(&self)
-        ensures { Run (opening (layout_of self.now.slave)) self.now.exchanges self.now.slave }
-    {
-        let _ = &self.slave;
-    }
-}
-
-impl Station for Desk {
-    ghost use Rattle.xcp_framing.specs.declared.station.StationError.TheVariants as refusals;
-
-    ghost exchanges = { λ d. d.exchanges };
-
-    ghost refuses = { λ d request e. e ≡ refusals.Memory };
 
     /// Answers a request. The one refusal is `Memory`, which comes before anything is executed.
     fn submit(&mut self, request: Request) -> Result<Answer, StationError>

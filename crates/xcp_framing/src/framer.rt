@@ -2,7 +2,7 @@
 ghost use Rattle.std.specs.Prelude.{◌≡◌, ◌≢◌, ◌<◌, ◌≤◌, ◌+◌, ◌↔◌, [], IsTrue, IfSome, IfNone, ℕ, length};
 ghost use Rattle.xcp_framing.specs.Wire.{IsBadLength, len_of};
 ghost use Rattle.xcp_framing.specs.Frames.{frames, rest};
-ghost use Rattle.xcp_framing.specs.Feeding.{packets_given, Feeds, missing_of};
+ghost use Rattle.xcp_framing.specs.Feeding.{Feeds, got_in, missing_of, packets_given};
 
 use crate::wire::{FRAME_SIZE, HEADER_SIZE, LEN_SIZE};
 use arrayvec::ArrayVec;
@@ -26,6 +26,37 @@ pub enum Got {
 pub struct Fed {
     pub used: usize,
     pub got: Got,
+}
+
+/// What a piece brought, beside a packet that was lent to it.
+#[derive(Clone, Copy, Debug, PartialEq, Eq)]
+pub enum Brought {
+    /// No packet yet.
+    More,
+    /// The packet of a frame that is whole: it stands in the lent one.
+    Packet,
+    /// A LEN above MAX_CTO. Nothing is read behind it.
+    BadLength(u16),
+}
+
+impl Brought {
+    /// What was brought, where this is the packet that was lent.
+    pub fn with(self, packet: Packet) -> Got
+        ensures { result ≡ got_in self packet }
+    {
+        match self {
+            Brought::More => Got::More,
+            Brought::Packet => Got::Packet(packet),
+            Brought::BadLength(length) => Got::BadLength(length),
+        }
+    }
+}
+
+/// How many bytes of a piece were used, and what they brought beside a packet that was lent.
+#[derive(Clone, Copy, Debug, PartialEq, Eq)]
+pub struct Cut {
+    pub used: usize,
+    pub brought: Brought,
 }
 
 /// Takes a stream piece by piece, and gives the packets of its frames (XCP on Ethernet, TCP). It
@@ -78,36 +109,57 @@ impl Framer {
         ensures moves { packets_given result.got ≢ [] → 0 < result.used }
         ensures kept { self.new.max_cto ≡ self.old.max_cto }
     {
-        let mut fed = self.gather(piece);
-        while let Got::More = fed.got {
-            if fed.used == piece.len() {
+        let mut packet = Packet::new();
+        let Cut { used, brought } = self.feed_into(piece, &mut packet);
+        Fed {
+            used,
+            got: brought.with(packet),
+        }
+    }
+
+    /// Uses a front of the piece, as `feed` does. The packet of a whole frame stands in the lent
+    /// one, which has any bytes otherwise.
+    pub fn feed_into(&mut self, piece: &[u8], packet: &mut Packet) -> Cut
+        ensures feeds { Feeds self.old.max_cto self.old.held piece.now
+            result.used (packets_given (got_in result.brought packet.new)) self.new.held }
+        ensures more { result.brought ≡ Brought.More
+            → (result.used ≡ length piece.now) × ¬ IsBadLength self.new.max_cto self.new.held }
+        ensures bad { (n : ℕ) → result.brought ≡ Brought.BadLength n
+            → (n ≡ len_of self.new.held) × IsBadLength self.new.max_cto self.new.held }
+        ensures moves { result.brought ≡ Brought.Packet → 0 < result.used }
+        ensures kept { self.new.max_cto ≡ self.old.max_cto }
+    {
+        let mut cut = self.gather(piece, packet);
+        while let Brought::More = cut.brought {
+            if cut.used == piece.len() {
                 break;
             }
-            let next = self.gather(&piece[fed.used..]);
-            fed = Fed {
-                used: fed.used + next.used,
-                got: next.got,
+            let next = self.gather(&piece[cut.used..], packet);
+            cut = Cut {
+                used: cut.used + next.used,
+                brought: next.brought,
             };
         }
-        fed
+        cut
     }
 
     /// Goes on to the end of LEN or of the frame, or to the end of the piece.
-    fn gather(&mut self, piece: &[u8]) -> Fed
+    fn gather(&mut self, piece: &[u8], packet: &mut Packet) -> Cut
         ensures feeds { Feeds self.old.max_cto self.old.held piece.now
-            result.used (packets_given result.got) self.new.held }
-        ensures more { result.got ≡ Got.More → ¬ IsBadLength self.new.max_cto self.new.held }
-        ensures packet_moves { packets_given result.got ≢ [] → 0 < result.used }
+            result.used (packets_given (got_in result.brought packet.new)) self.new.held }
+        ensures more { result.brought ≡ Brought.More
+            → ¬ IsBadLength self.new.max_cto self.new.held }
+        ensures packet_moves { result.brought ≡ Brought.Packet → 0 < result.used }
         ensures moves { ¬ IsBadLength self.old.max_cto self.old.held
             → 0 < length piece.now → 0 < result.used }
-        ensures bad { (n : ℕ) → result.got ≡ Got.BadLength n
+        ensures bad { (n : ℕ) → result.brought ≡ Brought.BadLength n
             → (n ≡ len_of self.new.held) × IsBadLength self.new.max_cto self.new.held }
         ensures kept { self.new.max_cto ≡ self.old.max_cto }
     {
         let used = missing(&self.held, self.max_cto).min(piece.len());
         let _ = self.held.try_extend_from_slice(&piece[..used]);
-        let got = take_packet(&mut self.held, self.max_cto);
-        Fed { used, got }
+        let brought = take_packet(&mut self.held, packet, self.max_cto);
+        Cut { used, brought }
     }
 }
 
@@ -134,29 +186,30 @@ fn missing(held: &[u8], max_cto: u8) -> usize
     }
 }
 
-/// What the bytes gathered so far are. A whole frame is taken out.
-fn take_packet(held: &mut ArrayVec<u8, FRAME_SIZE>, max_cto: u8) -> Got
+/// What the bytes gathered so far are. A whole frame is taken out, and its packet laid into the
+/// lent one.
+fn take_packet(held: &mut ArrayVec<u8, FRAME_SIZE>, packet: &mut Packet, max_cto: u8) -> Brought
     requires { len_of held.old.items ≤ max_cto → length held.old.items ≤ 4 + len_of held.old.items }
-    ensures brings { frames max_cto held.old.items ≡ packets_given result }
+    ensures brings { frames max_cto held.old.items ≡ packets_given (got_in result packet.new) }
     ensures leaves { held.new.items ≡ rest max_cto held.old.items }
-    ensures more { result ≡ Got.More → ¬ IsBadLength max_cto held.new.items }
-    ensures bad { (n : ℕ) → result ≡ Got.BadLength n
+    ensures more { result ≡ Brought.More → ¬ IsBadLength max_cto held.new.items }
+    ensures bad { (n : ℕ) → result ≡ Brought.BadLength n
         → (n ≡ len_of held.new.items) × IsBadLength max_cto held.new.items }
 {
     let Some(length) = length(held) else {
-        return Got::More;
+        return Brought::More;
     };
     if length > u16::from(max_cto) {
-        return Got::BadLength(length);
+        return Brought::BadLength(length);
     }
     if held.len() < HEADER_SIZE + length as usize {
-        return Got::More;
+        return Brought::More;
     }
-    let mut packet = Packet::new();
+    packet.clear();
     let _ = packet.try_extend_from_slice(&held[HEADER_SIZE..]);
     held.clear();
     if packet.is_empty() {
-        return Got::More;
+        return Brought::More;
     }
-    Got::Packet(packet)
+    Brought::Packet
 }

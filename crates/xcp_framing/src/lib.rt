@@ -17,7 +17,9 @@ mod fault;
 mod frame_writer;
 mod framer;
 mod law;
+mod lent;
 mod line;
+mod liner;
 mod parsing;
 mod plain;
 mod replaying;
@@ -33,14 +35,14 @@ mod wire;
 
 pub use desk::Desk;
 pub use fault::ReplayError;
-pub use framer::{Fed, Framer, Got};
+pub use framer::{Brought, Cut, Fed, Framer, Got};
 pub use law::{a_desk_is_never_full, each_text_has_its_lines};
 pub use line::Line;
 pub use parsing::{LINE_BYTES, parse_line};
 pub use plain::plain_lines;
 pub use replaying::replay_on;
 pub use serving::{ServeError, Served, serve};
-pub use station::{Station, StationError};
+pub use station::{Station, StationError, told_of};
 pub use stream::{
     any_cutting_gives_the_same_frames, each_stream_has_its_frames, plain_frames,
     the_wire_gives_its_packets_back,

@@ -2,7 +2,7 @@
 ghost use Rattle.std.specs.Prelude.{IfOk, map};
 ghost use Rattle.xcp_framing.specs.Lines.{Lines};
 
-use crate::script::without_return;
+use crate::liner::without_return;
 use std::alloc::{AllocError, Global};
 
 /// The lines of a text, in order.

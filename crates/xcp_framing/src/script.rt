@@ -1,27 +1,22 @@
 //! The lines of a script, answered as their bytes come.
-ghost use Rattle.std.specs.Prelude.{◌≡◌, ◌≢◌, ◌≤◌, ◌<◌, ◌+◌, ◌^◌, ◌++◌, ◌∷◌, [], ℕ, List, Some, None, true, false, OnOk, OnErr, IfErr, MatchOption, length};
+ghost use Rattle.std.specs.Prelude.{◌≡◌, ◌≢◌, ◌≤◌, ◌<◌, ◌+◌, ◌^◌, ◌++◌, ◌∷◌, [], ℕ, List, Some, None, true, false, OnOk, OnErr, IfErr, length};
 ghost use Rattle.xcp_slave.specs.declared.Request.{Request};
 ghost use Rattle.xcp_slave.specs.Run.{requests_of};
 ghost use Rattle.xcp_slave.specs.Value.{layout_of};
 ghost use Rattle.xcp_framing.specs.Front.{IsFront};
-ghost use Rattle.xcp_framing.specs.Lines.{HasNoFeed, unless_empty, without_return};
+ghost use Rattle.xcp_framing.specs.Lines.{unless_empty};
 ghost use Rattle.xcp_framing.specs.Meaning.{meaning};
-ghost use Rattle.xcp_framing.specs.Reading.{asked_before, ended_line, faulty_from, lines_from, ShortOf};
+ghost use Rattle.xcp_framing.specs.Reading.{asked_before, faulty_from, lines_from, ShortOf};
 ghost use Rattle.xcp_framing.specs.Replay.{asked_by, is_faulty};
 ghost use Rattle.xcp_framing.specs.Told.{told};
 
-use crate::Desk;
+use crate::liner::{Lined, Liner};
 use crate::parsing::parse_into;
 use crate::slot::{Parsed, Slot, say};
 use crate::telling::push_text;
-use arrayvec::ArrayVec;
-use memchr::memchr;
+use crate::{Desk, Station};
 use xcp_packet::Packet;
 use xcp_slave::Request;
-
-/// The most bytes before a line feed that can be a line that is not faulty: 1,024 and a carriage
-/// return. A line that has more is faulty whatever follows, so no more of it is kept.
-const KEPT_BYTES: usize = 1025;
 
 /// Why a line has no answer.
 #[derive(Clone, Copy, Debug, PartialEq, Eq, Drop)]
@@ -30,22 +25,21 @@ pub(crate) enum LineError {
     Memory,
 }
 
-/// How far a script has been read: the bytes of the line that has begun, and how many lines came
-/// before it.
+/// How far a script has been read: the line that has begun, and how many lines came before it.
 #[derive(Drop)]
 pub(crate) struct Pending {
-    line: ArrayVec<u8, KEPT_BYTES>,
+    liner: Liner,
     pub(crate) count: u64,
     slot: Slot,
 }
 
 impl Pending {
     pub(crate) fn new() -> Pending
-        ensures line { result.line.items ≡ [] }
+        ensures line { result.liner.held.items ≡ [] }
         ensures count { result.count ≡ 0 }
     {
         Pending {
-            line: ArrayVec::new(),
+            liner: Liner::new(),
             count: 0,
             slot: Slot::new(),
         }
@@ -63,24 +57,24 @@ impl Pending {
         // Whatever follows the piece: what was asked, and what the lines from here on ask.
         ensures asked { OnOk result ((rest : List ℕ) →
             requests_of desk.new.exchanges
-            ++ asked_before max_cto (lines_from self.new.line.items rest)
+            ++ asked_before max_cto (lines_from self.new.liner.held.items rest)
             ≡ requests_of desk.old.exchanges
-            ++ asked_before max_cto (lines_from self.old.line.items (piece.now ++ rest))) }
+            ++ asked_before max_cto (lines_from self.old.liner.held.items (piece.now ++ rest))) }
         ensures fine { OnOk result ((rest : List ℕ) →
-            faulty_from max_cto self.new.count (lines_from self.new.line.items rest)
+            faulty_from max_cto self.new.count (lines_from self.new.liner.held.items rest)
             ≡ faulty_from max_cto self.old.count
-            (lines_from self.old.line.items (piece.now ++ rest))) }
+            (lines_from self.old.liner.held.items (piece.now ++ rest))) }
         ensures faulty { result ≡ Err LineError.Faulty → (rest : List ℕ) →
             (requests_of desk.new.exchanges ≡ requests_of desk.old.exchanges
-            ++ asked_before max_cto (lines_from self.old.line.items (piece.now ++ rest)))
+            ++ asked_before max_cto (lines_from self.old.liner.held.items (piece.now ++ rest)))
             × (faulty_from max_cto self.old.count
-            (lines_from self.old.line.items (piece.now ++ rest)) ≡ Some (self.new.count + 1)) }
+            (lines_from self.old.liner.held.items (piece.now ++ rest)) ≡ Some (self.new.count + 1)) }
         ensures memory { result ≡ Err LineError.Memory → (rest : List ℕ) →
             IsFront (requests_of desk.new.exchanges) (requests_of desk.old.exchanges
-            ++ asked_before max_cto (lines_from self.old.line.items (piece.now ++ rest))) }
+            ++ asked_before max_cto (lines_from self.old.liner.held.items (piece.now ++ rest))) }
         ensures short { result ≡ Err LineError.Memory → (rest : List ℕ) →
             ShortOf (requests_of desk.old.exchanges
-            ++ asked_before max_cto (lines_from self.old.line.items (piece.now ++ rest)))
+            ++ asked_before max_cto (lines_from self.old.liner.held.items (piece.now ++ rest)))
             desk.old.exchanges desk.new.exchanges }
         // Whatever was written before these texts: what it is with them.
         ensures told { result ≢ Err LineError.Memory → (before : List ℕ)
@@ -92,77 +86,19 @@ impl Pending {
         ensures counted { self.new.count ≤ self.old.count + length piece.now }
     {
         let mut left = piece;
-        while let Some((last, behind)) = split_line(left) {
-            self.end_line(desk, max_cto, last, texts)?;
-            left = behind;
+        loop {
+            match self.liner.feed(left) {
+                Lined::More => return Ok(()),
+                Lined::TooLong => return Err(LineError::Faulty),
+                Lined::Line(end) => {
+                    let line = self.liner.line(&left[..end]);
+                    answer_line(desk, max_cto, line, &mut self.slot, texts)?;
+                    self.liner.begin();
+                    self.count += 1;
+                    left = &left[end + 1..];
+                }
+            }
         }
-        self.keep(left)?;
-        Ok(())
-    }
-
-    /// Answers the line of which these are the last bytes. If they are all of it, it is answered
-    /// where it lies.
-    fn end_line(
-        &mut self,
-        desk: &mut Desk,
-        max_cto: u8,
-        last: &[u8],
-        texts: &mut Vec<u8>,
-    ) -> Result<(), LineError>
-        requires { self.old.count + 1 < 2 ^ 64 }
-        // Whichever lines follow this one.
-        ensures asked { OnOk result ((later : List (List ℕ))
-            → requests_of desk.new.exchanges ++ asked_before max_cto later
-            ≡ requests_of desk.old.exchanges
-            ++ asked_before max_cto (ended_line self.old.line.items last.now ∷ later)) }
-        ensures fine { OnOk result ((later : List (List ℕ))
-            → faulty_from max_cto self.new.count later ≡ faulty_from max_cto self.old.count
-            (ended_line self.old.line.items last.now ∷ later)) }
-        ensures faulty { result ≡ Err LineError.Faulty → (later : List (List ℕ))
-            → (requests_of desk.new.exchanges ≡ requests_of desk.old.exchanges
-            ++ asked_before max_cto (ended_line self.old.line.items last.now ∷ later))
-            × (faulty_from max_cto self.old.count
-            (ended_line self.old.line.items last.now ∷ later) ≡ Some (self.new.count + 1)) }
-        ensures memory { result ≡ Err LineError.Memory → (later : List (List ℕ))
-            → IsFront (requests_of desk.new.exchanges) (requests_of desk.old.exchanges
-            ++ asked_before max_cto (ended_line self.old.line.items last.now ∷ later)) }
-        ensures short { result ≡ Err LineError.Memory → (later : List (List ℕ))
-            → ShortOf (requests_of desk.old.exchanges
-            ++ asked_before max_cto (ended_line self.old.line.items last.now ∷ later))
-            desk.old.exchanges desk.new.exchanges }
-        ensures told { result ≢ Err LineError.Memory → (before : List ℕ)
-            → before ++ texts.old.items ≡ told desk.old.exchanges
-            → before ++ texts.new.items ≡ told desk.new.exchanges }
-        ensures kept { (text : List ℕ)
-            → IsFront text (told desk.old.exchanges) → IsFront text (told desk.new.exchanges) }
-        ensures layout { layout_of desk.new.slave ≡ layout_of desk.old.slave }
-        ensures line { OnOk result (self.new.line.items ≡ []) }
-        ensures count { OnOk result (self.new.count ≡ self.old.count + 1) }
-        ensures counted { OnErr result (self.new.count ≡ self.old.count) }
-    {
-        if self.line.is_empty() {
-            answer_line(desk, max_cto, without_return(last), &mut self.slot, texts)?;
-        } else {
-            self.keep(last)?;
-            let line = without_return(&self.line);
-            answer_line(desk, max_cto, line, &mut self.slot, texts)?;
-            self.line.clear();
-        }
-        self.count += 1;
-        Ok(())
-    }
-
-    /// Keeps the next bytes of a line that has not ended yet.
-    fn keep(&mut self, more: &[u8]) -> Result<(), LineError>
-        ensures ok { OnOk result (self.new.line.items ≡ self.old.line.items ++ more.now) }
-        ensures error { IfErr result (λ e. e ≡ LineError.Faulty) }
-        ensures long { OnErr result (KEPT_BYTES < length (self.old.line.items ++ more.now)) }
-        ensures count { self.new.count ≡ self.old.count }
-    {
-        if self.line.try_extend_from_slice(more).is_err() {
-            return Err(LineError::Faulty);
-        }
-        Ok(())
     }
 
     /// Answers the last line, which ends with the script.
@@ -173,18 +109,18 @@ impl Pending {
         texts: &mut Vec<u8>,
     ) -> Result<(), LineError>
         ensures asked { OnOk result (requests_of desk.new.exchanges
-            ≡ requests_of desk.old.exchanges ++ asked_before max_cto (unless_empty self.now.line.items)) }
+            ≡ requests_of desk.old.exchanges ++ asked_before max_cto (unless_empty self.now.liner.held.items)) }
         ensures fine { OnOk result ((count : ℕ)
-            → faulty_from max_cto count (unless_empty self.now.line.items) ≡ None) }
+            → faulty_from max_cto count (unless_empty self.now.liner.held.items) ≡ None) }
         ensures faulty { result ≡ Err LineError.Faulty →
             (requests_of desk.new.exchanges ≡ requests_of desk.old.exchanges
-            ++ asked_before max_cto (unless_empty self.now.line.items))
+            ++ asked_before max_cto (unless_empty self.now.liner.held.items))
             × ((count : ℕ)
-            → faulty_from max_cto count (unless_empty self.now.line.items) ≡ Some (count + 1)) }
+            → faulty_from max_cto count (unless_empty self.now.liner.held.items) ≡ Some (count + 1)) }
         ensures memory { result ≡ Err LineError.Memory → IsFront (requests_of desk.new.exchanges)
-            (requests_of desk.old.exchanges ++ asked_before max_cto (unless_empty self.now.line.items)) }
+            (requests_of desk.old.exchanges ++ asked_before max_cto (unless_empty self.now.liner.held.items)) }
         ensures short { result ≡ Err LineError.Memory → ShortOf (requests_of desk.old.exchanges
-            ++ asked_before max_cto (unless_empty self.now.line.items))
+            ++ asked_before max_cto (unless_empty self.now.liner.held.items))
             desk.old.exchanges desk.new.exchanges }
         ensures told { result ≢ Err LineError.Memory → (before : List ℕ)
             → before ++ texts.old.items ≡ told desk.old.exchanges
@@ -193,31 +129,11 @@ impl Pending {
             → IsFront text (told desk.old.exchanges) → IsFront text (told desk.new.exchanges) }
         ensures layout { layout_of desk.new.slave ≡ layout_of desk.old.slave }
     {
-        if self.line.is_empty() {
+        if self.liner.held.is_empty() {
             return Ok(());
         }
         let mut slot = Slot::new();
-        answer_line(desk, max_cto, self.line.as_slice(), &mut slot, texts)
-    }
-}
-
-/// The bytes before the first line feed, and those behind it.
-fn split_line(bytes: &[u8]) -> Option<(&[u8], &[u8])>
-    ensures { MatchOption result (HasNoFeed bytes.now) (λ parts. HasNoFeed parts.0.now
-        × (bytes.now ≡ parts.0.now ++ 10 ∷ parts.1.now)) }
-{
-    let end = memchr(b'\n', bytes)?;
-    Some((&bytes[..end], &bytes[end + 1..]))
-}
-
-/// A line that a line feed ended, without the carriage return before that.
-#[tactic(auto, unfolding(crate::specs::Lines::without_return))]
-pub(crate) fn without_return(line: &[u8]) -> &[u8]
-    ensures { result.now ≡ without_return line.now }
-{
-    match line {
-        [front @ .., b'\r'] => front,
-        _ => line,
+        answer_line(desk, max_cto, self.liner.held.as_slice(), &mut slot, texts)
     }
 }
 

@@ -7,12 +7,12 @@ ghost use Rattle.xcp_framing.specs.Refusal.{AsksNext, DrainsNext, OnRefusal, Rea
 ghost use Rattle.xcp_framing.specs.Turns.{Grows, DrainsSoFar, EndsPiece, IsInterruption};
 
 use crate::frame_writer::FrameWriter;
-use crate::{Framer, Got, Station, StationError, Watched};
+use crate::lent::Lent;
+use crate::{Brought, Framer, Station, StationError, Watched};
 use std::alloc::Global;
 use std::io::{Read, Write};
 use thiserror::Error;
-use xcp_packet::Packet;
-use xcp_slave::{Answer, Request};
+use xcp_slave::Told;
 
 /// The most bytes that one read takes.
 const READ_SIZE: usize = 512;
@@ -91,6 +91,7 @@ fn drain<W: Write, S: Station>(
     station: &mut S,
     writer: &mut Watched<W>,
     sender: &mut FrameWriter,
+    lent: &mut Lent,
 ) -> Result<(), ServeError>
     requires { sender.old.sent + most_drains < 2 ^ 64 }
     ensures drains { Grows result (DrainsSoFar result)
@@ -107,23 +108,23 @@ fn drain<W: Write, S: Station>(
         (S.exchanges station.old) station.new) }
 {
     for _drain in 0..DRAINS {
-        let Answer::Packet(packet) = station.submit(Request::Drain)? else {
+        let Told::Packet = station.submit_into(lent.drain.request(), &mut lent.packet)? else {
             return Ok(());
         };
-        sender.send(writer, &packet)?;
+        sender.send(writer, &lent.packet)?;
     }
     Ok(())
 }
 
-/// Submits one packet as a command, sends the packet of the answer, and drains the station.
+/// Submits the command that is lent, sends the packet of the answer, and drains the station.
 fn exchange<W: Write, S: Station>(
-    packet: Packet,
     station: &mut S,
     writer: &mut Watched<W>,
     sender: &mut FrameWriter,
+    lent: &mut Lent,
 ) -> Result<(), ServeError>
     requires { sender.old.sent + most_packets < 2 ^ 64 }
-    ensures answers { Grows result (AnswersSoFar result (packet.items ∷ []))
+    ensures answers { Grows result (AnswersSoFar result (lent.old.command.items ∷ []))
         (S.exchanges station.old) (S.exchanges station.new)
         (output (W.contents writer.old.inner) sender.old)
         (output (W.contents writer.new.inner) sender.new)
@@ -134,13 +135,13 @@ fn exchange<W: Write, S: Station>(
     ensures write { result ≡ Err ServeError.Write → writer.old.failures < writer.new.failures }
     ensures dropped { result ≡ Err ServeError.Write → sender.new.held ≡ [] }
     ensures refused { OnRefusal result (λ e.
-        Refused S.exchanges S.refuses e (AsksNext (packet.items ∷ []))
+        Refused S.exchanges S.refuses e (AsksNext (lent.old.command.items ∷ []))
         (S.exchanges station.old) station.new) }
 {
-    if let Answer::Packet(packet) = station.submit(Request::Command(packet))? {
-        sender.send(writer, &packet)?;
+    if let Told::Packet = station.submit_into(lent.command.request(), &mut lent.packet)? {
+        sender.send(writer, &lent.packet)?;
     }
-    drain(station, writer, sender)
+    drain(station, writer, sender, lent)
 }
 
 /// Answers the packets that are whole with the bytes of one read. Their frames may still be held.
@@ -151,6 +152,7 @@ fn consume<W: Write, S: Station>(
     writer: &mut Watched<W>,
     sender: &mut FrameWriter,
     received: &mut u64,
+    lent: &mut Lent,
 ) -> Result<(), ServeError>
     requires sent { sender.old.sent + most_packets * length piece.now < 2 ^ 64 }
     requires received { received.old + length piece.now < 2 ^ 64 }
@@ -176,14 +178,14 @@ fn consume<W: Write, S: Station>(
 {
     let mut used = 0;
     loop {
-        let fed = framer.feed(&piece[used..]);
-        used += fed.used;
-        match fed.got {
-            Got::More => return Ok(()),
-            Got::BadLength(length) => return Err(ServeError::BadLength(length)),
-            Got::Packet(packet) => {
+        let cut = lent.command.cut(framer, &piece[used..]);
+        used += cut.used;
+        match cut.brought {
+            Brought::More => return Ok(()),
+            Brought::BadLength(length) => return Err(ServeError::BadLength(length)),
+            Brought::Packet => {
                 *received += 1;
-                exchange(packet, station, writer, sender)?;
+                exchange(station, writer, sender, lent)?;
             }
         }
     }
@@ -240,6 +242,7 @@ pub fn serve<R: Read, W: Write, S: Station>(
     };
     let mut framer = Framer::new(max_cto);
     let mut received = 0;
+    let mut lent = Lent::new();
     for _turn in 0..turns {
         let Ok(count) = reader.read(&mut buffer) else {
             return Err(ServeError::Read);
@@ -261,6 +264,7 @@ pub fn serve<R: Read, W: Write, S: Station>(
             writer,
             &mut sender,
             &mut received,
+            &mut lent,
         );
         sender.flush(writer)?;
         consumed?;

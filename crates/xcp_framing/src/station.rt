@@ -2,10 +2,12 @@
 ghost use Rattle.std.specs.Prelude.{◌≡◌, [], ◌∷◌, ◌++◌, List, IfOk, OnErr, IfErr};
 ghost use Rattle.xcp_slave.specs.declared.Exchange.{Exchange};
 ghost use Rattle.xcp_slave.specs.declared.Request.{Request};
+ghost use Rattle.xcp_slave.specs.Told.{answer_in};
 ghost use Rattle.xcp_framing.specs.declared.station.StationError.{StationError};
 
 use thiserror::Error;
-use xcp_slave::{Answer, Request};
+use xcp_packet::Packet;
+use xcp_slave::{Answer, Request, Told};
 
 /// Why a station did not take a request. Nothing was executed, and nothing changed.
 #[derive(Clone, Copy, Debug, Error, PartialEq, Eq, Drop)]
@@ -40,10 +42,46 @@ pub trait Station {
     /// What a refusal may mean: in this state it may refuse this request with this error.
     ghost refuses: { Self → Request → StationError → Type 0 };
 
+    /// Answers a request that is lent, and has this exchange from then on. The answer's packet, if
+    /// it is one, stands in the lent packet, which has any bytes otherwise. After an `Err` the
+    /// station is as it was.
+    fn submit_into(&mut self, request: &Request, packet: &mut Packet) -> Result<Told, StationError>
+        ensures ok { IfOk result (λ told. exchanges self.new ≡ exchanges self.old
+            ++ record { request = request.now; answer = answer_in told packet.new } ∷ []) }
+        ensures err { OnErr result (self.new ≡ self.old) }
+        ensures refused { IfErr result (λ e. refuses self.new request.now e) };
+
     /// Answers a request, and has this exchange from then on. After an `Err` it is as it was.
     fn submit(&mut self, request: Request) -> Result<Answer, StationError>
         ensures ok { IfOk result (λ answer. exchanges self.new
             ≡ exchanges self.old ++ record { request = request; answer = answer } ∷ []) }
         ensures err { OnErr result (self.new ≡ self.old) }
-        ensures refused { IfErr result (λ e. refuses self.new request e) };
+        ensures refused { IfErr result (λ e. refuses self.new request e) }
+    {
+        let mut packet = Packet::new();
+        let told = self.submit_into(&request, &mut packet)?;
+        Ok(told.with(packet))
+    }
+}
+
+/// Lays an answer into a packet that is lent, for a station that has answers as values.
+pub fn told_of(answer: &Answer, packet: &mut Packet) -> Told
+    ensures { answer_in result packet.new ≡ answer.now }
+{
+    match answer {
+        Answer::Packet(bytes) => {
+            packet.clear();
+            let _ = packet.try_extend_from_slice(bytes);
+            Told::Packet
+        }
+        Answer::Silent => Told::Silent,
+        Answer::Sampled(count) => Told::Sampled(*count),
+        Answer::Overrun => Told::Overrun,
+        Answer::NoChannel => Told::NoChannel,
+        Answer::BadSignals => Told::BadSignals,
+        Answer::Nothing => Told::Nothing,
+        Answer::Stored(count) => Told::Stored(*count),
+        Answer::NoStore => Told::NoStore,
+        Answer::Later => Told::Later,
+    }
 }

@@ -30,4 +30,4 @@ returns-clause-leaves c =
     let fits : len_of a ≤ c.args.max_cto = grind arith in
     let whole : length a ≡ 4 + len_of a = grind arith in
     let same : c.try_extend_from_slice.new.self.items ≡ drop 4 a = grind (arith, common_steps) in
-    c.clear.ensures ∙ (held_packet _ _ fits whole (grind (arith, common_steps, same))).1
+    c.clear-2.ensures ∙ (held_packet _ _ fits whole (grind (arith, common_steps, same))).1

@@ -1,8 +1,8 @@
-use Rattle.std.proofs.Common.{rules, Err, ℕ, sym, ◌∙◌, ◌≡◌, refl}
+use Rattle.std.proofs.Common.{rules, Ok, Err, ℕ, sym, ◌∙◌, ◌≡◌, refl}
 use Rattle.std.proofs.lemmas.Result.{err_from_is_err_and}
 use Rattle.xcp_slave.specs.Run.{requests_of}
 use Rattle.xcp_framing.proofs.Bytes.{appends_none, front_all, none_more}
-use Rattle.xcp_framing.proofs.Midway.{at_end, at_limit, fed_error, last_error, midway_init}
+use Rattle.xcp_framing.proofs.Midway.{at_end, at_limit, fed_error, last_error, midway_init, midway_step}
 use Rattle.xcp_framing.proofs.Shortage.{fed_short, last_short, memory_as, memory_tells}
 use Rattle.xcp_framing.proofs.replaying.run_script.Goals as goal
 
@@ -60,3 +60,22 @@ returns-in_err-write_out-2-clause-memory g c = λ h.
     fed_short _ _ _ _ _ _ _ _ _ _ _ _ c.max_cto-max_cto.ensures c.loop.invariant.midway c.in-Ok.ensures.bytes.0
     (c.feed-fed.ensures.short short)
     (λ text front. memory_tells (Unit {0}) ℕ c.in_err-write_out-2.field-0.0 _ _ text (sym same ∙ h) (c.in_err-write_out-2.ensures.told _ _ text c.loop.invariant.written (λ known. absurd (known short)) front))
+
+pub loop-preserved : goal.loop-preserved
+loop-preserved g c =
+    let fine : c.feed-fed.result ≡ Ok tt = c.in_ok-write_out-2.ensures.ok in
+    let asked = rw fine at c.feed-fed.ensures.asked in
+    let faults = rw fine at c.feed-fed.ensures.fine in
+    record {
+      midway = midway_step _ _ _ _ _ _ _ _ _ _ _ c.loop.invariant.midway c.in-Ok.ensures.bytes.0 asked faults;
+      written = c.in_ok-write_out-2.ensures.told _ _ _ c.loop.invariant.written
+          (λ known. c.feed-fed.ensures.told known _ (none_more _ _ c.loop.invariant.none_left))
+          (c.feed-fed.ensures.kept _ (front_all _));
+      none_left = c.in_ok-write_out-2.ensures.empty;
+      layout = c.feed-fed.ensures.layout ∙ c.loop.invariant.layout;
+      limit = c.loop.invariant.limit;
+      write_quiet = search rules;
+      calls = search rules;
+      read_quiet = c.in-Ok.ensures.counted.failures ∙ c.loop.invariant.read_quiet;
+      counted = search rules;
+    }

@@ -8,7 +8,7 @@ use Rattle.xcp_framing.proofs.replaying.run_script.Given as goal
 
 abbrev pub invariant-loop : goal.invariant-loop
 invariant-loop g l = record {
-  midway : Midway l.max_cto (g.R.Read.remaining l.fn.reader.inner) (g.R.Read.remaining l.reader.inner) l.pending.line.items l.pending.count (requests_of l.desk.exchanges);
+  midway : Midway l.max_cto (g.R.Read.remaining l.fn.reader.inner) (g.R.Read.remaining l.reader.inner) l.pending.liner.held.items l.pending.count (requests_of l.desk.exchanges);
   written : Appends (g.W.Write.contents l.fn.writer.inner) (g.W.Write.contents l.writer.inner) (told l.desk.exchanges);
   none_left : l.texts.items ≡ [];
   layout : layout_of l.desk.slave ≡ layout_of l.fn.desk.slave;

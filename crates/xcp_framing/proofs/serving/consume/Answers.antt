@@ -1,6 +1,6 @@
 use Rattle.std.proofs.Common.{◌≡◌, ◌-◌, ◌∙◌, ℕ, List, length, take, drop, ap, arith, length-drop, refl}
 use Rattle.std.proofs.lemmas.List.{take_all}
-use Rattle.xcp_framing.proofs.Answering.{passed_on, cons≢nil}
+use Rattle.xcp_framing.proofs.Answering.{passed_on}
 use Rattle.xcp_framing.proofs.Consuming.{consumes_none, consumes_all, consumes_more, consumes_bad, consumes_part}
 use Rattle.xcp_framing.proofs.Refusing.{on_refusal_map, refused_in_piece}
 use Rattle.xcp_framing.proofs.serving.consume.Goals as goal
@@ -21,8 +21,8 @@ returns-in-BadLength-clause-answers g c =
     let i = c.loop-length.used in
     let t = take (length s - i) (drop i s) in
     let all : t ≡ drop i s = take_all (length s - i) (drop i s) (omega (arith, length-drop i s)) in
-    let fed = rw (c.in-BadLength.is, c.loop-length.invariant.kept) at c.feed-fed.ensures.feeds in
-    let bad = rw (c.feed-fed.ensures.kept, c.loop-length.invariant.kept) at c.feed-fed.ensures.bad _ c.in-BadLength.is in
+    let fed = rw (c.in-BadLength.is, c.loop-length.invariant.kept) at c.cut-cut.ensures.feeds in
+    let bad = rw (c.cut-cut.ensures.kept, c.loop-length.invariant.kept) at c.cut-cut.ensures.bad _ c.in-BadLength.is in
     (consumes_bad _ _ _ _ s t _ _ c.loop-length.invariant.consumes all fed bad.0 bad.1).0
 
 pub returns-in-BadLength-clause-ends : goal.returns-in-BadLength-clause-ends
@@ -31,8 +31,8 @@ returns-in-BadLength-clause-ends g c =
     let i = c.loop-length.used in
     let t = take (length s - i) (drop i s) in
     let all : t ≡ drop i s = take_all (length s - i) (drop i s) (omega (arith, length-drop i s)) in
-    let fed = rw (c.in-BadLength.is, c.loop-length.invariant.kept) at c.feed-fed.ensures.feeds in
-    let bad = rw (c.feed-fed.ensures.kept, c.loop-length.invariant.kept) at c.feed-fed.ensures.bad _ c.in-BadLength.is in
+    let fed = rw (c.in-BadLength.is, c.loop-length.invariant.kept) at c.cut-cut.ensures.feeds in
+    let bad = rw (c.cut-cut.ensures.kept, c.loop-length.invariant.kept) at c.cut-cut.ensures.bad _ c.in-BadLength.is in
     let ends = consumes_bad {A = Unit {0}} _ _ _ _ s t _ _ c.loop-length.invariant.consumes all fed bad.0 bad.1 in
     (ends.1, ends.2)
 
@@ -42,8 +42,8 @@ returns-in-More-clause-ends g c =
     let i = c.loop-length.used in
     let t = take (length s - i) (drop i s) in
     let all : t ≡ drop i s = take_all (length s - i) (drop i s) (omega (arith, length-drop i s)) in
-    let fed = rw (c.in-More.is, c.loop-length.invariant.kept) at c.feed-fed.ensures.feeds in
-    let more = rw (c.feed-fed.ensures.kept, c.loop-length.invariant.kept) at c.feed-fed.ensures.more c.in-More.is in
+    let fed = rw (c.in-More.is, c.loop-length.invariant.kept) at c.cut-cut.ensures.feeds in
+    let more = rw (c.cut-cut.ensures.kept, c.loop-length.invariant.kept) at c.cut-cut.ensures.more c.in-More.is in
     let behind = (consumes_all _ _ _ s t _ _ c.loop-length.invariant.consumes all fed more.0).1 in
     (behind, rw behind at more.1)
 
@@ -51,13 +51,13 @@ pub loop-length-preserved : goal.loop-length-preserved
 loop-length-preserved g c =
     let s = c.args.piece.now in
     let i = c.loop-length.used in
-    let j = c.feed-fed.result.used in
+    let j = c.cut-cut.result.used in
     let t = take (length s - i) (drop i s) in
     let all : t ≡ drop i s = take_all (length s - i) (drop i s) (omega (arith, length-drop i s)) in
-    let fed = rw (c.in-Packet.is, c.loop-length.invariant.kept) at c.feed-fed.ensures.feeds in
-    let answered = rw (c.in-Packet.packet-is) at c.in_ok-exchange-in-Packet.ensures.answers in
+    let fed = rw (c.in-Packet.is, c.loop-length.invariant.kept) at c.cut-cut.ensures.feeds in
+    let answered = c.in_ok-exchange-in-Packet.ensures.answers in
     let counted = consumes_more _ j _ s t _ _ _ c.loop-length.invariant.consumes all fed answered in
-    let some = c.feed-fed.ensures.moves (λ e. cons≢nil (rw (c.in-Packet.is) at e)) in
+    let some = c.cut-cut.ensures.moves c.in-Packet.is in
     let left : length t ≡ length s - i = ap (λ (z : List ℕ). length z) all ∙ length-drop i s in
     let limit = c.loop-length.invariant.within in
     let front = fed.front in
@@ -67,7 +67,7 @@ loop-length-preserved g c =
       bound = omega (arith, c.in_ok-exchange-in-Packet.ensures.bound, c.loop-length.invariant.bound, some);
       few = omega (arith, c.loop-length.invariant.few, some);
       quiet = c.in_ok-exchange-in-Packet.ensures.quiet (λ e. cc) ∙ c.loop-length.invariant.quiet;
-      kept = c.feed-fed.ensures.kept ∙ c.loop-length.invariant.kept;
+      kept = c.cut-cut.ensures.kept ∙ c.loop-length.invariant.kept;
     }
 
 pub returns-in_err-exchange-in-Packet-clause-answers :
@@ -77,8 +77,8 @@ returns-in_err-exchange-in-Packet-clause-answers g c =
     let i = c.loop-length.used in
     let t = take (length s - i) (drop i s) in
     let all : t ≡ drop i s = take_all (length s - i) (drop i s) (omega (arith, length-drop i s)) in
-    let fed = rw (c.in-Packet.is, c.loop-length.invariant.kept) at c.feed-fed.ensures.feeds in
-    let part = rw (c.in-Packet.packet-is) at c.in_err-exchange-in-Packet.ensures.answers in
+    let fed = rw (c.in-Packet.is, c.loop-length.invariant.kept) at c.cut-cut.ensures.feeds in
+    let part = c.in_err-exchange-in-Packet.ensures.answers in
     rw (passed_on c.from_residual.result c.in_err-exchange-in-Packet.field-0.0 c.from_residual.ensures.1)
     (consumes_part _ _ _ _ _ s t _ _ _ c.in_err-exchange-in-Packet.ensures.stops c.loop-length.invariant.consumes all fed part)
 
@@ -89,7 +89,7 @@ returns-in_err-exchange-in-Packet-clause-refused g c =
     let i = c.loop-length.used in
     let t = take (length s - i) (drop i s) in
     let all : t ≡ drop i s = take_all (length s - i) (drop i s) (omega (arith, length-drop i s)) in
-    let fed = rw (c.in-Packet.is, c.loop-length.invariant.kept) at c.feed-fed.ensures.feeds in
-    let part = rw (c.in-Packet.packet-is) at c.in_err-exchange-in-Packet.ensures.refused in
+    let fed = rw (c.in-Packet.is, c.loop-length.invariant.kept) at c.cut-cut.ensures.feeds in
+    let part = c.in_err-exchange-in-Packet.ensures.refused in
     rw (passed_on c.from_residual.result c.in_err-exchange-in-Packet.field-0.0 c.from_residual.ensures.1)
     (on_refusal_map (Unit {0}) (Unit {0}) _ _ _ (refused_in_piece _ _ _ _ _ s t _ _ _ c.loop-length.invariant.consumes all fed) part)

@@ -1,6 +1,7 @@
 use Rattle.std.proofs.Common.{◌≡◌, [], ◌∷◌, refl, ◌∙◌, arith, Err}
 use Rattle.xcp_slave.specs.declared.Exchange.{Exchange}
 use Rattle.xcp_slave.specs.declared.Request.TheVariants as requests
+use Rattle.xcp_slave.specs.Told.{answer_in}
 use Rattle.xcp_framing.specs.Serve.{packet_of}
 use Rattle.xcp_framing.specs.Turns.{fine}
 use Rattle.xcp_framing.proofs.Answering.{grows_more, grows_sent, passed_on, drains_one}
@@ -8,20 +9,20 @@ use Rattle.xcp_framing.proofs.serving.drain.Goals as goal
 
 pub returns-in_err-send-clause-drains : goal.returns-in_err-send-clause-drains
 returns-in_err-send-clause-drains g c =
-    let x : Exchange = record { request = requests.Drain; answer = c.in_ok-packet.field-0 } in
-    let packet : packet_of c.in_ok-packet.field-0 ≡ c.in-Packet.packet.items ∷ [] = rw (c.in-Packet.is) refl in
+    let x : Exchange = record { request = requests.Drain; answer = answer_in c.in_ok-submit_into.field-0 c.submit_into.new.packet } in
+    let packet : packet_of (answer_in c.in_ok-submit_into.field-0 c.submit_into.new.packet) ≡ c.submit_into.new.packet.items ∷ [] = rw (c.in-Packet.is) refl in
     rw (passed_on c.from_residual-in_err-send.result c.in_err-send.field-0.0 c.from_residual-in_err-send.ensures.1)
     (grows_more (Err c.in_err-send.field-0.0) {to = c.send.new.self.sent} c.loop-drain.invariant.drains
-    (grows_sent (Err c.in_err-send.field-0.0) x c.in-Packet.packet.items c.in_ok-packet.ensures.ok packet c.in_err-send.ensures.sends tt)
+    (grows_sent (Err c.in_err-send.field-0.0) x c.submit_into.new.packet.items (rw (c.request.ensures) at c.in_ok-submit_into.ensures.ok) packet c.in_err-send.ensures.sends tt)
     (λ xs ys f e. let d = drains_one c.loop-drain._drain x _ refl packet xs ys f e in (d.0, omega (arith, d.1, c.loop-drain-test.true))))
 
 pub loop-drain-preserved : goal.loop-drain-preserved
 loop-drain-preserved g c =
-    let x : Exchange = record { request = requests.Drain; answer = c.in_ok-packet.field-0 } in
-    let packet : packet_of c.in_ok-packet.field-0 ≡ c.in-Packet.packet.items ∷ [] = rw (c.in-Packet.is) refl in
+    let x : Exchange = record { request = requests.Drain; answer = answer_in c.in_ok-submit_into.field-0 c.submit_into.new.packet } in
+    let packet : packet_of (answer_in c.in_ok-submit_into.field-0 c.submit_into.new.packet) ≡ c.submit_into.new.packet.items ∷ [] = rw (c.in-Packet.is) refl in
     record {
       drains = grows_more fine c.loop-drain.invariant.drains
-          (grows_sent fine x c.in-Packet.packet.items c.in_ok-packet.ensures.ok packet c.in_ok-send.ensures.sends c.in_ok-send.ensures.counts)
+          (grows_sent fine x c.submit_into.new.packet.items (rw (c.request.ensures) at c.in_ok-submit_into.ensures.ok) packet c.in_ok-send.ensures.sends c.in_ok-send.ensures.counts)
           (drains_one c.loop-drain._drain x _ refl packet);
       bound = omega (arith, c.in_ok-send.ensures.counts, c.loop-drain.invariant.bound);
       quiet = c.in_ok-send.ensures.fine ∙ c.loop-drain.invariant.quiet;

@@ -4,7 +4,7 @@ use Rattle.xcp_slave.proofs.RunLaws.{run-extended}
 use Rattle.xcp_slave.specs.Told.{answer_in}
 use Rattle.xcp_slave.specs.Value.{layout_of}
 use Rattle.xcp_framing.specs.Desk.{DeskValue}
-use Rattle.xcp_framing.proofs.desk.Desk.submit_into.Goals as goal
+use Rattle.xcp_framing.proofs.desk.DeskStation.submit_into.Goals as goal
 
 pub returns-then-is_err-clause-memory : goal.returns-then-is_err-clause-memory
 returns-then-is_err-clause-memory c = refl

@@ -1,0 +1,118 @@
+//! Scripts in two pieces, cut at each place: their lines are those of the whole.
+use crate::fakes::desk;
+use std::alloc::{AllocError, Global};
+use std::io::Read;
+use std::test::Fail;
+use xcp_framing::{ReplayError, Watched, replay_on};
+
+/// How a script ends, and what is written of it.
+#[derive(Clone, Copy)]
+struct Ends {
+    result: Result<u64, ReplayError>,
+    written: &'static [u8],
+}
+
+/// Whether a script ends so where its reads end at the cut and at its end.
+fn is_cut(alloc: Global, script: &[u8], cut: usize, ends: Ends) -> Result<bool, Fail> {
+    let mut desk = desk(alloc)?;
+    let (front, rest) = script.split_at(cut.min(script.len()));
+    let mut reader = Watched::new(front.chain(rest));
+    let mut writer = Watched::new(Vec::new(alloc));
+    let result = replay_on(alloc, &mut desk, &mut reader, &mut writer, 10);
+    Ok(result == ends.result && writer.into_inner().as_slice() == ends.written)
+}
+
+/// The first place at which the script is cut and doesn't end so.
+fn first_wrong(alloc: Global, script: &[u8], ends: Ends) -> Result<Option<usize>, Fail> {
+    for cut in 0..=script.len() {
+        if !is_cut(alloc, script, cut, ends)? {
+            return Ok(Some(cut));
+        }
+    }
+    Ok(None)
+}
+
+/// Lines with a carriage return and without, empty ones, comments, and a last one that no line feed
+/// ends.
+static SCRIPTS: [(&[u8], Ends); 4] = [
+    (
+        b"FF00\r\n\n\r\nF600000000100000\n# F504\r\nF504\nevent 1 00\r\n\ndrain",
+        Ends {
+            result: Ok(5),
+            written: b"FF05802040000101\nFF\nFF00010203\nno channel\nnothing\n",
+        },
+    ),
+    (
+        b"FF00\n\nF5 0\nFF00\n",
+        Ends {
+            result: Err(ReplayError::Line(3)),
+            written: b"FF05802040000101\n",
+        },
+    ),
+    (
+        b"FF00\r\r\nFF00\n",
+        Ends {
+            result: Err(ReplayError::Line(1)),
+            written: b"",
+        },
+    ),
+    (
+        b"FF00\r\nFF00\r",
+        Ends {
+            result: Err(ReplayError::Line(2)),
+            written: b"FF05802040000101\n",
+        },
+    ),
+];
+
+#[test]
+fn scripts_at_each_cut(rt: HostRuntime) -> Result<(), Fail> {
+    for (number, (script, ends)) in SCRIPTS.iter().enumerate() {
+        assert!(rt;
+            first_wrong(rt.alloc(), script, *ends)?.is_none(),
+            "{number}"
+        );
+    }
+    Ok(())
+}
+
+/// CONNECT, a comment of so many bytes, what ends it, and CONNECT again.
+fn with_comment(alloc: Global, length: usize, end: &[u8]) -> Result<Vec<u8>, AllocError> {
+    let mut script = b"FF00\n".to_vec(alloc)?;
+    for _ in 0..length {
+        script.push(b'#')?;
+    }
+    script.extend_from_slice(end)?;
+    script.extend_from_slice(b"FF00\n")?;
+    Ok(script)
+}
+
+const BOTH: Ends = Ends {
+    result: Ok(2),
+    written: b"FF05802040000101\nFF05802040000101\n",
+};
+
+const FIRST: Ends = Ends {
+    result: Err(ReplayError::Line(2)),
+    written: b"FF05802040000101\n",
+};
+
+/// Before its line feed a line has at most 1,024 bytes, or 1,025 with a carriage return.
+static COMMENTS: [(usize, &[u8], Ends); 4] = [
+    (1024, b"\n", BOTH),
+    (1024, b"\r\n", BOTH),
+    (1025, b"\n", FIRST),
+    (1025, b"\r\n", FIRST),
+];
+
+#[test]
+fn long_lines_at_each_cut(rt: HostRuntime) -> Result<(), Fail> {
+    for (number, (length, end, ends)) in COMMENTS.iter().enumerate() {
+        let script = with_comment(rt.alloc(), *length, end)?;
+        assert!(rt;
+            first_wrong(rt.alloc(), &script, *ends)?.is_none(),
+            "{number}"
+        );
+    }
+    Ok(())
+}

@@ -1,0 +1,186 @@
+//! Requests and packets that are lent to a station, and its answers as values.
+use crate::fakes::desk;
+use crate::stations::Pending;
+use arrayvec::ArrayVec;
+use std::alloc::Global;
+use std::test::Fail;
+use xcp_framing::{Station, StationError, told_of};
+use xcp_packet::Packet;
+use xcp_slave::{Answer, Request};
+
+/// These bytes, in place.
+fn bytes<const N: usize>(from: &[u8]) -> ArrayVec<u8, N> {
+    let mut bytes = ArrayVec::new();
+    let _ = bytes.try_extend_from_slice(from);
+    bytes
+}
+
+/// A request of a script.
+#[derive(Clone, Copy)]
+enum Asks {
+    Command(&'static [u8]),
+    Event(u16, &'static [u8]),
+    Drain,
+    FinishStore,
+    Hangup,
+}
+
+fn request(asks: Asks) -> Request {
+    match asks {
+        Asks::Command(packet) => Request::Command(bytes(packet)),
+        Asks::Event(channel, signals) => Request::Event(channel, bytes(signals)),
+        Asks::Drain => Request::Drain,
+        Asks::FinishStore => Request::FinishStore,
+        Asks::Hangup => Request::Hangup,
+    }
+}
+
+/// What is answered to a request.
+#[derive(Clone, Copy)]
+enum Gives {
+    Silent,
+    Packet(&'static [u8]),
+    Sampled(u8),
+    Overrun,
+    NoChannel,
+    BadSignals,
+    Nothing,
+    Stored(u8),
+    NoStore,
+    Later,
+}
+
+fn answer(gives: Gives) -> Answer {
+    match gives {
+        Gives::Silent => Answer::Silent,
+        Gives::Packet(packet) => Answer::Packet(bytes(packet)),
+        Gives::Sampled(count) => Answer::Sampled(count),
+        Gives::Overrun => Answer::Overrun,
+        Gives::NoChannel => Answer::NoChannel,
+        Gives::BadSignals => Answer::BadSignals,
+        Gives::Nothing => Answer::Nothing,
+        Gives::Stored(count) => Answer::Stored(count),
+        Gives::NoStore => Answer::NoStore,
+        Gives::Later => Answer::Later,
+    }
+}
+
+/// Answers of each kind, the shortest packet and one that is shorter than the one before it.
+static ANSWERS: [Gives; 13] = [
+    Gives::Packet(&[0xFF, 5, 0x80, 0x20, 0x40, 0, 1, 1]),
+    Gives::Silent,
+    Gives::Packet(&[0xFF]),
+    Gives::Sampled(0),
+    Gives::Sampled(64),
+    Gives::Overrun,
+    Gives::NoChannel,
+    Gives::BadSignals,
+    Gives::Nothing,
+    Gives::Stored(4),
+    Gives::NoStore,
+    Gives::Later,
+    Gives::Packet(&[]),
+];
+
+/// Whether an answer that is laid into a packet is read out of it again.
+fn is_laid(gives: Gives) -> bool {
+    let mut packet = bytes(&[7; 255]);
+    let told = told_of(&answer(gives), &mut packet);
+    told.with(packet) == answer(gives)
+}
+
+#[test]
+fn answers_are_laid_into_a_packet(rt: HostRuntime) {
+    for (number, gives) in ANSWERS.iter().enumerate() {
+        assert!(rt; is_laid(*gives), "{number}");
+    }
+}
+
+/// A script, and what the small slave answers to each of its requests.
+static SCRIPT: [(Asks, Gives); 14] = [
+    (Asks::Command(&[0xFC]), Gives::Silent),
+    (
+        Asks::Command(&[0xFF, 0]),
+        Gives::Packet(&[0xFF, 5, 0x80, 0x20, 0x40, 0, 1, 1]),
+    ),
+    (Asks::Drain, Gives::Nothing),
+    (
+        Asks::Command(&[0xF6, 0, 0, 0, 0, 0x10, 0, 0]),
+        Gives::Packet(&[0xFF]),
+    ),
+    (
+        Asks::Command(&[0xF5, 4]),
+        Gives::Packet(&[0xFF, 0, 1, 2, 3]),
+    ),
+    (Asks::Command(&[0xFC]), Gives::Packet(&[0xFE, 0])),
+    (Asks::Event(0, &[1, 2, 3, 4, 5, 6, 7, 8]), Gives::Sampled(0)),
+    (Asks::Event(0, &[1, 2]), Gives::BadSignals),
+    (Asks::Event(1, &[1, 2]), Gives::NoChannel),
+    (Asks::FinishStore, Gives::NoStore),
+    (Asks::Hangup, Gives::Silent),
+    (Asks::Command(&[0xF5, 4]), Gives::Silent),
+    (
+        Asks::Command(&[0xFF, 0]),
+        Gives::Packet(&[0xFF, 5, 0x80, 0x20, 0x40, 0, 1, 1]),
+    ),
+    (Asks::Hangup, Gives::Silent),
+];
+
+/// The answer in a packet that is lent, or the refusal.
+fn lent<S: Station>(station: &mut S, asks: Asks) -> Result<Answer, StationError> {
+    let mut packet = bytes(&[7; 255]);
+    let told = station.submit_into(&request(asks), &mut packet)?;
+    Ok(told.with(packet))
+}
+
+/// The first request of the script that isn't answered so by both of two desks, one of which is lent
+/// its requests, or that these don't store alike.
+fn first_wrong(alloc: Global) -> Result<Option<usize>, Fail> {
+    let mut lender = desk(alloc)?;
+    let mut giver = desk(alloc)?;
+    for (number, (asks, gives)) in SCRIPT.iter().enumerate() {
+        let by_lender = lent(&mut lender, *asks);
+        let by_giver = giver.submit(request(*asks));
+        let answered = by_lender == Ok(answer(*gives)) && by_giver == Ok(answer(*gives));
+        let stored = lender.trace().get(number);
+        if !answered || stored.is_none() || stored != giver.trace().get(number) {
+            return Ok(Some(number));
+        }
+    }
+    Ok(None)
+}
+
+#[test]
+fn a_desk_answers_what_is_lent_as_what_is_given(rt: HostRuntime) -> Result<(), Fail> {
+    assert_eq!(rt; first_wrong(rt.alloc())?, None);
+    Ok(())
+}
+
+/// Requests to a station that has one packet of one byte for Drains, and what it answers.
+static DRAINED: [(Asks, Gives); 4] = [
+    (Asks::Command(&[0xFC]), Gives::Silent),
+    (Asks::Drain, Gives::Packet(&[0xFD])),
+    (Asks::Drain, Gives::Nothing),
+    (Asks::Hangup, Gives::Silent),
+];
+
+/// The first request that isn't answered so by `submit`, of a station that has `submit_into` alone of
+/// its own; and how many exchanges it has had.
+fn first_wrong_value(alloc: Global) -> (Option<usize>, usize) {
+    let mut station = Pending {
+        exchanges: Vec::new(alloc),
+        packets: 1,
+    };
+    for (number, (asks, gives)) in DRAINED.iter().enumerate() {
+        if station.submit(request(*asks)) != Ok(answer(*gives)) {
+            return (Some(number), station.exchanges.len());
+        }
+    }
+    (None, station.exchanges.len())
+}
+
+/// `submit` of a station stands over its `submit_into`.
+#[test]
+fn a_station_that_is_lent_packets_gives_answers(rt: HostRuntime) {
+    assert!(rt; first_wrong_value(rt.alloc()) == (None, 4));
+}
