@@ -61,7 +61,7 @@ fn connection_and_task_run_at_one_time(rt: HostRuntime) -> Result<(), Fail> {
     let ends = Vec::from_array(alloc, [end])?;
     let came = serve_some(&rt, alloc, 3, ends, 2, &crossing, None)?;
     let ends = Vec::from_array(alloc, [Ok(Served { frames: 1, sent: 1 })])?;
-    let wanted: Came = (ends, None, Ok(9));
+    let wanted: Came = (ends, None, Ok(9), Some(2));
     assert!(rt; came == wanted);
     Ok(())
 }

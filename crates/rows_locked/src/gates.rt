@@ -1,6 +1,7 @@
 // Tasks that wait for one another: one after another they would spend their gate.
 ghost use Rattle.std.specs.Prelude.{◌≡◌};
 
+use crate::images::worker;
 use crate::openings::unnamed;
 use std::alloc::Global;
 use std::marker::Brand;
@@ -10,7 +11,7 @@ use std::sync::{Mutex, Wait};
 use std::test::Fail;
 use std::thread;
 use std::thread::Threads;
-use xcp_locked::{Gate, Locked, Name, Opening, TaskError, Unnamed, Worker, run_tasks};
+use xcp_locked::{Gate, Locked, Name, Opening, TaskError, Unnamed, run_tasks};
 
 // How often a gate looks before it gives up.
 const LOOKS: u32 = 1_000_000;
@@ -53,18 +54,17 @@ fn run_held<N: Name + Send + Sync, R: Threads + Wait + Abort + Sync>(
     unnamed: Unnamed,
     task: u8,
 ) -> Result<(Option<TaskError>, u64), Fail>
-    requires { (unnamed.name ≡ N.name) × (unnamed.callers ≡ N.parts) }
+    requires { (unnamed.name ≡ N.name) × (unnamed.callers ≡ N.parts)
+        × (unnamed.layout ≡ N.layout) × (unnamed.bank ≡ N.bank) }
 {
     let Opening {
         locked,
         mut callers,
+        readers,
     } = Locked::<N>::new(alloc, unnamed)?;
-    let one = Worker {
-        caller: callers.pop().ok_or("a caller")?,
-    };
-    let other = Worker {
-        caller: callers.pop().ok_or("a caller")?,
-    };
+    let mut readers = Vec::from_array(alloc, readers)?;
+    let one = worker(&mut callers, &mut readers)?;
+    let other = worker(&mut callers, &mut readers)?;
     let workers = Vec::from_array(alloc, [one, other])?;
     let lock = Mutex::new(locked);
     let gate = Held {

@@ -32,11 +32,13 @@ type Filled = (
 );
 
 fn fill<N: Name>(alloc: Global, unnamed: Unnamed) -> Result<Filled, Fail>
-    requires { (unnamed.name ≡ N.name) × (unnamed.callers ≡ N.parts) }
+    requires { (unnamed.name ≡ N.name) × (unnamed.callers ≡ N.parts)
+        × (unnamed.layout ≡ N.layout) × (unnamed.bank ≡ N.bank) }
 {
     let Opening {
         mut locked,
         mut callers,
+        ..
     } = Locked::<N>::new(alloc, unnamed)?;
     let mut one = callers.pop().ok_or("a caller")?;
     let other = callers.pop().ok_or("a caller")?;
@@ -61,14 +63,23 @@ fn full_journal_refuses(rt: HostRuntime) -> Result<(), Fail> {
     Ok(())
 }
 
+// Alters the answer of one receipt.
+fn spoil<N: Name>(caller: &mut Caller<N>, at: usize) {
+    if let Some(receipt) = caller.receipts.get_mut(at) {
+        receipt.answer = Answer::Silent;
+    }
+}
+
 // Two callers in turn, four calls each; then the last answer of one is altered, and a receipt of
 // the other is lost.
 fn altered<N: Name>(alloc: Global, unnamed: Unnamed) -> Result<[Result<(), Mismatch>; 4], Fail>
-    requires { (unnamed.name ≡ N.name) × (unnamed.callers ≡ N.parts) }
+    requires { (unnamed.name ≡ N.name) × (unnamed.callers ≡ N.parts)
+        × (unnamed.layout ≡ N.layout) × (unnamed.bank ≡ N.bank) }
 {
     let Opening {
         mut locked,
         mut callers,
+        ..
     } = Locked::<N>::new(alloc, unnamed)?;
     let mut one = callers.pop().ok_or("a caller")?;
     let mut other = callers.pop().ok_or("a caller")?;
@@ -78,9 +89,7 @@ fn altered<N: Name>(alloc: Global, unnamed: Unnamed) -> Result<[Result<(), Misma
     }
     let before = locked.settle(&one);
     let beside = locked.settle(&other);
-    if let Some(receipt) = one.receipts.get_mut(3) {
-        receipt.answer = Answer::Silent;
-    }
+    spoil(&mut one, 3);
     other.receipts.pop();
     Ok([before, beside, locked.settle(&one), locked.settle(&other)])
 }

@@ -2,15 +2,25 @@
 #![tactic(auto)]
 
 #[cfg(test)]
+mod asking;
+#[cfg(test)]
 mod crossings;
 #[cfg(test)]
+mod crowds;
+#[cfg(test)]
 mod gates;
+#[cfg(test)]
+mod images;
 #[cfg(test)]
 mod journals;
 #[cfg(test)]
 mod meetings;
 #[cfg(test)]
 mod openings;
+#[cfg(test)]
+mod readers;
+#[cfg(test)]
+mod rows;
 #[cfg(test)]
 mod servers;
 #[cfg(test)]

@@ -1,4 +1,4 @@
-// A small slave that no type names yet.
+// Small slaves that no type names yet.
 ghost use Rattle.std.specs.Prelude.{◌≡◌, ◌≤◌, IfOk};
 
 use std::alloc::Global;
@@ -7,12 +7,12 @@ use xcp_locked::Unnamed;
 use xcp_memory::{EventPart, Layout, Parts, SegmentPart};
 use xcp_packet::Order;
 
-// MAX_CTO 32, one segment of 4 bytes at 0x1000, 8 bytes of signals at 0x8000, one event channel.
-fn layout(alloc: Global) -> Result<Layout, Fail> {
+// MAX_CTO 32, one segment at 0x1000, 8 bytes of signals at 0x8000, one event channel.
+fn layout(alloc: Global, bytes: &[u8], pages: i64) -> Result<Layout, Fail> {
     let segment = SegmentPart {
         address: 0x1000,
-        bytes: [0, 1, 2, 3].to_vec(alloc)?,
-        pages: 2,
+        bytes: bytes.to_vec(alloc)?,
+        pages,
     };
     let event = EventPart {
         name: b"10ms".to_vec(alloc)?,
@@ -33,9 +33,20 @@ fn layout(alloc: Global) -> Result<Layout, Fail> {
     })?)
 }
 
+// One whose segment has four bytes and two pages.
 pub fn unnamed(alloc: Global, callers: u8) -> Result<Unnamed, Fail>
     requires { (1 ≤ callers) × (callers ≤ 16) }
     ensures { IfOk result (λ u. u.callers ≡ callers) }
 {
-    Ok(Unnamed::new(alloc, layout(alloc)?, callers)?)
+    let layout = layout(alloc, &[0, 1, 2, 3], 2)?;
+    Ok(Unnamed::new(alloc, layout, callers)?)
+}
+
+// One whose segment has 48 bytes, all 0, and three pages.
+pub fn blank(alloc: Global, callers: u8) -> Result<Unnamed, Fail>
+    requires { (1 ≤ callers) × (callers ≤ 16) }
+    ensures { IfOk result (λ u. u.callers ≡ callers) }
+{
+    let layout = layout(alloc, &[0; 48], 3)?;
+    Ok(Unnamed::new(alloc, layout, callers)?)
 }

@@ -2,23 +2,28 @@
 ghost use Rattle.std.specs.Prelude.{◌≡◌, ◌<◌, ◌≤◌, ◌+◌, vec_len};
 
 use crate::openings::unnamed;
+use crate::streams::Hole;
 use std::alloc::Global;
-use std::io::{Read, Write};
+use std::io::Read;
 use std::marker::Brand;
 use std::sync::Wait;
 use std::test::Fail;
 use std::thread::Threads;
 use xcp_framing::{ServeError, Served, Watched};
-use xcp_locked::{Closing, Gate, Name, TaskError, Unnamed, Unsettled, run_server, settle_all};
+use xcp_locked::{
+    Closing, Gate, Name, Reader, TaskError, Unnamed, Unsettled, run_server, settle_all,
+};
 use xcp_slave::Answer;
 
-pub type Ends<I, O> = Vec<(Watched<I>, Watched<O>)>;
+pub type Ends<I> = Vec<(Watched<I>, Watched<Hole>)>;
 
-// The ends of the connections, the tasks' fault, and what settling says.
+// The ends of the connections, the tasks' fault, what settling says, and how many of the six readers
+// hold an image.
 pub type Came = (
     Vec<Result<Served, ServeError>>,
     Option<TaskError>,
     Result<u64, Unsettled>,
+    Option<usize>,
 );
 
 // A gate that lets everybody go on.
@@ -38,7 +43,7 @@ impl Gate for Open {
 // Where one receipt is altered: that of a caller at an index.
 pub type Altered = Option<(usize, usize)>;
 
-fn alter<N: Name, I: Read + Drop, O: Write + Drop>(closing: &mut Closing<N, I, O>, altered: Altered)
+fn alter<N: Name, I: Read + Drop>(closing: &mut Closing<N, I, Hole>, altered: Altered)
     ensures { vec_len closing.new.callers ≡ vec_len closing.old.callers }
 {
     let Some((caller, at)) = altered else {
@@ -52,52 +57,64 @@ fn alter<N: Name, I: Read + Drop, O: Write + Drop>(closing: &mut Closing<N, I, O
     }
 }
 
+// How many readers hold an image, if there are six, and these stand first.
+fn holding<N: Name>(readers: &[Reader<N>]) -> Option<usize> {
+    let mut count = 0;
+    for (number, reader) in readers.iter().enumerate() {
+        if !reader.holds() {
+            continue;
+        }
+        if number != count {
+            return None;
+        }
+        count = number + 1;
+    }
+    if readers.len() == 6 {
+        Some(count)
+    } else {
+        None
+    }
+}
+
 // A server of so many tasks, of two cycles each, behind which a receipt may be altered.
-fn served<
-    N: Name + Send + Sync,
-    G: Gate + Sync,
-    I: Read + Send + Drop,
-    O: Write + Send + Drop,
-    R: Threads + Wait + Sync,
->(
+fn served<N: Name + Send + Sync, G: Gate + Sync, I: Read + Send + Drop, R: Threads + Wait + Sync>(
     rt: &R,
     alloc: Global,
     unnamed: Unnamed,
-    ends: Ends<I, O>,
+    ends: Ends<I>,
     tasks: u8,
     gate: &G,
     altered: Altered,
 ) -> Result<Came, Fail>
-    requires name { (unnamed.name ≡ N.name) × (unnamed.callers ≡ N.parts) }
+    requires name { (unnamed.name ≡ N.name) × (unnamed.callers ≡ N.parts)
+        × (unnamed.layout ≡ N.layout) × (unnamed.bank ≡ N.bank) }
     requires some { 0 < vec_len ends }
     requires callers { vec_len ends + tasks ≤ unnamed.callers }
+    requires readers { tasks ≤ 6 }
 {
-    let mut closing: Closing<N, I, O> = run_server(
+    let mut closing: Closing<N, I, Hole> = run_server(
         rt, alloc, unnamed, ends, tasks, 2, 1_000, gate,
     )?;
     alter(&mut closing, altered);
     let settled = settle_all(&mut closing);
-    Ok((closing.ends, closing.fault, settled))
+    let holding = holding(&closing.readers);
+    Ok((closing.ends, closing.fault, settled, holding))
 }
 
 // The same of a small slave with so many callers.
-pub fn serve_some<
-    G: Gate + Sync,
-    I: Read + Send + Drop,
-    O: Write + Send + Drop,
-    R: Threads + Wait + Sync,
->(
+pub fn serve_some<G: Gate + Sync, I: Read + Send + Drop, R: Threads + Wait + Sync>(
     rt: &R,
     alloc: Global,
     callers: u8,
-    ends: Ends<I, O>,
+    ends: Ends<I>,
     tasks: u8,
     gate: &G,
     altered: Altered,
 ) -> Result<Came, Fail>
     requires some { 0 < vec_len ends }
     requires callers { (vec_len ends + tasks ≤ callers) × (callers ≤ 16) }
+    requires readers { tasks ≤ 6 }
 {
     let unnamed = unnamed(alloc, callers)?;
-    served::<Brand, G, I, O, R>(rt, alloc, unnamed, ends, tasks, gate, altered)
+    served::<Brand, G, I, R>(rt, alloc, unnamed, ends, tasks, gate, altered)
 }

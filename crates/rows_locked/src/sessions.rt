@@ -36,9 +36,9 @@ fn calls_are_counted(rt: HostRuntime) -> Result<(), Fail> {
     let alone = serve_some(&rt, alloc, 1, ends, 0, &Open, None)?;
     let ends = Vec::from_array(alloc, [pieces(&CONNECT, 6, 6)])?;
     let busy = serve_some(&rt, alloc, 4, ends, 2, &Open, None)?;
-    let wanted: Came = (Vec::from_array(alloc, [Ok(ONE)])?, None, Ok(3));
+    let wanted: Came = (Vec::from_array(alloc, [Ok(ONE)])?, None, Ok(3), Some(0));
     assert!(rt; alone == wanted);
-    let wanted: Came = (Vec::from_array(alloc, [Ok(ONE)])?, None, Ok(9));
+    let wanted: Came = (Vec::from_array(alloc, [Ok(ONE)])?, None, Ok(9), Some(2));
     assert!(rt; busy == wanted);
     Ok(())
 }
@@ -59,7 +59,12 @@ fn two_tools<R: Threads + Wait + Sync>(
 #[test]
 fn cut_streams_settle(rt: HostRuntime) -> Result<(), Fail> {
     let alloc = rt.alloc();
-    let wanted: Came = (Vec::from_array(alloc, [Ok(TWO), Ok(TWO)])?, None, Ok(15));
+    let wanted: Came = (
+        Vec::from_array(alloc, [Ok(TWO), Ok(TWO)])?,
+        None,
+        Ok(15),
+        Some(2),
+    );
     let mut good = two_tools(&rt, alloc, 1, 1)? == wanted;
     for first in 1..12 {
         good = good && two_tools(&rt, alloc, first, 11)? == wanted;
@@ -74,7 +79,7 @@ fn altered_receipt_is_found(rt: HostRuntime) -> Result<(), Fail> {
     let one = pieces(&STATUS, 11, 11);
     let other = pieces(&STATUS, 11, 11);
     let ends = Vec::from_array(alloc, [one, other])?;
-    let (_, _, settled) = serve_some(&rt, alloc, 4, ends, 2, &Open, Some((1, 3)))?;
+    let (_, _, settled, _) = serve_some(&rt, alloc, 4, ends, 2, &Open, Some((1, 3)))?;
     assert!(rt; settled == Err(Unsettled { caller: 1, at: 3 }));
     Ok(())
 }
@@ -103,10 +108,10 @@ fn one_connection_fails(rt: HostRuntime) -> Result<(), Fail> {
     let read = one_fails(&rt, alloc, 1, 1_000)?;
     let write = one_fails(&rt, alloc, 2, 11)?;
     let ends = Vec::from_array(alloc, [Err(ServeError::Read), Ok(ONE)])?;
-    let wanted: Came = (ends, None, Ok(5));
+    let wanted: Came = (ends, None, Ok(5), Some(0));
     assert!(rt; read == wanted);
     let ends = Vec::from_array(alloc, [Err(ServeError::Write), Ok(ONE)])?;
-    let wanted: Came = (ends, None, Ok(5));
+    let wanted: Came = (ends, None, Ok(5), Some(0));
     assert!(rt; write == wanted);
     Ok(())
 }

@@ -6,6 +6,7 @@ use denote.Struct.Declared as declared
 use denote.Struct.Struct.{Struct}
 use Rattle.std.proofs.Crossing.{crosses}
 use Rattle.std.specs.declared.sync.ledger.Ledger as Ledger
+use Rattle.xcp_locked.specs.declared.name.Name as Name
 use Rattle.xcp_framing.proofs.serving.ServeError.TheSendSync as error
 use Rattle.xcp_framing.proofs.serving.Served.TheSendSync as served
 use Rattle.xcp_framing.specs.contracts.tally.Tally as Tally
@@ -27,11 +28,11 @@ tally_crosses = search (sendable, crosses) depth 20
 watched_crosses : (T : RattleType) → IsSend T → IsSend (Watched.the_row T)
 watched_crosses T s = view_send (Inside.the_row T) _ _ _ _ (struct_crosses (Inside.the_type T) (s, (tally_crosses, (tally_crosses, tt))))
 
-pub closed_crosses : (N I O : RattleType) (g : Ledger.Ghosts N.Denot) → IsSend (Closed.the_row N I O g)
-closed_crosses N I O g =
-    struct_crosses (Closed.the_type N I O g) (caller.the_send N g, (search (sendable, crosses, error.the_send, served.the_send) depth 20, (search (sendable, crosses) depth 20, tt)))
+pub closed_crosses : (N I O : RattleType) (g : Name.Ghosts N.Denot) (l : Ledger.Ghosts N.Denot) → IsSend (Closed.the_row N I O g l)
+closed_crosses N I O g l =
+    struct_crosses (Closed.the_type N I O g l) (caller.the_send N g l, (search (sendable, crosses, error.the_send, served.the_send) depth 20, (search (sendable, crosses) depth 20, tt)))
 
-pub connection_crosses : (κ : NamedLft) (N I O : RattleType) (g : Ledger.Ghosts N.Denot) → IsSend I → IsSend O → IsSend (Connection.the_row κ N I O g)
-connection_crosses κ N I O g i o =
-    struct_crosses (Connection.the_type κ N I O g)
-    (search (sendable, crosses, locked.the_send) depth 20, (caller.the_send N g, (watched_crosses I i, (watched_crosses O o, (search (sendable, crosses) depth 20, (search sendable, (search sendable, tt)))))))
+pub connection_crosses : (κ : NamedLft) (N I O : RattleType) (g : Name.Ghosts N.Denot) (l : Ledger.Ghosts N.Denot) → IsSend I → IsSend O → IsSend (Connection.the_row κ N I O g l)
+connection_crosses κ N I O g l i o =
+    struct_crosses (Connection.the_type κ N I O g l)
+    (search (sendable, crosses, locked.the_send) depth 20, (caller.the_send N g l, (watched_crosses I i, (watched_crosses O o, (search (sendable, crosses) depth 20, (search sendable, (search sendable, tt)))))))

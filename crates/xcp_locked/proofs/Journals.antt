@@ -7,12 +7,16 @@ use Rattle.xcp_slave.specs.Value.{SlaveValue, layout_of, opening}
 use Rattle.xcp_slave.specs.Step.{Answers}
 use Rattle.xcp_slave.specs.Run.{Run}
 use Rattle.xcp_slave.proofs.RunLaws.{run-extended}
-use Rattle.xcp_locked.specs.declared.entry.Entry.{Entry}
+use Rattle.xcp_trace.specs.declared.Entry.{Entry}
 use Rattle.xcp_locked.specs.Journal.{entry, exchanges}
 
-exchanges_snoc : (es : List Entry) (e : Entry) → exchanges (es ++ e ∷ []) ≡ exchanges es ++ e.exchange ∷ []
+pub exchanges_snoc : (es : List Entry) (e : Entry) → exchanges (es ++ e ∷ []) ≡ exchanges es ++ e.exchange ∷ []
 exchanges_snoc [] e = refl
 exchanges_snoc (x ∷ es) e = ap (λ (z : List Exchange). x.exchange ∷ z) (exchanges_snoc es e)
+
+-- before any call
+pub run_first : (v : SlaveValue) (es : List Entry) → es ≡ [] → v ≡ opening (layout_of v) → Run (opening (layout_of v)) (exchanges es) v
+run_first v es none is = subst (λ (z : List Entry). Run (opening (layout_of v)) (exchanges z) v) (sym none) is
 
 -- the run of a journal goes on by one call
 pub run_snoc : (v : SlaveValue) (es : List Entry) (by : ℕ) (q : Request) (a : Answer) (w : SlaveValue) → Run (opening (layout_of v)) (exchanges es) v → Answers v q a w → Run (opening (layout_of w)) (exchanges (es ++ entry by q a ∷ [])) w

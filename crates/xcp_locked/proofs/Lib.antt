@@ -1,8 +1,15 @@
 pub mod Callers
+pub mod Commands
 pub mod Crossing
 pub mod Journals
 pub mod Places
 pub mod Plans
+pub mod Publications
+pub mod PublishedLaws
 pub mod Runs
 pub mod Served
+pub mod SettlingLaws
+pub mod Settlings
+pub mod Taking
 pub mod Tallies
+pub mod Turns

@@ -1,6 +1,6 @@
 -- What the cycles submit, put together.
-use Rattle.std.proofs.Common.{◌≡◌, ◌≢◌, ℕ, zero, suc, ◌+◌, ◌-◌, ◌*◌, ◌<◌, ◌≤◌, Bool, true, false, true≢false, List, [], ◌∷◌, ◌++◌, map, sym, refl, ap, ◌∙◌, subst, eqb, cond, arith, append_assoc, ◌%◌, ne_eqb, eq-eqb}
-use Rattle.xcp_locked.specs.declared.entry.Receipt.{Receipt}
+use Rattle.std.proofs.Common.{◌≡◌, ℕ, zero, suc, ◌+◌, ◌-◌, ◌≤◌, Bool, true, false, true≢false, List, [], ◌∷◌, ◌++◌, sym, refl, ap, ◌∙◌, subst, cond, arith, append_assoc, ne_eqb, eq-eqb}
+use Rattle.xcp_locked.specs.declared.receipt.Receipt.{Receipt}
 use Rattle.std.specs.Prelude.{Result, Ok, Err, IfOk}
 use Rattle.xcp_slave.specs.declared.request.Request.{Request}
 use Rattle.xcp_slave.specs.declared.request.Request.TheVariants as requests

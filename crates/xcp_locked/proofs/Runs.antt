@@ -1,10 +1,9 @@
 -- Tasks that ran, one by one.
-use Rattle.std.proofs.Common.{◌≡◌, ℕ, List, [], ◌∷◌, ◌++◌, refl, sym, ap, ◌∙◌, subst}
-use Rattle.std.specs.Prelude.{Option, Some, None}
-use Rattle.xcp_locked.specs.Caller.{CallerValue}
+use Rattle.std.proofs.Common.{◌≡◌, ℕ, List, [], ◌∷◌, ◌++◌, refl, ap, ◌∙◌, subst}
+use Rattle.std.specs.Prelude.{Option, Some, None, is_none, true}
 use Rattle.xcp_locked.specs.declared.tasks.TaskError.{TaskError}
 use Rattle.xcp_locked.specs.declared.tasks.Done.{Done}
-use Rattle.xcp_locked.specs.declared.tasks.Worker.{Worker}
+use Rattle.xcp_locked.specs.declared.worker.Worker.{Worker}
 use Rattle.xcp_locked.specs.Running.{first_fault, or_else}
 use Rattle.xcp_locked.specs.Tasks.{Worked}
 
@@ -22,11 +21,16 @@ first_fault-more [] d = or_else_none d.fault
 first_fault-more (x ∷ done) d = ap (λ z. or_else x.fault z) (first_fault-more done d) ∙ or_else_assoc x.fault (first_fault done) d.fault
 
 -- what a task did, said of its worker
-pub worked_as : {N : Type 0} (cycles cycles' task task' : ℕ) (w w' : Worker N) (new : CallerValue) (fault : Option TaskError) → task' ≡ task → cycles' ≡ cycles → w' ≡ w → Worked cycles' task' w'.caller new fault → Worked cycles task w.caller new fault
-worked_as cycles cycles' task task' w w' new fault t n e h =
-    subst (λ (x : Worker _). Worked cycles task x.caller new fault) e (subst (λ (k : ℕ). Worked k task w'.caller new fault) n (subst (λ (k : ℕ). Worked cycles' k w'.caller new fault) t h))
+pub worked_as : {N : Type 0} (cycles cycles' task task' : ℕ) (w w' new : Worker N) (fault : Option TaskError) → task' ≡ task → cycles' ≡ cycles → w' ≡ w → Worked cycles' task' w' new fault → Worked cycles task w new fault
+worked_as {N} cycles cycles' task task' w w' new fault t n e h =
+    subst (λ (x : Worker N). Worked cycles task x new fault) e (subst (λ (k : ℕ). Worked k task w' new fault) n (subst (λ (k : ℕ). Worked cycles' k w' new fault) t h))
 
 -- a fault that is there stays the first
 pub or_else_stays : (a b : Option TaskError) → ¬ (a ≡ None) → or_else a b ≡ a
 or_else_stays None b h = absurd (h refl)
 or_else_stays (Some e) b h = refl
+
+-- nothing was told
+pub none_left : {A : Type 0} (o : Option A) → ((x : A) → o ≡ Some x → ⊥) → is_none o ≡ true
+none_left None h = refl
+none_left (Some x) h = absurd (h x refl)

@@ -1,8 +1,9 @@
 -- Connections that were served, and the callers that come back.
 use Rattle.std.proofs.Common.{◌≡◌, ℕ, zero, suc, ◌+◌, ◌≤◌, List, [], ◌∷◌, ◌++◌, length, map, refl, sym, ap, ◌∙◌, subst, append_assoc, length-append, length-set, ⊎_elim, arith}
-use Rattle.std.specs.Prelude.{Option, Some, None, slice_set}
+use Rattle.std.specs.Prelude.{Option, Some}
 use Rattle.std.specs.List.{slice_get}
 use Rattle.std.specs.Vec.Iter.{into_iter_items}
+use Rattle.xcp_bank.specs.Ends.{ReaderEnd}
 use Rattle.xcp_framing.specs.Watched.{Watched}
 use Rattle.xcp_memory.specs.Layout.{LayoutValue}
 use Rattle.xcp_locked.specs.declared.connection.Connection.{Connection}
@@ -62,7 +63,7 @@ module _ {I O N : Type 0} (remaining : I → Option (List ℕ)) (contents : O �
         (subst (λ k. Attended remaining contents k turns c.reader c.writer c.caller d) is.max_cto (subst (λ k. Attended remaining contents c.max_cto k c.reader c.writer c.caller d) is.reads h)));
   }
 
-module _ {N G I O : Type 0} (m turns cycles tasks : ℕ) (opened : List CallerValue) (ends : List (Watched I × Watched O)) (d : Duties N G I O) (deal : Dealt m turns cycles tasks opened ends d) where
+module _ {N G I O : Type 0} (m turns cycles tasks : ℕ) (opened : List CallerValue) (readers : List ReaderEnd) (ends : List (Watched I × Watched O)) (d : Duties N G I O) (deal : Dealt m turns cycles tasks opened readers ends d) where
   abbrev tools : List CallerValue
   tools = map (λ c. c.caller) d.connections.items
 
@@ -84,6 +85,14 @@ module _ {N G I O : Type 0} (m turns cycles tasks : ℕ) (opened : List CallerVa
       let w = length_map (λ w. w.caller) deal.workers in
       let t = as_many_tools in let n = deal.hired in omega (arith, whole, a, b, w, t, n)
 
+  -- the tasks' readers and the unused ones are all
+  pub as_many_readers : tasks + length (into_iter_items d.unused) ≡ length readers
+  as_many_readers =
+      let whole = ap length deal.readers_in_order in
+      let a = length-append (map (λ w. w.reader) deal.workers) (into_iter_items d.unused) in
+      let w = length_map (λ w. w.reader) deal.workers in
+      let n = deal.hired in omega (arith, whole, a, w, n)
+
   -- each connection was served for the caller of its place
   pub all_served : (remaining : I → Option (List ℕ)) (contents : O → Option (List ℕ)) (closed : List (Closed N I O)) → EachFrom (ClosedAs remaining contents) 0 d.connections.items closed → EachFrom (ServedAt remaining contents m turns opened) 0 ends closed
   all_served remaining contents closed =
@@ -96,7 +105,7 @@ module _ {N G I O : Type 0} (m turns cycles tasks : ℕ) (opened : List CallerVa
   pub all_worked : (done : List (Done N)) → EachFrom DoneAs 0 d.tasks.items done → EachFrom (WorkedAs cycles) 0 deal.workers done
   all_worked done =
       each_through (IsTaskOf cycles) DoneAs (WorkedAs cycles)
-      (λ i w t k is h. worked_as cycles t.cycles i t.task w t.worker k.worker.caller k.fault is.number is.cycles_are is.worker h) 0 deal.workers d.tasks.items done deal.numbered
+      (λ i w t k is h. worked_as cycles t.cycles i t.task w t.worker k.worker k.fault is.number is.cycles_are is.worker h) 0 deal.workers d.tasks.items done deal.numbered
 
   -- as many callers come back as were dealt out
   pub all_there : (closed : List (Closed N I O)) (done : List (Done N)) → length closed ≡ length d.connections.items → length done ≡ length d.tasks.items → (length closed + length done) + length (into_iter_items d.spare) ≡ length opened
@@ -113,10 +122,10 @@ module _ {N G I O : Type 0} (m turns cycles tasks : ℕ) (opened : List CallerVa
       let q = length_map (λ k. k.worker.caller) done in
       omega (arith, there, x, y, p, q)
 
--- the same MAX_CTO and the same callers
-pub dealt_as : {N G I O : Type 0} (m m' turns cycles tasks : ℕ) (opened opened' : List CallerValue) (ends : List (Watched I × Watched O)) (d : Duties N G I O) → m ≡ m' → opened ≡ opened' → Dealt m turns cycles tasks opened ends d → Dealt m' turns cycles tasks opened' ends d
-dealt_as m m' turns cycles tasks opened opened' ends d e f h =
-    subst (λ k. Dealt k turns cycles tasks opened' ends d) e (subst (λ cs. Dealt m turns cycles tasks cs ends d) f h)
+-- the same MAX_CTO, the same callers and the same readers
+pub dealt_as : {N G I O : Type 0} (m m' turns cycles tasks : ℕ) (opened opened' : List CallerValue) (readers readers' : List ReaderEnd) (ends : List (Watched I × Watched O)) (d : Duties N G I O) → m ≡ m' → opened ≡ opened' → readers ≡ readers' → Dealt m turns cycles tasks opened readers ends d → Dealt m' turns cycles tasks opened' readers' ends d
+dealt_as m m' turns cycles tasks opened opened' readers readers' ends d e f r h =
+    subst (λ rs. Dealt m' turns cycles tasks opened' rs ends d) r (subst (λ k. Dealt k turns cycles tasks opened' readers ends d) e (subst (λ cs. Dealt m turns cycles tasks cs readers ends d) f h))
 
 -- what is left of the callers behind the first ones
 pub left_over : {A B : Type 0} (f : B → A) (dealt : List B) (rest all given : List A) (n : ℕ) → length dealt ≡ n → map f dealt ++ rest ≡ all → all ≡ given → n + length rest ≡ length given
@@ -129,18 +138,21 @@ left_over f dealt rest all given n len whole is =
 pub hung_up_as : (before before' after : Option TaskError) (old old' new : List CallerValue) → before ≡ before' → old ≡ old' → HungUp before after old new → HungUp before' after old' new
 hung_up_as before before' after old old' new e f h = subst (λ b. HungUp b after old' new) e (subst (λ cs. HungUp before after cs new) f h)
 
-pub room_for_fewer : {N I O : Type 0} (k k' e e' w w' : ℕ) (r : Rooms N I O) → k' ≤ k → e' ≤ e → w' ≤ w → IsRoom k e w r → IsRoom k' e' w' r
-room_for_fewer k k' e e' w w' r a b c h =
+pub room_for_fewer : {N I O : Type 0} (k k' e e' w w' n n' : ℕ) (r : Rooms N I O) → k' ≤ k → e' ≤ e → w' ≤ w → n' ≤ n → IsRoom k e w n r → IsRoom k' e' w' n' r
+room_for_fewer k k' e e' w w' n n' r a b c d h =
     let callers = h.for_callers in let ends = h.for_ends in let left = h.for_left in let workers = h.for_workers in
+    let readers = h.for_readers in
     record {
       no_caller = h.no_caller;
       no_end = h.no_end;
       nothing_left = h.nothing_left;
       no_worker = h.no_worker;
+      no_reader = h.no_reader;
       for_callers = omega (arith, a, callers);
       for_ends = omega (arith, b, ends);
       for_left = omega (arith, b, left);
       for_workers = omega (arith, c, workers);
+      for_readers = omega (arith, d, readers);
     }
 
 -- as many callers as before the last Hangup

@@ -1,9 +1,9 @@
 -- How a caller's receipts meet its tally, entry by entry.
-use Rattle.std.proofs.Common.{◌≡◌, ℕ, zero, suc, ◌+◌, Bool, List, [], ◌∷◌, ◌++◌, sym, refl, ap, ◌∙◌, subst, cond, length, arith, eq-eqb, ne_eqb, take, drop, ◌<◌, ◌≤◌, append_assoc}
+use Rattle.std.proofs.Common.{◌≡◌, ℕ, zero, suc, ◌+◌, Bool, List, [], ◌∷◌, ◌++◌, sym, refl, ap, ◌∙◌, subst, cond, length, arith, eq-eqb, ne_eqb, take, ◌<◌, ◌≤◌, append_assoc}
 use Rattle.std.specs.Prelude.{Some, None}
 use Rattle.std.specs.List.{slice_get}
-use Rattle.xcp_locked.specs.declared.entry.Entry.{Entry}
-use Rattle.xcp_locked.specs.declared.entry.Receipt.{Receipt}
+use Rattle.xcp_trace.specs.declared.Entry.{Entry}
+use Rattle.xcp_locked.specs.declared.receipt.Receipt.{Receipt}
 use Rattle.xcp_locked.specs.Receipts.{receipt_of}
 use Rattle.xcp_locked.specs.Settling.{tally, DifferAt}
 
@@ -19,50 +19,39 @@ within [] k h = absurd (omega arith)
 within (x ∷ l) zero h = (x, refl)
 within (x ∷ l) (suc k) h = within l k (omega arith)
 
-drop_step : {X : Type 0} (l : List X) (i : ℕ) (x : X) → slice_get l i ≡ Some x → drop i l ≡ x ∷ drop (suc i) l
-drop_step [] i x h = cc
-drop_step (y ∷ ys) zero x h = let e : y ≡ x = cc in ap (λ z. z ∷ ys) e
-drop_step (y ∷ ys) (suc i) x h = drop_step ys i x h
-
-drop_all : {X : Type 0} (l : List X) (n : ℕ) → length l ≤ n → drop n l ≡ []
-drop_all [] zero h = refl
-drop_all [] (suc n) h = refl
-drop_all (x ∷ l) zero h = absurd (omega arith)
-drop_all (x ∷ l) (suc n) h = drop_all l n (omega arith)
-
 take_step : {X : Type 0} (l : List X) (k : ℕ) (x : X) → slice_get l k ≡ Some x → take (suc k) l ≡ take k l ++ x ∷ []
 take_step [] k x h = cc
 take_step (y ∷ ys) zero x h = let e : y ≡ x = cc in ap (λ z. z ∷ []) e
 take_step (y ∷ ys) (suc k) x h = ap (λ (z : List _). y ∷ z) (take_step ys k x h)
 
 -- an entry of this caller comes next
-tally_mine : (who at : ℕ) (js : List Entry) (e : Entry) → slice_get js at ≡ Some e → e.caller ≡ who → tally who at (drop at js) ≡ receipt_of at e ∷ tally who (suc at) (drop (suc at) js)
-tally_mine who at js e here mine =
-    ap (tally who at) (drop_step js at e here)
-    ∙ ap (λ (b : Bool). cond b (receipt_of at e ∷ tally who (suc at) (drop (suc at) js)) (tally who (suc at) (drop (suc at) js))) (eq-eqb e.caller who mine)
+pub tally_mine : (who at : ℕ) (rest more : List Entry) (e : Entry) → rest ≡ e ∷ more → e.caller ≡ who → tally who at rest ≡ receipt_of at e ∷ tally who (suc at) more
+tally_mine who at rest more e is mine =
+    ap (tally who at) is
+    ∙ ap (λ (b : Bool). cond b (receipt_of at e ∷ tally who (suc at) more) (tally who (suc at) more)) (eq-eqb e.caller who mine)
 
 -- an entry of another caller comes next
-tally_other : (who at : ℕ) (js : List Entry) (e : Entry) → slice_get js at ≡ Some e → ¬ (e.caller ≡ who) → tally who at (drop at js) ≡ tally who (suc at) (drop (suc at) js)
-tally_other who at js e here other =
-    ap (tally who at) (drop_step js at e here)
-    ∙ ap (λ (b : Bool). cond b (receipt_of at e ∷ tally who (suc at) (drop (suc at) js)) (tally who (suc at) (drop (suc at) js))) (ne_eqb e.caller who other)
+tally_other : (who at : ℕ) (rest more : List Entry) (e : Entry) → rest ≡ e ∷ more → ¬ (e.caller ≡ who) → tally who at rest ≡ tally who (suc at) more
+tally_other who at rest more e is other =
+    ap (tally who at) is
+    ∙ ap (λ (b : Bool). cond b (receipt_of at e ∷ tally who (suc at) more) (tally who (suc at) more)) (ne_eqb e.caller who other)
 
--- The tally is the first k receipts, and then what the entries from this place on give.
-abbrev pub Agrees : ℕ → ℕ → ℕ → List Entry → List Receipt → Type 0
-Agrees who at k js xs = tally who 0 js ≡ take k xs ++ tally who at (drop at js)
+-- The tally is the first k receipts, and then what the rest of the entries gives, of which the first has this place.
+abbrev pub Agrees : ℕ → ℕ → ℕ → List Entry → List Receipt → List Entry → Type 0
+Agrees who at k js xs rest = tally who 0 js ≡ take k xs ++ tally who at rest
 
-pub skips : (who at k : ℕ) (js : List Entry) (xs : List Receipt) (e : Entry) → Agrees who at k js xs → slice_get js at ≡ Some e → ¬ (e.caller ≡ who) → Agrees who (at + 1) k js xs
-skips who at k js xs e so here other =
+pub skips : (who at k : ℕ) (js : List Entry) (xs : List Receipt) (rest more : List Entry) (e : Entry) → Agrees who at k js xs rest → rest ≡ e ∷ more → ¬ (e.caller ≡ who) → Agrees who (at + 1) k js xs more
+skips who at k js xs rest more e so is other =
     let n : suc at ≡ at + 1 = omega arith in
-    subst (λ (m : ℕ). Agrees who m k js xs) n (so ∙ ap (λ (z : List Receipt). take k xs ++ z) (tally_other who at js e here other))
+    subst (λ (m : ℕ). Agrees who m k js xs more) n (so ∙ ap (λ (z : List Receipt). take k xs ++ z) (tally_other who at rest more e is other))
 
-pub meets : (who at k : ℕ) (js : List Entry) (xs : List Receipt) (e : Entry) → Agrees who at k js xs → slice_get js at ≡ Some e → e.caller ≡ who → slice_get xs k ≡ Some (receipt_of at e) → Agrees who (at + 1) (k + 1) js xs
-meets who at k js xs e so here mine same =
+pub meets : (who at k : ℕ) (js : List Entry) (xs : List Receipt) (rest more : List Entry) (e : Entry) → Agrees who at k js xs rest → rest ≡ e ∷ more → e.caller ≡ who → slice_get xs k ≡ Some (receipt_of at e) → Agrees who (at + 1) (k + 1) js xs more
+meets who at k js xs rest more e so is mine same =
     let n : suc at ≡ at + 1 = omega arith in
     let m : suc k ≡ k + 1 = omega arith in
-    let next : List Receipt = tally who (suc at) (drop (suc at) js) in
-    subst (λ (j : ℕ). Agrees who (at + 1) j js xs) m (subst (λ (j : ℕ). Agrees who j (suc k) js xs) n
-    (so ∙ (ap (λ (z : List Receipt). take k xs ++ z) (tally_mine who at js e here mine)
+    let next : List Receipt = tally who (suc at) more in
+    subst (λ (j : ℕ). Agrees who (at + 1) j js xs more) m (subst (λ (j : ℕ). Agrees who j (suc k) js xs more) n
+    (so ∙ (ap (λ (z : List Receipt). take k xs ++ z) (tally_mine who at rest more e is mine)
     ∙ (sym (append_assoc (take k xs) (receipt_of at e ∷ []) next) ∙ ap (λ (z : List Receipt). z ++ next) (sym (take_step xs k (receipt_of at e) same))))))
 
 differ : (xs : List Receipt) (k : ℕ) (rest : List Receipt) → k ≤ length xs → ¬ (slice_get xs k ≡ slice_get rest 0) → DifferAt k xs (take k xs ++ rest)
@@ -74,14 +63,15 @@ differ [] (suc k) rest le ne = absurd (omega arith)
 differ (x ∷ xs) (suc k) rest le ne = let d = differ xs k rest (omega arith) ne in (ap (λ (z : List Receipt). x ∷ z) d.0, d.1)
 
 -- what stands at the next place is not the receipt of this entry
-pub wrong : (who at k : ℕ) (js : List Entry) (xs : List Receipt) (e : Entry) → Agrees who at k js xs → k ≤ length xs → slice_get js at ≡ Some e → e.caller ≡ who → ¬ (slice_get xs k ≡ Some (receipt_of at e)) → DifferAt k xs (tally who 0 js)
-wrong who at k js xs e so le here mine ne =
+pub wrong : (who at k : ℕ) (js : List Entry) (xs : List Receipt) (rest more : List Entry) (e : Entry) → Agrees who at k js xs rest → k ≤ length xs → rest ≡ e ∷ more → e.caller ≡ who → ¬ (slice_get xs k ≡ Some (receipt_of at e)) → DifferAt k xs (tally who 0 js)
+wrong who at k js xs rest more e so le is mine ne =
     subst (λ (z : List Receipt). DifferAt k xs z) (sym so)
-    (differ xs k (tally who at (drop at js)) le (λ same. ne (same ∙ ap (λ (z : List Receipt). slice_get z 0) (tally_mine who at js e here mine))))
+    (differ xs k (tally who at rest) le (λ same. ne (same ∙ ap (λ (z : List Receipt). slice_get z 0) (tally_mine who at rest more e is mine))))
 
 -- the tally ends before the receipts do
-pub too_many : (who at k : ℕ) (js : List Entry) (xs : List Receipt) → Agrees who at k js xs → k ≤ length xs → length js ≤ at → k < length xs → DifferAt k xs (tally who 0 js)
-too_many who at k js xs so le whole more =
+pub too_many : (who at k : ℕ) (js : List Entry) (xs : List Receipt) (rest : List Entry) → Agrees who at k js xs rest → k ≤ length xs → length rest ≡ 0 → k < length xs → DifferAt k xs (tally who 0 js)
+too_many who at k js xs [] so le none more =
     let r = within xs k more in
     subst (λ (z : List Receipt). DifferAt k xs z) (sym so)
-    (differ xs k (tally who at (drop at js)) le (λ same. none≢some r.0 (sym (sym r.1 ∙ (same ∙ ap (λ (es : List Entry). slice_get (tally who at es) 0) (drop_all js at whole))))))
+    (differ xs k [] le (λ same. none≢some r.0 (sym (sym r.1 ∙ same))))
+too_many who at k js xs (e ∷ rest) so le none more = absurd (omega (arith, none))

@@ -1,7 +1,7 @@
 -- A caller, as contracts see it.
 use Rattle.std.specs.Prelude.{ℕ, zero, suc, ◌+◌, List, [], ◌∷◌, ◌++◌, length}
 use Rattle.xcp_memory.specs.Layout.{LayoutValue}
-use Rattle.xcp_locked.specs.declared.entry.Receipt.{Receipt}
+use Rattle.xcp_locked.specs.declared.receipt.Receipt.{Receipt}
 
 -- A caller: its number, the layout's number of event channels and the length of its signals, its receipts, and how many of its
 -- calls were accepted.

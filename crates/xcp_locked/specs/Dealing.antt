@@ -1,18 +1,21 @@
 -- Callers that were dealt to connections and tasks.
 use Rattle.std.specs.Prelude.{◌≡◌, ℕ, List, ◌++◌, map, length}
 use Rattle.std.specs.Vec.Iter.{into_iter_items}
+use Rattle.xcp_bank.specs.Ends.{ReaderEnd}
 use Rattle.xcp_framing.specs.Watched.{Watched}
 use Rattle.xcp_locked.specs.declared.dealing.Duties.{Duties}
-use Rattle.xcp_locked.specs.declared.tasks.Worker.{Worker}
+use Rattle.xcp_locked.specs.declared.worker.Worker.{Worker}
 use Rattle.xcp_locked.specs.Caller.{CallerValue}
 use Rattle.xcp_locked.specs.Places.{EachFrom}
 use Rattle.xcp_locked.specs.Running.{IsTaskOf}
 use Rattle.xcp_locked.specs.Serving.{IsConnectionOf}
 
--- The first of these callers have a connection for each reader and writer, the next a task each, and the others are spare.
-pub record Dealt {N G I O : Type 0} (m turns cycles tasks : ℕ) (callers : List CallerValue) (ends : List (Watched I × Watched O)) (d : Duties N G I O) : Type 0 where
+-- The first of these callers have a connection for each reader and writer, the next a task each, and the others are spare. The
+-- first of these readers have a task each too.
+pub record Dealt {N G I O : Type 0} (m turns cycles tasks : ℕ) (callers : List CallerValue) (readers : List ReaderEnd) (ends : List (Watched I × Watched O)) (d : Duties N G I O) : Type 0 where
   pub connections : EachFrom (IsConnectionOf m turns) 0 ends d.connections.items
   pub workers : List (Worker N)
   pub hired : length workers ≡ tasks
   pub numbered : EachFrom (IsTaskOf cycles) 0 workers d.tasks.items
   pub in_order : callers ≡ map (λ c. c.caller) d.connections.items ++ map (λ w. w.caller) workers ++ into_iter_items d.spare
+  pub readers_in_order : readers ≡ map (λ w. w.reader) workers ++ into_iter_items d.unused

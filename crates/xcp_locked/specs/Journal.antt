@@ -3,12 +3,7 @@ use Rattle.std.specs.Prelude.{ℕ, List, map}
 use Rattle.xcp_slave.specs.declared.Exchange.{Exchange}
 use Rattle.xcp_slave.specs.declared.Request.{Request}
 use Rattle.xcp_slave.specs.declared.Answer.{Answer}
-use Rattle.xcp_locked.specs.declared.entry.Entry.{Entry}
-
--- the entries, in order, and for how many more there is memory
-pub record JournalValue : Type 0 where
-  pub entries : List Entry
-  pub room : ℕ
+use Rattle.xcp_trace.specs.declared.Entry.{Entry}
 
 -- the most entries of a journal
 abbrev pub journal_limit : ℕ

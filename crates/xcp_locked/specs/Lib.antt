@@ -7,10 +7,14 @@ pub mod Locked
 pub mod Numbers
 pub mod Opening
 pub mod Places
+pub mod Published
+pub mod Publishing
 pub mod Receipts
 pub mod Refusals
 pub mod Room
 pub mod Running
 pub mod Serving
 pub mod Settling
+pub mod Taking
 pub mod Tasks
+pub mod Telling

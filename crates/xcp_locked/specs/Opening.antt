@@ -1,9 +1,17 @@
 -- A slave that no type names yet, as contracts see it.
-use Rattle.std.specs.Prelude.{ℕ}
+use Rattle.std.specs.Prelude.{ℕ, []}
+use Rattle.xcp_bank.specs.BankId.{BankId}
 use Rattle.xcp_memory.specs.Layout.{LayoutValue}
+use Rattle.xcp_memory.specs.declared.ChecksumKind.TheVariants.{Add11}
+use Rattle.xcp_packet.specs.declared.Order.TheVariants.{Intel}
 
--- the layout of the slave, the number of its callers, and the name of the ledger of its calls
+-- the layout of the slave, the number of its callers, the name of the ledger of its calls, and the bank of its images
 pub record UnnamedValue : Type 0 where
   pub layout : LayoutValue
   pub callers : ℕ
   pub name : ℕ
+  pub bank : BankId
+
+-- the layout that `Brand` stands for where nothing is said: a call of a generic function at it names the slave's own
+abbrev pub no_layout : LayoutValue
+no_layout = record { id = []; max_cto = 0; max_dto = 0; checksum = Add11; order = Intel; segments = []; signals_address = 0; signals_length = 0; events = [] }

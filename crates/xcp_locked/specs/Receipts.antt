@@ -3,8 +3,8 @@ use Rattle.std.specs.Prelude.{ℕ, List, map}
 use Rattle.xcp_slave.specs.declared.Exchange.{Exchange}
 use Rattle.xcp_slave.specs.declared.Request.{Request}
 use Rattle.xcp_slave.specs.declared.Answer.{Answer}
-use Rattle.xcp_locked.specs.declared.entry.Entry.{Entry}
-use Rattle.xcp_locked.specs.declared.entry.Receipt.{Receipt}
+use Rattle.xcp_trace.specs.declared.Entry.{Entry}
+use Rattle.xcp_locked.specs.declared.receipt.Receipt.{Receipt}
 
 abbrev pub receipt : ℕ → Request → Answer → Receipt
 receipt at request answer = record { at = at; request = request; answer = answer }

@@ -2,7 +2,7 @@
 use Rattle.std.specs.Prelude.{◌≡◌, ℕ, List, [], ◌∷◌, map, Option, Some, None}
 use Rattle.xcp_locked.specs.declared.tasks.TaskError.{TaskError}
 use Rattle.xcp_locked.specs.declared.tasks.Task.{Task}
-use Rattle.xcp_locked.specs.declared.tasks.Worker.{Worker}
+use Rattle.xcp_locked.specs.declared.worker.Worker.{Worker}
 use Rattle.xcp_locked.specs.declared.tasks.Done.{Done}
 use Rattle.xcp_locked.specs.declared.tasks.Ran.{Ran}
 use Rattle.xcp_locked.specs.Places.{EachFrom}
@@ -16,11 +16,11 @@ pub record IsTaskOf {N G : Type 0} (cycles task : ℕ) (w : Worker N) (t : Task 
 
 -- what came of the worker's task of this number
 abbrev pub WorkedAs : {N : Type 0} → ℕ → ℕ → Worker N → Done N → Type 0
-WorkedAs cycles task w d = Worked cycles task w.caller d.worker.caller d.fault
+WorkedAs cycles task w d = Worked cycles task w d.worker d.fault
 
 -- what came of a task, at whichever place
 abbrev pub DoneAs : {N G : Type 0} → ℕ → Task N G → Done N → Type 0
-DoneAs place t d = Worked t.cycles t.task t.worker.caller d.worker.caller d.fault
+DoneAs place t d = Worked t.cycles t.task t.worker d.worker d.fault
 
 -- the first of two faults
 abbrev pub or_else : Option TaskError → Option TaskError → Option TaskError

@@ -1,8 +1,8 @@
 -- When a caller's receipts are the journal's.
 use Rattle.std.specs.Prelude.{◌≡◌, ◌≢◌, ◌<◌, ℕ, suc, List, [], ◌∷◌, take, ◌==◌, if◌then◌else◌, Some}
 use Rattle.std.specs.List.{slice_get}
-use Rattle.xcp_locked.specs.declared.entry.Entry.{Entry}
-use Rattle.xcp_locked.specs.declared.entry.Receipt.{Receipt}
+use Rattle.xcp_trace.specs.declared.Entry.{Entry}
+use Rattle.xcp_locked.specs.declared.receipt.Receipt.{Receipt}
 use Rattle.xcp_locked.specs.declared.ledger.Unsettled.{Unsettled}
 use Rattle.xcp_locked.specs.Caller.{CallerValue}
 use Rattle.xcp_locked.specs.Receipts.{receipt_of}

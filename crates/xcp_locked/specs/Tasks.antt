@@ -1,13 +1,15 @@
 -- What a task submits.
-use Rattle.std.specs.Prelude.{◌≡◌, ℕ, zero, suc, ◌%◌, Bool, true, List, [], ◌∷◌, ◌++◌, map, ◌==◌, if◌then◌else◌, replicate, Option, Some, None, is_none, IfSome, ⊤}
+use Rattle.std.specs.Prelude.{◌≡◌, ℕ, zero, suc, ◌%◌, Bool, true, List, [], ◌∷◌, ◌++◌, map, ◌==◌, if◌then◌else◌, replicate, Option, is_none, IfSome, ⊤}
 use Rattle.xcp_slave.specs.declared.Request.{Request}
 use Rattle.xcp_slave.specs.declared.Request.TheVariants as requests
-use Rattle.xcp_locked.specs.declared.entry.Receipt.{Receipt}
+use Rattle.xcp_locked.specs.declared.receipt.Receipt.{Receipt}
 use Rattle.xcp_locked.specs.declared.errors.LockedError.{LockedError}
 use Rattle.xcp_locked.specs.declared.errors.LockedError.TheVariants as refusals
 use Rattle.xcp_locked.specs.declared.tasks.TaskError.{TaskError}
 use Rattle.xcp_locked.specs.declared.tasks.TaskError.TheVariants as faults
+use Rattle.xcp_locked.specs.declared.worker.Worker.{Worker}
 use Rattle.xcp_locked.specs.Caller.{CallerValue}
+use Rattle.xcp_locked.specs.Taking.{Took}
 
 -- A task's duty: by how many event channels and how many bytes of signals it goes, and its number.
 pub record Duty : Type 0 where
@@ -67,8 +69,10 @@ IsOwn task faults.Memory = ⊤
 IsOwn task faults.JournalFull = ⊤
 IsOwn task (faults.GateSpent of) = of ≡ task
 
--- what a task of so many cycles did: its receipts grew by its plan, where it has a fault by a beginning of it
-pub record Worked (cycles task : ℕ) (old new : CallerValue) (fault : Option TaskError) : Type 0 where
-  pub grew : Grew (duty old task) cycles (is_none fault) old.receipts new.receipts
-  pub same : Same old new
+-- what a task of so many cycles did: its caller's receipts grew by its plan, where it has a fault by a beginning of it, and
+-- without a fault its reader looked for an image in each cycle
+pub record Worked {N : Type 0} (cycles task : ℕ) (old new : Worker N) (fault : Option TaskError) : Type 0 where
+  pub grew : Grew (duty old.caller task) cycles (is_none fault) old.caller.receipts new.caller.receipts
+  pub same : Same old.caller new.caller
+  pub took : Took cycles (is_none fault) old.reader new.reader old.last new.last
   pub own : IfSome fault (IsOwn task)

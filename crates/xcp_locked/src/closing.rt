@@ -1,15 +1,18 @@
 //! What a server gives back.
-ghost use Rattle.std.specs.Prelude.{◌≡◌, ◌<◌, ◌≤◌, ◌+◌, ◌++◌, IfErr, IfOk, length, map, sum_by, vec_capacity, vec_len};
+ghost use Rattle.std.specs.Prelude.{◌≡◌, ◌<◌, ◌≤◌, ◌+◌, ◌++◌, [], IfErr, IfOk, length, map, sum_by, vec_capacity, vec_len};
 ghost use Rattle.std.specs.Vec.Iter.{into_iter_items};
 ghost use Rattle.xcp_locked.specs.Caller.{accepted_by};
 ghost use Rattle.xcp_locked.specs.Room.{IsRoom};
 ghost use Rattle.xcp_locked.specs.HangingUp.{HungUp};
 ghost use Rattle.xcp_locked.specs.Running.{first_fault};
+ghost use Rattle.xcp_locked.specs.Journal.{exchanges};
+ghost use Rattle.xcp_slave.specs.Run.{Run};
+ghost use Rattle.xcp_slave.specs.Value.{opening};
 ghost use Rattle.xcp_locked.specs.Settling.{AreSettled, FirstUnsettled};
 
-use crate::dealing::{Ended, add_spare, dismiss, take_apart};
+use crate::dealing::{Ended, add_rest, dismiss, take_apart};
 use crate::running::collect;
-use crate::{Caller, Closed, Done, Left, Locked, Name, Ran, TaskError, Unsettled, Worker};
+use crate::{Caller, Closed, Done, Left, Locked, Name, Ran, Reader, TaskError, Unsettled, Worker};
 use std::alloc::{AllocError, Global};
 use std::io::{Read, Write};
 use std::vec::IntoIter;
@@ -17,12 +20,14 @@ use xcp_framing::{ServeError, Served};
 use xcp_slave::Request;
 
 /// What is left of a server: the slave, all callers (those of the connections first, then those of
-/// the tasks, then those that had nothing to do), the end of each connection with what its streams
-/// were then, and the fault of the tasks, else that of the last `Hangup`.
+/// the tasks, then those that had nothing to do), the six readers (those of the tasks first), the end
+/// of each connection with what its streams were then, and the fault of the tasks, else that of the
+/// last `Hangup`.
 #[derive(Drop)]
 pub struct Closing<N: Name, I: Read + Drop, O: Write + Drop> {
     pub locked: Locked<N>,
     pub callers: Vec<Caller<N>>,
+    pub readers: Vec<Reader<N>>,
     pub ends: Vec<Result<Served, ServeError>>,
     pub left: Vec<Left<I, O>>,
     pub fault: Option<TaskError>,
@@ -33,27 +38,35 @@ pub struct Closing<N: Name, I: Read + Drop, O: Write + Drop> {
 pub struct Rooms<N: Name, I: Read + Drop, O: Write + Drop> {
     pub ended: Ended<N, I, O>,
     pub workers: Vec<Worker<N>>,
+    pub readers: Vec<Reader<N>>,
 }
 
-/// Room for so many callers, for the ends of so many connections, and for so many workers.
+/// Room for so many callers, for the ends of so many connections, for so many workers, and for so
+/// many readers.
 pub(crate) fn make_rooms<N: Name, I: Read + Drop, O: Write + Drop>(
     alloc: Global,
     callers: usize,
     ends: usize,
     tasks: u8,
+    readers: usize,
 ) -> Result<Rooms<N, I, O>, AllocError>
-    ensures { IfOk result (λ r. IsRoom callers ends tasks r) }
+    ensures { IfOk result (λ r. IsRoom callers ends tasks readers r) }
 {
     let callers = Vec::with_capacity(alloc, callers)?;
     let left = Vec::with_capacity(alloc, ends)?;
     let ends = Vec::with_capacity(alloc, ends)?;
     let workers = Vec::with_capacity(alloc, tasks as usize)?;
+    let readers = Vec::with_capacity(alloc, readers)?;
     let ended = Ended {
         callers,
         ends,
         left,
     };
-    Ok(Rooms { ended, workers })
+    Ok(Rooms {
+        ended,
+        workers,
+        readers,
+    })
 }
 
 /// Puts together what came of connections and tasks, for which there is room, and submits the last
@@ -63,44 +76,60 @@ pub(crate) fn close_all<N: Name, I: Read + Drop, O: Write + Drop>(
     closed: Vec<Closed<N, I, O>>,
     done: Vec<Done<N>>,
     spare: IntoIter<Caller<N>>,
+    unused: IntoIter<Reader<N>>,
     rooms: Rooms<N, I, O>,
 ) -> Closing<N, I, O>
     requires some { 0 < vec_len closed }
     requires room { IsRoom (vec_len closed + vec_len done + length (into_iter_items spare))
-        (vec_len closed) (vec_len done) rooms }
+        (vec_len closed) (vec_len done) (vec_len done + length (into_iter_items unused)) rooms }
     ensures hung_up { HungUp (first_fault done.items) result.fault
         (map (λ d. d.caller) closed.items ++ map (λ d. d.worker.caller) done.items ++ into_iter_items spare)
         result.callers.items }
     ensures ends { result.ends.items ≡ map (λ d. d.end) closed.items }
     ensures left { result.left.items ≡ map (λ d. d.left) closed.items }
+    ensures readers { result.readers.items
+        ≡ map (λ d. d.worker.reader) done.items ++ into_iter_items unused }
+    ensures run { Run (opening N.layout) (exchanges result.locked.journal) result.locked.slave }
 {
     let ended = take_apart(closed, rooms.ended);
     let ran = collect(done, rooms.workers);
-    put_together(locked, ended, ran, spare)
+    put_together(locked, ended, ran, spare, unused, rooms.readers)
 }
 
-/// Gathers all callers again, in order, for which there is room, and submits the last `Hangup`.
+/// Gathers all callers and all readers again, in order, for which there is room, and submits the last
+/// `Hangup`.
 fn put_together<N: Name, I: Read + Drop, O: Write + Drop>(
     locked: Locked<N>,
     ended: Ended<N, I, O>,
     ran: Ran<N>,
     spare: IntoIter<Caller<N>>,
+    unused: IntoIter<Reader<N>>,
+    readers: Vec<Reader<N>>,
 ) -> Closing<N, I, O>
     requires some { 0 < vec_len ended.callers }
     requires room { vec_len ended.callers + vec_len ran.workers + length (into_iter_items spare)
         ≤ vec_capacity ended.callers }
+    requires readers { (readers.items ≡ []) × (vec_len ran.workers + length (into_iter_items unused)
+        ≤ vec_capacity readers) }
     ensures hung_up { HungUp ran.fault result.fault
         (ended.callers.items ++ map (λ w. w.caller) ran.workers.items ++ into_iter_items spare)
         result.callers.items }
     ensures ends { result.ends.items ≡ ended.ends.items }
     ensures left { result.left.items ≡ ended.left.items }
+    ensures readers { result.readers.items
+        ≡ map (λ w. w.reader) ran.workers.items ++ into_iter_items unused }
+    ensures run { Run (opening N.layout) (exchanges result.locked.journal) result.locked.slave }
 {
     let mut locked = locked;
-    let mut callers = add_spare(spare, dismiss(ran.workers, ended.callers));
+    let (callers, readers) = dismiss(ran.workers, ended.callers, readers);
+    let mut callers = add_rest(spare, callers);
+    let readers = add_rest(unused, readers);
     let fault = hang_up(&mut locked, &mut callers, ran.fault);
+    locked.audit();
     Closing {
         locked,
         callers,
+        readers,
         ends: ended.ends,
         left: ended.left,
         fault,

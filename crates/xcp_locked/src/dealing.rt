@@ -6,27 +6,30 @@ ghost use Rattle.xcp_locked.specs.Places.{EachFrom};
 ghost use Rattle.xcp_locked.specs.Serving.{IsConnectionOf};
 
 use crate::running::number_tasks;
-use crate::{Caller, Closed, Connection, Gate, Left, Locked, Name, Task, Worker};
+use crate::{Caller, Closed, Connection, Gate, Left, Locked, Name, Reader, Task, Worker};
 use std::alloc::{AllocError, Global};
 use std::io::{Read, Write};
 use std::sync::Mutex;
 use std::vec::IntoIter;
 use xcp_framing::{ServeError, Served, Watched};
 
-/// Connections and tasks that have not begun, and the callers that have nothing to do.
+/// Connections and tasks that have not begun, and the callers and readers that have nothing to do.
 #[derive(Drop)]
 pub struct Duties<'a, N: Name, G: Gate, I: Read + Drop, O: Write + Drop> {
     pub connections: Vec<Connection<'a, N, I, O>>,
     pub tasks: Vec<Task<'a, N, G>>,
     pub spare: IntoIter<Caller<N>>,
+    pub unused: IntoIter<Reader<N>>,
 }
 
-/// Deals the callers out: the first to the readers and writers, the next to so many tasks.
+/// Deals the callers out: the first to the readers and writers, the next to so many tasks. The first
+/// readers go to the tasks.
 pub fn deal<'a, N: Name, G: Gate, I: Read + Drop, O: Write + Drop>(
     alloc: Global,
     lock: &'a Mutex<Locked<N>>,
     gate: &'a G,
     callers: Vec<Caller<N>>,
+    readers: Vec<Reader<N>>,
     ends: Vec<(Watched<I>, Watched<O>)>,
     tasks: u8,
     cycles: u32,
@@ -34,17 +37,20 @@ pub fn deal<'a, N: Name, G: Gate, I: Read + Drop, O: Write + Drop>(
     turns: u32,
 ) -> Result<Duties<'a, N, G, I, O>, AllocError>
     requires enough { vec_len ends + tasks ≤ vec_len callers }
-    requires few { tasks ≤ 16 }
-    ensures { IfOk result (λ d. Dealt max_cto turns cycles tasks callers.items ends.items d) }
+    requires few { (tasks ≤ 16) × (tasks ≤ vec_len readers) }
+    ensures { IfOk result (λ d.
+        Dealt max_cto turns cycles tasks callers.items readers.items ends.items d) }
 {
     let mut spare = callers.into_iter();
+    let mut unused = readers.into_iter();
     let connections = connect(alloc, lock, ends, &mut spare, max_cto, turns)?;
-    let workers = employ(alloc, &mut spare, tasks)?;
+    let workers = employ(alloc, &mut spare, &mut unused, tasks)?;
     let tasks = number_tasks(alloc, lock, workers, cycles, gate)?;
     Ok(Duties {
         connections,
         tasks,
         spare,
+        unused,
     })
 }
 
@@ -80,23 +86,30 @@ pub fn connect<'a, N: Name, I: Read + Drop, O: Write + Drop>(
     Ok(connections)
 }
 
-/// So many workers, with the next callers.
+/// So many workers, with the next callers and the next readers.
 pub fn employ<N: Name>(
     alloc: Global,
     callers: &mut IntoIter<Caller<N>>,
+    readers: &mut IntoIter<Reader<N>>,
     tasks: u8,
 ) -> Result<Vec<Worker<N>>, AllocError>
-    requires { tasks ≤ length (into_iter_items callers.old) }
+    requires callers { tasks ≤ length (into_iter_items callers.old) }
+    requires readers { tasks ≤ length (into_iter_items readers.old) }
     ensures count { IfOk result (λ ws. vec_len ws ≡ tasks) }
     ensures dealt { IfOk result (λ ws.
         map (λ w. w.caller) ws.items ++ into_iter_items callers.new ≡ into_iter_items callers.old) }
+    ensures lent { IfOk result (λ ws.
+        map (λ w. w.reader) ws.items ++ into_iter_items readers.new ≡ into_iter_items readers.old) }
 {
     let mut workers = Vec::with_capacity(alloc, tasks as usize)?;
     for _task in 0..tasks {
         let Some(caller) = callers.next() else {
             unreachable!()
         };
-        workers.push_reserved(Worker { caller });
+        let Some(reader) = readers.next() else {
+            unreachable!()
+        };
+        workers.push_reserved(Worker::new(caller, reader));
     }
     Ok(workers)
 }
@@ -131,27 +144,38 @@ pub fn take_apart<N: Name, I: Read + Drop, O: Write + Drop>(
     ended
 }
 
-/// Puts the workers' callers behind the others, for which there is room.
-pub fn dismiss<N: Name>(workers: Vec<Worker<N>>, callers: Vec<Caller<N>>) -> Vec<Caller<N>>
-    requires { vec_len callers + vec_len workers ≤ vec_capacity callers }
-    ensures callers { result.items ≡ callers.items ++ map (λ w. w.caller) workers.items }
-    ensures capacity { vec_capacity result ≡ vec_capacity callers }
+/// Puts the workers' callers behind the others and their readers behind the others, for which there
+/// is room.
+pub fn dismiss<N: Name>(
+    workers: Vec<Worker<N>>,
+    callers: Vec<Caller<N>>,
+    readers: Vec<Reader<N>>,
+) -> (Vec<Caller<N>>, Vec<Reader<N>>)
+    requires callers { vec_len callers + vec_len workers ≤ vec_capacity callers }
+    requires readers { vec_len readers + vec_len workers ≤ vec_capacity readers }
+    ensures callers { result.0.items ≡ callers.items ++ map (λ w. w.caller) workers.items }
+    ensures capacity { vec_capacity result.0 ≡ vec_capacity callers }
+    ensures readers { result.1.items ≡ readers.items ++ map (λ w. w.reader) workers.items }
+    ensures room { vec_capacity result.1 ≡ vec_capacity readers }
 {
     let mut callers = callers;
+    let mut readers = readers;
     for worker in workers {
         callers.push_reserved(worker.caller);
+        readers.push_reserved(worker.reader);
     }
-    callers
+    (callers, readers)
 }
 
-/// Puts the callers that had nothing to do behind the others, for which there is room.
-pub fn add_spare<N: Name>(spare: IntoIter<Caller<N>>, callers: Vec<Caller<N>>) -> Vec<Caller<N>>
-    requires { vec_len callers + length (into_iter_items spare) ≤ vec_capacity callers }
-    ensures { result.items ≡ callers.items ++ into_iter_items spare }
+/// Puts the callers, or the readers, that had nothing to do behind the others, for which there is
+/// room.
+pub fn add_rest<T: Drop>(rest: IntoIter<T>, others: Vec<T>) -> Vec<T>
+    requires { vec_len others + length (into_iter_items rest) ≤ vec_capacity others }
+    ensures { result.items ≡ others.items ++ into_iter_items rest }
 {
-    let mut callers = callers;
-    for caller in spare {
-        callers.push_reserved(caller);
+    let mut all = others;
+    for one in rest {
+        all.push_reserved(one);
     }
-    callers
+    all
 }

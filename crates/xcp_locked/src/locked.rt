@@ -1,29 +1,36 @@
 //! What lies under the lock: a slave and its journal.
-ghost use Rattle.std.specs.Prelude.{◌≡◌, ◌↔◌, ◌<◌, ◌≤◌, [], ◌∷◌, ◌++◌, length, OnErr, IfOk, Err};
+ghost use Rattle.std.specs.Prelude.{◌≡◌, ◌↔◌, ◌<◌, ◌≤◌, [], ◌∷◌, ◌++◌, length, OnErr, IfOk, Err, true, vec_capacity, vec_len};
 ghost use Rattle.xcp_memory.specs.Image.{ecu_image};
 ghost use Rattle.xcp_slave.specs.Run.{Run};
 ghost use Rattle.xcp_slave.specs.Step.{Answers};
-ghost use Rattle.xcp_slave.specs.Value.{layout_of, opening};
+ghost use Rattle.xcp_slave.specs.Value.{SlaveValue, layout_of, opening};
 ghost use Rattle.xcp_locked.specs.Caller.{accepting};
 ghost use Rattle.xcp_locked.specs.Journal.{entry, exchanges, journal_limit};
+ghost use Rattle.xcp_locked.specs.Published.{image_of};
+ghost use Rattle.xcp_locked.specs.Publishing.{AreImages, KeepsImage, Offers, Publishes};
 ghost use Rattle.xcp_locked.specs.Receipts.{receipt};
+ghost use Rattle.xcp_trace.specs.Entries.{room_for_any_entry};
 
-use crate::journal::Journal;
+use crate::publisher::Publisher;
 use crate::{Caller, LockedError, Name, Receipt};
 use std::marker::Model;
 use std::sync::ledger::Book;
 use xcp_slave::{Answer, Request, Slave};
+use xcp_trace::Journal;
 
 /// The most entries of a journal.
 pub const JOURNAL: usize = 65_536;
 
 /// A slave with its journal. The journal is a run of the slave, from the opening of its layout to
 /// the slave as it is, and the book of accepted calls has as many units as the journal has entries.
+/// The bank's publications are the controller's images along this run: the opening's, and each that
+/// differs from the one before it.
 #[derive(Drop)]
 pub struct Locked<N: Name> {
     pub(crate) slave: Slave,
     pub(crate) journal: Journal,
     pub(crate) book: Book<N>,
+    pub(crate) publisher: Publisher,
 }
 
 impl<N: Name> Model for Locked<N> {
@@ -32,18 +39,20 @@ impl<N: Name> Model for Locked<N> {
     ghost use Rattle.xcp_slave.specs.Value.{layout_of, opening};
     ghost use Rattle.xcp_locked.specs.Locked.{LockedValue};
     ghost use Rattle.xcp_locked.specs.Journal.{exchanges, journal_limit};
+    ghost use Rattle.xcp_locked.specs.Publishing.{IsKept};
 
     ghost Value = { LockedValue };
 
-    ghost view = { λ l. record { slave = l.slave; journal = l.journal.entries } };
+    ghost view = { λ l. record { slave = l.slave; journal = l.journal.entries; publications = l.publisher.writer.publications } };
 
-    ghost invariant = { λ l. Run (opening (layout_of l.slave)) (exchanges l.journal.entries) l.slave × (l.book.total ≡ length l.journal.entries) × (length l.journal.entries ≤ journal_limit) };
+    ghost invariant = { λ l. Run (opening (layout_of l.slave)) (exchanges l.journal.entries) l.slave × (l.book.total ≡ length l.journal.entries) × (length l.journal.entries ≤ journal_limit) × (layout_of l.slave ≡ N.layout) × IsKept N.bank (opening N.layout) (exchanges l.journal.entries) l.slave l.publisher };
 }
 
 impl<N: Name> Locked<N> {
     /// Executes a request, and stores it with its answer and its caller. The receipt that it gives
-    /// also stands last in the caller's. `JournalFull` is looked at first; after an error nothing
-    /// was executed, and nothing changed.
+    /// also stands last in the caller's. Where the controller's image is another one then, it is
+    /// published. `JournalFull` is looked at first; after an error nothing was executed, and nothing
+    /// changed.
     pub fn submit(
         &mut self,
         caller: &mut Caller<N>,
@@ -56,6 +65,7 @@ impl<N: Name> Locked<N> {
         ensures receipt { IfOk result (λ r.
             r ≡ receipt (length self.old.journal) request r.answer) }
         ensures caller { IfOk result (λ r. caller.new ≡ accepting caller.old r) }
+        ensures published { IfOk result (λ r. Publishes self.old self.new) }
         ensures full { result ≡ Err LockedError.JournalFull
             ↔ (journal_limit ≤ length self.old.journal) }
         ensures err { OnErr result ((self.new ≡ self.old) × (caller.new ≡ caller.old)) }
@@ -68,6 +78,7 @@ impl<N: Name> Locked<N> {
             slave,
             journal,
             book,
+            publisher,
         } = self;
         let Caller {
             number,
@@ -77,12 +88,15 @@ impl<N: Name> Locked<N> {
             ..
         } = caller;
         // All memory is taken before anything is executed.
-        if journal.reserve().is_err() || receipts.reserve(1).is_err() {
+        if journal.reserve().is_err()
+            || publisher.reserve().is_err()
+            || receipts.reserve(1).is_err()
+        {
             return Err(LockedError::Memory);
         }
         book.audit(share);
         let at = journal.len() as u64;
-        let answer = execute(slave, journal, *number, &request);
+        let answer = execute(slave, journal, publisher, *number, &request, at + 1);
         book.add(share, 1);
         *accepted += 1;
         let receipt = Receipt {
@@ -110,24 +124,63 @@ impl<N: Name> Locked<N> {
         self.len()
     }
 
-    /// Does nothing: its contract says that the journal is a run, which the type keeps.
+    /// Does nothing: its contract says that the journal is a run from the opening of the layout that
+    /// was named, and that what is published are the images of this run, which the type keeps.
     pub fn audit(&self)
-        ensures run { Run (opening (layout_of self.now.slave))
-            (exchanges self.now.journal) self.now.slave }
+        ensures run { Run (opening N.layout) (exchanges self.now.journal) self.now.slave }
+        ensures layout { layout_of self.now.slave ≡ N.layout }
         ensures few { length self.now.journal ≤ journal_limit }
+        ensures published { AreImages (opening N.layout) (exchanges self.now.journal)
+            self.now.publications }
     {
         let _ = &self.slave;
     }
 }
 
-/// Executes a request, and stores it with its answer and its caller. There is room for the entry.
-fn execute(slave: &mut Slave, journal: &mut Journal, caller: u8, request: &Request) -> Answer
-    requires { 0 < journal.old.room }
+/// Executes a request, stores it with its answer and its caller, and publishes the image that it
+/// leaves, with this place, if it isn't the one published last. There is room for all this.
+fn execute(
+    slave: &mut Slave,
+    journal: &mut Journal,
+    publisher: &mut Publisher,
+    caller: u8,
+    request: &Request,
+    place: u64,
+) -> Answer
+    requires room { room_for_any_entry ≤ journal.old.room }
+    requires room_for_place { vec_len publisher.old.places < vec_capacity publisher.old.places }
+    requires last { publisher.old.last ≡ image_of slave.old }
     ensures answers { Answers slave.old request.now result slave.new }
     ensures journal { journal.new.entries
         ≡ journal.old.entries ++ entry caller request.now result ∷ [] }
+    ensures offers { Offers place (image_of slave.new) publisher.old publisher.new }
 {
     let answer = slave.submit(request);
+    publish(publisher, slave, request, place);
     journal.push(caller, request, &answer);
     answer
+}
+
+/// Publishes the image that the slave has after this request, if it isn't the one published last. A
+/// request that never changes the image costs nothing.
+fn publish(publisher: &mut Publisher, slave: &Slave, request: &Request, place: u64)
+    requires room { vec_len publisher.old.places < vec_capacity publisher.old.places }
+    requires last { (before : SlaveValue) × (answer : Answer)
+        × Answers before request.now answer slave.now × (publisher.old.last ≡ image_of before) }
+    ensures { Offers place (image_of slave.now) publisher.old publisher.new }
+{
+    if keeps_image(request) {
+        return;
+    }
+    publisher.offer(slave, place);
+}
+
+/// Whether this is a request after which the controller's image is the same, whichever slave it is.
+fn keeps_image(request: &Request) -> bool
+    ensures { result ≡ true → KeepsImage request.now }
+{
+    matches!(
+        request,
+        Request::Event(_, _) | Request::Drain | Request::Hangup
+    )
 }

@@ -1,34 +1,45 @@
 //! A slave that no type names yet, and its opening.
-ghost use Rattle.std.specs.Prelude.{◌≡◌, ◌≤◌, [], IfOk};
+ghost use Rattle.std.specs.Prelude.{◌≡◌, ◌≤◌, [], ◌∷◌, IfOk};
+ghost use Rattle.std.specs.List.{AllByRecursion};
+ghost use Rattle.xcp_bank.specs.Ends.{six_readers};
 ghost use Rattle.xcp_slave.specs.Value.{layout_of, opening};
 ghost use Rattle.xcp_locked.specs.Caller.{callers_of, fresh_caller};
+ghost use Rattle.xcp_locked.specs.Published.{image_of};
 
-use crate::journal::Journal;
-use crate::{Caller, Locked, Name};
+use crate::publisher::Publisher;
+use crate::{Caller, Locked, Name, Reader};
 use std::alloc::{AllocError, Global};
 use std::marker::Model;
 use std::sync::ledger::{Blank, Share};
+use xcp_bank::{Bank, Writer};
 use xcp_memory::Layout;
 use xcp_slave::Slave;
+use xcp_trace::Journal;
 
-/// A slave at its opening, for a number of callers, which no type names yet.
+/// A slave at its opening, for a number of callers, which no type names yet, and a bank in which its
+/// first image is published.
 #[derive(Drop)]
 pub struct Unnamed {
     slave: Slave,
     callers: u8,
     blank: Blank,
+    image: [u8; 2040],
+    writer: Writer,
+    readers: [xcp_bank::Reader; 6],
 }
 
 impl Model for Unnamed {
     ghost use Rattle.std.specs.Prelude.{◌≡◌, ◌≤◌};
+    ghost use Rattle.xcp_bank.specs.Ends.{new_writer, six_readers};
+    ghost use Rattle.xcp_locked.specs.Published.{image_of};
     ghost use Rattle.xcp_slave.specs.Value.{layout_of, opening};
     ghost use Rattle.xcp_locked.specs.Opening.{UnnamedValue};
 
     ghost Value = { UnnamedValue };
 
-    ghost view = { λ u. record { layout = layout_of u.slave; callers = u.callers; name = u.blank.name } };
+    ghost view = { λ u. record { layout = layout_of u.slave; callers = u.callers; name = u.blank.name; bank = u.writer.bank } };
 
-    ghost invariant = { λ u. (u.slave ≡ opening (layout_of u.slave)) × (u.blank.parts ≡ u.callers) × (1 ≤ u.callers) × (u.callers ≤ 16) };
+    ghost invariant = { λ u. (u.slave ≡ opening (layout_of u.slave)) × (u.blank.parts ≡ u.callers) × (1 ≤ u.callers) × (u.callers ≤ 16) × (u.image ≡ image_of u.slave) × (u.writer ≡ new_writer u.writer.bank u.image) × (u.readers ≡ six_readers u.writer.bank u.image) };
 }
 
 impl Unnamed {
@@ -38,10 +49,16 @@ impl Unnamed {
         ensures { IfOk result (λ u. (u.layout ≡ layout) × (u.callers ≡ callers)) }
     {
         let slave = Slave::new(alloc, layout)?;
+        let mut image = [0; 2040];
+        slave.image(&mut image);
+        let (writer, readers) = Bank::new(alloc, &image)?;
         Ok(Unnamed {
             slave,
             callers,
             blank: Blank::new(callers as u64),
+            image,
+            writer,
+            readers,
         })
     }
 
@@ -58,39 +75,69 @@ impl Unnamed {
 pub struct Opening<N: Name> {
     pub locked: Locked<N>,
     pub callers: Vec<Caller<N>>,
+    pub readers: [Reader<N>; 6],
 }
 
 impl<N: Name> Locked<N> {
-    /// Opens a slave: its journal is empty, and its callers are numbered from 0, without receipts.
+    /// Opens a slave: its journal is empty, its callers are numbered from 0, without receipts, and so
+    /// are its readers, which hold nothing. The opening's image is published.
     pub fn new(alloc: Global, unnamed: Unnamed) -> Result<Opening<N>, AllocError>
         requires name { unnamed.name ≡ N.name }
         requires parts { unnamed.callers ≡ N.parts }
+        requires layout { unnamed.layout ≡ N.layout }
+        requires bank { unnamed.bank ≡ N.bank }
         ensures locked { IfOk result (λ o.
-            o.locked ≡ record { slave = opening unnamed.layout; journal = [] }) }
+            o.locked ≡ record {
+              slave = opening unnamed.layout;
+              journal = [];
+              publications = image_of (opening unnamed.layout) ∷ [];
+            }) }
         ensures callers { IfOk result (λ o.
             o.callers.items ≡ callers_of unnamed.layout unnamed.callers) }
+        ensures readers { IfOk result (λ o.
+            o.readers ≡ six_readers N.bank (image_of (opening unnamed.layout))) }
     {
         let Unnamed {
             slave,
             callers,
             blank,
+            image,
+            writer,
+            readers,
         } = unnamed;
-        let (book, mut rest) = blank.open::<N>();
-        let mut all = Vec::new(alloc);
-        for number in 0..callers {
-            let share = rest.split_off(1, 0);
-            all.push(new_caller(alloc, number, slave.layout(), share))?;
-        }
+        let (book, shares) = blank.open::<N>();
+        let all = new_callers(alloc, callers, slave.layout(), shares)?;
         let locked = Locked {
             slave,
             journal: Journal::new(alloc),
             book,
+            publisher: Publisher::new(alloc, writer, image)?,
         };
         Ok(Opening {
             locked,
             callers: all,
+            readers: name_readers(readers),
         })
     }
+}
+
+/// So many callers that have made no call, numbered from 0.
+fn new_callers<N: Name>(
+    alloc: Global,
+    callers: u8,
+    layout: &Layout,
+    shares: Share<N>,
+) -> Result<Vec<Caller<N>>, AllocError>
+    requires { (shares.parts ≡ callers) × (shares.amount ≡ 0) }
+    ensures { IfOk result (λ all. all.items ≡ callers_of layout.now callers) }
+{
+    let mut rest = shares;
+    let mut all = Vec::new(alloc);
+    for number in 0..callers {
+        let share = rest.split_off(1, 0);
+        all.push(new_caller(alloc, number, layout, share))?;
+    }
+    Ok(all)
 }
 
 /// A caller that has made no call.
@@ -106,4 +153,17 @@ fn new_caller<N: Name>(alloc: Global, number: u8, layout: &Layout, share: Share<
         accepted: 0,
         share,
     }
+}
+
+/// A new bank's readers, by their opening's name.
+fn name_readers<N: Name>(readers: [xcp_bank::Reader; 6]) -> [Reader<N>; 6]
+    requires { AllByRecursion (λ r. r.bank ≡ N.bank) readers }
+    ensures { result ≡ readers }
+{
+    readers.map(
+        |reader| -> Reader<N>
+            requires { reader.bank ≡ N.bank }
+            ensures { result ≡ reader }
+        { Reader::new(reader) },
+    )
 }

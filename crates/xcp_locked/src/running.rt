@@ -11,8 +11,8 @@ use together::run_both;
 
 /// Runs a task for each worker, at most 16 of them, all at the same time. They are numbered from 0.
 /// In each of its cycles a task asks the gate, submits an event on the channel of its number (modulo
-/// the number of channels) with all signals the cycle's number (modulo 256), takes the image, as task
-/// 0 also finishes a store, and asks the gate again.
+/// the number of channels) with all signals the cycle's number (modulo 256), takes the current image
+/// and reads it, outside the lock, as task 0 also finishes a store, and asks the gate again.
 ///
 /// Where memory or a thread is refused, the answer is `Memory`, and no task has begun. Else all
 /// workers come back, in order, with the fault of the least task number that has one.

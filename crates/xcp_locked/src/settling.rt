@@ -3,9 +3,9 @@ ghost use Rattle.std.specs.Prelude.{◌≡◌, ◌≢◌, MatchBool, MatchResult
 ghost use Rattle.xcp_locked.specs.Receipts.{receipt_of};
 ghost use Rattle.xcp_locked.specs.Settling.{DifferAt, IsSettled, tally};
 
-use crate::journal::Journal;
-use crate::{Caller, Entry, Locked, Name, Receipt};
+use crate::{Caller, Locked, Name, Receipt};
 use xcp_slave::{Answer, Request};
+use xcp_trace::{Entry, Journal};
 
 /// The first index at which a caller's receipts are not the journal's.
 #[derive(Clone, Copy, Debug, PartialEq, Eq)]
@@ -31,9 +31,12 @@ fn settled(number: u8, journal: &Journal, receipts: &[Receipt]) -> Result<(), Mi
         (λ _. receipts.now ≡ tally number 0 journal.now.entries)
         (λ m. DifferAt m.at receipts.now (tally number 0 journal.now.entries)) }
 {
+    let mut entries = journal.entries();
     let mut next = 0;
     for at in 0..journal.len() {
-        let entry = journal.get(at);
+        let Some(entry) = entries.next() else {
+            unreachable!()
+        };
         if entry.caller != number {
             continue;
         }

@@ -1,9 +1,10 @@
 //! Tasks of the controller: what each submits, cycle by cycle.
 ghost use Rattle.std.specs.Prelude.{◌≡◌, ◌≤◌, ◌+◌, ℕ, List, [], ◌∷◌, IfSome, MatchBool, is_none, replicate, true};
 ghost use Rattle.xcp_locked.specs.Numbers.{task_number};
+ghost use Rattle.xcp_locked.specs.Taking.{Took};
 ghost use Rattle.xcp_locked.specs.Tasks.{Adds, Grew, IsOwn, Same, closing_of, duty, event_of};
 
-use crate::{Caller, Gate, Locked, LockedError, Name};
+use crate::{Caller, Gate, Locked, LockedError, Name, Reader, Worker};
 use arrayvec::ArrayVec;
 use std::alloc::AllocError;
 use std::sync::{Mutex, Wait};
@@ -62,12 +63,6 @@ impl From<AllocError> for TaskError {
     }
 }
 
-/// Who works: a caller.
-#[derive(Drop)]
-pub struct Worker<N: Name> {
-    pub caller: Caller<N>,
-}
-
 /// A task: its number, its worker, and how many cycles it has.
 #[derive(Drop)]
 pub struct Task<'a, N: Name, G: Gate> {
@@ -95,22 +90,18 @@ pub struct Ran<N: Name> {
 impl<'a, N: Name + Send + Sync, G: Gate + Sync> Work<Done<N>> for Task<'a, N, G> {
     ghost use Rattle.xcp_locked.specs.Tasks.{Worked};
 
-    ghost gives = { λ t d. Worked t.cycles t.task t.worker.caller d.worker.caller d.fault };
+    ghost gives = { λ t d. Worked t.cycles t.task t.worker d.worker d.fault };
 
     fn run<R: Wait>(self, rt: &R) -> Done<N> {
         let Task {
             task,
-            worker,
+            mut worker,
             cycles,
             gate,
             lock,
         } = self;
-        let Worker { mut caller } = worker;
-        let fault = run_cycles(rt, lock, task, &mut caller, cycles, gate);
-        Done {
-            worker: Worker { caller },
-            fault,
-        }
+        let fault = run_cycles(rt, lock, task, &mut worker, cycles, gate);
+        Done { worker, fault }
     }
 
     fn leave(self) -> Done<N> {
@@ -126,48 +117,52 @@ fn run_cycles<N: Name, G: Gate>(
     rt: &impl Wait,
     lock: &Mutex<Locked<N>>,
     task: u8,
-    caller: &mut Caller<N>,
+    worker: &mut Worker<N>,
     cycles: u32,
     gate: &G,
 ) -> Option<TaskError>
-    ensures grew { Grew (duty caller.old task) cycles (is_none result)
-        caller.old.receipts caller.new.receipts }
-    ensures same { Same caller.old caller.new }
+    ensures grew { Grew (duty worker.old.caller task) cycles (is_none result)
+        worker.old.caller.receipts worker.new.caller.receipts }
+    ensures same { Same worker.old.caller worker.new.caller }
+    ensures took { Took cycles (is_none result) worker.old.reader worker.new.reader
+        worker.old.last worker.new.last }
     ensures own { IfSome result (IsOwn task) }
 {
     for n in 0..cycles {
-        if let Some(fault) = cycle(rt, lock, task, caller, n, gate) {
+        if let Some(fault) = cycle(rt, lock, task, worker, n, gate) {
             return Some(fault);
         }
     }
     None
 }
 
-/// One cycle: the gate is asked, an event is submitted, the image is taken, task 0 finishes a
-/// store, and the gate is asked again.
+/// One cycle: the gate is asked, an event is submitted, an image is taken outside the lock, task 0
+/// finishes a store, and the gate is asked again.
 fn cycle<N: Name, G: Gate>(
     rt: &impl Wait,
     lock: &Mutex<Locked<N>>,
     task: u8,
-    caller: &mut Caller<N>,
+    worker: &mut Worker<N>,
     cycle: u32,
     gate: &G,
 ) -> Option<TaskError>
     ensures grew { (old : List _) (n : ℕ) → n ≡ cycle
-        → Grew (duty caller.old task) n true old caller.old.receipts
-        → Grew (duty caller.old task) (n + 1) (is_none result) old caller.new.receipts }
-    ensures same { Same caller.old caller.new }
+        → Grew (duty worker.old.caller task) n true old worker.old.caller.receipts
+        → Grew (duty worker.old.caller task) (n + 1) (is_none result) old worker.new.caller.receipts }
+    ensures same { Same worker.old.caller worker.new.caller }
+    ensures took { Took 1 (is_none result) worker.old.reader worker.new.reader
+        worker.old.last worker.new.last }
     ensures own { IfSome result (IsOwn task) }
 {
     if !gate.before(task, cycle) {
         return Some(TaskError::GateSpent(task));
     }
-    let event = event(caller, task, cycle);
-    if let Some(fault) = step(rt, lock, caller, event) {
+    let event = event(&worker.caller, task, cycle);
+    if let Some(fault) = step(rt, lock, &mut worker.caller, event) {
         return Some(fault);
     }
-    take_image(rt, lock);
-    if let Some(fault) = close(rt, lock, task, caller) {
+    take_image(&mut worker.reader, &mut worker.last);
+    if let Some(fault) = close(rt, lock, task, &mut worker.caller) {
         return Some(fault);
     }
     if !gate.after(task, cycle) {
@@ -194,10 +189,12 @@ fn all_signals(length: usize, byte: u8) -> ArrayVec<u8, 64>
     signals
 }
 
-/// Takes and reads the image of the moment.
-fn take_image<N: Name>(rt: &impl Wait, lock: &Mutex<Locked<N>>) {
-    let mut image = [0; 2040];
-    lock.lock(rt).image(&mut image);
+/// Takes the current image, and reads all of it. No lock is taken.
+fn take_image<N: Name>(reader: &mut Reader<N>, last: &mut [u8; 2040])
+    ensures { Took 1 true reader.old reader.new last.old last.new }
+{
+    reader.acquire();
+    reader.read(0, last);
 }
 
 /// Submits a request.

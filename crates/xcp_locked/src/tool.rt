@@ -3,8 +3,9 @@ ghost use Rattle.std.specs.Prelude.{◌≡◌};
 
 use crate::{Caller, Locked, LockedError, Name};
 use std::sync::{Mutex, Wait};
-use xcp_framing::{Station, StationError};
-use xcp_slave::{Answer, Request};
+use xcp_framing::{Station, StationError, told_of};
+use xcp_packet::Packet;
+use xcp_slave::{Request, Told};
 
 /// A caller of a slave that others share, as a station. Its exchanges are its caller's receipts.
 /// A submit waits for the lock.
@@ -39,9 +40,17 @@ impl<'a, N: Name, R: Wait> Station for Tool<'a, N, R> {
 
     ghost refuses = { λ t request e. MayRefuse e };
 
-    fn submit(&mut self, request: Request) -> Result<Answer, StationError> {
-        match self.lock.lock(self.rt).submit(&mut self.caller, request) {
-            Ok(receipt) => Ok(receipt.answer),
+    fn submit_into(
+        &mut self,
+        request: &Request,
+        packet: &mut Packet,
+    ) -> Result<Told, StationError> {
+        let submitted = self
+            .lock
+            .lock(self.rt)
+            .submit(&mut self.caller, request.copy());
+        match submitted {
+            Ok(receipt) => Ok(told_of(&receipt.answer, packet)),
             Err(LockedError::Memory) => Err(StationError::Memory),
             Err(LockedError::JournalFull) => Err(StationError::JournalFull),
         }

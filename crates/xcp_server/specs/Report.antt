@@ -1,16 +1,24 @@
 -- What is told at the end of a server.
 use Rattle.std.specs.Prelude.{◌≡◌, ℕ, List, [], ◌∷◌, Option, Some, None, Result, Ok, Err, MatchResult, length, vec_len}
 use Rattle.std.specs.List.{slice_get}
+use Rattle.xcp_bank.specs.BankId.{BankId}
+use Rattle.xcp_bank.specs.Ends.{six_readers}
+use Rattle.xcp_memory.specs.Layout.{LayoutValue}
+use Rattle.xcp_slave.specs.Run.{Run}
+use Rattle.xcp_slave.specs.Value.{opening}
 use Rattle.xcp_framing.specs.Serve.{number_of}
 use Rattle.xcp_framing.specs.Watched.{Watched}
 use Rattle.xcp_framing.specs.declared.serving.ServeError.{ServeError}
 use Rattle.xcp_framing.specs.declared.serving.ServeError.TheVariants as errors
 use Rattle.xcp_framing.specs.declared.serving.Served.{Served}
-use Rattle.xcp_locked.specs.Caller.{CallerValue}
-use Rattle.xcp_locked.specs.Serving.{Closes}
+use Rattle.xcp_locked.specs.Caller.{CallerValue, callers_of}
+use Rattle.xcp_locked.specs.Journal.{exchanges}
+use Rattle.xcp_locked.specs.HangingUp.{EndsSession}
+use Rattle.xcp_locked.specs.Published.{image_of}
+use Rattle.xcp_locked.specs.Serving.{Closes, CountTheirCommands}
 use Rattle.xcp_locked.specs.Settling.{AreSettled, DifferAt, tally}
 use Rattle.xcp_locked.specs.declared.closing.Closing.{Closing}
-use Rattle.xcp_locked.specs.declared.entry.Entry.{Entry}
+use Rattle.xcp_locked.specs.declared.Entry.{Entry}
 use Rattle.xcp_locked.specs.declared.tasks.TaskError.{TaskError}
 use Rattle.xcp_locked.specs.declared.tasks.TaskError.TheVariants as tasks
 use Rattle.xcp_program.specs.declared.fault.Fault.{Fault}
@@ -55,8 +63,11 @@ pub record IsReport {N I O : Type 0} (c : Closing N I O) (r : Report) : Type 0 w
   pub settled : AreSettled c.locked.journal (vec_len c.callers) c.callers.items
   pub fault : r.fault ≡ first_of (told_ends c.ends.items) (told_task c.fault)
 
--- a server's work was done, and this is what is told of it
-pub record IsServed {I O : Type 0} (N : Type 0) (remaining : I → Option (List ℕ)) (contents : O → Option (List ℕ)) (m turns cycles tasks : ℕ) (opened : List CallerValue) (ends : List (Watched I × Watched O)) (result : Result Report Fault) : Type 0 where
+-- A server's work was done on a slave of this layout, and this is what is told of it: its journal is a run from the slave's opening.
+pub record IsServed {I O : Type 0} (N : Type 0) (remaining : I → Option (List ℕ)) (contents : O → Option (List ℕ)) (layout : LayoutValue) (turns cycles tasks callers : ℕ) (bank : BankId) (ends : List (Watched I × Watched O)) (result : Result Report Fault) : Type 0 where
   pub closing : Closing N I O
-  pub closes : Closes remaining contents m turns cycles tasks opened ends closing
+  pub closes : Closes remaining contents layout.max_cto turns cycles tasks (callers_of layout callers) (six_readers bank (image_of (opening layout))) ends closing
+  pub frames : CountTheirCommands closing.ends.items closing.callers.items
+  pub hangup : EndsSession closing.fault closing.callers.items
+  pub run : Run (opening layout) (exchanges closing.locked.journal) closing.locked.slave
   pub told : MatchResult result (IsReport closing) (IsMismatch closing.locked.journal closing.callers.items)

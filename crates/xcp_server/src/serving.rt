@@ -1,6 +1,5 @@
 //! Connections and tasks, up to what is told of them.
 ghost use Rattle.std.specs.Prelude.{◌≡◌, ◌⊎◌, ◌<◌, ◌≤◌, ◌+◌, Err, vec_len};
-ghost use Rattle.xcp_locked.specs.Caller.{callers_of};
 ghost use Rattle.xcp_server.specs.Report.{IsServed};
 
 use crate::open_gate::OpenGate;
@@ -31,8 +30,9 @@ pub fn serve_ends<I: Read + Send + Drop, O: Write + Send + Drop, R: Threads + Wa
 ) -> Result<Report, Fault>
     requires some { 0 < vec_len ends }
     requires callers { vec_len ends + tasks ≤ unnamed.callers }
-    ensures served { (result ≡ Err Fault.Memory) ⊎ IsServed Brand I.remaining O.contents unnamed.layout.max_cto 1000000 cycles tasks
-        (callers_of unnamed.layout unnamed.callers) ends.items result }
+    requires readers { tasks ≤ 6 }
+    ensures served { (result ≡ Err Fault.Memory) ⊎ IsServed Brand I.remaining O.contents unnamed.layout 1000000
+        cycles tasks unnamed.callers unnamed.bank ends.items result }
 {
     serve_named::<Brand, I, O, R>(rt, alloc, unnamed, ends, tasks, cycles)
 }
@@ -51,11 +51,13 @@ fn serve_named<
     tasks: u8,
     cycles: u32,
 ) -> Result<Report, Fault>
-    requires name { (unnamed.name ≡ N.name) × (unnamed.callers ≡ N.parts) }
+    requires name { (unnamed.name ≡ N.name) × (unnamed.callers ≡ N.parts)
+        × (unnamed.layout ≡ N.layout) × (unnamed.bank ≡ N.bank) }
     requires some { 0 < vec_len ends }
     requires callers { vec_len ends + tasks ≤ unnamed.callers }
-    ensures served { (result ≡ Err Fault.Memory) ⊎ IsServed N I.remaining O.contents unnamed.layout.max_cto 1000000 cycles tasks
-        (callers_of unnamed.layout unnamed.callers) ends.items result }
+    requires readers { tasks ≤ 6 }
+    ensures served { (result ≡ Err Fault.Memory) ⊎ IsServed N I.remaining O.contents unnamed.layout 1000000
+        cycles tasks unnamed.callers unnamed.bank ends.items result }
 {
     let gate = OpenGate;
     let Ok(mut closing) = run_server::<N, _, _, _, _>(

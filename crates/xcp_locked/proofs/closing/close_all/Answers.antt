@@ -9,3 +9,8 @@ returns-clause-hung_up g c =
     let workers = ap (λ ws. map (λ w. w.caller) ws) c.collect-ran.ensures.workers ∙ map_map (λ d. d.worker) (λ w. w.caller) c.args.done.items in
     let tools = c.take_apart-ended.ensures.callers in
     hung_up_as _ _ c.put_together.result.fault _ _ c.put_together.result.callers.items c.collect-ran.ensures.fault (λ i. (tools i ++ workers i) ++ spare) c.put_together.ensures.hung_up
+
+pub returns-clause-readers : goal.returns-clause-readers
+returns-clause-readers g c =
+    let workers = ap (λ ws. map (λ w. w.reader) ws) c.collect-ran.ensures.workers ∙ map_map (λ d. d.worker) (λ w. w.reader) c.args.done.items in
+    c.put_together.ensures.readers ∙ ap (λ rs. rs ++ into_iter_items c.args.unused) workers

@@ -1,4 +1,4 @@
-use Rattle.std.proofs.Common.{◌≡◌, ◌∷◌, [], ◌++◌, length, ap, refl, sym, subst, arith}
+use Rattle.std.proofs.Common.{◌∷◌, [], ◌++◌, length, ap, refl, sym, subst, arith}
 use Rattle.xcp_locked.specs.Places.{EachFrom}
 use Rattle.xcp_locked.specs.Serving.{IsConnectionOf}
 use Rattle.xcp_locked.proofs.Places.{turn, finish, each_more, dealt_more}

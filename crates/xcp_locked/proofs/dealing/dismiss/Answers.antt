@@ -1,4 +1,4 @@
-use Rattle.std.proofs.Common.{◌≡◌, ◌∷◌, [], ◌++◌, length, map, ap, sym, ◌∙◌, append_assoc, arith}
+use Rattle.std.proofs.Common.{length, ap, ◌∙◌, arith}
 use Rattle.xcp_locked.proofs.Places.{turn, map_behind}
 use Rattle.xcp_locked.proofs.dealing.dismiss.Goals as goal
 
@@ -10,10 +10,15 @@ loop-worker-preserved g c =
     let short = ap length steps.0 in
     let gone = steps.1 in
     let pushed = c.push_reserved.ensures.len in
-    let room = c.push_reserved.ensures.capacity in (
+    let room = c.push_reserved.ensures.capacity in
+    let pushed_too = c.push_reserved-in-loop-worker.ensures.len in
+    let room_too = c.push_reserved-in-loop-worker.ensures.capacity in (
       turn at.yielded _ _ _ c.in-Some.worker was.0 steps.0,
       omega (arith, short, gone, was.1),
       omega (arith, gone, pushed, room, was.2),
       map_behind (λ w. w.caller) _ at.yielded c.in-Some.worker _ _ was.3 c.push_reserved.ensures.items,
       room ∙ was.4,
+      omega (arith, gone, pushed_too, room_too, was.5),
+      map_behind (λ w. w.reader) _ at.yielded c.in-Some.worker _ _ was.6 c.push_reserved-in-loop-worker.ensures.items,
+      room_too ∙ was.7,
     )

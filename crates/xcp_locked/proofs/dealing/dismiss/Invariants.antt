@@ -10,3 +10,6 @@ invariant-loop-worker g l =
     × (vec_len l.callers + into_iter_len rest ≤ vec_capacity l.callers)
     × (l.callers.items ≡ l.initial.callers.items ++ map (λ w. w.caller) l.yielded)
     × (vec_capacity l.callers ≡ vec_capacity l.initial.callers)
+    × (vec_len l.readers + into_iter_len rest ≤ vec_capacity l.readers)
+    × (l.readers.items ≡ l.initial.readers.items ++ map (λ w. w.reader) l.yielded)
+    × (vec_capacity l.readers ≡ vec_capacity l.initial.readers)

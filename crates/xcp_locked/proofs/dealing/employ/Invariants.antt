@@ -8,3 +8,5 @@ invariant-loop-task g l =
     × (l.tasks ≤ vec_capacity l.workers)
     × (map (λ w. w.caller) l.workers.items ++ into_iter_items l.callers ≡ into_iter_items l.fn.callers)
     × (l.tasks ≤ l._task + length (into_iter_items l.callers))
+    × (map (λ w. w.reader) l.workers.items ++ into_iter_items l.readers ≡ into_iter_items l.fn.readers)
+    × (l.tasks ≤ l._task + length (into_iter_items l.readers))

@@ -1,4 +1,4 @@
-use Rattle.std.proofs.Common.{◌≡◌, ◌∷◌, [], ◌++◌, length, map, ap, sym, ◌∙◌, arith}
+use Rattle.std.proofs.Common.{length, ap, sym, ◌∙◌, arith}
 use Rattle.xcp_locked.specs.Running.{or_else}
 use Rattle.xcp_locked.proofs.Places.{turn, map_more}
 use Rattle.xcp_locked.proofs.Runs.{first_fault-more, or_else_stays}

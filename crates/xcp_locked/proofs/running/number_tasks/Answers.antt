@@ -1,4 +1,4 @@
-use Rattle.std.proofs.Common.{◌≡◌, ◌∷◌, [], ◌++◌, length, length-append, ap, refl, subst, sym, arith}
+use Rattle.std.proofs.Common.{◌∷◌, [], ◌++◌, length, length-append, ap, refl, subst, sym, arith}
 use Rattle.xcp_locked.specs.Places.{EachFrom}
 use Rattle.xcp_locked.specs.Running.{IsTaskOf}
 use Rattle.xcp_locked.proofs.Places.{turn, each_more}

@@ -17,4 +17,4 @@ pub returns-clause-served : goal.returns-clause-served
 returns-clause-served g c = if_ok c.run_both.result (λ r h. each_of (λ k d. Attended g.I.Read.remaining g.O.Write.contents k.max_cto k.turns k.reader k.writer k.caller d) 0 c.args.connections.items r.0.items h.all h.each) c.run_both.ensures.works
 
 pub returns-clause-worked : goal.returns-clause-worked
-returns-clause-worked g c = if_ok c.run_both.result (λ r h. each_of (λ t d. Worked t.cycles t.task t.worker.caller d.worker.caller d.fault) 0 c.args.tasks.items r.1.items h.all h.each) c.run_both.ensures.others
+returns-clause-worked g c = if_ok c.run_both.result (λ r h. each_of (λ t d. Worked t.cycles t.task t.worker d.worker d.fault) 0 c.args.tasks.items r.1.items h.all h.each) c.run_both.ensures.others

@@ -1,6 +1,9 @@
-use Rattle.std.proofs.Common.{◌≤◌, length}
+use Rattle.std.proofs.Common.{◌≡◌, ◌≤◌, ◌+◌, length}
 use Rattle.xcp_locked.proofs.Tallies.{Agrees}
 use Rattle.xcp_locked.proofs.settling.settled.Given as goal
 
 abbrev pub invariant-loop-at : goal.invariant-loop-at
-invariant-loop-at l = Agrees l.number l.at l.next l.journal.entries l.receipts × (l.next ≤ length l.receipts)
+invariant-loop-at l =
+    Agrees l.number l.at l.next l.journal.entries l.receipts l.entries
+    × (l.next ≤ length l.receipts)
+    × (l.at + length l.entries ≡ length l.journal.entries)

@@ -1,7 +1,8 @@
-use Rattle.std.proofs.Common.{rules, ◌≡◌, ℕ, ◌+◌, List, [], ◌∷◌, Bool, true, false, sym, subst}
+use Rattle.std.proofs.Common.{rules, ◌≡◌, ℕ, ◌+◌, List, [], ◌∷◌, Bool, true, false, true≢false, sym, subst}
 use Rattle.xcp_locked.specs.Tasks.{Duty, Grew, Adds, closing_of, duty, event_of}
-use Rattle.xcp_locked.specs.declared.entry.Receipt.{Receipt}
+use Rattle.xcp_locked.specs.declared.receipt.Receipt.{Receipt}
 use Rattle.xcp_locked.proofs.Plans.{nothing_done, event_done, all_done}
+use Rattle.xcp_locked.proofs.Taking.{took_it, took_nothing}
 use Rattle.xcp_locked.proofs.tasks.cycle.Goals as goal
 
 pub returns-then-not-before-clause-grew : goal.returns-then-not-before-clause-grew
@@ -9,18 +10,18 @@ returns-then-not-before-clause-grew g c old n is gr = nothing_done _ n old _ gr
 
 pub returns-in-Some-clause-grew : goal.returns-in-Some-clause-grew
 returns-in-Some-clause-grew g c old n is gr =
-    let p : Duty = duty c.args.caller.now c.args.task in
-    let e : c.step.new.caller.receipts ≡ c.args.caller.now.receipts = search rules in
+    let p : Duty = duty c.args.worker.now.caller c.args.task in
+    let e : c.step.new.caller.receipts ≡ c.args.worker.now.caller.receipts = search rules in
     subst (λ (z : List Receipt). Grew p (n + 1) false old z) (sym e) (nothing_done p n old _ gr)
 
 pub returns-in-Some-close-clause-grew : goal.returns-in-Some-close-clause-grew
 returns-in-Some-close-clause-grew g c old n is gr =
-    let p : Duty = duty c.args.caller.now c.args.task in
+    let p : Duty = duty c.args.worker.now.caller c.args.task in
     let k : ℕ = c.args.cycle in
-    let a : Adds (event_of p k ∷ []) c.args.caller.now.receipts c.step.new.caller.receipts = search rules in
+    let a : Adds (event_of p k ∷ []) c.args.worker.now.caller.receipts c.step.new.caller.receipts = search rules in
     let e : c.close.new.caller.receipts ≡ c.step.new.caller.receipts = search rules in
     subst (λ (z : List Receipt). Grew p (n + 1) false old z) (sym e)
-    (subst (λ (j : ℕ). Grew p (j + 1) false old c.step.new.caller.receipts) (sym is) (event_done p k old _ _ (subst (λ (j : ℕ). Grew p j true old c.args.caller.now.receipts) is gr) a))
+    (subst (λ (j : ℕ). Grew p (j + 1) false old c.step.new.caller.receipts) (sym is) (event_done p k old _ _ (subst (λ (j : ℕ). Grew p j true old c.args.worker.now.caller.receipts) is gr) a))
 
 -- the whole cycle was submitted
 whole_cycle : (p : Duty) (k n : ℕ) (whole : Bool) (old was mid now : List Receipt) → n ≡ k → Grew p n true old was → Adds (event_of p k ∷ []) was mid → Adds (closing_of p) mid now → Grew p (n + 1) whole old now
@@ -28,15 +29,15 @@ whole_cycle p k n whole old was mid now is gr a b = subst (λ (j : ℕ). Grew p 
 
 pub returns-then-not-after-clause-grew : goal.returns-then-not-after-clause-grew
 returns-then-not-after-clause-grew g c old n is gr =
-    let p : Duty = duty c.args.caller.now c.args.task in
-    let a : Adds (event_of p c.args.cycle ∷ []) c.args.caller.now.receipts c.step.new.caller.receipts = search rules in
+    let p : Duty = duty c.args.worker.now.caller c.args.task in
+    let a : Adds (event_of p c.args.cycle ∷ []) c.args.worker.now.caller.receipts c.step.new.caller.receipts = search rules in
     let b : Adds (closing_of p) c.step.new.caller.receipts c.close.new.caller.receipts = search rules in
     whole_cycle p c.args.cycle n false old _ _ _ is gr a b
 
 pub returns-clause-grew : goal.returns-clause-grew
 returns-clause-grew g c old n is gr =
-    let p : Duty = duty c.args.caller.now c.args.task in
-    let a : Adds (event_of p c.args.cycle ∷ []) c.args.caller.now.receipts c.step.new.caller.receipts = search rules in
+    let p : Duty = duty c.args.worker.now.caller c.args.task in
+    let a : Adds (event_of p c.args.cycle ∷ []) c.args.worker.now.caller.receipts c.step.new.caller.receipts = search rules in
     let b : Adds (closing_of p) c.step.new.caller.receipts c.close.new.caller.receipts = search rules in
     whole_cycle p c.args.cycle n true old _ _ _ is gr a b
 
@@ -45,3 +46,18 @@ returns-in-Some-clause-own g c = c.in-Some.ensures.own c.args.task
 
 pub returns-in-Some-close-clause-own : goal.returns-in-Some-close-clause-own
 returns-in-Some-close-clause-own g c = c.in-Some-close.ensures.own c.args.task
+
+pub returns-then-not-before-clause-took : goal.returns-then-not-before-clause-took
+returns-then-not-before-clause-took g c = took_nothing 1 false _ _ (λ e. absurd (true≢false (sym e)))
+
+pub returns-in-Some-clause-took : goal.returns-in-Some-clause-took
+returns-in-Some-clause-took g c = took_nothing 1 false _ _ (λ e. absurd (true≢false (sym e)))
+
+pub returns-in-Some-close-clause-took : goal.returns-in-Some-close-clause-took
+returns-in-Some-close-clause-took g c = took_it false _ _ _ _ c.take_image.ensures
+
+pub returns-then-not-after-clause-took : goal.returns-then-not-after-clause-took
+returns-then-not-after-clause-took g c = took_it false _ _ _ _ c.take_image.ensures
+
+pub returns-clause-took : goal.returns-clause-took
+returns-clause-took g c = c.take_image.ensures

@@ -1,4 +1,7 @@
 use Rattle.xcp_server.proofs.serving.serve_ends.Given as goal
 
-abbrev pub ghosts-serve_named : goal.ghosts-serve_named
-ghosts-serve_named g a = record { name = a.unnamed.name; parts = a.unnamed.callers }
+abbrev pub ghosts-serve_named-N-Ledger : goal.ghosts-serve_named-N-Ledger
+ghosts-serve_named-N-Ledger g a = record { name = a.unnamed.name; parts = a.unnamed.callers }
+
+abbrev pub ghosts-serve_named-N-Name : goal.ghosts-serve_named-N-Name
+ghosts-serve_named-N-Name g a = record { layout = a.unnamed.layout; bank = a.unnamed.bank }

@@ -1,0 +1,230 @@
+//! What a tool submits, and what that takes.
+use crate::figures::Times;
+use crate::seats::{BLANK, Source};
+use arrayvec::ArrayVec;
+use std::rt::Clock;
+use std::time::Instant;
+use std::{fmt, io};
+use xcp_locked::{Caller, Locked, Name, Reader};
+use xcp_packet::Packet;
+use xcp_slave::{Answer, Request, Slave};
+
+const ROUNDS: u32 = 10;
+
+// (Even, as two requests come in turn.)
+const CALLS: u32 = 200;
+
+/// A request that is made again and again.
+#[derive(Clone, Copy)]
+pub enum Call {
+    Event,
+    Status,
+    /// SHORT_DOWNLOAD of the byte that stands there, on the page that the controller has too.
+    SameByte,
+    /// SHORT_DOWNLOAD of another byte, on a page that the tool alone has.
+    OwnPage,
+    /// SHORT_DOWNLOAD of another byte, on the page that the controller has too.
+    OtherByte,
+    /// SET_CAL_PAGE: the controller gets the other page, which is another image.
+    Switch,
+}
+
+impl fmt::Display for Call {
+    fn fmt<W: fmt::Write>(&self, f: &mut fmt::Formatter<W>) -> fmt::Result {
+        f.write_str(match self {
+            Call::Event => "event",
+            Call::Status => "GET_STATUS",
+            Call::SameByte => "SHORT_DOWNLOAD, same byte",
+            Call::OwnPage => "SHORT_DOWNLOAD, own page",
+            Call::OtherByte => "SHORT_DOWNLOAD, other byte",
+            Call::Switch => "SET_CAL_PAGE, other image",
+        })
+    }
+}
+
+fn command(bytes: &[u8]) -> Request {
+    let mut packet = Packet::new();
+    let _ = packet.try_extend_from_slice(bytes);
+    Request::Command(packet)
+}
+
+pub fn status() -> Request {
+    command(&[0xFD])
+}
+
+/// SHORT_UPLOAD of 4 bytes.
+pub fn upload() -> Request {
+    command(&[0xF4, 4, 0, 0, 0, 0x10, 0, 0])
+}
+
+/// SHORT_DOWNLOAD of one byte.
+pub fn download(byte: u8) -> Request {
+    command(&[0xED, 1, 0, 0, 0, 0x10, 0, 0, byte])
+}
+
+// SET_CAL_PAGE of all segments: mode 81 for the controller, 82 for the tool, 83 for both.
+fn switch(mode: u8, page: u8) -> Request {
+    command(&[0xEB, mode, 0, page])
+}
+
+fn event() -> Request {
+    let mut signals = ArrayVec::new();
+    let _ = signals.try_extend_from_slice(&[7; 8]);
+    Request::Event(0, signals)
+}
+
+/// What a session begins with: the tool has page 1 and writes on it; the controller has it too where
+/// both should.
+pub fn beginning(both: bool) -> [Request; 3] {
+    let mode = if both { 0x83 } else { 0x82 };
+    [command(&[0xFF, 0]), switch(mode, 1), download(0x33)]
+}
+
+impl Call {
+    fn beginning(&self) -> [Request; 3] {
+        beginning(!matches!(self, Call::OwnPage | Call::Switch))
+    }
+
+    // The two that are submitted in turn.
+    fn pair(&self) -> [Request; 2] {
+        match self {
+            Call::Event => [event(), event()],
+            Call::Status => [status(), status()],
+            Call::SameByte => [download(0x33), download(0x33)],
+            Call::OwnPage | Call::OtherByte => [download(0x11), download(0x22)],
+            Call::Switch => [switch(0x81, 1), switch(0x81, 0)],
+        }
+    }
+}
+
+/// A caller with its slave. The lock is nobody else's.
+#[derive(Drop)]
+pub struct Alone<N: Name> {
+    pub locked: Locked<N>,
+    pub caller: Caller<N>,
+}
+
+impl<N: Name> Alone<N> {
+    pub fn submit(&mut self, request: Request) -> io::Result<()> {
+        match self.locked.submit(&mut self.caller, request) {
+            Ok(_) => Ok(()),
+            Err(_) => Err(io::Error::from(io::ErrorKind::OutOfMemory)),
+        }
+    }
+
+    pub fn begin(&mut self, both: bool) -> io::Result<()> {
+        for request in &beginning(both) {
+            self.submit(request.copy())?;
+        }
+        Ok(())
+    }
+
+    // How many images were published.
+    fn published(&mut self, reader: &mut Reader<N>) -> u64 {
+        let _ = reader.acquire();
+        match self.locked.settle_reader(reader) {
+            Some(settled) => settled.number,
+            None => 0,
+        }
+    }
+}
+
+impl<N: Name> Source for Alone<N> {
+    fn publish(&mut self) -> io::Result<()> {
+        let byte = (self.locked.len() % 251) as u8;
+        self.submit(download(byte))
+    }
+}
+
+/// Times rounds of submits under no other's lock, and tells how many images those published.
+pub fn time_submits<C: Clock, N: Name>(
+    rt: &C,
+    alone: &mut Alone<N>,
+    reader: &mut Reader<N>,
+    call: Call,
+    times: &mut Times,
+) -> io::Result<u64> {
+    for request in &call.beginning() {
+        alone.submit(request.copy())?;
+    }
+    let before = alone.published(reader);
+    let [one, other] = call.pair();
+    for _ in 0..ROUNDS {
+        let start = Instant::now(rt)?;
+        for _ in 0..CALLS / 2 {
+            alone.submit(one.copy())?;
+            alone.submit(other.copy())?;
+        }
+        times.add(start.elapsed(rt)?, CALLS)?;
+    }
+    Ok(alone.published(reader).saturating_sub(before))
+}
+
+/// Times the same of a slave with no journal, no receipts and no images for others.
+pub fn time_bare<C: Clock>(
+    rt: &C,
+    slave: &mut Slave,
+    call: Call,
+    times: &mut Times,
+) -> io::Result<()> {
+    for request in &call.beginning() {
+        let _ = slave.submit(request);
+    }
+    let [one, other] = call.pair();
+    for _ in 0..ROUNDS {
+        let start = Instant::now(rt)?;
+        for _ in 0..CALLS / 2 {
+            let _ = answer(slave, &one);
+            let _ = answer(slave, &other);
+        }
+        times.add(start.elapsed(rt)?, CALLS)?;
+    }
+    Ok(())
+}
+
+// (What is plain isn't inlined, or a turn could be left out as done already.)
+#[inline(never)]
+fn answer(slave: &mut Slave, request: &Request) -> Answer {
+    slave.submit(request)
+}
+
+/// Times the writing of the controller's image and its comparison with another one.
+pub fn time_comparisons<C: Clock>(rt: &C, slave: &Slave, times: &mut Times) -> io::Result<()> {
+    let mut last = BLANK;
+    slave.image(&mut last);
+    for _ in 0..ROUNDS {
+        let mut same = 0u32;
+        let start = Instant::now(rt)?;
+        for _ in 0..CALLS {
+            same = u32::from(is_imaged(slave, &last)).saturating_add(same);
+        }
+        let took = start.elapsed(rt)?;
+        if same == CALLS {
+            times.add(took, CALLS)?;
+        }
+    }
+    Ok(())
+}
+
+#[inline(never)]
+fn is_imaged(slave: &Slave, last: &[u8; 2040]) -> bool {
+    let mut image = BLANK;
+    slave.image(&mut image);
+    image == *last
+}
+
+/// Times publications.
+pub fn time_publications<C: Clock, P: Source>(
+    rt: &C,
+    source: &mut P,
+    times: &mut Times,
+) -> io::Result<()> {
+    for _ in 0..ROUNDS {
+        let start = Instant::now(rt)?;
+        for _ in 0..CALLS {
+            source.publish()?;
+        }
+        times.add(start.elapsed(rt)?, CALLS)?;
+    }
+    Ok(())
+}

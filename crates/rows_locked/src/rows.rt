@@ -1,0 +1,136 @@
+// Rows as texts: what is asked, and what comes of it. A command packet in hex, `drain` or `store`, and
+// its answer; or the number of a reader, and that it `acquires` (`newer` or `same`), `reads` (the bytes
+// that its image begins with: the rest is 0), `is told` (`-`), or `settles` (`1 from 7`, or `none`).
+ghost use Rattle.std.specs.Prelude.{◌≡◌};
+
+use crate::images::held;
+use crate::openings::unnamed;
+use arrayvec::ArrayVec;
+use std::alloc::Global;
+use std::marker::Brand;
+use std::test::Fail;
+use xcp_locked::{Caller, Locked, Name, Opening, Reader, Settled, Taken, Unnamed};
+use xcp_slave::{Answer, Request};
+
+pub type Row = (&'static str, &'static str);
+
+// The bytes of a text, if all its words are bytes.
+fn bytes<const N: usize>(text: &str) -> Option<ArrayVec<u8, N>> {
+    let mut bytes = ArrayVec::new();
+    for word in text.split_whitespace() {
+        let byte = u8::from_str_radix(word, 16).ok()?;
+        bytes.try_push(byte).ok()?;
+    }
+    Some(bytes)
+}
+
+fn request(text: &str) -> Option<Request> {
+    match text {
+        "drain" => Some(Request::Drain),
+        "store" => Some(Request::FinishStore),
+        _ => Some(Request::Command(bytes(text)?)),
+    }
+}
+
+fn answer(text: &str) -> Option<Answer> {
+    match text {
+        "nothing" => Some(Answer::Nothing),
+        "no store" => Some(Answer::NoStore),
+        _ => Some(Answer::Packet(bytes(text)?)),
+    }
+}
+
+// Whether the slave answers the question so.
+fn answers<N: Name>(
+    locked: &mut Locked<N>,
+    caller: &mut Caller<N>,
+    question: &str,
+    said: &str,
+) -> Option<bool> {
+    let wanted = answer(said)?;
+    let receipt = locked.submit(caller, request(question)?).ok()?;
+    Some(receipt.answer == wanted)
+}
+
+fn taken(text: &str) -> Option<Taken> {
+    match text {
+        "newer" => Some(Taken::Newer),
+        "same" => Some(Taken::Same),
+        _ => None,
+    }
+}
+
+fn settled(text: &str) -> Option<Settled> {
+    let (number, from) = text.split_once(" from ")?;
+    Some(Settled {
+        number: number.parse().ok()?,
+        from: from.parse().ok()?,
+    })
+}
+
+// Whether the reader's image begins with these bytes, and all behind them is 0.
+fn reads<N: Name>(reader: &mut Reader<N>, said: &str) -> Option<bool> {
+    let wanted: ArrayVec<u8, 32> = bytes(said)?;
+    let image = held(reader)?;
+    let (front, rest) = image.split_at(wanted.len());
+    Some(front == wanted.as_slice() && rest.iter().all(|byte| *byte == 0))
+}
+
+// Whether what a reader does comes out so.
+fn follows<N: Name>(
+    locked: &mut Locked<N>,
+    reader: &mut Reader<N>,
+    deed: &str,
+    said: &str,
+) -> Option<bool> {
+    match (deed, said) {
+        ("acquires", _) => Some(reader.acquire() == taken(said)?),
+        ("reads", _) => reads(reader, said),
+        ("settles", "none") => Some(locked.settle_reader(reader).is_none()),
+        ("settles", _) => Some(locked.settle_reader(reader)? == settled(said)?),
+        ("is told", "-") => {
+            locked.tell(reader);
+            Some(true)
+        }
+        _ => None,
+    }
+}
+
+// Whether a row comes out as it says; none where it means nothing.
+fn holds<N: Name>(opening: &mut Opening<N>, row: Row) -> Option<bool> {
+    let Opening {
+        locked,
+        callers,
+        readers,
+    } = opening;
+    let (question, said) = row;
+    let Some(rest) = question.strip_prefix("reader ") else {
+        return answers(locked, callers.get_mut(0)?, question, said);
+    };
+    let (number, deed) = rest.split_once(' ')?;
+    let reader = readers.get_mut(number.parse::<usize>().ok()?)?;
+    follows(locked, reader, deed, said)
+}
+
+fn first_wrong_of<N: Name>(
+    alloc: Global,
+    unnamed: Unnamed,
+    rows: &[Row],
+) -> Result<Option<usize>, Fail>
+    requires { (unnamed.name ≡ N.name) × (unnamed.callers ≡ N.parts)
+        × (unnamed.layout ≡ N.layout) × (unnamed.bank ≡ N.bank) }
+{
+    let mut opening = Locked::<N>::new(alloc, unnamed)?;
+    for (number, row) in rows.iter().enumerate() {
+        if holds(&mut opening, *row) != Some(true) {
+            return Ok(Some(number));
+        }
+    }
+    Ok(None)
+}
+
+// The first row, counted from 0, that doesn't come out as it says, of a slave that was just opened.
+pub fn first_wrong(alloc: Global, rows: &[Row]) -> Result<Option<usize>, Fail> {
+    let unnamed = unnamed(alloc, 1)?;
+    first_wrong_of::<Brand>(alloc, unnamed, rows)
+}

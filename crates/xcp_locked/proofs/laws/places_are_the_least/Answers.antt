@@ -1,0 +1,5 @@
+use Rattle.xcp_locked.proofs.PublishedLaws.{published_in_part}
+use Rattle.xcp_locked.proofs.laws.places_are_the_least.Goals as goal
+
+pub returns : goal.returns
+returns c = published_in_part

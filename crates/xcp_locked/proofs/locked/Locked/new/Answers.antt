@@ -1,0 +1,23 @@
+use Rattle.std.proofs.Common.{◌≡◌, ◌∙◌, ap, arith, length, sym}
+use Rattle.xcp_slave.specs.Value.{SlaveValue, layout_of, opening}
+use Rattle.xcp_bank.specs.Ends.{new_writer}
+use Rattle.xcp_locked.specs.Opening.{UnnamedValue}
+use Rattle.xcp_locked.specs.Published.{image_of}
+use Rattle.xcp_locked.proofs.Journals.{run_first}
+use Rattle.xcp_locked.proofs.Publications.{kept_first}
+use Rattle.xcp_locked.proofs.locked.Locked.new.Goals as goal
+
+pub invariant_of-locked : goal.invariant_of-locked
+invariant_of-locked g c =
+    let was = c.unnamed.invariant in
+    let same = c.slave.view_is in
+    let layout : layout_of c.unnamed.inside.slave ≡ g.N.Name.layout = ap (λ (u : UnnamedValue). u.layout) c.unnamed.view_is ∙ c.requires.layout in
+    let bank = ap (λ (u : UnnamedValue). u.bank) c.unnamed.view_is ∙ c.requires.bank in
+    let image = was.4 ∙ ap image_of (sym same) in
+    let none : length c.new.result.entries ≡ 0 = ap length c.new.ensures in (
+      run_first _ c.new.result.entries c.new.ensures (same ∙ (was.0 ∙ ap (λ (v : SlaveValue). opening (layout_of v)) (sym same))),
+      c.open-book.ensures.total ∙ sym none,
+      omega (arith, none),
+      ap layout_of same ∙ layout,
+      kept_first g.N.Name.bank g.N.Name.layout c.new.result.entries _ c.in_ok-new.field-0 c.new.ensures (same ∙ (was.0 ∙ ap opening layout)) (c.in_ok-new.ensures.0 ∙ (was.5 ∙ (λ i. new_writer (bank i) (image i)))) c.in_ok-new.ensures.1 (c.in_ok-new.ensures.2 ∙ image),
+    )

@@ -1,6 +1,0 @@
-use Rattle.std.proofs.Common.{◌≡◌, ◌+◌}
-use Rattle.xcp_locked.specs.Caller.{callers_of}
-use Rattle.xcp_locked.proofs.locked.Locked.new.Given as goal
-
-abbrev pub invariant-loop-number : goal.invariant-loop-number
-invariant-loop-number g l = (l.rest.parts + l.number ≡ l.callers) × (l.rest.amount ≡ 0) × (l.all.items ≡ callers_of l.fn.unnamed.layout l.number)

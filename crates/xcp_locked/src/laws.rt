@@ -1,0 +1,50 @@
+//! Laws of what is published of a run, of settled callers, and of what a task's reader does. Each is the contract of a function
+//! with an empty body.
+ghost use Rattle.std.specs.Prelude.{◌≡◌, ◌≢◌, ◌↔◌, ◌<◌, ◌≤◌, ◌+◌, ℕ, suc, List, [], ◌∷◌, ◌++◌, length, take, Some};
+ghost use Rattle.std.specs.List.{slice_get};
+ghost use Rattle.xcp_slave.specs.declared.exchange.Exchange.{Exchange};
+ghost use Rattle.xcp_slave.specs.declared.Request.{Request};
+ghost use Rattle.xcp_slave.specs.declared.Answer.{Answer};
+ghost use Rattle.xcp_bank.specs.Deeds.{reads_of};
+ghost use Rattle.xcp_bank.specs.Ends.{AcquireDoes, ReaderEnd};
+ghost use Rattle.xcp_bank.specs.declared.taken.Taken.{Taken};
+ghost use Rattle.xcp_trace.specs.declared.Entry.{Entry};
+ghost use Rattle.xcp_locked.specs.Caller.{CallerValue};
+ghost use Rattle.xcp_locked.specs.Journal.{entry};
+ghost use Rattle.xcp_locked.specs.Receipts.{receipt};
+ghost use Rattle.xcp_locked.specs.Settling.{IsSettled};
+ghost use Rattle.xcp_locked.specs.Taking.{looks};
+ghost use Rattle.xcp_locked.specs.declared.receipt.Receipt.{Receipt};
+ghost use Rattle.xcp_slave.specs.Run.{Run};
+ghost use Rattle.xcp_slave.specs.Step.{Answers};
+ghost use Rattle.xcp_slave.specs.Value.{SlaveValue};
+ghost use Rattle.xcp_locked.specs.Published.{Publication, Published, image_of, publication};
+
+/// A run determines what is published of it: the newest is the image of the slave that it leads to,
+/// and one more exchange adds the new image, with its place, exactly where that is another one.
+pub fn publications_follow_the_run()
+    ensures single { (v : SlaveValue) (xs : List Exchange) (list others : List Publication) → Published v xs list → Published v xs others → list ≡ others }
+    ensures newest { (v : SlaveValue) (xs : List Exchange) (w : SlaveValue) (list : List Publication) → Published v xs list → Run v xs w → (front : List Publication) × (place : ℕ) × (list ≡ front ++ publication place (image_of w) ∷ []) }
+    ensures same { (v : SlaveValue) (xs : List Exchange) (w : SlaveValue) (x : Exchange) (u : SlaveValue) (list : List Publication) → Published v xs list → Run v xs w → Answers w x.request x.answer u → image_of u ≡ image_of w → Published v (xs ++ x ∷ []) list }
+    ensures other { (v : SlaveValue) (xs : List Exchange) (w : SlaveValue) (x : Exchange) (u : SlaveValue) (list : List Publication) → Published v xs list → Run v xs w → Answers w x.request x.answer u → image_of u ≢ image_of w → Published v (xs ++ x ∷ []) (list ++ publication (length xs + 1) (image_of u) ∷ []) }
+{}
+
+/// The place of a publication is the least number of exchanges after which it stands: of those that
+/// begin the run, k leave more than n publications exactly where k is at least the place of number n.
+pub fn places_are_the_least()
+    ensures { (v : SlaveValue) (xs : List Exchange) (list others : List Publication) (k n : ℕ) (p : Publication) → Published v xs list → Published v (take k xs) others → slice_get list n ≡ Some p → p.place ≤ k ↔ n < length others }
+{}
+
+/// A settled caller has one receipt for each of its entries: the entry at the place that a receipt names is this caller's, with
+/// the receipt's request and answer; each entry of this caller has a receipt; and the places rise.
+pub fn receipts_are_entries()
+    ensures each { (journal : List Entry) (c : CallerValue) (i : ℕ) (r : Receipt) → IsSettled journal c → slice_get c.receipts i ≡ Some r → slice_get journal r.at ≡ Some (entry c.number r.request r.answer) }
+    ensures all { (journal : List Entry) (c : CallerValue) (place : ℕ) (request : Request) (answer : Answer) → IsSettled journal c → slice_get journal place ≡ Some (entry c.number request answer) → (i : ℕ) × (slice_get c.receipts i ≡ Some (receipt place request answer)) }
+    ensures rise { (journal : List Entry) (c : CallerValue) (i : ℕ) (r s : Receipt) → IsSettled journal c → slice_get c.receipts i ≡ Some r → slice_get c.receipts (suc i) ≡ Some s → r.at < s.at }
+{}
+
+/// What counts as looking for the current image: each acquire does, and no read does.
+pub fn acquiring_is_looking()
+    ensures acquire { (taken : Taken) (old new : ReaderEnd) (a : AcquireDoes taken old new) → 0 < looks a.deeds }
+    ensures read { (reader : ℕ) (words : List ℕ) (at n : ℕ) → looks (reads_of reader words at n) ≡ 0 }
+{}
