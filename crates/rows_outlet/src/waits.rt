@@ -1,0 +1,79 @@
+// A packet that was taken is written before the sender waits for the next.
+use crate::packets::{DATA, REPLY, numbered};
+use std::io::{self, Write};
+use std::sync::Wait;
+use std::sync::atomic::{AtomicU64, Ordering};
+use std::test::Fail;
+use std::thread;
+use std::thread::join;
+use xcp_framing::Watched;
+use xcp_outlet::{DataEnd, ReplyEnd, SendEnd, SendError, outlet};
+
+// How often an end looks before it gives up.
+const LOOKS: u32 = 1_000_000;
+
+// Tells how many bytes it took.
+#[derive(Drop)]
+struct Telling<'a> {
+    written: &'a AtomicU64,
+}
+
+impl Write for Telling<'_> {
+    fn write(&mut self, buf: &[u8]) -> io::Result<usize> {
+        let before = self.written.load(Ordering::SeqCst);
+        self.written
+            .store(before.wrapping_add(buf.len() as u64), Ordering::SeqCst);
+        Ok(buf.len())
+    }
+
+    fn flush(&mut self) -> io::Result<()> {
+        Ok(())
+    }
+}
+
+// Whether so many bytes are written, after some looks.
+fn is_written(written: &AtomicU64, bytes: u64) -> bool {
+    for _ in 0..LOOKS {
+        if written.load(Ordering::SeqCst) == bytes {
+            return true;
+        }
+        thread::yield_now();
+    }
+    false
+}
+
+// Puts three packets by turns, each one only when the one before is written. Then it puts the marks.
+fn put_by_turns<R: Wait>(rt: &R, replies: ReplyEnd, data: DataEnd, written: &AtomicU64) -> bool {
+    let mut replies = replies;
+    let mut data = data;
+    let _ = replies.put_reply(rt, numbered(REPLY, 0));
+    let first = is_written(written, 7);
+    let _ = data.put_data(rt, numbered(DATA, 0));
+    let second = is_written(written, 14);
+    let _ = replies.put_reply(rt, numbered(REPLY, 1));
+    let third = is_written(written, 21);
+    let _ = replies.finish(rt);
+    let _ = data.finish(rt);
+    first && second && third
+}
+
+fn send_telling<R: Wait>(rt: &R, sender: SendEnd, written: &AtomicU64) -> Result<u64, SendError> {
+    let mut writer = Watched::new(Telling { written });
+    sender.run_sender(rt, &mut writer).count
+}
+
+#[test]
+fn a_packet_in_hand_is_written_before_the_next_wait(rt: HostRuntime) -> Result<(), Fail> {
+    let (replies, data, sender) = outlet(rt.alloc())?;
+    let written = AtomicU64::new(0);
+    let bytes = &written;
+    let threads = &rt;
+    let (came, count) = join(
+        threads,
+        move || -> bool { put_by_turns(threads, replies, data, bytes) },
+        move || -> Result<u64, SendError> { send_telling(threads, sender, bytes) },
+    );
+    assert!(&rt; came);
+    assert_eq!(&rt; count, Ok(3));
+    Ok(())
+}

@@ -1,0 +1,5 @@
+pub mod Known
+pub mod Rule
+pub mod Ends
+pub mod Sending
+pub mod Fault

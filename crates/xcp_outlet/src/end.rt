@@ -1,0 +1,156 @@
+//! The two ends that put.
+ghost use Rattle.std.specs.Prelude.{◌≡◌, ◌++◌, [], ◌∷◌, true, false, MatchResult};
+
+use crate::message::Message;
+use crate::opening::{Sender, Token};
+use crate::put::Put;
+use crate::rule::Puts;
+use std::marker::Model;
+use std::sync::Wait;
+use xcp_packet::Packet;
+
+/// The end that puts replies.
+#[derive(Drop)]
+pub struct ReplyEnd {
+    pub(crate) end: End,
+}
+
+impl Model for ReplyEnd {
+    ghost use Rattle.std.specs.Prelude.{◌≡◌, false};
+    ghost use Rattle.xcp_outlet.specs.Ends.{EndSeen};
+
+    ghost Value = { EndSeen };
+
+    ghost view = { λ e. e.end };
+
+    ghost invariant = { λ e. e.end.side ≡ false };
+}
+
+impl ReplyEnd {
+    /// Puts a packet behind those that were put before. It waits while the channel is full. Where
+    /// the send fails it has put nothing, and the packet comes back.
+    pub fn put_reply<R: Wait>(&mut self, rt: &R, packet: Packet) -> Result<(), Packet>
+        ensures same { (self.new.outlet ≡ self.old.outlet) × (self.new.side ≡ self.old.side) }
+        ensures put { MatchResult result
+            (λ _. self.new.put ≡ self.old.put ++ packet.items ∷ [])
+            (λ back. (back ≡ packet) × (self.new.put ≡ self.old.put)) }
+    {
+        self.end.put(rt, packet)
+    }
+
+    /// Puts the end mark, and puts no more. It waits while the channel is full.
+    pub fn finish<R: Wait>(self, rt: &R) -> Put
+        ensures outlet { result.outlet ≡ self.outlet }
+        ensures side { result.side ≡ false }
+        ensures put { result.put ≡ self.put }
+    {
+        self.end.finish(rt)
+    }
+}
+
+/// The end that puts data packets.
+#[derive(Drop)]
+pub struct DataEnd {
+    pub(crate) end: End,
+}
+
+impl Model for DataEnd {
+    ghost use Rattle.std.specs.Prelude.{◌≡◌, true};
+    ghost use Rattle.xcp_outlet.specs.Ends.{EndSeen};
+
+    ghost Value = { EndSeen };
+
+    ghost view = { λ e. e.end };
+
+    ghost invariant = { λ e. e.end.side ≡ true };
+}
+
+impl DataEnd {
+    /// Puts a packet behind those that were put before. It waits while the channel is full. Where
+    /// the send fails it has put nothing, and the packet comes back.
+    pub fn put_data<R: Wait>(&mut self, rt: &R, packet: Packet) -> Result<(), Packet>
+        ensures same { (self.new.outlet ≡ self.old.outlet) × (self.new.side ≡ self.old.side) }
+        ensures put { MatchResult result
+            (λ _. self.new.put ≡ self.old.put ++ packet.items ∷ [])
+            (λ back. (back ≡ packet) × (self.new.put ≡ self.old.put)) }
+    {
+        self.end.put(rt, packet)
+    }
+
+    /// Puts the end mark, and puts no more. It waits while the channel is full.
+    pub fn finish<R: Wait>(self, rt: &R) -> Put
+        ensures outlet { result.outlet ≡ self.outlet }
+        ensures side { result.side ≡ true }
+        ensures put { result.put ≡ self.put }
+    {
+        self.end.finish(rt)
+    }
+}
+
+/// One of the two ends that put, with the pass that knows what it has put.
+#[derive(Drop)]
+pub(crate) struct End {
+    pub(crate) is_data: bool,
+    pub(crate) sender: Sender,
+    pub(crate) pass: Token,
+}
+
+impl Model for End {
+    ghost use Rattle.std.specs.Prelude.{◌≡◌, false};
+    ghost use Rattle.crossbeam_channel.specs.Claims.{IsSeatAt};
+    ghost use Rattle.crossbeam_channel.specs.Ends.{sends_on};
+    ghost use Rattle.xcp_outlet.specs.Known.{one_half, half};
+    ghost use Rattle.xcp_outlet.specs.Ends.{EndSeen, end_of, knows};
+
+    ghost Value = { EndSeen };
+
+    ghost view = { λ e. end_of e.is_data e.pass };
+
+    ghost invariant = { λ e. IsSeatAt (sends_on e.sender) e.pass
+        × (knows e.pass ≡ one_half e.is_data (half (end_of e.is_data e.pass).put false)) };
+}
+
+impl End {
+    /// Puts a packet, or gives it back.
+    fn put<R: Wait>(&mut self, rt: &R, packet: Packet) -> Result<(), Packet>
+        ensures same { (self.new.outlet ≡ self.old.outlet) × (self.new.side ≡ self.old.side) }
+        ensures put { MatchResult result
+            (λ _. self.new.put ≡ self.old.put ++ packet.items ∷ [])
+            (λ back. (back ≡ packet) × (self.new.put ≡ self.old.put)) }
+    {
+        let message = Message {
+            from_data: self.is_data,
+            packet: Some(packet),
+        };
+        match self.sender.send_as::<Puts, R>(rt, &mut self.pass, message) {
+            Ok(()) => Ok(()),
+            Err(refused) => match refused.into_inner().packet {
+                Some(back) => Err(back),
+                None => unreachable!(),
+            },
+        }
+    }
+
+    /// Puts the end mark.
+    fn finish<R: Wait>(self, rt: &R) -> Put
+        ensures { (result.outlet ≡ self.outlet) × (result.side ≡ self.side)
+            × (result.put ≡ self.put) }
+    {
+        let End {
+            is_data,
+            sender,
+            mut pass,
+        } = self;
+        let message = Message {
+            from_data: is_data,
+            packet: None,
+        };
+        let ended = sender.send_as::<Puts, R>(rt, &mut pass, message).is_ok();
+        Put {
+            is_data,
+            ended,
+            sender,
+            pass,
+        }
+    }
+}

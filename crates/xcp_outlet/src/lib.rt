@@ -1,0 +1,31 @@
+//! An outlet: two ends that put packets, and one that takes them and sends them in frames.
+//!
+//! Each end can stand in a thread of its own. A [`ReplyEnd`] puts what a slave answers, a
+//! [`DataEnd`] puts what it samples, and [`SendEnd::run_sender`] takes what both have put and writes
+//! it in frames with one rising CTR. Where all three are done, [`Took::meet`] joins what one end has
+//! put with what was taken of it.
+//!
+//! `specs/Known.antt` has what each end knows, `specs/Rule.antt` the rule of the channel between
+//! them, `specs/Ends.antt` what contracts see of the ends, `specs/Sending.antt` what a sender
+//! promises.
+#![tactic(auto)]
+
+mod end;
+mod fault;
+mod intake;
+mod line;
+mod message;
+mod opening;
+mod put;
+mod rule;
+mod sending;
+mod took;
+mod view;
+
+pub use end::{DataEnd, ReplyEnd};
+pub use fault::SendError;
+pub use intake::SendEnd;
+pub use opening::outlet;
+pub use put::Put;
+pub use sending::Sent;
+pub use took::Took;

@@ -1,0 +1,55 @@
+//! The sender of a connection.
+ghost use Rattle.std.specs.Prelude.{◌≡◌};
+ghost use Rattle.xcp_outlet.specs.Sending.{Sends};
+
+use crate::fault::SendError;
+use crate::intake::SendEnd;
+use crate::line::Line;
+use crate::took::Took;
+use std::io::Write;
+use std::sync::Wait;
+use xcp_framing::Watched;
+
+/// What a sender has sent, and what it has taken.
+#[derive(Drop)]
+pub struct Sent {
+    /// How many packets were sent, modulo 2^64.
+    pub count: Result<u64, SendError>,
+    pub took: Took,
+}
+
+impl SendEnd {
+    /// Takes what both ends put, and sends it in frames with one rising CTR, from 0, until both end
+    /// marks came or a receive fails. Packets that are there at once are written together, and all
+    /// that were taken are written before it waits for the next. After a failed write it goes on
+    /// taking, and writes no more.
+    pub fn run_sender<R: Wait, W: Write>(self, rt: &R, writer: &mut Watched<W>) -> Sent
+        ensures same { result.took.outlet ≡ self.outlet }
+        ensures sends { Sends result.count result.took.taken
+            (W.contents writer.old.inner) (W.contents writer.new.inner)
+            writer.old.failures writer.new.failures }
+    {
+        let mut intake = self.open();
+        let mut line = Line::new();
+        for _ in rt.forever() {
+            if line.replies_ended && line.data_ended {
+                break;
+            }
+            if let Some(message) = intake.take_now(rt) {
+                line.add(message, writer);
+                continue;
+            }
+            line.flush(writer);
+            let Some(message) = intake.take(rt, &line) else {
+                break;
+            };
+            line.add(message, writer);
+        }
+        line.flush(writer);
+        let count = line.counted();
+        Sent {
+            count,
+            took: intake.close(),
+        }
+    }
+}
