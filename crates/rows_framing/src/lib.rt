@@ -18,13 +18,19 @@ mod ordered;
 #[cfg(test)]
 mod orders;
 #[cfg(test)]
+mod pumps;
+#[cfg(test)]
 mod replay_rows;
 #[cfg(test)]
 mod replays;
 #[cfg(test)]
 mod serve_rows;
 #[cfg(test)]
+mod served_by;
+#[cfg(test)]
 mod serves;
+#[cfg(test)]
+mod shelf;
 #[cfg(test)]
 mod stations;
 #[cfg(test)]

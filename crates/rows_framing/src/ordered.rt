@@ -130,4 +130,8 @@ impl<S: Station> Station for Noting<'_, S> {
         self.order.note();
         self.station.submit_into(request, packet)
     }
+
+    fn pending(&mut self) -> u8 {
+        self.station.pending()
+    }
 }

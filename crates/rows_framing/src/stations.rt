@@ -34,6 +34,10 @@ impl Station for Refusing {
         self.takes -= 1;
         Ok(told)
     }
+
+    fn pending(&mut self) -> u8 {
+        self.desk.pending()
+    }
 }
 
 /// Has nothing for a command, and so many packets of one byte for Drains.
@@ -76,6 +80,10 @@ impl Station for Pending {
             answer,
         });
         Ok(told)
+    }
+
+    fn pending(&mut self) -> u8 {
+        self.packets.min(64) as u8
     }
 }
 

@@ -8,4 +8,6 @@ mod orders;
 #[cfg(test)]
 mod packets;
 #[cfg(test)]
+mod putting;
+#[cfg(test)]
 mod waits;

@@ -1,14 +1,17 @@
 pub mod Answering
 pub mod Bytes
+pub mod Chaining
 pub mod ComesBack
 pub mod Consuming
 pub mod Cuts
+pub mod Draining
 pub mod Ends
 pub mod Events
 pub mod Gathering
 pub mod LongLines
 pub mod Midway
 pub mod Pairs
+pub mod Putting
 pub mod Refusing
 pub mod Sending
 pub mod Shortage

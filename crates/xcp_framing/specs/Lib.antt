@@ -1,3 +1,4 @@
+pub mod Chain
 pub mod Desk
 pub mod Digits
 pub mod Feeding
@@ -8,10 +9,12 @@ pub mod Lent
 pub mod Lines
 pub mod Meaning
 pub mod Parsed
+pub mod Pump
 pub mod Reading
 pub mod Refusal
 pub mod Replay
 pub mod Serve
+pub mod ServeBy
 pub mod Told
 pub mod Turns
 pub mod Watched

@@ -1,5 +1,5 @@
 //! A station that executes each request on its slave and stores the exchange.
-ghost use Rattle.std.specs.Prelude.{◌≡◌, [], ◌∷◌, ◌++◌, IfOk, OnErr, IfErr};
+ghost use Rattle.std.specs.Prelude.{◌≡◌, [], ◌∷◌, ◌++◌, IfOk, OnErr, IfErr, length};
 ghost use Rattle.xcp_slave.specs.Run.{Run};
 ghost use Rattle.xcp_slave.specs.Step.{Answers};
 ghost use Rattle.xcp_slave.specs.Told.{answer_in};
@@ -90,6 +90,14 @@ impl Station for Desk {
         let told = self.slave.submit_into(request, packet);
         self.trace.push_told(request, told, packet);
         Ok(told)
+    }
+
+    /// How many packets wait in the slave's outbox.
+    fn pending(&mut self) -> u8
+        ensures count { result ≡ length self.old.slave.outbox }
+        ensures kept { self.new ≡ self.old }
+    {
+        self.slave.pending()
     }
 
     /// Answers a request. The one refusal is `Memory`, which comes before anything is executed.

@@ -13,6 +13,7 @@
 
 mod desk;
 mod digits;
+mod end;
 mod fault;
 mod frame_writer;
 mod framer;
@@ -21,10 +22,13 @@ mod lent;
 mod line;
 mod liner;
 mod parsing;
+mod passage;
 mod plain;
+mod pumping;
 mod replaying;
 mod script;
 mod serving;
+mod serving_by;
 mod slot;
 mod station;
 mod stream;
@@ -34,14 +38,17 @@ mod watched;
 mod wire;
 
 pub use desk::Desk;
+pub use end::End;
 pub use fault::ReplayError;
 pub use framer::{Brought, Cut, Fed, Framer, Got};
 pub use law::{a_desk_is_never_full, each_text_has_its_lines};
 pub use line::Line;
 pub use parsing::{LINE_BYTES, parse_line};
 pub use plain::plain_lines;
+pub use pumping::pump;
 pub use replaying::replay_on;
 pub use serving::{ServeError, Served, serve};
+pub use serving_by::serve_by;
 pub use station::{Station, StationError, told_of};
 pub use stream::{
     any_cutting_gives_the_same_frames, each_stream_has_its_frames, plain_frames,

@@ -51,6 +51,11 @@ pub trait Station {
         ensures err { OnErr result (self.new ≡ self.old) }
         ensures refused { IfErr result (λ e. refuses self.new request.now e) };
 
+    /// How many packets wait for a `Drain`, where the station can tell. It is no exchange, and
+    /// promises nothing of the next one.
+    fn pending(&mut self) -> u8
+        ensures same { exchanges self.new ≡ exchanges self.old };
+
     /// Answers a request, and has this exchange from then on. After an `Err` it is as it was.
     fn submit(&mut self, request: Request) -> Result<Answer, StationError>
         ensures ok { IfOk result (λ answer. exchanges self.new

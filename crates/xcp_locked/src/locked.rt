@@ -115,6 +115,13 @@ impl<N: Name> Locked<N> {
         self.journal.len() as u64
     }
 
+    /// How many packets wait in the slave's outbox, for `Drain`.
+    pub fn pending(&self) -> u8
+        ensures { result ≡ length self.now.slave.outbox }
+    {
+        self.slave.pending()
+    }
+
     /// Writes the ECU image out, and answers its place: the number of calls that the journal has.
     pub fn image(&self, out: &mut [u8; 2040]) -> u64
         ensures image { out.new ≡ ecu_image self.now.slave.transfer.pages }

@@ -55,4 +55,11 @@ impl<'a, N: Name, R: Wait> Station for Tool<'a, N, R> {
             Err(LockedError::JournalFull) => Err(StationError::JournalFull),
         }
     }
+
+    /// How many packets wait in the shared slave's outbox. Others may empty it at once.
+    fn pending(&mut self) -> u8
+        ensures kept { self.new ≡ self.old }
+    {
+        self.lock.lock(self.rt).pending()
+    }
 }

@@ -46,6 +46,17 @@ impl ReplyEnd {
     {
         self.end.finish(rt)
     }
+
+    /// Puts no more, and no end mark, as where the end's thread never began. It waits for nothing.
+    /// A sender that runs has what was put, and waits for more until the answer is dropped.
+    pub fn give_up(self) -> Put
+        ensures outlet { result.outlet ≡ self.outlet }
+        ensures side { result.side ≡ false }
+        ensures put { result.put ≡ self.put }
+        ensures unmarked { result.ended ≡ false }
+    {
+        self.end.give_up()
+    }
 }
 
 /// The end that puts data packets.
@@ -84,6 +95,17 @@ impl DataEnd {
         ensures put { result.put ≡ self.put }
     {
         self.end.finish(rt)
+    }
+
+    /// Puts no more, and no end mark, as where the end's thread never began. It waits for nothing.
+    /// A sender that runs has what was put, and waits for more until the answer is dropped.
+    pub fn give_up(self) -> Put
+        ensures outlet { result.outlet ≡ self.outlet }
+        ensures side { result.side ≡ true }
+        ensures put { result.put ≡ self.put }
+        ensures unmarked { result.ended ≡ false }
+    {
+        self.end.give_up()
     }
 }
 
@@ -149,6 +171,24 @@ impl End {
         Put {
             is_data,
             ended,
+            sender,
+            pass,
+        }
+    }
+
+    /// Puts nothing more.
+    fn give_up(self) -> Put
+        ensures { (result.outlet ≡ self.outlet) × (result.side ≡ self.side)
+            × (result.put ≡ self.put) × (result.ended ≡ false) }
+    {
+        let End {
+            is_data,
+            sender,
+            pass,
+        } = self;
+        Put {
+            is_data,
+            ended: false,
             sender,
             pass,
         }

@@ -3,7 +3,8 @@
 //! Each end can stand in a thread of its own. A [`ReplyEnd`] puts what a slave answers, a
 //! [`DataEnd`] puts what it samples, and [`SendEnd::run_sender`] takes what both have put and writes
 //! it in frames with one rising CTR. Where all three are done, [`Took::meet`] joins what one end has
-//! put with what was taken of it.
+//! put with what was taken of it. [`PutReplies`] and [`PutData`] lend either end to a loop that
+//! knows no runtime.
 //!
 //! `specs/Known.antt` has what each end knows, `specs/Rule.antt` the rule of the channel between
 //! them, `specs/Ends.antt` what contracts see of the ends, `specs/Sending.antt` what a sender
@@ -17,6 +18,7 @@ mod line;
 mod message;
 mod opening;
 mod put;
+mod putting;
 mod rule;
 mod sending;
 mod took;
@@ -27,5 +29,6 @@ pub use fault::SendError;
 pub use intake::SendEnd;
 pub use opening::outlet;
 pub use put::Put;
+pub use putting::{PutData, PutReplies};
 pub use sending::Sent;
 pub use took::Took;

@@ -1,5 +1,5 @@
 //! The sender of a connection.
-ghost use Rattle.std.specs.Prelude.{◌≡◌};
+ghost use Rattle.std.specs.Prelude.{◌≡◌, [], Err};
 ghost use Rattle.xcp_outlet.specs.Sending.{Sends};
 
 use crate::fault::SendError;
@@ -50,6 +50,19 @@ impl SendEnd {
         Sent {
             count,
             took: intake.close(),
+        }
+    }
+
+    /// Takes nothing and writes nothing, as the sender of a connection whose threads never began:
+    /// from now on each put fails. It waits for nothing.
+    pub fn give_up(self) -> Sent
+        ensures same { result.took.outlet ≡ self.outlet }
+        ensures none { result.took.taken ≡ [] }
+        ensures cut { result.count ≡ Err (SendError.Cut 0) }
+    {
+        Sent {
+            count: Err(SendError::Cut(0)),
+            took: self.open().close(),
         }
     }
 }

@@ -4,7 +4,8 @@ ghost use Rattle.std.specs.Prelude.{◌≡◌};
 ghost use Rattle.xcp_packet.specs.Layout.{layout};
 ghost use Rattle.xcp_packet.specs.Lent.{fault_reply};
 
-use crate::{Code, Order, Packet, Reply, write_reply};
+use crate::replying::{write_error, write_error_count};
+use crate::{Code, Order, Packet};
 
 /// What is sent of a command that was not refused.
 #[derive(Clone, Copy, Debug, PartialEq, Eq)]
@@ -39,7 +40,7 @@ pub fn write_fault(packet: &mut Packet, fault: Fault, order: Order)
     ensures { packet.new.items ≡ layout order (fault_reply fault) }
 {
     match fault {
-        Fault::Code(code) => write_reply(packet, &Reply::Error(code), order),
-        Fault::Count(code, count) => write_reply(packet, &Reply::ErrorCount(code, count), order),
+        Fault::Code(code) => write_error(packet, code),
+        Fault::Count(code, count) => write_error_count(packet, code, count),
     }
 }

@@ -1,11 +1,11 @@
 //! From a reply to bytes.
-ghost use Rattle.std.specs.Prelude.{◌≡◌, ◌≤◌, ◌+◌, ◌++◌, ◌∷◌, length, replicate};
+ghost use Rattle.std.specs.Prelude.{◌≡◌, ◌≤◌, ◌+◌, ◌++◌, ◌∷◌, [], length, replicate};
 ghost use Rattle.arrayvec.specs.ArrayVec.{array_vec_len};
-ghost use Rattle.xcp_packet.specs.Layout.{layout, Fits};
+ghost use Rattle.xcp_packet.specs.Layout.{layout, number_of, Fits};
 ghost use Rattle.xcp_packet.specs.Order.{word_bytes, double_bytes};
 
 use crate::words::{append, append_double, append_word};
-use crate::{Order, Packet, Reply};
+use crate::{Code, Order, Packet, Reply};
 
 /// The packet identifier of a positive response.
 const RES: u8 = 0xFF;
@@ -68,8 +68,29 @@ fn write_bytes(packet: &mut Packet, bytes: &[u8])
     requires { length bytes.now ≤ 254 }
     ensures { packet.new.items ≡ 0xFF ∷ bytes.now }
 {
-    write(packet, &[RES]);
+    write_done(packet);
     append(packet, bytes);
+}
+
+/// The positive response with nothing more, as `write_reply` writes `Reply::Done`.
+pub fn write_done(packet: &mut Packet)
+    ensures { packet.new.items ≡ 0xFF ∷ [] }
+{
+    write(packet, &[RES]);
+}
+
+/// An error packet.
+pub(crate) fn write_error(packet: &mut Packet, code: Code)
+    ensures { packet.new.items ≡ 0xFE ∷ number_of code ∷ [] }
+{
+    write(packet, &[ERR, code.number()]);
+}
+
+/// An error packet with a number of data elements.
+pub(crate) fn write_error_count(packet: &mut Packet, code: Code, count: u8)
+    ensures { packet.new.items ≡ 0xFE ∷ number_of code ∷ count ∷ [] }
+{
+    write(packet, &[ERR, code.number(), count]);
 }
 
 /// The bytes of a reply: at least 1 and at most 255, words and double words in this byte order.
@@ -91,7 +112,7 @@ pub fn write_reply(packet: &mut Packet, reply: &Reply, order: Order)
     ensures { packet.new.items ≡ layout order reply.now }
 {
     match reply {
-        Reply::Done => write(packet, &[RES]),
+        Reply::Done => write_done(packet),
         Reply::Connect {
             basic,
             max_cto,
@@ -147,7 +168,7 @@ pub fn write_reply(packet: &mut Packet, reply: &Reply, order: Order)
             unit,
             priority,
         } => write(packet, &[RES, 0x04, 0x10, *name, *cycle, *unit, *priority]),
-        Reply::Error(code) => write(packet, &[ERR, code.number()]),
-        Reply::ErrorCount(code, count) => write(packet, &[ERR, code.number(), *count]),
+        Reply::Error(code) => write_error(packet, *code),
+        Reply::ErrorCount(code, count) => write_error_count(packet, *code, *count),
     }
 }

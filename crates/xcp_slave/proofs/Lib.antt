@@ -7,6 +7,7 @@ pub mod RefusalLaws
 pub mod ErrorLaws
 pub mod LengthLaws
 pub mod Obeying
+pub mod Hearing
 pub mod Rings
 pub mod EventChannels
 pub mod ListsKept

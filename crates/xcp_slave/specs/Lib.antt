@@ -7,6 +7,7 @@ pub mod Run
 pub mod Refused
 pub mod Outbox
 pub mod Told
+pub mod Hearing
 pub mod Lawful
 pub mod Accepting
 pub mod Steady

@@ -56,6 +56,13 @@ impl Outbox {
         CAPACITY - self.count
     }
 
+    /// How many packets wait.
+    pub(crate) fn count(&self) -> u8
+        ensures { result ≡ length self.now }
+    {
+        self.count as u8
+    }
+
     /// No packet waits any more.
     pub(crate) fn clear(&mut self)
         ensures { self.new ≡ [] }

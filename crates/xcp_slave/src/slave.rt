@@ -1,10 +1,12 @@
 //! The slave: its value, and one answer for each request.
-ghost use Rattle.std.specs.Prelude.{◌≡◌, ◌≤◌, IfOk, Some, length};
+ghost use Rattle.std.specs.Prelude.{◌≡◌, ◌≤◌, ◌<◌, Err, IfOk, IsTrue, Some, drop, length};
 ghost use Rattle.xcp_memory.specs.Image.{ecu_image};
 ghost use Rattle.xcp_packet.specs.Layout.{Fits};
 ghost use Rattle.xcp_packet.specs.Lent.{reply_bytes, sent_bytes};
-ghost use Rattle.xcp_slave.specs.Rows.{TellsRow};
-ghost use Rattle.xcp_slave.specs.Step.{Answers, AnswersPacket, Executes, answer_of, found_by};
+ghost use Rattle.xcp_packet.specs.Order.{byte_at};
+ghost use Rattle.xcp_packet.specs.Reading.{coded, readings};
+ghost use Rattle.xcp_slave.specs.Hearing.{TellsCoded, found_at, heeded};
+ghost use Rattle.xcp_slave.specs.Step.{Answers, AnswersPacket};
 ghost use Rattle.xcp_slave.specs.Told.{answer_in};
 ghost use Rattle.xcp_slave.specs.Value.{ended, layout_of, noblock, opening};
 ghost use Rattle.xcp_transfer.specs.Laws.{IsLawful};
@@ -24,10 +26,14 @@ use std::alloc::{AllocError, Global};
 use std::marker::Model;
 use xcp_daq::Daq;
 use xcp_memory::{Layout, Pages};
-use xcp_packet::{
-    Code, Command, Fault, Order, Packet, Refuse, Reply, Sent, commands, decode, write_reply,
-};
+use xcp_packet::{Code, Fault, Order, Packet, Reply, Sent, commands, write_done, write_reply};
 use xcp_transfer::{Mta, Transfer};
+
+/// The code of CONNECT, the one command that is heeded while nobody is connected.
+const CONNECT: u8 = 0xFF;
+
+/// The code of DOWNLOAD_NEXT, the one command that goes on with a block.
+const DOWNLOAD_NEXT: u8 = 0xEF;
 
 /// What comes of a command: a reply in the packet that was lent, or nothing is sent, or a refusal.
 type Outcome = Result<Sent, Fault>;
@@ -56,7 +62,7 @@ impl Model for Slave {
 // The handler of each command.
 macro_rules! handle {
     ($slave:ident $packet:ident Connect $mode:ident) => {
-        $slave.connect(*$mode, $packet)
+        $slave.connect($mode, $packet)
     };
     ($slave:ident $packet:ident Disconnect) => {
         $slave.disconnect($packet)
@@ -71,82 +77,82 @@ macro_rules! handle {
         $slave.get_comm_mode_info($packet)
     };
     ($slave:ident $packet:ident GetId $kind:ident) => {
-        $slave.get_id(*$kind, $packet)
+        $slave.get_id($kind, $packet)
     };
     ($slave:ident $packet:ident SetMta $extension:ident $address:ident) => {
-        $slave.set_mta(*$extension, *$address, $packet)
+        $slave.set_mta($extension, $address, $packet)
     };
     ($slave:ident $packet:ident Upload $n:ident) => {
-        $slave.upload(*$n, $packet)
+        $slave.upload($n, $packet)
     };
     ($slave:ident $packet:ident ShortUpload $n:ident $extension:ident $address:ident) => {
-        $slave.short_upload(*$n, *$extension, *$address, $packet)
+        $slave.short_upload($n, $extension, $address, $packet)
     };
     ($slave:ident $packet:ident BuildChecksum $size:ident) => {
-        $slave.build_checksum(*$size, $packet)
+        $slave.build_checksum($size, $packet)
     };
     ($slave:ident $packet:ident Download $n:ident $bytes:ident) => {
-        $slave.download(*$n, $bytes, $packet)
+        $slave.download($n, $bytes, $packet)
     };
     ($slave:ident $packet:ident DownloadNext $remaining:ident $bytes:ident) => {
-        $slave.download_next(*$remaining, $bytes, $packet)
+        $slave.download_next($remaining, $bytes, $packet)
     };
     ($slave:ident $packet:ident DownloadMax $bytes:ident) => {
         $slave.download_max($bytes, $packet)
     };
     ($slave:ident $packet:ident ShortDownload $n:ident $extension:ident $address:ident $bytes:ident) => {
-        $slave.short_download(*$n, *$extension, *$address, $bytes, $packet)
+        $slave.short_download($n, $extension, $address, $bytes, $packet)
     };
     ($slave:ident $packet:ident ModifyBits $s:ident $ma:ident $mx:ident) => {
-        $slave.modify_bits(*$s, *$ma, *$mx, $packet)
+        $slave.modify_bits($s, $ma, $mx, $packet)
     };
     ($slave:ident $packet:ident SetCalPage $mode:ident $segment:ident $page:ident) => {
-        $slave.set_cal_page(*$mode, *$segment, *$page, $packet)
+        $slave.set_cal_page($mode, $segment, $page, $packet)
     };
     ($slave:ident $packet:ident GetCalPage $mode:ident $segment:ident) => {
-        $slave.get_cal_page(*$mode, *$segment, $packet)
+        $slave.get_cal_page($mode, $segment, $packet)
     };
     ($slave:ident $packet:ident GetPagProcessorInfo) => {
         $slave.get_pag_processor_info($packet)
     };
     ($slave:ident $packet:ident GetSegmentInfo $mode:ident $segment:ident $info:ident $mapping:ident) => {
-        $slave.get_segment_info(*$mode, *$segment, *$info, *$mapping, $packet)
+        $slave.get_segment_info($mode, $segment, $info, $mapping, $packet)
     };
     ($slave:ident $packet:ident GetPageInfo $segment:ident $page:ident) => {
-        $slave.get_page_info(*$segment, *$page, $packet)
+        $slave.get_page_info($segment, $page, $packet)
     };
     ($slave:ident $packet:ident SetSegmentMode $mode:ident $segment:ident) => {
-        $slave.set_segment_mode(*$mode, *$segment, $packet)
+        $slave.set_segment_mode($mode, $segment, $packet)
     };
     ($slave:ident $packet:ident GetSegmentMode $segment:ident) => {
-        $slave.get_segment_mode(*$segment, $packet)
+        $slave.get_segment_mode($segment, $packet)
     };
     ($slave:ident $packet:ident CopyCalPage $source:ident $source_page:ident $target:ident $target_page:ident) => {
-        $slave.copy_cal_page(*$source, *$source_page, *$target, *$target_page, $packet)
+        $slave.copy_cal_page($source, $source_page, $target, $target_page, $packet)
     };
     ($slave:ident $packet:ident SetRequest $mode:ident $id:ident) => {
-        $slave.set_request(*$mode, *$id, $packet)
+        $slave.set_request($mode, $id, $packet)
     };
     ($slave:ident $packet:ident ClearDaqList $list:ident) => {
-        $slave.clear_daq_list(*$list, $packet)
+        $slave.clear_daq_list($list, $packet)
     };
     ($slave:ident $packet:ident SetDaqPtr $list:ident $odt:ident $entry:ident) => {
-        $slave.set_daq_ptr(*$list, *$odt, *$entry, $packet)
+        $slave.set_daq_ptr($list, $odt, $entry, $packet)
     };
     ($slave:ident $packet:ident WriteDaq $offset:ident $size:ident $extension:ident $address:ident) => {
-        $slave.write_daq(*$offset, *$size, *$extension, *$address, $packet)
+        $slave.write_daq($offset, $size, $extension, $address, $packet)
     };
     ($slave:ident $packet:ident SetDaqListMode $mode:ident $list:ident $event:ident $prescaler:ident $priority:ident) => {
-        $slave.set_daq_list_mode(*$mode, *$list, *$event, *$prescaler, *$priority, $packet)
+        $slave.set_daq_list_mode($mode, $list, $event, $prescaler, $priority, $packet)
     };
     ($slave:ident $packet:ident GetDaqListMode $list:ident) => {
-        $slave.get_daq_list_mode(*$list, $packet)
+        $slave.get_daq_list_mode($list, $packet)
     };
     ($slave:ident $packet:ident StartStopDaqList $mode:ident $list:ident) => {
-        $slave.start_stop_daq_list(*$mode, *$list, $packet)
+        $slave.start_stop_daq_list($mode, $list, $packet)
     };
     ($slave:ident $packet:ident StartStopSynch $mode:ident) => {
-        $slave.start_stop_synch(*$mode, $packet)
+        $slave.start_stop_synch($mode, $packet)
     };
     ($slave:ident $packet:ident ReadDaq) => {
         $slave.read_daq($packet)
@@ -158,26 +164,60 @@ macro_rules! handle {
         $slave.get_daq_resolution_info($packet)
     };
     ($slave:ident $packet:ident GetDaqEventInfo $channel:ident) => {
-        $slave.get_daq_event_info(*$channel, $packet)
+        $slave.get_daq_event_info($channel, $packet)
     };
     ($slave:ident $packet:ident FreeDaq) => {
         $slave.free_daq($packet)
     };
     ($slave:ident $packet:ident AllocDaq $count:ident) => {
-        $slave.alloc_daq(*$count, $packet)
+        $slave.alloc_daq($count, $packet)
     };
     ($slave:ident $packet:ident AllocOdt $list:ident $count:ident) => {
-        $slave.alloc_odt(*$list, *$count, $packet)
+        $slave.alloc_odt($list, $count, $packet)
     };
     ($slave:ident $packet:ident AllocOdtEntry $list:ident $odt:ident $count:ident) => {
-        $slave.alloc_odt_entry(*$list, *$odt, *$count, $packet)
+        $slave.alloc_odt_entry($list, $odt, $count, $packet)
     };
 }
 
+/// The bytes from a place on.
+fn from_place(bytes: &[u8], place: usize) -> &[u8]
+    requires { place ≤ length bytes.now }
+    ensures { result.now ≡ drop place bytes.now }
+{
+    &bytes[place..]
+}
+
+// A parameter of a command, as it stands in the packet.
+macro_rules! parameter {
+    ($bytes:ident $order:ident byte $place:literal) => {
+        $bytes[$place]
+    };
+    ($bytes:ident $order:ident word $place:literal) => {
+        $order.word_at($bytes, $place)
+    };
+    ($bytes:ident $order:ident double $place:literal) => {
+        $order.double_at($bytes, $place)
+    };
+    ($bytes:ident $order:ident data $place:literal) => {
+        from_place($bytes, $place)
+    };
+}
+
+// What is done with a packet, by its code. The parameters are read where they stand: no command is made of them, which would
+// take room for the data of the longest.
 macro_rules! dispatch {
-    ([$slave:ident $command:ident $packet:ident] $($variant:ident $value:literal $least:literal { $($name:ident: $kind:ident $place:literal),* })*) => {
-        match $command {
-            $(Command::$variant { $($name),* } => handle!($slave $packet $variant $($name)*),)*
+    ([$slave:ident $bytes:ident $order:ident $packet:ident] $($variant:ident $value:literal $least:literal { $($name:ident: $kind:ident $place:literal),* })*) => {
+        match $bytes[0] {
+            $($value => {
+                if $bytes.len() < $least {
+                    return $slave.refuse(Code::CmdSyntax);
+                }
+                $slave.find($value);
+                $(let $name = parameter!($bytes $order $kind $place);)*
+                handle!($slave $packet $variant $($name)*)
+            })*
+            _ => $slave.refuse(Code::CmdUnknown),
         }
     };
 }
@@ -204,6 +244,13 @@ impl Slave {
         ensures least { 8 ≤ result }
     {
         self.layout().max_cto()
+    }
+
+    /// How many packets wait in the outbox, for `Drain`.
+    pub fn pending(&self) -> u8
+        ensures { result ≡ length self.now.outbox }
+    {
+        self.outbox.count()
     }
 
     /// The layout, which no request changes.
@@ -268,48 +315,51 @@ impl Slave {
         requires { length bytes.now ≤ 255 }
         ensures { AnswersPacket self.old bytes.now (answer_in result packet.new) self.new }
     {
-        match &decode(bytes, self.order()) {
-            Err(Refuse::Empty) => Told::Silent,
-            Ok(Command::Connect { mode }) => self.obey(&Command::Connect { mode: *mode }, packet),
-            _ if !self.connected => Told::Silent,
-            Ok(command) => self.obey(command, packet),
-            Err(Refuse::Unknown) => self.refuse(Code::CmdUnknown, packet),
-            Err(Refuse::Short) => self.refuse(Code::CmdSyntax, packet),
+        if !self.heeds(bytes) {
+            return Told::Silent;
         }
-    }
-
-    fn obey(&mut self, command: &Command, packet: &mut Packet) -> Told
-        ensures { Executes command.now self.old (answer_in result packet.new) self.new }
-    {
         let order = self.order();
-        self.find(command);
-        let outcome = self.execute(command, packet);
+        let outcome = self.execute(bytes, packet);
         Told::of(outcome, packet, order)
     }
 
-    /// Any command but DOWNLOAD_NEXT gives a block under way up.
-    fn find(&mut self, command: &Command)
-        ensures { self.new ≡ found_by command.now self.old }
+    /// Whether a packet is heeded: none that is empty, and while nobody is connected only a whole CONNECT.
+    fn heeds(&self, bytes: &[u8]) -> bool
+        ensures value { result ≡ heeded self.now.connected bytes.now }
+        ensures some { IsTrue result → 0 < length bytes.now }
     {
-        match command {
-            Command::DownloadNext { .. } => {}
-            _ => self.transfer.give_up_block(),
+        if self.connected {
+            !bytes.is_empty()
+        } else {
+            bytes.len() >= 2 && bytes[0] == CONNECT
         }
     }
 
-    fn refuse(&mut self, code: Code, packet: &mut Packet) -> Told
-        ensures answer { answer_in result packet.new ≡ answer_of (layout_of self.old).order (Some (Reply.Error code)) }
+    #[tactic(auto, unfolding(crate::specs::Rows::TellsRow))]
+    fn execute(&mut self, bytes: &[u8], packet: &mut Packet) -> Outcome
+        requires some { 0 < length bytes.now }
+        requires most { length bytes.now ≤ 255 }
+        ensures { TellsCoded (coded (byte_at 0 bytes.now) (readings (layout_of self.old).order bytes.now)) bytes.now self.old result packet.new.items self.new }
+    {
+        let order = self.order();
+        commands!(dispatch [self bytes order packet])
+    }
+
+    /// Any command but DOWNLOAD_NEXT gives a block under way up.
+    fn find(&mut self, code: u8)
+        ensures { self.new ≡ found_at code self.old }
+    {
+        if code != DOWNLOAD_NEXT {
+            self.transfer.give_up_block();
+        }
+    }
+
+    fn refuse(&mut self, code: Code) -> Outcome
+        ensures outcome { result ≡ Err (Fault.Code code) }
         ensures left { self.new ≡ noblock self.old }
     {
         self.transfer.give_up_block();
-        Told::of(Err(Fault::Code(code)), packet, self.order())
-    }
-
-    #[tactic(auto, unfolding(crate::specs::Rows::TellsRow))]
-    fn execute(&mut self, command: &Command, packet: &mut Packet) -> Outcome
-        ensures { TellsRow command.now self.old result packet.new.items self.new }
-    {
-        commands!(dispatch [self command packet])
+        Err(Fault::Code(code))
     }
 
     /// Writes a reply into the packet that is lent.
@@ -318,6 +368,14 @@ impl Slave {
         ensures { sent_bytes result packet.new.items ≡ reply_bytes (layout_of self.now).order (Some reply.now) }
     {
         write_reply(packet, reply, self.order());
+        Sent::Lent
+    }
+
+    /// Writes the positive response with nothing more into the packet that is lent.
+    fn done(&self, packet: &mut Packet) -> Sent
+        ensures { sent_bytes result packet.new.items ≡ reply_bytes (layout_of self.now).order (Some Reply.Done) }
+    {
+        write_done(packet);
         Sent::Lent
     }
 

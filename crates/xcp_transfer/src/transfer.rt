@@ -90,7 +90,10 @@ impl Transfer {
     pub fn give_up_block(&mut self)
         ensures { self.new ≡ without_block self.old }
     {
-        self.block = None;
+        // Most commands find no block under way, and writing None over None would clear its whole room.
+        if self.block.is_some() {
+            self.block = None;
+        }
     }
 
     /// Switches pages, as `Pages::switch` says. No block may be under way, since it lies on the

@@ -14,7 +14,7 @@ impl Slave {
     {
         self.transfer.give_up_block();
         self.daq.clear_daq_list(list)?;
-        Ok(self.tell(&Reply::Done, packet))
+        Ok(self.done(packet))
     }
 
     pub(super) fn set_daq_ptr(
@@ -28,7 +28,7 @@ impl Slave {
     {
         self.transfer.give_up_block();
         self.daq.set_daq_ptr(list, odt, entry)?;
-        Ok(self.tell(&Reply::Done, packet))
+        Ok(self.done(packet))
     }
 
     pub(super) fn write_daq(
@@ -45,7 +45,7 @@ impl Slave {
         let layout = self.transfer.pages().layout();
         // A match, since the check finds no proof of `?` here.
         match self.daq.write_daq(layout, offset, size, extension, address) {
-            Ok(()) => Ok(self.tell(&Reply::Done, packet)),
+            Ok(()) => Ok(self.done(packet)),
             Err(code) => Err(Fault::Code(code)),
         }
     }
@@ -65,7 +65,7 @@ impl Slave {
         let layout = self.transfer.pages().layout();
         self.daq
             .set_daq_list_mode(layout, mode, list, event, prescaler, priority)?;
-        Ok(self.tell(&Reply::Done, packet))
+        Ok(self.done(packet))
     }
 
     pub(super) fn get_daq_list_mode(&mut self, list: u16, packet: &mut Packet) -> Outcome
@@ -102,7 +102,7 @@ impl Slave {
         self.transfer.give_up_block();
         let layout = self.transfer.pages().layout();
         self.daq.start_stop_synch(layout, mode)?;
-        Ok(self.tell(&Reply::Done, packet))
+        Ok(self.done(packet))
     }
 
     pub(super) fn read_daq(&mut self, packet: &mut Packet) -> Outcome

@@ -4,7 +4,7 @@
 ghost use Rattle.xcp_slave.specs.Rows.{TellsRow};
 
 use super::{Outcome, Slave};
-use xcp_packet::{Command, Packet, Reply};
+use xcp_packet::{Command, Packet};
 
 impl Slave {
     pub(super) fn free_daq(&mut self, packet: &mut Packet) -> Outcome
@@ -12,7 +12,7 @@ impl Slave {
     {
         self.transfer.give_up_block();
         self.daq.free_daq();
-        Ok(self.tell(&Reply::Done, packet))
+        Ok(self.done(packet))
     }
 
     pub(super) fn alloc_daq(&mut self, count: u16, packet: &mut Packet) -> Outcome
@@ -20,7 +20,7 @@ impl Slave {
     {
         self.transfer.give_up_block();
         self.daq.alloc_daq(count)?;
-        Ok(self.tell(&Reply::Done, packet))
+        Ok(self.done(packet))
     }
 
     pub(super) fn alloc_odt(&mut self, list: u16, count: u8, packet: &mut Packet) -> Outcome
@@ -28,7 +28,7 @@ impl Slave {
     {
         self.transfer.give_up_block();
         self.daq.alloc_odt(list, count)?;
-        Ok(self.tell(&Reply::Done, packet))
+        Ok(self.done(packet))
     }
 
     pub(super) fn alloc_odt_entry(
@@ -42,6 +42,6 @@ impl Slave {
     {
         self.transfer.give_up_block();
         self.daq.alloc_odt_entry(list, odt, count)?;
-        Ok(self.tell(&Reply::Done, packet))
+        Ok(self.done(packet))
     }
 }

@@ -4,7 +4,7 @@
 ghost use Rattle.xcp_slave.specs.Rows.{TellsRow};
 
 use super::{Outcome, Slave};
-use xcp_packet::{Code, Command, Data, Fault, Packet, Reply};
+use xcp_packet::{Code, Command, Fault, Packet};
 use xcp_transfer::Mta;
 
 impl Slave {
@@ -16,7 +16,7 @@ impl Slave {
             return Err(Fault::Code(Code::OutOfRange));
         }
         self.transfer.set_mta(Mta::Memory(address));
-        Ok(self.tell(&Reply::Done, packet))
+        Ok(self.done(packet))
     }
 
     pub(super) fn upload(&mut self, n: u8, packet: &mut Packet) -> Outcome
@@ -43,8 +43,8 @@ impl Slave {
         self.transfer.build_checksum(size, packet)
     }
 
-    pub(super) fn download(&mut self, n: u8, bytes: &Data, packet: &mut Packet) -> Outcome
-        ensures { TellsRow (Command.Download n bytes.now) self.old result packet.new.items self.new }
+    pub(super) fn download(&mut self, n: u8, bytes: &[u8], packet: &mut Packet) -> Outcome
+        ensures { TellsRow (Command.Download n (record { items = bytes.now })) self.old result packet.new.items self.new }
     {
         self.transfer.download(n, bytes, packet)
     }
@@ -52,16 +52,16 @@ impl Slave {
     pub(super) fn download_next(
         &mut self,
         remaining: u8,
-        bytes: &Data,
+        bytes: &[u8],
         packet: &mut Packet,
     ) -> Outcome
-        ensures { TellsRow (Command.DownloadNext remaining bytes.now) self.old result packet.new.items self.new }
+        ensures { TellsRow (Command.DownloadNext remaining (record { items = bytes.now })) self.old result packet.new.items self.new }
     {
         self.transfer.download_next(remaining, bytes, packet)
     }
 
-    pub(super) fn download_max(&mut self, bytes: &Data, packet: &mut Packet) -> Outcome
-        ensures { TellsRow (Command.DownloadMax bytes.now) self.old result packet.new.items self.new }
+    pub(super) fn download_max(&mut self, bytes: &[u8], packet: &mut Packet) -> Outcome
+        ensures { TellsRow (Command.DownloadMax (record { items = bytes.now })) self.old result packet.new.items self.new }
     {
         self.transfer.download_max(bytes, packet)
     }
@@ -71,10 +71,10 @@ impl Slave {
         n: u8,
         extension: u8,
         address: u32,
-        bytes: &Data,
+        bytes: &[u8],
         packet: &mut Packet,
     ) -> Outcome
-        ensures { TellsRow (Command.ShortDownload n extension address bytes.now) self.old result packet.new.items self.new }
+        ensures { TellsRow (Command.ShortDownload n extension address (record { items = bytes.now })) self.old result packet.new.items self.new }
     {
         self.transfer
             .short_download(n, extension, address, bytes, packet)

@@ -23,7 +23,7 @@ impl Slave {
     {
         self.transfer.give_up_block();
         self.transfer.switch(mode, segment, page)?;
-        Ok(self.tell(&Reply::Done, packet))
+        Ok(self.done(packet))
     }
 
     pub(super) fn get_cal_page(&mut self, mode: u8, segment: u8, packet: &mut Packet) -> Outcome
@@ -85,7 +85,7 @@ impl Slave {
     {
         self.transfer.give_up_block();
         self.transfer.set_freeze(mode, segment)?;
-        Ok(self.tell(&Reply::Done, packet))
+        Ok(self.done(packet))
     }
 
     pub(super) fn get_segment_mode(&mut self, segment: u8, packet: &mut Packet) -> Outcome
@@ -109,7 +109,7 @@ impl Slave {
         self.transfer.give_up_block();
         self.transfer
             .copy(source, source_page, target, target_page)?;
-        Ok(self.tell(&Reply::Done, packet))
+        Ok(self.done(packet))
     }
 
     pub(super) fn set_request(&mut self, mode: u8, _id: u16, packet: &mut Packet) -> Outcome
@@ -120,6 +120,6 @@ impl Slave {
             return Err(Fault::Code(Code::OutOfRange));
         }
         self.store = true;
-        Ok(self.tell(&Reply::Done, packet))
+        Ok(self.done(packet))
     }
 }

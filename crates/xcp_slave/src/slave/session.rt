@@ -31,7 +31,7 @@ impl Slave {
         ensures { TellsRow Command.Disconnect self.old result packet.new.items self.new }
     {
         self.end_session();
-        Ok(self.tell(&Reply::Done, packet))
+        Ok(self.done(packet))
     }
 
     pub(super) fn get_status(&mut self, packet: &mut Packet) -> Outcome

@@ -6,7 +6,7 @@ ghost use Rattle.xcp_transfer.specs.Value.{without_block};
 
 use super::Transfer;
 use crate::access::{read_double, writable, write_double};
-use xcp_packet::{Code, Fault, Packet, Reply, Sent, write_reply};
+use xcp_packet::{Code, Fault, Packet, Sent, write_done};
 
 /// How many bytes a double word has.
 const DOUBLE: u8 = 4;
@@ -27,7 +27,7 @@ impl Transfer {
     ) -> Result<Sent, Fault>
         ensures { Tells self.old.pages.layout.order (modify_bits_row s ma mx self.old) (without_block self.old) result packet.new.items self.new }
     {
-        self.block = None;
+        self.give_up_block();
         if s > 31 {
             return Err(Fault::Code(Code::OutOfRange));
         }
@@ -35,7 +35,7 @@ impl Transfer {
         let old = read_double(&self.pages, address);
         let new = modified(s, ma, mx, old);
         write_double(&mut self.pages, address, new);
-        write_reply(packet, &Reply::Done, self.order());
+        write_done(packet);
         Ok(Sent::Lent)
     }
 }

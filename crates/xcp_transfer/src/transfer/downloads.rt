@@ -9,7 +9,7 @@ use super::Transfer;
 use crate::Mta;
 use crate::access::{writable, write, write_allowed};
 use crate::block::Block;
-use xcp_packet::{Code, Fault, Packet, Reply, Sent, write_reply};
+use xcp_packet::{Code, Fault, Packet, Sent, write_done};
 
 /// MAX_BS: the greatest number of packets in a block.
 const MAX_BS: usize = 8;
@@ -25,7 +25,7 @@ impl Transfer {
     pub fn download(&mut self, n: u8, bytes: &[u8], packet: &mut Packet) -> Result<Sent, Fault>
         ensures { Tells self.old.pages.layout.order (download_row n bytes.now self.old) (without_block self.old) result packet.new.items self.new }
     {
-        self.block = None;
+        self.give_up_block();
         if n == 0 || n as usize > self.greatest_download() {
             return Err(Fault::Code(Code::OutOfRange));
         }
@@ -77,7 +77,7 @@ impl Transfer {
         block.add(&bytes[..remaining as usize]);
         self.mta = write_allowed(&mut self.pages, block.address(), block.bytes());
         self.block = None;
-        write_reply(packet, &Reply::Done, self.order());
+        write_done(packet);
         Ok(Sent::Lent)
     }
 
@@ -88,7 +88,7 @@ impl Transfer {
     pub fn download_max(&mut self, bytes: &[u8], packet: &mut Packet) -> Result<Sent, Fault>
         ensures { Tells self.old.pages.layout.order (download_max_row bytes.now self.old) (without_block self.old) result packet.new.items self.new }
     {
-        self.block = None;
+        self.give_up_block();
         let n = self.pages.layout().max_cto() - 1;
         if bytes.len() < n as usize {
             return Err(Fault::Code(Code::CmdSyntax));
@@ -112,7 +112,7 @@ impl Transfer {
     ) -> Result<Sent, Fault>
         ensures { Tells self.old.pages.layout.order (short_download_row n extension address bytes.now self.old) (without_block self.old) result packet.new.items self.new }
     {
-        self.block = None;
+        self.give_up_block();
         if n == 0 || n > self.pages.layout().max_cto() - 8 || extension != 0 {
             return Err(Fault::Code(Code::OutOfRange));
         }
@@ -152,7 +152,7 @@ impl Transfer {
     {
         let bytes = &bytes[..n as usize];
         self.mta = write(&mut self.pages, mta, bytes)?;
-        write_reply(packet, &Reply::Done, self.order());
+        write_done(packet);
         Ok(Sent::Lent)
     }
 }

@@ -17,7 +17,7 @@ impl Transfer {
     pub fn upload(&mut self, n: u8, packet: &mut Packet) -> Result<Sent, Fault>
         ensures { Tells self.old.pages.layout.order (upload_row n self.old) (without_block self.old) result packet.new.items self.new }
     {
-        self.block = None;
+        self.give_up_block();
         if n == 0 || n > self.pages.layout().max_cto() - 1 {
             return Err(Fault::Code(Code::OutOfRange));
         }
@@ -39,7 +39,7 @@ impl Transfer {
     ) -> Result<Sent, Fault>
         ensures { Tells self.old.pages.layout.order (short_upload_row n extension address self.old) (without_block self.old) result packet.new.items self.new }
     {
-        self.block = None;
+        self.give_up_block();
         if n == 0 || n > self.pages.layout().max_cto() - 1 || extension != 0 {
             return Err(Fault::Code(Code::OutOfRange));
         }
@@ -56,7 +56,7 @@ impl Transfer {
     pub fn build_checksum(&mut self, size: u32, packet: &mut Packet) -> Result<Sent, Fault>
         ensures { Tells self.old.pages.layout.order (build_checksum_row size self.old) (without_block self.old) result packet.new.items self.new }
     {
-        self.block = None;
+        self.give_up_block();
         let (sum, next) = checksum(&self.pages, self.mta, size)?;
         self.mta = next;
         let kind = self.pages.layout().checksum().number();
@@ -71,7 +71,7 @@ impl Transfer {
     pub fn get_id(&mut self, kind: u8, packet: &mut Packet) -> Result<Sent, Fault>
         ensures { Tells self.old.pages.layout.order (get_id_row kind self.old) (without_block self.old) result packet.new.items self.new }
     {
-        self.block = None;
+        self.give_up_block();
         let mut length = 0;
         if kind == 0 {
             self.mta = Mta::Text(TextId::Id, 0);

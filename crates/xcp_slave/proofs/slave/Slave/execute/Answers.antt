@@ -1,14 +1,14 @@
 use Rattle.std.proofs.Common.{rules}
 use Rattle.xcp_slave.proofs.slave.Slave.execute.Goals as goal
 
-pub returns-in-ShortUpload : goal.returns-in-ShortUpload
-returns-in-ShortUpload c = search rules
+-- SHORT_UPLOAD
+pub returns-else-bytes-lt8-2 : goal.returns-else-bytes-lt8-2
+returns-else-bytes-lt8-2 c = search rules
 
-pub returns-in-BuildChecksum : goal.returns-in-BuildChecksum
-returns-in-BuildChecksum c = search rules
+-- SHORT_DOWNLOAD
+pub returns-else-bytes-lt8-4 : goal.returns-else-bytes-lt8-4
+returns-else-bytes-lt8-4 c = search rules
 
-pub returns-in-ShortDownload : goal.returns-in-ShortDownload
-returns-in-ShortDownload c = search rules
-
-pub returns-in-WriteDaq : goal.returns-in-WriteDaq
-returns-in-WriteDaq c = search rules
+-- WRITE_DAQ
+pub returns-else-bytes-lt8-5 : goal.returns-else-bytes-lt8-5
+returns-else-bytes-lt8-5 c = search rules

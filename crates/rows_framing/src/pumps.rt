@@ -1,0 +1,119 @@
+//! What waits in a station, pumped to an end.
+use crate::fakes::desk;
+use crate::shelf::{Shelf, are};
+use crate::stations::{Pending, Refusing};
+use arrayvec::ArrayVec;
+use std::alloc::Global;
+use std::sync::atomic::AtomicBool;
+use std::test::Fail;
+use std::time::Clock;
+use xcp_framing::{Desk, ServeError, Station, StationError, Watched, pump, serve_by};
+use xcp_slave::Request;
+
+/// CONNECT, and a DAQ list of one ODT with the first byte of the signals, on event channel 0, which
+/// is started.
+const ACQUISITION: &[u8] = &[
+    2, 0, 0, 0, 0xFF, 0, // CONNECT
+    1, 0, 1, 0, 0xD6, // FREE_DAQ
+    4, 0, 2, 0, 0xD5, 0, 1, 0, // ALLOC_DAQ
+    5, 0, 3, 0, 0xD4, 0, 0, 0, 1, // ALLOC_ODT
+    6, 0, 4, 0, 0xD3, 0, 0, 0, 0, 1, // ALLOC_ODT_ENTRY
+    6, 0, 5, 0, 0xE2, 0, 0, 0, 0, 0, // SET_DAQ_PTR
+    8, 0, 6, 0, 0xE1, 0xFF, 1, 0, 0, 0x80, 0, 0, // WRITE_DAQ
+    8, 0, 7, 0, 0xE0, 0, 0, 0, 0, 0, 1, 0, // SET_DAQ_LIST_MODE
+    4, 0, 8, 0, 0xDE, 2, 0, 0, // START_STOP_DAQ_LIST, select
+    2, 0, 9, 0, 0xDD, 1, // START_STOP_SYNCH, start
+];
+
+fn shelf(alloc: Global, good: u32) -> Shelf {
+    Shelf {
+        packets: Vec::new(alloc),
+        good,
+    }
+}
+
+/// A desk in which two events wait, each in one data packet.
+fn sampled(alloc: Global) -> Result<Desk, Fail> {
+    let mut desk = desk(alloc)?;
+    let mut reader = Watched::new(ACQUISITION);
+    let mut replies = shelf(alloc, 1000);
+    let _ = serve_by(alloc, &mut reader, &mut replies, &mut desk, 32, 1000);
+    for first in [7, 9] {
+        let mut signals = ArrayVec::from([0; 64]);
+        signals.truncate(8);
+        signals[0] = first;
+        let _ = desk.submit(Request::Event(0, signals));
+    }
+    Ok(desk)
+}
+
+#[test]
+fn events_are_put_in_order(rt: HostRuntime) -> Result<(), Fail> {
+    let mut desk = sampled(rt.alloc())?;
+    assert_eq!(rt; desk.pending(), 2);
+    let mut data = shelf(rt.alloc(), 1000);
+    let stop = AtomicBool::new(false);
+    assert_eq!(rt; pump(&rt, &mut desk, &mut data, &stop, 10), Ok(2));
+    assert!(rt; are(&data.packets, &[&[0, 7], &[0, 9]]));
+    assert_eq!(rt; desk.pending(), 0);
+    Ok(())
+}
+
+/// Ten turns over so many packets and an end that hands one back: how it ended, how many were put,
+/// and how many Drains there were.
+fn pumped<R: Clock>(
+    rt: &R,
+    alloc: Global,
+    packets: u32,
+    good: u32,
+    stopped: bool,
+) -> (Result<u64, ServeError>, usize, usize) {
+    let mut station = Pending {
+        exchanges: Vec::new(alloc),
+        packets,
+    };
+    let mut data = shelf(alloc, good);
+    let stop = AtomicBool::new(stopped);
+    let result = pump(rt, &mut station, &mut data, &stop, 10);
+    (result, data.packets.len(), station.exchanges.len())
+}
+
+/// Nothing is drained where nothing waits, what waits is put as far as the turns go, and a packet
+/// that is handed back ends the call.
+#[test]
+fn turns(rt: HostRuntime) {
+    assert_eq!(rt; pumped(&rt, rt.alloc(), 0, 1000, false), (Ok(0), 0, 0));
+    assert_eq!(rt; pumped(&rt, rt.alloc(), 3, 1000, false), (Ok(3), 3, 3));
+    assert_eq!(rt; pumped(&rt, rt.alloc(), 12, 1000, false), (Ok(10), 10, 10));
+    assert_eq!(rt; pumped(&rt, rt.alloc(), 3, 1000, true), (Ok(0), 0, 0));
+    assert_eq!(rt;
+        pumped(&rt, rt.alloc(), 3, 2, false),
+        (Err(ServeError::Write), 2, 3)
+    );
+}
+
+/// How a station's refusal of a Drain ends the call.
+fn refused<R: Clock>(
+    rt: &R,
+    alloc: Global,
+    error: StationError,
+) -> Result<Result<u64, ServeError>, Fail> {
+    let desk = sampled(alloc)?;
+    let mut station = Refusing {
+        desk,
+        takes: 1,
+        error,
+    };
+    let mut data = shelf(alloc, 1000);
+    let stop = AtomicBool::new(false);
+    Ok(pump(rt, &mut station, &mut data, &stop, 10))
+}
+
+#[test]
+fn refusals(rt: HostRuntime) -> Result<(), Fail> {
+    let memory = refused(&rt, rt.alloc(), StationError::Memory)?;
+    assert_eq!(rt; memory, Err(ServeError::Memory));
+    let full = refused(&rt, rt.alloc(), StationError::JournalFull)?;
+    assert_eq!(rt; full, Err(ServeError::JournalFull));
+    Ok(())
+}

@@ -1,0 +1,41 @@
+-- What `pump` does: Drains, and their packets are put.
+use Rattle.std.specs.Prelude.{◌≡◌, ◌≢◌, ℕ, List, [], ◌∷◌, ◌++◌, length, Result, Ok, Err, ⊤}
+use Rattle.xcp_slave.specs.declared.Exchange.{Exchange}
+use Rattle.xcp_slave.specs.declared.Request.{Request}
+use Rattle.xcp_slave.specs.declared.Request.TheVariants as requests
+use Rattle.xcp_framing.specs.declared.serving.ServeError.{ServeError}
+use Rattle.xcp_framing.specs.declared.serving.ServeError.TheVariants as errors
+use Rattle.xcp_framing.specs.Serve.{packet_of, packets_of}
+
+abbrev pub AllDrains : List Exchange → Type 0
+AllDrains [] = ⊤
+AllDrains (x ∷ xs) = (x.request ≡ requests.Drain) × AllDrains xs
+
+-- the exchanges are Drains, and the packets of their answers were put
+pub record PutsDrains (exchanges : List Exchange) (before after : List (List ℕ)) : Type 0 where
+  pub drains : AllDrains exchanges
+  pub put : after ≡ before ++ packets_of exchanges
+
+-- the last one's packet was handed back
+pub record DrainsUpTo (exchanges : List Exchange) (before after : List (List ℕ)) : Type 0 where
+  pub full : List Exchange
+  pub last : Exchange
+  pub joined : exchanges ≡ full ++ last ∷ []
+  pub answered : PutsDrains full before after
+  pub asked : last.request ≡ requests.Drain
+  pub gave : packet_of last.answer ≢ []
+
+abbrev pub Pumped : {R : Type 0} → Result R ServeError → List Exchange → List (List ℕ) → List (List ℕ) → Type 0
+Pumped (Err errors.Write) exchanges before after = DrainsUpTo exchanges before after
+Pumped _ exchanges before after = PutsDrains exchanges before after
+
+-- One call of `pump`: `old` and `new` are the station's exchanges, `before` and `after` the packets put.
+pub record Pumps (result : Result ℕ ServeError) (old new : List Exchange) (before after : List (List ℕ)) : Type 0 where
+  pub exchanges : List Exchange
+  pub grown : new ≡ old ++ exchanges
+  pub puts : Pumped result exchanges before after
+  pub counts : (n : ℕ) → result ≡ Ok n → n ≡ length (packets_of exchanges)
+
+-- behind Drains, one more
+abbrev pub DrainAgain : List Exchange → Request → Type 0
+DrainAgain exchanges request = AllDrains exchanges × (request ≡ requests.Drain)

@@ -1,0 +1,107 @@
+-- What `serve_by` does with a stream: it is `serve` without Drains, and the packets of the answers are put.
+use Rattle.std.specs.Prelude.{◌≡◌, ◌≢◌, ◌+◌, ℕ, List, [], ◌∷◌, ◌++◌, map, length, Option, Result, Ok, Err}
+use Rattle.xcp_slave.specs.declared.Exchange.{Exchange}
+use Rattle.xcp_slave.specs.declared.Request.{Request}
+use Rattle.xcp_slave.specs.declared.Request.TheVariants as requests
+use Rattle.xcp_slave.specs.Run.{requests_of}
+use Rattle.xcp_framing.specs.declared.station.StationError.{StationError}
+use Rattle.xcp_framing.specs.declared.station.StationError.TheVariants as refusals
+use Rattle.xcp_framing.specs.declared.serving.Served.{Served}
+use Rattle.xcp_framing.specs.declared.serving.ServeError.{ServeError}
+use Rattle.xcp_framing.specs.declared.serving.ServeError.TheVariants as errors
+use Rattle.xcp_framing.specs.declared.passage.Stop.{Stop}
+use Rattle.xcp_framing.specs.declared.passage.Stop.TheVariants as stops
+use Rattle.xcp_framing.specs.Frames.{frames, rest}
+use Rattle.xcp_framing.specs.Serve.{packet_of, packets_of, OnRead, EndsStream, Counts}
+use Rattle.xcp_framing.specs.Chain.{Stand}
+
+abbrev pub command : List ℕ → Request
+command packet = requests.Command (record { items = packet })
+
+-- the packets' commands
+abbrev pub commands : List (List ℕ) → List Request
+commands packets = map command packets
+
+-- A packet was answered: its command was exchanged, and the packet of the answer, if it is one, was put.
+pub record Exchanged {S O : Type 0} (exchanges_of : S → List Exchange) (put_of : O → List (List ℕ)) (same_out : O → O → Type 0) (old new : Stand S O) (packet : List ℕ) : Type 0 where
+  pub exchange : Exchange
+  pub asked : exchange.request ≡ command packet
+  pub grown : exchanges_of new.station ≡ exchanges_of old.station ++ exchange ∷ []
+  pub put : put_of new.out ≡ put_of old.out ++ packet_of exchange.answer
+  pub kept : same_out old.out new.out
+  pub counted : new.sent ≡ old.sent + length (packet_of exchange.answer)
+
+-- the packet of the answer was handed back
+pub record HandedBack {S O : Type 0} (exchanges_of : S → List Exchange) (put_of : O → List (List ℕ)) (same_out : O → O → Type 0) (old new : Stand S O) (packet : List ℕ) : Type 0 where
+  pub exchange : Exchange
+  pub asked : exchange.request ≡ command packet
+  pub grown : exchanges_of new.station ≡ exchanges_of old.station ++ exchange ∷ []
+  pub gave : packet_of exchange.answer ≢ []
+  pub kept : same_out old.out new.out
+  pub put : put_of new.out ≡ put_of old.out
+
+-- the station refused the command
+pub record Declined {S O : Type 0} (exchanges_of : S → List Exchange) (refuses : S → Request → StationError → Type 0) (error : StationError) (old new : Stand S O) (packet : List ℕ) : Type 0 where
+  pub same : new.station ≡ old.station
+  pub out : new.out ≡ old.out
+  pub may : refuses new.station (command packet) error
+
+abbrev pub EndsAt : {S O : Type 0} → (S → List Exchange) → (S → Request → StationError → Type 0) → (O → List (List ℕ)) → (O → O → Type 0) → Stand S O → Stand S O → List ℕ → Stop → Type 0
+EndsAt exchanges_of refuses put_of same_out old new packet stops.Write = HandedBack exchanges_of put_of same_out old new packet
+EndsAt exchanges_of refuses put_of same_out old new packet stops.Memory = Declined exchanges_of refuses refusals.Memory old new packet
+EndsAt exchanges_of refuses put_of same_out old new packet stops.JournalFull = Declined exchanges_of refuses refusals.JournalFull old new packet
+
+-- the exchanges are those of all the packets' commands, and the packets of their answers were put
+pub record PutsAll (packets : List (List ℕ)) (exchanges : List Exchange) (before after : List (List ℕ)) : Type 0 where
+  pub asked : requests_of exchanges ≡ commands packets
+  pub put : after ≡ before ++ packets_of exchanges
+
+-- those of the first packets, up to one whose answer's packet was handed back
+pub record PutsUpTo (packets : List (List ℕ)) (exchanges : List Exchange) (before after : List (List ℕ)) : Type 0 where
+  pub done : List (List ℕ)
+  pub packet : List ℕ
+  pub later : List (List ℕ)
+  pub full : List Exchange
+  pub last : Exchange
+  pub packets_are : packets ≡ done ++ packet ∷ later
+  pub joined : exchanges ≡ full ++ last ∷ []
+  pub answered : PutsAll done full before after
+  pub asked : last.request ≡ command packet
+  pub gave : packet_of last.answer ≢ []
+
+-- those of the first packets
+pub record PutsSome (packets : List (List ℕ)) (exchanges : List Exchange) (before after : List (List ℕ)) : Type 0 where
+  pub done : List (List ℕ)
+  pub later : List (List ℕ)
+  pub packets_are : packets ≡ done ++ later
+  pub answered : PutsAll done exchanges before after
+
+abbrev pub PutsSoFar : {R : Type 0} → Result R ServeError → List (List ℕ) → List Exchange → List (List ℕ) → List (List ℕ) → Type 0
+PutsSoFar (Err errors.Write) packets exchanges before after = PutsUpTo packets exchanges before after
+PutsSoFar (Err errors.Memory) packets exchanges before after = PutsSome packets exchanges before after
+PutsSoFar (Err errors.JournalFull) packets exchanges before after = PutsSome packets exchanges before after
+PutsSoFar _ packets exchanges before after = PutsAll packets exchanges before after
+
+-- One call of `serve_by`, where MAX_CTO is m: `old` and `new` are the station's exchanges, `before` and `after` the packets put.
+pub record ServesBy (m : ℕ) (result : Result Served ServeError) (input left : Option (List ℕ)) (old new : List Exchange) (before after : List (List ℕ)) : Type 0 where
+  -- the packets of the bytes read, and what stands behind them
+  pub packets : List (List ℕ)
+  pub behind : List ℕ
+  pub read : OnRead input left (λ stream. (packets ≡ frames m stream) × (behind ≡ rest m stream))
+  -- the exchanges of this call
+  pub exchanges : List Exchange
+  pub grown : new ≡ old ++ exchanges
+  pub puts : PutsSoFar result packets exchanges before after
+  pub ends : EndsStream m result behind
+  pub counts : Counts result packets (packets_of exchanges)
+
+-- The request that comes next behind these exchanges: the command of the packet behind those that were answered.
+pub record CommandNext (m : ℕ) (input left : Option (List ℕ)) (exchanges : List Exchange) (request : Request) : Type 0 where
+  pub packets : List (List ℕ)
+  pub read : OnRead input left (λ stream. packets ≡ frames m stream)
+  pub done : List (List ℕ)
+  pub packet : List ℕ
+  pub later : List (List ℕ)
+  pub packets_are : packets ≡ done ++ packet ∷ later
+  pub asked : requests_of exchanges ≡ commands done
+  pub next : request ≡ command packet

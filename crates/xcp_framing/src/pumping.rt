@@ -1,0 +1,61 @@
+//! The packets that wait in a station, put at an end for another thread to send.
+ghost use Rattle.std.specs.Prelude.{◌≡◌, ◌≤◌, IfOk, IfErr};
+ghost use Rattle.xcp_framing.specs.Pump.{DrainAgain, Pumps};
+ghost use Rattle.xcp_framing.specs.Refusal.{OnRefusal, Refused};
+ghost use Rattle.xcp_framing.specs.Turns.{IsInterruption};
+
+use crate::{End, ServeError, Station};
+use std::sync::atomic::{AtomicBool, Ordering};
+use std::thread;
+use std::time::{Clock, Duration};
+use xcp_slave::{Answer, Request};
+
+/// Submits one `Drain`, and puts its packet. `Ok` is the number of packets put, none or one.
+fn pump_one<S: Station, E: End>(station: &mut S, end: &mut E) -> Result<u64, ServeError>
+    ensures pumps { Pumps result (S.exchanges station.old) (S.exchanges station.new)
+        (E.put_so_far end.old) (E.put_so_far end.new) }
+    ensures kept { E.same end.old end.new }
+    ensures one { IfOk result (λ n. n ≤ 1) }
+    ensures stops { IfErr result IsInterruption }
+    ensures refused { OnRefusal result (λ e. Refused S.exchanges S.refuses e DrainAgain
+        (S.exchanges station.old) station.new) }
+{
+    let Answer::Packet(packet) = station.submit(Request::Drain)? else {
+        return Ok(0);
+    };
+    if end.put(packet).is_err() {
+        return Err(ServeError::Write);
+    }
+    Ok(1)
+}
+
+/// Submits `Drain` where a packet waits, and puts the packets, until it sees `stop` or its turns
+/// are spent. A turn without a packet sleeps a microsecond. `Ok` is the number of packets put.
+pub fn pump<R: Clock, S: Station, E: End>(
+    rt: &R,
+    station: &mut S,
+    end: &mut E,
+    stop: &AtomicBool,
+    turns: u32,
+) -> Result<u64, ServeError>
+    // The exchanges are Drains, and the packets of their answers were put, in order.
+    ensures pumps { Pumps result (S.exchanges station.old) (S.exchanges station.new)
+        (E.put_so_far end.old) (E.put_so_far end.new) }
+    ensures kept { E.same end.old end.new }
+    ensures stops { IfErr result IsInterruption }
+    ensures refused { OnRefusal result (λ e. Refused S.exchanges S.refuses e DrainAgain
+        (S.exchanges station.old) station.new) }
+{
+    let mut count = 0;
+    for _turn in 0..turns {
+        if stop.load(Ordering::SeqCst) {
+            return Ok(count);
+        }
+        if station.pending() == 0 {
+            thread::sleep(rt, Duration::from_micros(1));
+            continue;
+        }
+        count += pump_one(station, end)?;
+    }
+    Ok(count)
+}
