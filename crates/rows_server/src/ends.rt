@@ -4,6 +4,7 @@ use std::alloc::Global;
 use std::sync::Wait;
 use std::test::Fail;
 use std::thread::Threads;
+use std::time::{Clock, Duration, Instant};
 use xcp_framing::Watched;
 use xcp_program::Fault;
 use xcp_server::{Report, serve_ends};
@@ -20,19 +21,20 @@ const TOO_LONG: &[u8] = &[2, 0, 0, 0, 0xff, 0, 0x21, 0];
 // CONNECT, and half a frame.
 const HALF: &[u8] = &[2, 0, 0, 0, 0xff, 0, 2, 0, 0];
 
-fn served<R: Threads + Wait + Sync>(
+fn served<R: Threads + Wait + Clock + Sync>(
     rt: &R,
     alloc: Global,
     sent: &'static [u8],
     tasks: u8,
     cycles: u32,
+    period: u32,
 ) -> Result<Report, Fail> {
     let tasks = tasks.min(6);
     let unnamed = small(alloc, 1 + tasks).ok_or("a slave")?;
     let writer: Vec<u8> = Vec::new(alloc);
     let ends = Vec::from_array(alloc, [(Watched::new(sent), Watched::new(writer))])?;
     Ok(
-        serve_ends(rt, alloc, unnamed, ends, tasks, cycles)
+        serve_ends(rt, alloc, unnamed, ends, tasks, cycles, period)
             .ok()
             .ok_or("a report")?,
     )
@@ -48,8 +50,25 @@ fn a_server_tells_its_calls(rt: HostRuntime) -> Result<(), Fail> {
         (HALF, 1, 1, 5, Some(Fault::Stream(4))),
     ];
     for (sent, tasks, cycles, calls, fault) in rows {
-        let found = served(&rt, rt.alloc(), sent, tasks, cycles)?;
+        let found = served(&rt, rt.alloc(), sent, tasks, cycles, 0)?;
         assert_eq!(rt; found, Report { calls, fault });
     }
+    Ok(())
+}
+
+// The last of three cycles begins two periods after the server, at the earliest.
+#[test]
+fn cycles_begin_by_the_period(rt: HostRuntime) -> Result<(), Fail> {
+    let begin = Instant::now(&rt)?;
+    let found = served(&rt, rt.alloc(), CONNECT, 2, 3, 20)?;
+    let passed = begin.elapsed(&rt)?;
+    assert_eq!(rt;
+        found,
+        Report {
+            calls: 12,
+            fault: None
+        }
+    );
+    assert!(rt; passed >= Duration::from_millis(40));
     Ok(())
 }

@@ -6,6 +6,7 @@ use std::net::{Net, TcpListener, TcpStream};
 use std::sync::Wait;
 use std::test::Fail;
 use std::thread::{Threads, join};
+use std::time::Clock;
 use xcp_server::{Report, accept_tools, serve_ends};
 
 // What a tool gets of a slave that it connects to, sends this to, and reads so many bytes of.
@@ -28,14 +29,14 @@ fn ask<R: Net<Stream = TcpStream>>(
 }
 
 // Serves one tool beside two tasks of two cycles.
-fn serve_one<R: Threads + Wait + Sync>(
+fn serve_one<R: Threads + Wait + Clock + Sync>(
     rt: &R,
     alloc: Global,
     listener: &TcpListener,
 ) -> Option<Report> {
     let unnamed = small(alloc, 3)?;
     let ends = accept_tools(alloc, listener, 1).ok()?;
-    serve_ends(rt, alloc, unnamed, ends, 2, 2).ok()
+    serve_ends(rt, alloc, unnamed, ends, 2, 2, 0).ok()
 }
 
 #[test]

@@ -11,7 +11,7 @@ use Rattle.clap.specs.Values.{IsUnsignedIn}
 use Rattle.clap.proofs.ValueTestLemmas.{accepts-Accepts}
 use Rattle.clap.specs.declared.builder.value_parser.ValueParser.TheVariants.{Unsigned}
 use Rattle.clap.specs.declared.error.kind.ErrorKind.TheVariants as kind
-use Rattle.xcp_program.specs.CommandLine.{AsksSomething, HasNumber, Numeric, cycles, port, program, tasks, tools}
+use Rattle.xcp_program.specs.CommandLine.{AsksSomething, HasNumber, Numeric, cycles, period, port, program, tasks, tools}
 use Rattle.xcp_program.proofs.RowLemmas.{Each, EachRule, Good, IsGiven, Keeps, default_row, defaults_leave, found_row, found_rule, keeps_set, no_kinds, default_among, parts, row_for}
 use Rattle.xcp_program.proofs.WalkLemmas.{NoHelp, settles, walk_kept, walk_stops}
 
@@ -56,7 +56,10 @@ keeps_serve = (
         keeps_set serve_shape.rules (nth 3 serve_shape) refl refl (λ again rows e. no_kinds _ _ e),
         (
           keeps_set serve_shape.rules (nth 4 serve_shape) refl refl (λ again rows e. no_kinds _ _ e),
-          (λ again values rows e v. v, tt),
+          (
+            keeps_set serve_shape.rules (nth 5 serve_shape) refl refl (λ again rows e. no_kinds _ _ e),
+            (λ again values rows e v. v, tt),
+          ),
         ),
       ),
     ),
@@ -213,13 +216,34 @@ module _ (words : List Text) (e : level_fault serve_shape [] nothing_held words 
       (default_among (take 4 serve_shape.rules) (drop 5 serve_shape.rules) (nth 4 serve_shape) (codes "100") (given_rows serve_shape words) refl refl refl)
       (good_row (nth 4 serve_shape) refl) refl
 
+  period_stands : Stands (nth 5 serve_shape) (all_rows serve_shape words) period.default
+  period_stands = default_stands (nth 5 serve_shape) (codes "0") (given_rows serve_shape words) (all_rows serve_shape words)
+      (default_among (take 5 serve_shape.rules) (drop 6 serve_shape.rules) (nth 5 serve_shape) (codes "0") (given_rows serve_shape words) refl refl refl)
+      (good_row (nth 5 serve_shape) refl) refl
+
   serve_asked : AsksSomething (Some (rows_at serve_shape words))
   serve_asked =
       let p = number_stands words (nth 1 serve_shape) port refl (λ text h. accepts-Accepts false (Unsigned 1024 65535) text h) port_stands in
       let t = number_stands words (nth 2 serve_shape) tools refl (λ text h. accepts-Accepts false (Unsigned 1 2) text h) tools_stands in
       let k = number_stands words (nth 3 serve_shape) tasks refl (λ text h. accepts-Accepts false (Unsigned 0 6) text h) tasks_stands in
       let n = number_stands words (nth 4 serve_shape) cycles refl (λ text h. accepts-Accepts false (Unsigned 1 1000) text h) cycles_stands in
-      inr (config_stands.text, p.0, t.0, k.0, n.0, record { config = record { text = record { name = refl; value = config_stands.value }; given = wants.0 }; port = p.1; tools = t.1; tasks = k.1; cycles = n.1 })
+      let m = number_stands words (nth 5 serve_shape) period refl (λ text h. accepts-Accepts false (Unsigned 0 1000) text h) period_stands in
+      inr (
+        config_stands.text,
+        p.0,
+        t.0,
+        k.0,
+        n.0,
+        m.0,
+        record {
+          config = record { text = record { name = refl; value = config_stands.value }; given = wants.0 };
+          port = p.1;
+          tools = t.1;
+          tasks = k.1;
+          cycles = n.1;
+          period = m.1;
+        },
+      )
 
 -- ---- the program's own words
 

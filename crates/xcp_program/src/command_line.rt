@@ -120,13 +120,16 @@ fn serve_command<'a>(alloc: Global) -> Result<Command<'a>, AllocError>
     let cycles = numeric(alloc, "cycles", "N", 1, 1_000, Some("100")).help(
         "How many cycles each task runs, 1 to 1,000",
     );
+    let period = numeric(alloc, "period", "MS", 0, 1_000, Some("0")).help(
+        "The milliseconds from one cycle of a task to its next, 0 to 1,000",
+    );
     let serve = Command::new(alloc, "serve")
         .about(
             "Answers calibration tools over TCP on 127.0.0.1, while tasks of the controller raise events",
         )
         .after_help(ENDS);
     let serve = serve.arg(config_option(alloc))?.arg(port)?;
-    Ok(serve.arg(tools)?.arg(tasks)?.arg(cycles)?)
+    Ok(serve.arg(tools)?.arg(tasks)?.arg(cycles)?.arg(period)?)
 }
 
 /// The program's command line.
@@ -227,5 +230,6 @@ fn server_asked(alloc: Global, matches: &ArgMatches<'_>) -> Result<Options, Opti
         tools: number_in(matches, "tools") as u8,
         tasks: number_in(matches, "tasks") as u8,
         cycles: number_in(matches, "cycles"),
+        period: number_in(matches, "period"),
     })
 }

@@ -4,9 +4,9 @@
 //! `specs/Report.antt` has what is told, and which fault comes first.
 #![tactic(auto)]
 
-mod open_gate;
 mod report;
 mod serving;
+mod timetable;
 mod tools;
 
 pub use report::{Report, conclude};

@@ -2,13 +2,14 @@
 ghost use Rattle.std.specs.Prelude.{◌≡◌, ◌⊎◌, ◌<◌, ◌≤◌, ◌+◌, Err, vec_len};
 ghost use Rattle.xcp_server.specs.Report.{IsServed};
 
-use crate::open_gate::OpenGate;
 use crate::report::{Report, conclude};
+use crate::timetable::Timetable;
 use std::alloc::Global;
 use std::io::{Read, Write};
 use std::marker::Brand;
 use std::sync::Wait;
 use std::thread::Threads;
+use std::time::Clock;
 use xcp_framing::Watched;
 use xcp_locked::{Name, Unnamed, run_server};
 use xcp_program::Fault;
@@ -18,15 +19,17 @@ const TURNS: u32 = 1_000_000;
 
 /// Serves each reader and writer by frames on this slave, and runs so many tasks of so many cycles,
 /// all at the same time; joins them, ends the session, settles all callers and tells how many calls
-/// there were. `Memory` comes where memory or a thread is refused, before anybody has begun,
-/// `Mismatch` where a caller's receipts aren't the journal's.
-pub fn serve_ends<I: Read + Send + Drop, O: Write + Send + Drop, R: Threads + Wait + Sync>(
+/// there were. A task begins its cycle n once n periods, in milliseconds, have passed since the call.
+/// `Memory` comes where memory or a thread is refused, before anybody has begun, `Mismatch` where a
+/// caller's receipts aren't the journal's.
+pub fn serve_ends<I: Read + Send + Drop, O: Write + Send + Drop, R: Threads + Wait + Clock + Sync>(
     rt: &R,
     alloc: Global,
     unnamed: Unnamed,
     ends: Vec<(Watched<I>, Watched<O>)>,
     tasks: u8,
     cycles: u32,
+    period: u32,
 ) -> Result<Report, Fault>
     requires some { 0 < vec_len ends }
     requires callers { vec_len ends + tasks ≤ unnamed.callers }
@@ -34,7 +37,7 @@ pub fn serve_ends<I: Read + Send + Drop, O: Write + Send + Drop, R: Threads + Wa
     ensures served { (result ≡ Err Fault.Memory) ⊎ IsServed Brand I.remaining O.contents unnamed.layout 1000000
         cycles tasks unnamed.callers unnamed.bank ends.items result }
 {
-    serve_named::<Brand, I, O, R>(rt, alloc, unnamed, ends, tasks, cycles)
+    serve_named::<Brand, I, O, R>(rt, alloc, unnamed, ends, tasks, cycles, period)
 }
 
 /// The same, for a slave that has a name.
@@ -42,7 +45,7 @@ fn serve_named<
     N: Name + Send + Sync,
     I: Read + Send + Drop,
     O: Write + Send + Drop,
-    R: Threads + Wait + Sync,
+    R: Threads + Wait + Clock + Sync,
 >(
     rt: &R,
     alloc: Global,
@@ -50,6 +53,7 @@ fn serve_named<
     ends: Vec<(Watched<I>, Watched<O>)>,
     tasks: u8,
     cycles: u32,
+    period: u32,
 ) -> Result<Report, Fault>
     requires name { (unnamed.name ≡ N.name) × (unnamed.callers ≡ N.parts)
         × (unnamed.layout ≡ N.layout) × (unnamed.bank ≡ N.bank) }
@@ -59,7 +63,7 @@ fn serve_named<
     ensures served { (result ≡ Err Fault.Memory) ⊎ IsServed N I.remaining O.contents unnamed.layout 1000000
         cycles tasks unnamed.callers unnamed.bank ends.items result }
 {
-    let gate = OpenGate;
+    let gate = Timetable::new(rt, period);
     let Ok(mut closing) = run_server::<N, _, _, _, _>(
         rt, alloc, unnamed, ends, tasks, cycles, TURNS, &gate,
     ) else {

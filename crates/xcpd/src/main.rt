@@ -88,11 +88,12 @@ fn main(rt: HostRuntime) -> ExitCode {
                 tools,
                 tasks,
                 cycles,
+                period,
             },
         ) => match admit(&rt, config.as_str(), port, tools, tasks) {
             Ok((unnamed, ends)) => print_end(
                 &rt,
-                serve_ends(&rt, rt.alloc(), unnamed, ends, tasks, cycles),
+                serve_ends(&rt, rt.alloc(), unnamed, ends, tasks, cycles, period),
             ),
             Err(fault) => Some(fault),
         },

@@ -41,7 +41,7 @@ impl Env for Started<'_> {
 }
 
 /// What a program that was started with these words does: the file of a replay, the file of a server with its port,
-/// tools, tasks and cycles, or the status, a blank and what it tells.
+/// tools, tasks, cycles and period, or the status, a blank and what it tells.
 fn told(alloc: Global, words: &[u8]) -> Result<String, AllocError> {
     match asked(&(Started(words), alloc)) {
         Ok(Options::Replay { config }) => Ok(config),
@@ -52,8 +52,9 @@ fn told(alloc: Global, words: &[u8]) -> Result<String, AllocError> {
                 tools,
                 tasks,
                 cycles,
+                period,
             },
-        ) => format!(in alloc; "{config} {port} {tools} {tasks} {cycles}"),
+        ) => format!(in alloc; "{config} {port} {tools} {tasks} {cycles} {period}"),
         Err(e) => format!(in alloc; "{} {e}", e.status()),
     }
 }
@@ -106,6 +107,7 @@ Options:
       --tools <T>      How many tools may connect, 1 or 2 [default: 1]
       --tasks <K>      How many tasks raise events, 0 to 6 [default: 1]
       --cycles <N>     How many cycles each task runs, 1 to 1,000 [default: 100]
+      --period <MS>    The milliseconds from one cycle of a task to its next, 0 to 1,000 [default: 0]
   -h, --help           Print help
 
 Its first line is: listening PORT. It accepts T connections, answers each until it ends, and runs the tasks meanwhile.
@@ -123,30 +125,38 @@ with one line there, and this status:
 ";
 
 /// What the program does with words of `serve` behind a configuration file F and a port.
-const SERVERS: [(&[u8], &str); 7] = [
-    (b"xcpd|serve|--config|F|--port|5555", "F 5555 1 1 100"),
-    (b"xcpd|serve|--port=+5555|--config=F", "F 5555 1 1 100"),
+const SERVERS: [(&[u8], &str); 9] = [
+    (b"xcpd|serve|--config|F|--port|5555", "F 5555 1 1 100 0"),
+    (b"xcpd|serve|--port=+5555|--config=F", "F 5555 1 1 100 0"),
     (
         b"xcpd|serve|--config|F|--port|1024|--tools|1|--tasks|0|--cycles|1",
-        "F 1024 1 0 1",
+        "F 1024 1 0 1 0",
     ),
     (
-        b"xcpd|serve|--cycles|1000|--tasks|6|--tools|2|--port|65535|--config|F",
-        "F 65535 2 6 1000",
+        b"xcpd|serve|--period|1000|--cycles|1000|--tasks|6|--tools|2|--port|65535|--config|F",
+        "F 65535 2 6 1000 1000",
     ),
     (
         b"xcpd|serve|--config|F|--port|2000|--tools|2",
-        "F 2000 2 1 100",
+        "F 2000 2 1 100 0",
     ),
     (
         b"xcpd|serve|--config|F|--port|2000|--tasks|2",
-        "F 2000 1 2 100",
+        "F 2000 1 2 100 0",
+    ),
+    (
+        b"xcpd|serve|--config|F|--port|2000|--period|10",
+        "F 2000 1 1 100 10",
+    ),
+    (
+        b"xcpd|serve|--config|F|--port|2000|--period|0",
+        "F 2000 1 1 100 0",
     ),
     (b"xcpd|serve|--help", SERVE_HELP),
 ];
 
 /// What it tells of words of `serve` that are wrong.
-const WRONG_SERVERS: [(&[u8], &str); 15] = [
+const WRONG_SERVERS: [(&[u8], &str); 17] = [
     (
         b"xcpd|serve",
         "1 error: the following required arguments were not provided:\n  --config <FILE>\n  --port <PORT>\n",
@@ -198,6 +208,14 @@ const WRONG_SERVERS: [(&[u8], &str); 15] = [
     (
         b"xcpd|serve|--config|F|--port|5555|--cycles|1001",
         "1 error: invalid value '1001' for '--cycles <N>'",
+    ),
+    (
+        b"xcpd|serve|--config|F|--port|5555|--period|1001",
+        "1 error: invalid value '1001' for '--period <MS>'",
+    ),
+    (
+        b"xcpd|serve|--config|F|--port|5555|--period=-1",
+        "1 error: invalid value '-1' for '--period <MS>'",
     ),
     (
         b"xcpd|serve|--config|F|--port|5555|more",

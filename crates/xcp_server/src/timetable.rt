@@ -1,0 +1,54 @@
+//! The gate of a server.
+
+use std::thread;
+use std::time::{Clock, Duration, Instant};
+use xcp_locked::Gate;
+
+/// A gate that lets a task begin its cycle n once n periods have passed since the server began, or at once
+/// where the period is 0. It ends no task.
+#[derive(Drop)]
+pub(crate) struct Timetable<'a, R> {
+    clock: &'a R,
+    /// When the server began, if the clock could be read.
+    began: Option<Instant>,
+    /// The period in milliseconds.
+    period: u32,
+}
+
+impl<'a, R: Clock> Timetable<'a, R> {
+    /// The gate of a server that begins now.
+    pub(crate) fn new(clock: &'a R, period: u32) -> Timetable<'a, R> {
+        Timetable {
+            clock,
+            began: Instant::now(clock).ok(),
+            period,
+        }
+    }
+
+    /// How long a task still has to wait for this cycle. Where the clock can't be read it is a period.
+    fn left(&self, cycle: u32) -> Duration {
+        let due = Duration::from_millis(u64::from(cycle) * u64::from(self.period));
+        match self.passed() {
+            Some(passed) => due.saturating_sub(passed),
+            None => Duration::from_millis(u64::from(self.period)),
+        }
+    }
+
+    /// The time since the server began.
+    fn passed(&self) -> Option<Duration> {
+        self.began?.elapsed(self.clock).ok()
+    }
+}
+
+impl<R: Clock> Gate for Timetable<'_, R> {
+    fn before(&self, _task: u8, cycle: u32) -> bool {
+        if self.period > 0 {
+            thread::sleep(self.clock, self.left(cycle));
+        }
+        true
+    }
+
+    fn after(&self, _task: u8, _cycle: u32) -> bool {
+        true
+    }
+}
