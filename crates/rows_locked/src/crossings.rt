@@ -59,9 +59,9 @@ fn connection_and_task_run_at_one_time(rt: HostRuntime) -> Result<(), Fail> {
     };
     let end = (Watched::new(reader), Watched::new(Hole { room: 100 }));
     let ends = Vec::from_array(alloc, [end])?;
-    let came = serve_some(&rt, alloc, 3, ends, 2, &crossing, None)?;
+    let came = serve_some(&rt, alloc, 4, ends, 2, &crossing, None)?;
     let ends = Vec::from_array(alloc, [Ok(Served { frames: 1, sent: 1 })])?;
-    let wanted: Came = (ends, None, Ok(9), Some(2));
+    let wanted: Came = (ends, None, Ok(8), Some(2));
     assert!(rt; came == wanted);
     Ok(())
 }

@@ -9,11 +9,15 @@ use std::marker::Brand;
 use std::sync::Wait;
 use std::test::Fail;
 use std::thread::Threads;
+use std::time::Clock;
 use xcp_framing::{ServeError, Served, Watched};
 use xcp_locked::{
     Closing, Gate, Name, Reader, TaskError, Unnamed, Unsettled, run_server, settle_all,
 };
 use xcp_slave::Answer;
+
+// The turns of a connection's pump.
+const PUMP_TURNS: u32 = 100_000_000;
 
 pub type Ends<I> = Vec<(Watched<I>, Watched<Hole>)>;
 
@@ -77,7 +81,12 @@ fn holding<N: Name>(readers: &[Reader<N>]) -> Option<usize> {
 }
 
 // A server of so many tasks, of two cycles each, behind which a receipt may be altered.
-fn served<N: Name + Send + Sync, G: Gate + Sync, I: Read + Send + Drop, R: Threads + Wait + Sync>(
+fn served<
+    N: Name + Send + Sync,
+    G: Gate + Sync,
+    I: Read + Send + Drop,
+    R: Threads + Wait + Clock + Sync,
+>(
     rt: &R,
     alloc: Global,
     unnamed: Unnamed,
@@ -89,11 +98,11 @@ fn served<N: Name + Send + Sync, G: Gate + Sync, I: Read + Send + Drop, R: Threa
     requires name { (unnamed.name ≡ N.name) × (unnamed.callers ≡ N.parts)
         × (unnamed.layout ≡ N.layout) × (unnamed.bank ≡ N.bank) }
     requires some { 0 < vec_len ends }
-    requires callers { vec_len ends + tasks ≤ unnamed.callers }
+    requires callers { vec_len ends + tasks + vec_len ends ≤ unnamed.callers }
     requires readers { tasks ≤ 6 }
 {
     let mut closing: Closing<N, I, Hole> = run_server(
-        rt, alloc, unnamed, ends, tasks, 2, 1_000, gate,
+        rt, alloc, unnamed, ends, tasks, 2, 1_000, PUMP_TURNS, gate,
     )?;
     alter(&mut closing, altered);
     let settled = settle_all(&mut closing);
@@ -102,7 +111,7 @@ fn served<N: Name + Send + Sync, G: Gate + Sync, I: Read + Send + Drop, R: Threa
 }
 
 // The same of a small slave with so many callers.
-pub fn serve_some<G: Gate + Sync, I: Read + Send + Drop, R: Threads + Wait + Sync>(
+pub fn serve_some<G: Gate + Sync, I: Read + Send + Drop, R: Threads + Wait + Clock + Sync>(
     rt: &R,
     alloc: Global,
     callers: u8,
@@ -112,7 +121,7 @@ pub fn serve_some<G: Gate + Sync, I: Read + Send + Drop, R: Threads + Wait + Syn
     altered: Altered,
 ) -> Result<Came, Fail>
     requires some { 0 < vec_len ends }
-    requires callers { (vec_len ends + tasks ≤ callers) × (callers ≤ 16) }
+    requires callers { (vec_len ends + tasks + vec_len ends ≤ callers) × (callers ≤ 16) }
     requires readers { tasks ≤ 6 }
 {
     let unnamed = unnamed(alloc, callers)?;

@@ -6,6 +6,7 @@ use std::alloc::Global;
 use std::sync::Wait;
 use std::test::Fail;
 use std::thread::Threads;
+use std::time::Clock;
 use xcp_framing::{ServeError, Served, Watched};
 use xcp_locked::Unsettled;
 
@@ -33,18 +34,18 @@ fn pieces(text: &[u8], first: usize, most: usize) -> (Watched<Pieces<'_>>, Watch
 fn calls_are_counted(rt: HostRuntime) -> Result<(), Fail> {
     let alloc = rt.alloc();
     let ends = Vec::from_array(alloc, [pieces(&CONNECT, 6, 6)])?;
-    let alone = serve_some(&rt, alloc, 1, ends, 0, &Open, None)?;
+    let alone = serve_some(&rt, alloc, 2, ends, 0, &Open, None)?;
     let ends = Vec::from_array(alloc, [pieces(&CONNECT, 6, 6)])?;
     let busy = serve_some(&rt, alloc, 4, ends, 2, &Open, None)?;
-    let wanted: Came = (Vec::from_array(alloc, [Ok(ONE)])?, None, Ok(3), Some(0));
+    let wanted: Came = (Vec::from_array(alloc, [Ok(ONE)])?, None, Ok(2), Some(0));
     assert!(rt; alone == wanted);
-    let wanted: Came = (Vec::from_array(alloc, [Ok(ONE)])?, None, Ok(9), Some(2));
+    let wanted: Came = (Vec::from_array(alloc, [Ok(ONE)])?, None, Ok(8), Some(2));
     assert!(rt; busy == wanted);
     Ok(())
 }
 
 // Two tools and two tasks, whose streams are so cut.
-fn two_tools<R: Threads + Wait + Sync>(
+fn two_tools<R: Threads + Wait + Clock + Sync>(
     rt: &R,
     alloc: Global,
     first: usize,
@@ -53,7 +54,7 @@ fn two_tools<R: Threads + Wait + Sync>(
     let one = pieces(&STATUS, first, most);
     let other = pieces(&STATUS, first, most);
     let ends = Vec::from_array(alloc, [one, other])?;
-    serve_some(rt, alloc, 4, ends, 2, &Open, None)
+    serve_some(rt, alloc, 6, ends, 2, &Open, None)
 }
 
 #[test]
@@ -62,7 +63,7 @@ fn cut_streams_settle(rt: HostRuntime) -> Result<(), Fail> {
     let wanted: Came = (
         Vec::from_array(alloc, [Ok(TWO), Ok(TWO)])?,
         None,
-        Ok(15),
+        Ok(11),
         Some(2),
     );
     let mut good = two_tools(&rt, alloc, 1, 1)? == wanted;
@@ -79,13 +80,13 @@ fn altered_receipt_is_found(rt: HostRuntime) -> Result<(), Fail> {
     let one = pieces(&STATUS, 11, 11);
     let other = pieces(&STATUS, 11, 11);
     let ends = Vec::from_array(alloc, [one, other])?;
-    let (_, _, settled, _) = serve_some(&rt, alloc, 4, ends, 2, &Open, Some((1, 3)))?;
-    assert!(rt; settled == Err(Unsettled { caller: 1, at: 3 }));
+    let (_, _, settled, _) = serve_some(&rt, alloc, 6, ends, 2, &Open, Some((1, 1)))?;
+    assert!(rt; settled == Err(Unsettled { caller: 1, at: 1 }));
     Ok(())
 }
 
 // A first connection that fails at its second read, or at its first write, beside a good one.
-fn one_fails<R: Threads + Wait + Sync>(
+fn one_fails<R: Threads + Wait + Clock + Sync>(
     rt: &R,
     alloc: Global,
     good_reads: u32,
@@ -99,7 +100,7 @@ fn one_fails<R: Threads + Wait + Sync>(
     };
     let failing = (Watched::new(reader), Watched::new(Hole { room }));
     let ends = Vec::from_array(alloc, [failing, pieces(&CONNECT, 6, 6)])?;
-    serve_some(rt, alloc, 2, ends, 0, &Open, None)
+    serve_some(rt, alloc, 4, ends, 0, &Open, None)
 }
 
 #[test]
@@ -108,10 +109,10 @@ fn one_connection_fails(rt: HostRuntime) -> Result<(), Fail> {
     let read = one_fails(&rt, alloc, 1, 1_000)?;
     let write = one_fails(&rt, alloc, 2, 11)?;
     let ends = Vec::from_array(alloc, [Err(ServeError::Read), Ok(ONE)])?;
-    let wanted: Came = (ends, None, Ok(5), Some(0));
+    let wanted: Came = (ends, None, Ok(3), Some(0));
     assert!(rt; read == wanted);
     let ends = Vec::from_array(alloc, [Err(ServeError::Write), Ok(ONE)])?;
-    let wanted: Came = (ends, None, Ok(5), Some(0));
+    let wanted: Came = (ends, None, Ok(3), Some(0));
     assert!(rt; write == wanted);
     Ok(())
 }

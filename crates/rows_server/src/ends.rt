@@ -30,7 +30,7 @@ fn served<R: Threads + Wait + Clock + Sync>(
     period: u32,
 ) -> Result<Report, Fail> {
     let tasks = tasks.min(6);
-    let unnamed = small(alloc, 1 + tasks).ok_or("a slave")?;
+    let unnamed = small(alloc, 2 + tasks).ok_or("a slave")?;
     let writer: Vec<u8> = Vec::new(alloc);
     let ends = Vec::from_array(alloc, [(Watched::new(sent), Watched::new(writer))])?;
     Ok(
@@ -44,10 +44,10 @@ fn served<R: Threads + Wait + Clock + Sync>(
 fn a_server_tells_its_calls(rt: HostRuntime) -> Result<(), Fail> {
     let rows: [Row; 5] = [
         (&[], 0, 1, 1, None),
-        (CONNECT, 0, 1, 3, None),
-        (CONNECT, 2, 2, 9, None),
-        (TOO_LONG, 0, 1, 3, Some(Fault::Stream(3))),
-        (HALF, 1, 1, 5, Some(Fault::Stream(4))),
+        (CONNECT, 0, 1, 2, None),
+        (CONNECT, 2, 2, 8, None),
+        (TOO_LONG, 0, 1, 2, Some(Fault::Stream(3))),
+        (HALF, 1, 1, 4, Some(Fault::Stream(4))),
     ];
     for (sent, tasks, cycles, calls, fault) in rows {
         let found = served(&rt, rt.alloc(), sent, tasks, cycles, 0)?;
@@ -65,7 +65,7 @@ fn cycles_begin_by_the_period(rt: HostRuntime) -> Result<(), Fail> {
     assert_eq!(rt;
         found,
         Report {
-            calls: 12,
+            calls: 11,
             fault: None
         }
     );

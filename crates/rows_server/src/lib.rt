@@ -1,4 +1,4 @@
-//! Tests of the server by public calls alone, over memory and over TCP.
+//! Tests of the server by public calls alone, over memory and over TCP, and of a session as a calibration tool has it.
 #![tactic(auto)]
 
 #[cfg(test)]
@@ -6,4 +6,8 @@ mod ends;
 #[cfg(test)]
 mod loopback;
 #[cfg(test)]
+mod sessions;
+#[cfg(test)]
 mod slaves;
+#[cfg(test)]
+mod tape;

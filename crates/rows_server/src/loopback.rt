@@ -34,7 +34,7 @@ fn serve_one<R: Threads + Wait + Clock + Sync>(
     alloc: Global,
     listener: &TcpListener,
 ) -> Option<Report> {
-    let unnamed = small(alloc, 3)?;
+    let unnamed = small(alloc, 4)?;
     let ends = accept_tools(alloc, listener, 1).ok()?;
     serve_ends(rt, alloc, unnamed, ends, 2, 2, 0).ok()
 }
@@ -57,7 +57,7 @@ fn a_tool_connects_over_tcp(rt: HostRuntime) -> Result<(), Fail> {
     assert_eq!(rt;
         report,
         Some(Report {
-            calls: 9,
+            calls: 8,
             fault: None
         })
     );

@@ -1,2 +1,3 @@
 pub mod Room
 pub mod Works
+pub mod Crews

@@ -1,15 +1,15 @@
 //! Works of two kinds, all at the same time.
 ghost use Rattle.std.specs.Prelude.{IfOk, vec_len};
-ghost use Rattle.together.specs.Room.{IsRoom};
+ghost use Rattle.together.specs.Room.{HasRoom};
 ghost use Rattle.together.specs.Works.{GivesEach};
 
 use crate::room::{Room, room_for};
 use crate::threads::{join_all, start_all};
-use crate::work::Work;
+use crate::work::{Given, Work};
 use std::alloc::{AllocError, Global};
 use std::sync::{Mutex, Wait};
 use std::thread;
-use std::thread::{Scope, Threads};
+use std::thread::{PromisedHandle, Scope, Threads};
 
 /// What comes of works of two kinds, each at its work's place.
 type Results<T, U> = Result<(Vec<T>, Vec<U>), AllocError>;
@@ -36,7 +36,7 @@ pub fn run_both<T: Send + Drop, W: Work<T>, U: Send + Drop, V: Work<U>, R: Threa
         thread::scope_env(),
         rt,
         move |scope| -> Results<T, U>
-            requires { IsRoom first (vec_len works) × IsRoom second (vec_len others) }
+            requires { HasRoom first (vec_len works) × HasRoom second (vec_len others) }
             ensures { IfOk result (λ r. GivesEach W.Work works.items r.0.items
                 × GivesEach V.Work others.items r.1.items) }
         { in_scope(scope, rt, signal, works, first, others, second) },
@@ -57,11 +57,11 @@ fn in_scope<
     rt: &'s R,
     start: &'s Mutex<bool>,
     works: Vec<W>,
-    first: Room<T, W>,
+    first: Room<PromisedHandle<T, Given<W>>, T>,
     others: Vec<V>,
-    second: Room<U, V>,
+    second: Room<PromisedHandle<U, Given<V>>, U>,
 ) -> Results<T, U>
-    requires { IsRoom first (vec_len works) × IsRoom second (vec_len others) }
+    requires { HasRoom first (vec_len works) × HasRoom second (vec_len others) }
     ensures works { IfOk result (λ r. GivesEach W.Work works.items r.0.items) }
     ensures others { IfOk result (λ r. GivesEach V.Work others.items r.1.items) }
 {

@@ -1,14 +1,18 @@
 //! Works at the same time: each in a thread of its own, or none.
 //!
 //! A [`Work`] says what a thread does. [`run_both`] makes a thread for each work of two kinds, lets
-//! them begin together, and joins them all. That threads run beside one another, and that none
+//! them begin together, and joins them all; [`run_crews`] does so for crews of three works, which have
+//! something to do with each other, and for single works. That threads run beside one another, and that none
 //! begins before all stand, no clause can say; tests show it.
 #![tactic(auto)]
 
 mod both;
+mod crewing;
+mod crews;
 mod room;
 mod threads;
 mod work;
 
 pub use both::run_both;
+pub use crewing::run_crews;
 pub use work::{Given, Work};

@@ -1,5 +1,5 @@
 //! A thread for each work of one kind.
-ghost use Rattle.std.specs.Prelude.{◌≡◌, ◌≤◌, true, vec_len, vec_capacity};
+ghost use Rattle.std.specs.Prelude.{◌≡◌, ◌≤◌, IfSome, true, vec_len, vec_capacity};
 ghost use Rattle.std.specs.PromisedHandle.{KeepsEach};
 ghost use Rattle.together.specs.Works.{AllStand};
 
@@ -23,17 +23,31 @@ pub fn start_all<'s, E, T: Send + Drop + 's, W: Work<T> + 's, R: Threads + Wait 
 {
     let mut handles = handles;
     for work in works {
-        let promise = Given(Snapshot::of(&work));
-        match scope.spawn_with(promise, move || once_started(rt, start, work)) {
-            Ok(handle) => {
+        match start_one(scope, rt, start, work) {
+            Some(handle) => {
                 let Ok(()) = handles.push(handle) else {
                     unreachable!()
                 };
             }
-            Err(_) => return (handles, false),
+            None => return (handles, false),
         }
     }
     (handles, true)
+}
+
+/// Makes the thread of a work, which waits for the start signal.
+pub fn start_one<'s, E, T: Send + Drop + 's, W: Work<T> + 's, R: Threads + Wait + Sync + 's>(
+    scope: &'s Scope<'s, E>,
+    rt: &'s R,
+    start: &'s Mutex<bool>,
+    work: W,
+) -> Option<PromisedHandle<T, Given<W>>>
+    ensures { IfSome result (λ h. h.promise.0.value ≡ work) }
+{
+    let promise = Given(Snapshot::of(&work));
+    scope
+        .spawn_with(promise, move || once_started(rt, start, work))
+        .ok()
 }
 
 /// What a thread does: it waits until the signal can be read, and then begins or leaves.

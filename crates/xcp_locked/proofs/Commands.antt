@@ -1,20 +1,23 @@
 -- The commands among the calls of a connection, and the last call of the first caller.
-use Rattle.std.proofs.Common.{◌≡◌, ℕ, zero, suc, ◌+◌, List, [], ◌∷◌, ◌++◌, length, map, cond, refl, sym, ap, ◌∙◌, subst, append_assoc, ⊎_elim, inl, inr, arith}
+use Rattle.std.proofs.Common.{◌≡◌, ℕ, zero, suc, ◌+◌, List, [], ◌∷◌, ◌++◌, length, map, cond, refl, sym, ap, ◌∙◌, subst, append-nil, ⊎_elim, inl, inr, arith}
 use Rattle.std.proofs.lemmas.List.Sums.{sum_by-append, sum_by-cons}
-use Rattle.std.specs.Prelude.{◌⊎◌, All, Option, Some, None, Result, Ok, slice_set}
+use Rattle.std.specs.Prelude.{◌⊎◌, Option, Some, None, Result, Ok, Err, slice_set}
 use Rattle.std.specs.List.{count_by, slice_get}
 use Rattle.xcp_memory.specs.Layout.{LayoutValue}
 use Rattle.xcp_slave.specs.declared.Exchange.{Exchange}
 use Rattle.xcp_slave.specs.declared.Request.{Request}
 use Rattle.xcp_slave.specs.declared.Request.TheVariants as requests
-use Rattle.xcp_framing.specs.Serve.{AnswersAll, AnswersOne, EndsDrains, GavePacket, Serves}
+use Rattle.xcp_slave.specs.Run.{requests_of}
+use Rattle.xcp_framing.specs.ServeBy.{ServesBy, command}
 use Rattle.xcp_framing.specs.Watched.{Watched}
 use Rattle.xcp_framing.specs.declared.serving.ServeError.{ServeError}
 use Rattle.xcp_framing.specs.declared.serving.Served.{Served}
+use Rattle.xcp_outlet.specs.declared.fault.SendError.{SendError}
 use Rattle.xcp_locked.specs.declared.connection.Closed.{Closed}
 use Rattle.xcp_locked.specs.declared.errors.LockedError.{LockedError}
 use Rattle.xcp_locked.specs.declared.receipt.Receipt.{Receipt}
 use Rattle.xcp_locked.specs.declared.tasks.TaskError.{TaskError}
+use Rattle.xcp_locked.specs.Attending.{end_of}
 use Rattle.xcp_locked.specs.Caller.{CallerValue, accepting, callers_of, fresh_caller}
 use Rattle.xcp_locked.specs.HangingUp.{EndsSession, HungUp}
 use Rattle.xcp_locked.specs.Places.{EachFrom}
@@ -23,6 +26,9 @@ use Rattle.xcp_locked.specs.Running.{or_else}
 use Rattle.xcp_locked.specs.Serving.{CountTheirCommands, ServedAt, commands, is_command}
 use Rattle.xcp_locked.specs.Tasks.{refused_with}
 use Rattle.xcp_locked.proofs.Tallies.{none≢some, some_same}
+
+no_ok : {A E : Type 0} {x : E} {y : A} → ◌≡◌ {A = Result A E} (Err x) (Ok y) → ⊥
+no_ok h = cc
 
 abbrev one_if : Request → ℕ
 one_if r = cond (is_command r) 1 0
@@ -36,33 +42,24 @@ asked_one x xs = sum_by-cons (λ (y : Exchange). one_if y.request) x xs
 asked_both : (xs ys : List Exchange) → asked (xs ++ ys) ≡ asked xs + asked ys
 asked_both xs ys = sum_by-append (λ (y : Exchange). one_if y.request) xs ys
 
--- a Drain is no command
-drains : (x : Exchange) (xs : List Exchange) → x.request ≡ requests.Drain → asked (x ∷ xs) ≡ asked xs
-drains x xs is = let e = asked_one x xs in let n : one_if x.request ≡ 0 = ap one_if is in omega (arith, e, n)
+first_of : List Request → Request
+first_of [] = requests.Hangup
+first_of (r ∷ rs) = r
 
-gave_none : (xs : List Exchange) → All GavePacket xs → asked xs ≡ 0
-gave_none [] all = refl
-gave_none (x ∷ xs) all = let g : GavePacket x = all 0 x (omega arith) in drains x xs g.drain ∙ gave_none xs (λ k d low. all (suc k) d (omega (arith, low)))
+others_of : List Request → List Request
+others_of [] = []
+others_of (r ∷ rs) = rs
 
-ended_none : (n : ℕ) (xs : List Exchange) → EndsDrains n xs → asked xs ≡ 0
-ended_none n [] h = refl
-ended_none n (x ∷ more) h = drains x more h.1 ∙ ap asked h.3
-
-one_asked : (packet : List ℕ) (xs : List Exchange) → AnswersOne packet xs → asked xs ≡ 1
-one_asked packet xs h =
-    let whole = ap asked h.joined ∙ asked_one h.command h.drains in
-    let first : one_if h.command.request ≡ 1 = ap one_if h.asked in
-    let apart = ap asked h.drained.joined ∙ asked_both h.drained.gave h.drained.last in
-    let a = gave_none h.drained.gave h.drained.each in
-    let b = ended_none (length h.drained.gave) h.drained.last h.drained.ended in
-    omega (arith, whole, first, apart, a, b)
-
-all_asked : (packets : List (List ℕ)) (xs : List Exchange) → AnswersAll packets xs → asked xs ≡ length packets
-all_asked [] xs h = ap asked h
-all_asked (p ∷ ps) xs h =
-    let whole = ap asked h.2 ∙ asked_both h.0 h.1 in
-    let one = one_asked p h.0 h.3 in
-    let rest = all_asked ps h.1 h.4 in
+-- exchanges of packets' commands, one for each
+by_commands : (packets : List (List ℕ)) (xs : List Exchange) → requests_of xs ≡ map command packets → asked xs ≡ length packets
+unfolding first_of others_of
+by_commands [] [] is = refl
+by_commands [] (x ∷ xs) is = absurd (let n = ap length is in omega (arith, n))
+by_commands (p ∷ ps) [] is = absurd (let n = ap length is in omega (arith, n))
+by_commands (p ∷ ps) (x ∷ xs) is =
+    let whole = asked_one x xs in
+    let one : one_if x.request ≡ 1 = ap (λ rs. one_if (first_of rs)) is in
+    let rest = by_commands ps xs (ap others_of is) in
     omega (arith, whole, one, rest)
 
 commands_one : (r : Receipt) (rs : List Receipt) → commands (r ∷ rs) ≡ one_if r.request + commands rs
@@ -80,15 +77,27 @@ asked_commands (r ∷ rs) =
     omega (arith, a, b, c)
 
 -- a stream that ended well counted the commands of a caller that had made no call before
-stream_counts : (m : ℕ) (end : Result Served ServeError) (served : Served) (input left before after : Option (List ℕ)) (old new : List Receipt) → Serves m end input left (exchanges_of old) (exchanges_of new) before after → end ≡ Ok served → old ≡ [] → served.frames ≡ commands new
-stream_counts m end served input left before after old new h is none =
-    let s : Serves m (Ok served) input left [] (exchanges_of new) before after =
-    subst (λ e. Serves m e input left [] (exchanges_of new) before after) is (subst (λ rs. Serves m end input left (exchanges_of rs) (exchanges_of new) before after) none h) in
-    let all = all_asked s.packets s.exchanges s.answers in
+stream_counts : (m : ℕ) (end : Result Served ServeError) (served : Served) (input left : Option (List ℕ)) (old new : List Receipt) (before after : List (List ℕ)) → ServesBy m end input left (exchanges_of old) (exchanges_of new) before after → end ≡ Ok served → old ≡ [] → served.frames ≡ commands new
+stream_counts m end served input left old new before after h is none =
+    let s : ServesBy m (Ok served) input left [] (exchanges_of new) before after =
+    subst (λ e. ServesBy m e input left [] (exchanges_of new) before after) is (subst (λ rs. ServesBy m end input left (exchanges_of rs) (exchanges_of new) before after) none h) in
+    let all = by_commands s.packets s.exchanges s.puts.asked in
     let grown = ap asked s.grown in
     let same = asked_commands new in
     let counted = s.counts.0 in
     omega (arith, all, grown, same, counted)
+
+-- a connection that ended well was heard well
+heard_well : (heard : Result Served ServeError) (pumped : Result ℕ ServeError) (sent : Result ℕ SendError) (told : Served) → end_of heard pumped sent ≡ Ok told → heard ≡ Ok told
+heard_well (Ok served) (Ok n) (Ok k) told is = is
+heard_well (Ok served) (Ok n) (Err e) told is = absurd (no_ok is)
+heard_well (Ok served) (Err e) sent told is = absurd (no_ok is)
+heard_well (Err e) pumped sent told is = is
+
+get_front : {A : Type 0} (xs ys : List A) (i : ℕ) (a : A) → slice_get xs i ≡ Some a → slice_get (xs ++ ys) i ≡ Some a
+get_front [] ys i a h = absurd (none≢some a h)
+get_front (x ∷ xs) ys zero a h = h
+get_front (x ∷ xs) ys (suc i) a h = get_front xs ys i a h
 
 get_either : {A : Type 0} (xs ys : List A) (i : ℕ) (a : A) → slice_get (xs ++ ys) i ≡ Some a → (slice_get xs i ≡ Some a) ⊎ ((j : ℕ) × (slice_get ys j ≡ Some a))
 get_either [] ys i a h = inr (i, h)
@@ -145,16 +154,20 @@ hangup_counts_none before after old new i o c h was is = ⊎_elim accepted refus
     refused : (e : LockedError) × (new ≡ old) × (after ≡ or_else before (Some (refused_with e))) → commands c.receipts ≡ commands o.receipts
     refused r = ap (λ (x : CallerValue). commands x.receipts) (some_same c o (sym is ∙ (ap (λ cs. slice_get cs i) r.1 ∙ was)))
 
--- each connection that ended well counted the commands of its caller
-pub all_count : {N I O : Type 0} (remaining : I → Option (List ℕ)) (contents : O → Option (List ℕ)) (m turns callers : ℕ) (l : LayoutValue) (given : List (Watched I × Watched O)) (closed : List (Closed N I O)) (ends : List (Result Served ServeError)) (others spare new : List CallerValue) (before after : Option TaskError) → EachFrom (ServedAt remaining contents m turns (callers_of l callers)) 0 given closed → ends ≡ map (λ d. d.end) closed
-    → HungUp before after (map (λ d. d.caller) closed ++ others ++ spare) new → CountTheirCommands ends new
-all_count remaining contents m turns callers l given closed ends others spare new before after served ends_are h i told c ended there =
-    let one = each_at (ServedAt remaining contents m turns (callers_of l callers)) 0 given closed (Result Served ServeError) (λ d. d.end) i (Ok told) served (ap (λ es. slice_get es i) (sym ends_are) ∙ ended) in
+-- each connection that ended well counted the commands of its tool's caller
+pub all_count : {N I O : Type 0} (remaining : I → Option (List ℕ)) (contents : O → Option (List ℕ)) (m turns : ℕ) (l : LayoutValue) (n : ℕ) (given : List (Watched I × Watched O)) (closed : List (Closed N I O)) (ends : List (Result Served ServeError)) (tools pumps hired spare others last new : List CallerValue) (before after : Option TaskError)
+    → callers_of l n ≡ tools ++ hired ++ pumps ++ spare → EachFrom (ServedAt remaining contents m turns tools pumps) 0 given closed → ends ≡ map (λ d. d.end) closed → HungUp before after (map (λ d. d.tool) closed ++ others ++ last ++ spare) new → CountTheirCommands ends new
+all_count remaining contents m turns l n given closed ends tools pumps hired spare others last new before after dealt served ends_are h i told c ended there =
+    let one = each_at (ServedAt remaining contents m turns tools pumps) 0 given closed (Result Served ServeError) (λ d. d.end) i (Ok told) served (ap (λ es. slice_get es i) (sym ends_are) ∙ ended) in
     let at = one.2 in
     let a = at.attended in
-    let counted = stream_counts m one.1.end told _ _ _ _ at.caller.receipts one.1.caller.receipts a.serves one.3 (opened_idle l callers (0 + i) at.caller at.at_place) in
-    let back = ap (λ cs. slice_get cs i) (append_assoc (map (λ d. d.caller) closed) others spare) ∙ mapped_at (λ d. d.caller) closed (others ++ spare) i one.1 one.4 in
-    counted ∙ sym (hangup_counts_none before after _ new i one.1.caller c h back there)
+    let opened : slice_get (callers_of l n) (0 + i) ≡ Some at.tool =
+    ap (λ cs. slice_get cs (0 + i)) dealt ∙ get_front (tools ++ hired ++ pumps) spare (0 + i) at.tool (get_front (tools ++ hired) pumps (0 + i) at.tool (get_front tools hired (0 + i) at.tool at.tool_at)) in
+    let counted = stream_counts m one.1.heard told _ _ at.tool.receipts one.1.tool.receipts _ _ a.serves (heard_well one.1.heard one.1.pumped one.1.sent told (sym a.end ∙ one.3)) (opened_idle l n (0 + i) at.tool opened) in
+    let old = map (λ d. d.tool) closed ++ others ++ last ++ spare in
+    let front : slice_get (map (λ d. d.tool) closed) i ≡ Some one.1.tool = ap (λ cs. slice_get cs i) (sym (append-nil (map (λ d. d.tool) closed))) ∙ mapped_at (λ d. d.tool) closed [] i one.1 one.4 in
+    let back : slice_get old i ≡ Some one.1.tool = get_front (map (λ d. d.tool) closed ++ others ++ last) spare i one.1.tool (get_front (map (λ d. d.tool) closed ++ others) last i one.1.tool (get_front (map (λ d. d.tool) closed) others i one.1.tool front)) in
+    counted ∙ sym (hangup_counts_none before after old new i one.1.tool c h back there)
 
 -- without a fault the last Hangup was accepted
 pub ends_session : (before after : Option TaskError) (old new : List CallerValue) → HungUp before after old new → EndsSession after new

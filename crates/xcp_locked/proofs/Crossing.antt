@@ -1,7 +1,7 @@
 -- Which of the types of a connection may cross to another thread.
 use denote.RattleType.{RattleType}
 use denote.Ref.{NamedLft}
-use denote.Param.Send.{AllSend, IsSend, recorded_send, sendable, struct_send, view_send}
+use denote.Param.Send.{AllSend, IsSend, IsSync, recorded_send, sendable, struct_send, view_send}
 use denote.Struct.Declared as declared
 use denote.Struct.Struct.{Struct}
 use Rattle.std.proofs.Crossing.{crosses}
@@ -14,8 +14,17 @@ use Rattle.xcp_framing.specs.contracts.watched.Watched as Watched
 use Rattle.xcp_framing.specs.contracts.watched.Watched.TheInside as Inside
 use Rattle.xcp_locked.proofs.caller.Caller.TheSendSync as caller
 use Rattle.xcp_locked.proofs.locked.Locked.TheSendSync as locked
-use Rattle.xcp_locked.specs.contracts.connection.Closed as Closed
-use Rattle.xcp_locked.specs.contracts.connection.Connection as Connection
+use Rattle.xcp_locked.specs.contracts.hearing.Heard as Heard
+use Rattle.xcp_locked.specs.contracts.hearing.Hearing as Hearing
+use Rattle.xcp_locked.specs.contracts.pumping.Pumped as Pumped
+use Rattle.xcp_locked.specs.contracts.pumping.Pumping as Pumping
+use Rattle.xcp_locked.specs.contracts.sending.Sending as Sending
+use Rattle.xcp_locked.specs.contracts.sending.Wrote as Wrote
+use Rattle.xcp_outlet.proofs.end.DataEnd.TheSendSync as samples
+use Rattle.xcp_outlet.proofs.end.ReplyEnd.TheSendSync as replies
+use Rattle.xcp_outlet.proofs.intake.SendEnd.TheSendSync as sender
+use Rattle.xcp_outlet.proofs.put.Put.TheSendSync as put
+use Rattle.xcp_outlet.proofs.sending.Sent.TheSendSync as sent
 
 -- a struct, as all its fields may
 struct_crosses : (T : declared.Declared) → AllSend (declared.fields T) → IsSend (declared.row T)
@@ -28,11 +37,27 @@ tally_crosses = search (sendable, crosses) depth 20
 watched_crosses : (T : RattleType) → IsSend T → IsSend (Watched.the_row T)
 watched_crosses T s = view_send (Inside.the_row T) _ _ _ _ (struct_crosses (Inside.the_type T) (s, (tally_crosses, (tally_crosses, tt))))
 
-pub closed_crosses : (N I O : RattleType) (g : Name.Ghosts N.Denot) (l : Ledger.Ghosts N.Denot) → IsSend (Closed.the_row N I O g l)
-closed_crosses N I O g l =
-    struct_crosses (Closed.the_type N I O g l) (caller.the_send N g l, (search (sendable, crosses, error.the_send, served.the_send) depth 20, (search (sendable, crosses) depth 20, tt)))
+-- what comes of hearing a tool, and of a pump
+pub heard_crosses : (N I : RattleType) (g : Name.Ghosts N.Denot) (l : Ledger.Ghosts N.Denot) → IsSend (Heard.the_row N I g l)
+heard_crosses N I g l =
+    struct_crosses (Heard.the_type N I g l) (caller.the_send N g l, (search (sendable, crosses, error.the_send, served.the_send) depth 20, (search (sendable, crosses) depth 20, (put.the_send, tt))))
 
-pub connection_crosses : (κ : NamedLft) (N I O : RattleType) (g : Name.Ghosts N.Denot) (l : Ledger.Ghosts N.Denot) → IsSend I → IsSend O → IsSend (Connection.the_row κ N I O g l)
-connection_crosses κ N I O g l i o =
-    struct_crosses (Connection.the_type κ N I O g l)
-    (search (sendable, crosses, locked.the_send) depth 20, (caller.the_send N g l, (watched_crosses I i, (watched_crosses O o, (search (sendable, crosses) depth 20, (search sendable, (search sendable, tt)))))))
+pub pumped_crosses : (N : RattleType) (g : Name.Ghosts N.Denot) (l : Ledger.Ghosts N.Denot) → IsSend (Pumped.the_row N g l)
+pumped_crosses N g l = struct_crosses (Pumped.the_type N g l) (caller.the_send N g l, (search (sendable, crosses, error.the_send) depth 20, (put.the_send, tt)))
+
+pub wrote_crosses : (O : RattleType) → IsSend (Wrote.the_row O)
+wrote_crosses O = struct_crosses (Wrote.the_type O) (sent.the_field_send, (search (sendable, crosses) depth 20, tt))
+
+-- the three parts of a connection
+pub hearing_crosses : (κ : NamedLft) (N I : RattleType) (g : Name.Ghosts N.Denot) (l : Ledger.Ghosts N.Denot) → IsSend I → IsSend (Hearing.the_row κ N I g l)
+hearing_crosses κ N I g l i =
+    struct_crosses (Hearing.the_type κ N I g l)
+    (search (sendable, crosses, locked.the_send) depth 20, (caller.the_send N g l, (watched_crosses I i, (replies.the_send, (search (sendable, crosses) depth 20, (search (sendable, crosses) depth 20, (search sendable, (search sendable, tt))))))))
+
+pub pumping_crosses : (κ : NamedLft) (N C : RattleType) (g : Name.Ghosts N.Denot) (l : Ledger.Ghosts N.Denot) → IsSync C → IsSend (Pumping.the_row κ N C g l)
+pumping_crosses κ N C g l s =
+    struct_crosses (Pumping.the_type κ N C g l)
+    (search (sendable, crosses, locked.the_send) depth 20, (caller.the_send N g l, (search (sendable, crosses, s) depth 20, (samples.the_send, (search (sendable, crosses) depth 20, (search sendable, tt))))))
+
+pub sending_crosses : (O : RattleType) → IsSend O → IsSend (Sending.the_row O)
+sending_crosses O o = struct_crosses (Sending.the_type O) (sender.the_send, (watched_crosses O o, tt))

@@ -1,3 +1,4 @@
+pub mod Attendings
 pub mod Callers
 pub mod Commands
 pub mod Crossing

@@ -56,3 +56,8 @@ map_behind f front xs x ys more was is = is ∙ (ap (λ z. z ++ f x ∷ []) was 
 pub dealt_more : {A B : Type 0} (f : B → A) (taken more : List B) (b : B) (a : A) (rest left all : List A) → map f taken ++ rest ≡ all → rest ≡ a ∷ left → f b ≡ a → more ≡ taken ++ b ∷ [] → map f more ++ left ≡ all
 dealt_more f taken more b a rest left all was steps is grown =
     ap (λ z. map f z ++ left) grown ∙ (ap (λ z. z ++ left) (map_snoc f taken b) ∙ (ap (λ z. (map f taken ++ z ∷ []) ++ left) is ∙ turn (map f taken) rest left all a was steps))
+
+-- what was dealt in three turns, and what is left behind them
+pub in_three_turns : {A : Type 0} (first second third left later last all given : List A) → first ++ later ≡ all → second ++ last ≡ later → third ++ left ≡ last → all ≡ given → given ≡ first ++ second ++ third ++ left
+in_three_turns first second third left later last all given f s t is =
+    sym is ∙ (sym f ∙ (ap (λ z. first ++ z) (sym s ∙ ap (λ z. second ++ z) (sym t)) ∙ (sym (append_assoc first second (third ++ left)) ∙ sym (append_assoc (first ++ second) third left))))

@@ -1,8 +1,8 @@
 -- What readers of tasks do, cycle by cycle.
-use Rattle.std.proofs.Common.{◌≡◌, ℕ, zero, suc, ◌+◌, ◌<◌, ◌≤◌, Bool, true, false, true≢false, List, [], ◌∷◌, ◌++◌, length, take, drop, refl, sym, ap, ◌∙◌, subst, append-nil, cond, ⊎_elim, inl, inr, arith}
+use Rattle.std.proofs.Common.{◌≡◌, ℕ, zero, suc, ◌+◌, ◌≤◌, Bool, true, false, true≢false, List, [], ◌∷◌, ◌++◌, length, take, drop, refl, sym, ap, ◌∙◌, subst, append-nil, cond, ⊎_elim, inl, inr, arith}
 use Rattle.std.proofs.lemmas.List.{take_all}
 use Rattle.std.proofs.lemmas.List.Sums.{sum_by-append}
-use Rattle.std.specs.Prelude.{◌⊎◌, Option, Some, None, slice_index}
+use Rattle.std.specs.Prelude.{Option, Some, None, slice_index}
 use Rattle.xcp_bank.specs.Deeds.{Deed, Does, has_read, reads_of}
 use Rattle.xcp_bank.specs.Ends.{AcquireDoes, Holds, HoldsNumber, ReadDoes, ReaderEnd, image_at, image_held}
 use Rattle.xcp_bank.specs.Known.{Begins}

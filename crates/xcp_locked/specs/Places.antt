@@ -7,3 +7,8 @@ EachFrom R k [] [] = ⊤
 EachFrom R k (x ∷ xs) (y ∷ ys) = R k x y × EachFrom R (k + 1) xs ys
 EachFrom R k (x ∷ xs) [] = ⊥
 EachFrom R k [] (y ∷ ys) = ⊥
+
+-- each element has this property
+abbrev pub Each : {A : Type 0} → (A → Type 0) → List A → Type 0
+Each P [] = ⊤
+Each P (x ∷ xs) = P x × Each P xs

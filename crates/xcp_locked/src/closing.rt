@@ -2,7 +2,7 @@
 ghost use Rattle.std.specs.Prelude.{◌≡◌, ◌<◌, ◌≤◌, ◌+◌, ◌++◌, [], IfErr, IfOk, length, map, sum_by, vec_capacity, vec_len};
 ghost use Rattle.std.specs.Vec.Iter.{into_iter_items};
 ghost use Rattle.xcp_locked.specs.Caller.{accepted_by};
-ghost use Rattle.xcp_locked.specs.Room.{IsRoom};
+ghost use Rattle.xcp_locked.specs.Room.{IsEndedRoom, IsRoom};
 ghost use Rattle.xcp_locked.specs.HangingUp.{HungUp};
 ghost use Rattle.xcp_locked.specs.Running.{first_fault};
 ghost use Rattle.xcp_locked.specs.Journal.{exchanges};
@@ -19,8 +19,8 @@ use std::vec::IntoIter;
 use xcp_framing::{ServeError, Served};
 use xcp_slave::Request;
 
-/// What is left of a server: the slave, all callers (those of the connections first, then those of
-/// the tasks, then those that had nothing to do), the six readers (those of the tasks first), the end
+/// What is left of a server: the slave, all callers (those of the tools first, then those of the
+/// tasks, then those of the pumps, then those that had nothing to do), the six readers (those of the tasks first), the end
 /// of each connection with what its streams were then, and the fault of the tasks, else that of the
 /// last `Hangup`.
 #[derive(Drop)]
@@ -36,6 +36,7 @@ pub struct Closing<N: Name, I: Read + Drop, O: Write + Drop> {
 /// Room for what a server gives back, made before anybody begins.
 #[derive(Drop)]
 pub struct Rooms<N: Name, I: Read + Drop, O: Write + Drop> {
+    pub closed: Vec<Closed<N, I, O>>,
     pub ended: Ended<N, I, O>,
     pub workers: Vec<Worker<N>>,
     pub readers: Vec<Reader<N>>,
@@ -53,16 +54,20 @@ pub(crate) fn make_rooms<N: Name, I: Read + Drop, O: Write + Drop>(
     ensures { IfOk result (λ r. IsRoom callers ends tasks readers r) }
 {
     let callers = Vec::with_capacity(alloc, callers)?;
+    let closed = Vec::with_capacity(alloc, ends)?;
+    let pumps = Vec::with_capacity(alloc, ends)?;
     let left = Vec::with_capacity(alloc, ends)?;
     let ends = Vec::with_capacity(alloc, ends)?;
     let workers = Vec::with_capacity(alloc, tasks as usize)?;
     let readers = Vec::with_capacity(alloc, readers)?;
     let ended = Ended {
         callers,
+        pumps,
         ends,
         left,
     };
     Ok(Rooms {
+        closed,
         ended,
         workers,
         readers,
@@ -77,23 +82,27 @@ pub(crate) fn close_all<N: Name, I: Read + Drop, O: Write + Drop>(
     done: Vec<Done<N>>,
     spare: IntoIter<Caller<N>>,
     unused: IntoIter<Reader<N>>,
-    rooms: Rooms<N, I, O>,
+    ended: Ended<N, I, O>,
+    workers: Vec<Worker<N>>,
+    readers: Vec<Reader<N>>,
 ) -> Closing<N, I, O>
     requires some { 0 < vec_len closed }
-    requires room { IsRoom (vec_len closed + vec_len done + length (into_iter_items spare))
-        (vec_len closed) (vec_len done) (vec_len done + length (into_iter_items unused)) rooms }
+    requires ended { IsEndedRoom (vec_len closed + vec_len done + vec_len closed + length (into_iter_items spare))
+        (vec_len closed) ended }
+    requires workers { (workers.items ≡ []) × (vec_len done ≤ vec_capacity workers) }
+    requires readers { (readers.items ≡ []) × (vec_len done + length (into_iter_items unused) ≤ vec_capacity readers) }
     ensures hung_up { HungUp (first_fault done.items) result.fault
-        (map (λ d. d.caller) closed.items ++ map (λ d. d.worker.caller) done.items ++ into_iter_items spare)
-        result.callers.items }
+        (map (λ d. d.tool) closed.items ++ map (λ d. d.worker.caller) done.items
+        ++ map (λ d. d.pump) closed.items ++ into_iter_items spare) result.callers.items }
     ensures ends { result.ends.items ≡ map (λ d. d.end) closed.items }
     ensures left { result.left.items ≡ map (λ d. d.left) closed.items }
     ensures readers { result.readers.items
         ≡ map (λ d. d.worker.reader) done.items ++ into_iter_items unused }
     ensures run { Run (opening N.layout) (exchanges result.locked.journal) result.locked.slave }
 {
-    let ended = take_apart(closed, rooms.ended);
-    let ran = collect(done, rooms.workers);
-    put_together(locked, ended, ran, spare, unused, rooms.readers)
+    let ended = take_apart(closed, ended);
+    let ran = collect(done, workers);
+    put_together(locked, ended, ran, spare, unused, readers)
 }
 
 /// Gathers all callers and all readers again, in order, for which there is room, and submits the last
@@ -107,13 +116,13 @@ fn put_together<N: Name, I: Read + Drop, O: Write + Drop>(
     readers: Vec<Reader<N>>,
 ) -> Closing<N, I, O>
     requires some { 0 < vec_len ended.callers }
-    requires room { vec_len ended.callers + vec_len ran.workers + length (into_iter_items spare)
-        ≤ vec_capacity ended.callers }
+    requires room { vec_len ended.callers + vec_len ran.workers + vec_len ended.pumps
+        + length (into_iter_items spare) ≤ vec_capacity ended.callers }
     requires readers { (readers.items ≡ []) × (vec_len ran.workers + length (into_iter_items unused)
         ≤ vec_capacity readers) }
     ensures hung_up { HungUp ran.fault result.fault
-        (ended.callers.items ++ map (λ w. w.caller) ran.workers.items ++ into_iter_items spare)
-        result.callers.items }
+        (ended.callers.items ++ map (λ w. w.caller) ran.workers.items
+        ++ ended.pumps.items ++ into_iter_items spare) result.callers.items }
     ensures ends { result.ends.items ≡ ended.ends.items }
     ensures left { result.left.items ≡ ended.left.items }
     ensures readers { result.readers.items
@@ -122,6 +131,7 @@ fn put_together<N: Name, I: Read + Drop, O: Write + Drop>(
 {
     let mut locked = locked;
     let (callers, readers) = dismiss(ran.workers, ended.callers, readers);
+    let callers = add_rest(ended.pumps.into_iter(), callers);
     let mut callers = add_rest(spare, callers);
     let readers = add_rest(unused, readers);
     let fault = hang_up(&mut locked, &mut callers, ran.fault);

@@ -1,87 +1,119 @@
-//! A connection: a tool behind a stream of frames.
+//! A connection: a tool that is heard, a pump, and a sender, each in a thread of its own.
+ghost use Rattle.std.specs.Prelude.{◌≡◌, ◌≤◌, ◌+◌, [], vec_len, vec_capacity};
+ghost use Rattle.xcp_locked.specs.Attending.{AreOfOneOutlet, ClosedAs, IsClosingOf, end_of};
+ghost use Rattle.xcp_locked.specs.Places.{Each, EachFrom};
 
-use crate::{Caller, Locked, Name, Tool};
-use std::alloc::Global;
+use crate::hearing::{Heard, Hearing};
+use crate::pumping::{Pumped, Pumping};
+use crate::sending::{Sending, Wrote};
+use crate::{Caller, Name};
 use std::io::{Read, Write};
 use std::snapshot::Snapshot;
-use std::sync::{Mutex, Wait};
-use together::Work;
-use xcp_framing::{ServeError, Served, Watched, serve};
+use xcp_framing::{ServeError, Served, Watched};
+use xcp_outlet::{Put, SendError, Sent, Took};
 
-/// A connection: its caller, its reader and its writer, and how many reads it has.
-#[derive(Drop)]
-pub struct Connection<'a, N: Name, I: Read + Drop, O: Write + Drop> {
-    pub lock: &'a Mutex<Locked<N>>,
-    pub caller: Caller<N>,
-    pub reader: Watched<I>,
-    pub writer: Watched<O>,
-    pub alloc: Global,
-    pub max_cto: u8,
-    pub turns: u32,
-}
+/// The three parts of a connection, which have one outlet between them.
+pub type Connection<'a, N, I, O, C> = (Hearing<'a, N, I>, Pumping<'a, N, C>, Sending<O>);
 
-/// A connection's reader and writer as they were at its end. Contracts alone see them: they were
-/// dropped there, which closes the connection, and this takes no memory.
+/// What comes of the three parts of a connection.
+pub type Parted<N, I, O> = (Heard<N, I>, Pumped<N>, Wrote<O>);
+
+/// What there was of a connection at its end. Contracts alone see it: reader and writer were dropped
+/// there, which closes the connection, and this takes no memory.
 #[derive(Drop)]
 pub struct Left<I: Read + Drop, O: Write + Drop> {
     pub reader: Snapshot<Watched<I>>,
     pub writer: Snapshot<Watched<O>>,
+    /// What was put of answers.
+    pub replies: Snapshot<Put>,
+    /// What was put of data packets.
+    pub samples: Snapshot<Put>,
+    /// What the sender took.
+    pub took: Snapshot<Took>,
 }
 
-/// What comes of a connection.
+/// What comes of a connection: how it ended, which is the fault of its reading, else of its pump, else
+/// Write where its sender has one.
 #[derive(Drop)]
 pub struct Closed<N: Name, I: Read + Drop, O: Write + Drop> {
-    pub caller: Caller<N>,
+    pub tool: Caller<N>,
+    pub pump: Caller<N>,
     pub end: Result<Served, ServeError>,
+    pub heard: Result<Served, ServeError>,
+    pub pumped: Result<u64, ServeError>,
+    pub sent: Result<u64, SendError>,
     pub left: Left<I, O>,
 }
 
-impl<'a, N: Name + Send + Sync, I: Read + Send + Drop, O: Write + Send + Drop> Work<Closed<N, I, O>>
-    for Connection<'a, N, I, O> {
-    ghost use Rattle.xcp_locked.specs.Attending.{Attended};
-
-    ghost gives = { λ c d. Attended I.remaining O.contents c.max_cto c.turns c.reader c.writer c.caller d };
-
-    fn run<R: Wait>(self, rt: &R) -> Closed<N, I, O> {
-        let Connection {
-            lock,
-            caller,
-            mut reader,
-            mut writer,
-            alloc,
-            max_cto,
-            turns,
-        } = self;
-        let number = caller.number;
-        let mut tool = Tool::new(rt, lock, caller);
-        let end = serve(alloc, &mut reader, &mut writer, &mut tool, max_cto, turns);
-        let mut caller = tool.into_caller();
-        // Of a station `serve` tells its exchanges alone, so the number is written again.
-        caller.number = number;
-        Closed {
-            caller,
-            end,
-            left: Left {
-                reader: Snapshot::of(&reader),
-                writer: Snapshot::of(&writer),
-            },
-        }
+/// Puts together what came of the parts of each connection, for which there is room.
+pub(crate) fn close_each<N: Name, I: Read + Drop, O: Write + Drop>(
+    parted: Vec<Parted<N, I, O>>,
+    room: Vec<Closed<N, I, O>>,
+) -> Vec<Closed<N, I, O>>
+    requires room { (room.items ≡ []) × (vec_len parted ≤ vec_capacity room) }
+    requires one { Each AreOfOneOutlet parted.items }
+    ensures { EachFrom ClosedAs 0 parted.items result.items }
+{
+    let mut closed = room;
+    for one in parted {
+        closed.push_reserved(close(one));
     }
+    closed
+}
 
-    fn leave(self) -> Closed<N, I, O> {
-        let Connection {
-            caller,
-            reader,
-            writer,
-            ..
-        } = self;
-        Closed {
-            caller,
-            end: Err(ServeError::Memory),
-            left: Left {
-                reader: Snapshot::of(&reader),
-                writer: Snapshot::of(&writer),
-            },
-        }
+/// Puts together what came of the parts of a connection: what was taken meets what was put.
+fn close<N: Name, I: Read + Drop, O: Write + Drop>(parted: Parted<N, I, O>) -> Closed<N, I, O>
+    requires { AreOfOneOutlet parted }
+    ensures { IsClosingOf parted result }
+{
+    let (heard, pumped, wrote) = parted;
+    let Heard {
+        caller: tool,
+        end: heard,
+        reader,
+        put: answers,
+    } = heard;
+    let Pumped {
+        caller: pump,
+        end: pumped,
+        put: data,
+    } = pumped;
+    let Wrote { sent, writer } = wrote;
+    let Sent { count, mut took } = sent;
+    let left = Left {
+        reader,
+        writer,
+        replies: Snapshot::of(&answers),
+        samples: Snapshot::of(&data),
+        took: Snapshot::of(&took),
+    };
+    took.meet(answers);
+    took.meet(data);
+    Closed {
+        tool,
+        pump,
+        end: how_it_ended(heard, pumped, count),
+        heard,
+        pumped,
+        sent: count,
+        left,
     }
+}
+
+/// How a connection ended.
+fn how_it_ended(
+    heard: Result<Served, ServeError>,
+    pumped: Result<u64, ServeError>,
+    sent: Result<u64, SendError>,
+) -> Result<Served, ServeError>
+    ensures { result ≡ end_of heard pumped sent }
+{
+    let served = heard?;
+    if let Err(error) = pumped {
+        return Err(error);
+    }
+    if sent.is_err() {
+        return Err(ServeError::Write);
+    }
+    Ok(served)
 }

@@ -5,46 +5,65 @@ ghost use Rattle.xcp_locked.specs.Dealing.{Dealt};
 ghost use Rattle.xcp_locked.specs.Places.{EachFrom};
 ghost use Rattle.xcp_locked.specs.Serving.{IsConnectionOf};
 
+use crate::hearing::Hearing;
+use crate::pumping::Pumping;
 use crate::running::number_tasks;
+use crate::sending::Sending;
 use crate::{Caller, Closed, Connection, Gate, Left, Locked, Name, Reader, Task, Worker};
 use std::alloc::{AllocError, Global};
 use std::io::{Read, Write};
 use std::sync::Mutex;
+use std::sync::atomic::AtomicBool;
+use std::time::Clock;
 use std::vec::IntoIter;
 use xcp_framing::{ServeError, Served, Watched};
+use xcp_outlet::outlet;
 
 /// Connections and tasks that have not begun, and the callers and readers that have nothing to do.
 #[derive(Drop)]
-pub struct Duties<'a, N: Name, G: Gate, I: Read + Drop, O: Write + Drop> {
-    pub connections: Vec<Connection<'a, N, I, O>>,
+pub struct Duties<'a, N: Name, G: Gate, I: Read + Drop, O: Write + Drop, C: Clock> {
+    pub connections: Vec<Connection<'a, N, I, O, C>>,
     pub tasks: Vec<Task<'a, N, G>>,
     pub spare: IntoIter<Caller<N>>,
     pub unused: IntoIter<Reader<N>>,
 }
 
-/// Deals the callers out: the first to the readers and writers, the next to so many tasks. The first
-/// readers go to the tasks.
-pub fn deal<'a, N: Name, G: Gate, I: Read + Drop, O: Write + Drop>(
+/// How long connections may go on: the largest packet, and how many turns their reads and their
+/// pumps have.
+#[derive(Clone, Copy)]
+pub struct Limits {
+    pub max_cto: u8,
+    pub turns: u32,
+    pub pump_turns: u32,
+}
+
+/// Deals the callers out: the first to the readers and writers, the next to so many tasks, the next
+/// to the connections' pumps. The first readers go to the tasks. Each connection has a stop of its
+/// own.
+pub fn deal<'a, N: Name, G: Gate, I: Read + Drop, O: Write + Drop, C: Clock>(
+    clock: &'a C,
     alloc: Global,
     lock: &'a Mutex<Locked<N>>,
     gate: &'a G,
+    stops: &'a [AtomicBool],
     callers: Vec<Caller<N>>,
     readers: Vec<Reader<N>>,
     ends: Vec<(Watched<I>, Watched<O>)>,
     tasks: u8,
     cycles: u32,
-    max_cto: u8,
-    turns: u32,
-) -> Result<Duties<'a, N, G, I, O>, AllocError>
-    requires enough { vec_len ends + tasks ≤ vec_len callers }
+    limits: Limits,
+) -> Result<Duties<'a, N, G, I, O, C>, AllocError>
+    requires enough { vec_len ends + tasks + vec_len ends ≤ vec_len callers }
     requires few { (tasks ≤ 16) × (tasks ≤ vec_len readers) }
-    ensures { IfOk result (λ d.
-        Dealt max_cto turns cycles tasks callers.items readers.items ends.items d) }
+    requires stops { length stops.now ≡ vec_len ends }
+    ensures { IfOk result (λ d. Dealt limits.max_cto limits.turns limits.pump_turns cycles tasks
+        callers.items readers.items ends.items d) }
 {
     let mut spare = callers.into_iter();
     let mut unused = readers.into_iter();
-    let connections = connect(alloc, lock, ends, &mut spare, max_cto, turns)?;
+    let tools = next_callers(alloc, &mut spare, ends.len())?;
     let workers = employ(alloc, &mut spare, &mut unused, tasks)?;
+    let connections = connect(clock, alloc, lock, stops, ends, tools, &mut spare, limits)?;
     let tasks = number_tasks(alloc, lock, workers, cycles, gate)?;
     Ok(Duties {
         connections,
@@ -54,36 +73,104 @@ pub fn deal<'a, N: Name, G: Gate, I: Read + Drop, O: Write + Drop>(
     })
 }
 
-/// A connection for each reader and writer, in order, with the next callers.
-pub fn connect<'a, N: Name, I: Read + Drop, O: Write + Drop>(
+/// So many of the next callers.
+pub fn next_callers<N: Name>(
     alloc: Global,
-    lock: &'a Mutex<Locked<N>>,
-    ends: Vec<(Watched<I>, Watched<O>)>,
     callers: &mut IntoIter<Caller<N>>,
-    max_cto: u8,
-    turns: u32,
-) -> Result<Vec<Connection<'a, N, I, O>>, AllocError>
-    requires { vec_len ends ≤ length (into_iter_items callers.old) }
-    ensures each { IfOk result (λ cs. EachFrom (IsConnectionOf max_cto turns) 0 ends.items cs.items) }
-    ensures dealt { IfOk result (λ cs.
-        map (λ c. c.caller) cs.items ++ into_iter_items callers.new ≡ into_iter_items callers.old) }
+    count: usize,
+) -> Result<Vec<Caller<N>>, AllocError>
+    requires { count ≤ length (into_iter_items callers.old) }
+    ensures count { IfOk result (λ cs. vec_len cs ≡ count) }
+    ensures dealt { IfOk result (λ cs. cs.items ++ into_iter_items callers.new ≡ into_iter_items callers.old) }
 {
-    let mut connections = Vec::with_capacity(alloc, ends.len())?;
-    for (reader, writer) in ends {
+    let mut taken = Vec::with_capacity(alloc, count)?;
+    for _one in 0..count {
         let Some(caller) = callers.next() else {
             unreachable!()
         };
-        connections.push_reserved(Connection {
-            lock,
-            caller,
-            reader,
-            writer,
-            alloc,
-            max_cto,
-            turns,
-        });
+        taken.push_reserved(caller);
+    }
+    Ok(taken)
+}
+
+/// A connection for each reader and writer, in order, each with the next of these tools' callers, with
+/// the next of the other callers for its pump, and with an outlet of its own.
+pub fn connect<'a, N: Name, I: Read + Drop, O: Write + Drop, C: Clock>(
+    clock: &'a C,
+    alloc: Global,
+    lock: &'a Mutex<Locked<N>>,
+    stops: &'a [AtomicBool],
+    ends: Vec<(Watched<I>, Watched<O>)>,
+    tools: Vec<Caller<N>>,
+    pumps: &mut IntoIter<Caller<N>>,
+    limits: Limits,
+) -> Result<Vec<Connection<'a, N, I, O, C>>, AllocError>
+    requires tools { vec_len tools ≡ vec_len ends }
+    requires pumps { vec_len ends ≤ length (into_iter_items pumps.old) }
+    requires stops { length stops.now ≡ vec_len ends }
+    ensures each { IfOk result (λ cs. EachFrom
+        (IsConnectionOf limits.max_cto limits.turns limits.pump_turns) 0 ends.items cs.items) }
+    ensures tools { IfOk result (λ cs. map (λ c. c.0.caller) cs.items ≡ tools.items) }
+    ensures dealt { IfOk result (λ cs.
+        map (λ c. c.1.caller) cs.items ++ into_iter_items pumps.new ≡ into_iter_items pumps.old) }
+{
+    let mut connections = Vec::with_capacity(alloc, ends.len())?;
+    let mut tools = tools.into_iter();
+    let mut place = 0;
+    for end in ends {
+        let Some(tool) = tools.next() else {
+            unreachable!()
+        };
+        let Some(pump) = pumps.next() else {
+            unreachable!()
+        };
+        let stop = &stops[place];
+        connections.push_reserved(connection(clock, alloc, lock, stop, end, tool, pump, limits)?);
+        place += 1;
     }
     Ok(connections)
+}
+
+/// A connection with a new outlet.
+fn connection<'a, N: Name, I: Read + Drop, O: Write + Drop, C: Clock>(
+    clock: &'a C,
+    alloc: Global,
+    lock: &'a Mutex<Locked<N>>,
+    stop: &'a AtomicBool,
+    end: (Watched<I>, Watched<O>),
+    tool: Caller<N>,
+    pump: Caller<N>,
+    limits: Limits,
+) -> Result<Connection<'a, N, I, O, C>, AllocError>
+    ensures is { IfOk result (λ c. IsConnectionOf limits.max_cto limits.turns limits.pump_turns 0 end c) }
+    ensures tool { IfOk result (λ c. c.0.caller ≡ tool) }
+    ensures pump { IfOk result (λ c. c.1.caller ≡ pump) }
+{
+    let (reader, writer) = end;
+    let (replies, samples, sender) = outlet(alloc)?;
+    let hearing = Hearing {
+        lock,
+        caller: tool,
+        reader,
+        replies,
+        stop,
+        alloc,
+        max_cto: limits.max_cto,
+        turns: limits.turns,
+    };
+    let pumping = Pumping {
+        lock,
+        caller: pump,
+        clock,
+        samples,
+        stop,
+        turns: limits.pump_turns,
+    };
+    let sending = Sending {
+        end: sender,
+        writer,
+    };
+    Ok((hearing, pumping, sending))
 }
 
 /// So many workers, with the next callers and the next readers.
@@ -118,6 +205,7 @@ pub fn employ<N: Name>(
 #[derive(Drop)]
 pub struct Ended<N: Name, I: Read + Drop, O: Write + Drop> {
     pub callers: Vec<Caller<N>>,
+    pub pumps: Vec<Caller<N>>,
     pub ends: Vec<Result<Served, ServeError>>,
     pub left: Vec<Left<I, O>>,
 }
@@ -127,17 +215,20 @@ pub fn take_apart<N: Name, I: Read + Drop, O: Write + Drop>(
     closed: Vec<Closed<N, I, O>>,
     room: Ended<N, I, O>,
 ) -> Ended<N, I, O>
-    requires empty { (room.callers.items ≡ []) × (room.ends.items ≡ []) × (room.left.items ≡ []) }
-    requires room { (vec_len closed ≤ vec_capacity room.callers)
+    requires empty { (room.callers.items ≡ []) × (room.pumps.items ≡ [])
+        × (room.ends.items ≡ []) × (room.left.items ≡ []) }
+    requires room { (vec_len closed ≤ vec_capacity room.callers) × (vec_len closed ≤ vec_capacity room.pumps)
         × (vec_len closed ≤ vec_capacity room.ends) × (vec_len closed ≤ vec_capacity room.left) }
-    ensures callers { result.callers.items ≡ map (λ d. d.caller) closed.items }
+    ensures callers { result.callers.items ≡ map (λ d. d.tool) closed.items }
+    ensures pumps { result.pumps.items ≡ map (λ d. d.pump) closed.items }
     ensures ends { result.ends.items ≡ map (λ d. d.end) closed.items }
     ensures left { result.left.items ≡ map (λ d. d.left) closed.items }
     ensures capacity { vec_capacity result.callers ≡ vec_capacity room.callers }
 {
     let mut ended = room;
     for one in closed {
-        ended.callers.push_reserved(one.caller);
+        ended.callers.push_reserved(one.tool);
+        ended.pumps.push_reserved(one.pump);
         ended.ends.push_reserved(one.end);
         ended.left.push_reserved(one.left);
     }
@@ -171,7 +262,8 @@ pub fn dismiss<N: Name>(
 /// room.
 pub fn add_rest<T: Drop>(rest: IntoIter<T>, others: Vec<T>) -> Vec<T>
     requires { vec_len others + length (into_iter_items rest) ≤ vec_capacity others }
-    ensures { result.items ≡ others.items ++ into_iter_items rest }
+    ensures items { result.items ≡ others.items ++ into_iter_items rest }
+    ensures capacity { vec_capacity result ≡ vec_capacity others }
 {
     let mut all = others;
     for one in rest {

@@ -9,22 +9,27 @@ ghost use Rattle.xcp_locked.specs.Running.{DoneAs};
 ghost use Rattle.xcp_locked.specs.Journal.{exchanges};
 ghost use Rattle.xcp_slave.specs.Run.{Run};
 ghost use Rattle.xcp_slave.specs.Value.{opening};
-ghost use Rattle.xcp_locked.specs.Serving.{ClosedAs, Closes, CountTheirCommands};
+ghost use Rattle.xcp_locked.specs.Serving.{Closes, CountTheirCommands, PartedAs};
 
 use crate::closing::{close_all, make_rooms};
-use crate::dealing::{Duties, deal};
-use crate::{Closed, Closing, Connection, Done, Gate, Locked, Name, Opening, Task, Unnamed};
+use crate::connection::close_each;
+use crate::dealing::{Duties, Limits, deal};
+use crate::{Closing, Connection, Done, Gate, Locked, Name, Opening, Parted, Task, Unnamed};
 use std::alloc::{AllocError, Global};
 use std::io::{Read, Write};
+use std::sync::atomic::AtomicBool;
 use std::sync::{Mutex, Wait};
 use std::thread::Threads;
-use together::run_both;
+use std::time::Clock;
+use together::run_crews;
 use xcp_framing::Watched;
 
-/// Opens a slave, serves each reader and writer by frames, and runs so many tasks, each of these in
-/// a thread of its own and all at the same time; joins them all; and submits a last `Hangup` as the
-/// first caller. The first callers are those of the connections, the next those of the tasks, which
-/// also have the first readers. Each connection has at most `turns` reads, and is closed when it ends.
+/// Opens a slave, serves each reader and writer by frames, and runs so many tasks, all at the same
+/// time; joins them all; and submits a last `Hangup` as the first caller. A task has a thread of its
+/// own. A connection has three: one hears the tool, a pump drains what the slave samples, and a sender
+/// writes the answers and the data packets as they come. The first callers are those of the tools, the
+/// next those of the tasks, which also have the first readers, and the next those of the pumps. Each
+/// connection has at most `turns` reads, and is closed when it ends; its pump has `pump_turns`.
 ///
 /// Where memory or a thread is refused the answer is `Err`, and nobody has begun.
 pub fn run_server<
@@ -32,7 +37,7 @@ pub fn run_server<
     G: Gate + Sync,
     I: Read + Send + Drop,
     O: Write + Send + Drop,
-    R: Threads + Wait + Sync,
+    R: Threads + Wait + Clock + Sync,
 >(
     rt: &R,
     alloc: Global,
@@ -41,12 +46,13 @@ pub fn run_server<
     tasks: u8,
     cycles: u32,
     turns: u32,
+    pump_turns: u32,
     gate: &G,
 ) -> Result<Closing<N, I, O>, AllocError>
     requires name { (unnamed.name ≡ N.name) × (unnamed.callers ≡ N.parts)
         × (unnamed.layout ≡ N.layout) × (unnamed.bank ≡ N.bank) }
     requires some { 0 < vec_len ends }
-    requires callers { vec_len ends + tasks ≤ unnamed.callers }
+    requires callers { vec_len ends + tasks + vec_len ends ≤ unnamed.callers }
     requires readers { tasks ≤ 6 }
     ensures closes { IfOk result (λ r. Closes I.remaining O.contents
         unnamed.layout.max_cto turns cycles tasks
@@ -58,7 +64,11 @@ pub fn run_server<
     ensures run { IfOk result (λ r.
         Run (opening unnamed.layout) (exchanges r.locked.journal) r.locked.slave) }
 {
-    let max_cto = unnamed.max_cto();
+    let limits = Limits {
+        max_cto: unnamed.max_cto(),
+        turns,
+        pump_turns,
+    };
     let Opening {
         locked,
         callers,
@@ -66,6 +76,7 @@ pub fn run_server<
     } = Locked::<N>::new(alloc, unnamed)?;
     let readers = Vec::from_array(alloc, readers)?;
     let rooms = make_rooms(alloc, callers.len(), ends.len(), tasks, readers.len())?;
+    let stops = make_stops(alloc, ends.len())?;
     let lock = Mutex::new(locked);
     let Duties {
         connections,
@@ -73,32 +84,54 @@ pub fn run_server<
         spare,
         unused,
     } = deal(
-        alloc, &lock, gate, callers, readers, ends, tasks, cycles, max_cto, turns,
+        rt, alloc, &lock, gate, &stops, callers, readers, ends, tasks, cycles, limits,
     )?;
-    let (closed, done) = run_all(rt, alloc, connections, tasks)?;
-    Ok(close_all(lock.into_inner(), closed, done, spare, unused, rooms))
+    let (parted, done) = run_all(rt, alloc, connections, tasks)?;
+    let closed = close_each(parted, rooms.closed);
+    Ok(close_all(
+        lock.into_inner(),
+        closed,
+        done,
+        spare,
+        unused,
+        rooms.ended,
+        rooms.workers,
+        rooms.readers,
+    ))
+}
+
+/// A stop for each connection, which its reading sets when it ends.
+fn make_stops(alloc: Global, count: usize) -> Result<Vec<AtomicBool>, AllocError>
+    ensures { IfOk result (λ s. vec_len s ≡ count) }
+{
+    let mut stops = Vec::with_capacity(alloc, count)?;
+    for _one in 0..count {
+        stops.push_reserved(AtomicBool::new(false));
+    }
+    Ok(stops)
 }
 
 /// What comes of connections and of tasks, each at its place.
-type Results<N, I, O> = Result<(Vec<Closed<N, I, O>>, Vec<Done<N>>), AllocError>;
+type Results<N, I, O> = Result<(Vec<Parted<N, I, O>>, Vec<Done<N>>), AllocError>;
 
-/// Runs connections and tasks, each in a thread of its own.
+/// Runs connections and tasks, each part of a connection and each task in a thread of its own.
 fn run_all<
     'a,
     N: Name + Send + Sync,
     G: Gate + Sync,
     I: Read + Send + Drop,
     O: Write + Send + Drop,
+    C: Clock + Sync,
     R: Threads + Wait + Sync,
 >(
     rt: &R,
     alloc: Global,
-    connections: Vec<Connection<'a, N, I, O>>,
+    connections: Vec<Connection<'a, N, I, O, C>>,
     tasks: Vec<Task<'a, N, G>>,
 ) -> Results<N, I, O>
-    ensures served { IfOk result (λ r.
-        EachFrom (ClosedAs I.remaining O.contents) 0 connections.entry.items r.0.items) }
+    ensures parted { IfOk result (λ r.
+        EachFrom (PartedAs I.remaining O.contents) 0 connections.entry.items r.0.items) }
     ensures worked { IfOk result (λ r. EachFrom DoneAs 0 tasks.entry.items r.1.items) }
 {
-    run_both(rt, alloc, connections, tasks)
+    run_crews(rt, alloc, connections, tasks)
 }

@@ -17,6 +17,9 @@ use xcp_program::Fault;
 /// The most reads of one connection.
 const TURNS: u32 = 1_000_000;
 
+/// The most turns of one connection's pump, each a Drain or a microsecond of sleep.
+const PUMP_TURNS: u32 = 4_000_000_000;
+
 /// Serves each reader and writer by frames on this slave, and runs so many tasks of so many cycles,
 /// all at the same time; joins them, ends the session, settles all callers and tells how many calls
 /// there were. A task begins its cycle n once n periods, in milliseconds, have passed since the call.
@@ -32,7 +35,7 @@ pub fn serve_ends<I: Read + Send + Drop, O: Write + Send + Drop, R: Threads + Wa
     period: u32,
 ) -> Result<Report, Fault>
     requires some { 0 < vec_len ends }
-    requires callers { vec_len ends + tasks ≤ unnamed.callers }
+    requires callers { vec_len ends + tasks + vec_len ends ≤ unnamed.callers }
     requires readers { tasks ≤ 6 }
     ensures served { (result ≡ Err Fault.Memory) ⊎ IsServed Brand I.remaining O.contents unnamed.layout 1000000
         cycles tasks unnamed.callers unnamed.bank ends.items result }
@@ -58,14 +61,14 @@ fn serve_named<
     requires name { (unnamed.name ≡ N.name) × (unnamed.callers ≡ N.parts)
         × (unnamed.layout ≡ N.layout) × (unnamed.bank ≡ N.bank) }
     requires some { 0 < vec_len ends }
-    requires callers { vec_len ends + tasks ≤ unnamed.callers }
+    requires callers { vec_len ends + tasks + vec_len ends ≤ unnamed.callers }
     requires readers { tasks ≤ 6 }
     ensures served { (result ≡ Err Fault.Memory) ⊎ IsServed N I.remaining O.contents unnamed.layout 1000000
         cycles tasks unnamed.callers unnamed.bank ends.items result }
 {
     let gate = Timetable::new(rt, period);
     let Ok(mut closing) = run_server::<N, _, _, _, _>(
-        rt, alloc, unnamed, ends, tasks, cycles, TURNS, &gate,
+        rt, alloc, unnamed, ends, tasks, cycles, TURNS, PUMP_TURNS, &gate,
     ) else {
         return Err(Fault::Memory);
     };

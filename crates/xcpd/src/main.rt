@@ -32,8 +32,8 @@ fn run(rt: &HostRuntime, path: &str) -> Result<u64, Fault> {
     replay(rt.alloc(), text.as_str(), &mut reader, &mut writer, TURNS)
 }
 
-/// A slave of the configuration file's layout with a caller for each tool and task, and the tools
-/// that have connected.
+/// A slave of the configuration file's layout with a caller for each tool, task and pump, and the
+/// tools that have connected.
 fn admit(
     rt: &HostRuntime,
     path: &str,
@@ -42,11 +42,11 @@ fn admit(
     tasks: u8,
 ) -> Result<(Unnamed, Tools), Fault>
     requires { (1 ≤ tools) × (tools ≤ 2) × (tasks ≤ 6) }
-    ensures { IfOk result (λ r. (vec_len r.1 ≡ tools) × (r.0.callers ≡ tools + tasks)) }
+    ensures { IfOk result (λ r. (vec_len r.1 ≡ tools) × (r.0.callers ≡ tools + tasks + tools)) }
 {
     let text = text_of(rt, path)?;
     let layout = layout_of(rt.alloc(), text.as_str())?;
-    let Ok(unnamed) = Unnamed::new(rt.alloc(), layout, tools + tasks) else {
+    let Ok(unnamed) = Unnamed::new(rt.alloc(), layout, tools + tasks + tools) else {
         return Err(Fault::Memory);
     };
     let Ok(listener) = TcpListener::bind(rt, ("127.0.0.1", port)) else {

@@ -10,7 +10,7 @@ loop-work-preserved g c =
     let places = c.push.ensures.by_index in let work = c.in-Some.work in
     let works = into_iter_items c.into_iter-work-iterator.result in
     let next : (w : _) → work ≡ get_or works stand w = λ w. (let h = was.1 0 w in grind rules) in
-    let promised : c.in-Ok.handle.promise.0.value ≡ work = search rules in
+    let promised : c.in-Some-start_one.handle.promise.0.value ≡ work = search rules in
     let grown : vec_len c.push.new.self ≡ stand + 1 = search rules in (
       search rules,
       (λ k d below. let h = was.1 (k + 1) d in grind rules),

@@ -15,4 +15,5 @@ loop-one-preserved g c =
       omega (arith, short, gone, was.1),
       omega (arith, gone, pushed, room, was.2),
       c.push_reserved.ensures.items ∙ (ap (λ z. z ++ c.in-Some.one ∷ []) was.3 ∙ append_assoc _ at.yielded (c.in-Some.one ∷ [])),
+      room ∙ was.4,
     )

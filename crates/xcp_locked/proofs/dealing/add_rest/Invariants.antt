@@ -9,3 +9,4 @@ invariant-loop-one g l =
     × (into_iter_len rest ≡ length (into_iter_items rest))
     × (vec_len l.all + into_iter_len rest ≤ vec_capacity l.all)
     × (l.all.items ≡ l.initial.all.items ++ l.yielded)
+    × (vec_capacity l.all ≡ vec_capacity l.initial.all)

@@ -1,18 +1,27 @@
-use Rattle.std.proofs.Common.{rules, ◌≡◌, length, vec_len, ap, arith}
-use Rattle.xcp_locked.specs.Serving.{IsConnectionOf}
-use Rattle.xcp_locked.proofs.Places.{each_length}
-use Rattle.xcp_locked.proofs.Served.{left_over}
+use Rattle.std.proofs.Common.{rules, ◌≡◌, ◌++◌, length, map, vec_len, ap, ◌∙◌, arith}
+use Rattle.std.specs.Vec.Iter.{into_iter_items}
+use Rattle.xcp_locked.proofs.Places.{in_three_turns}
+use Rattle.xcp_locked.proofs.Served.{left_behind, length_map}
 use Rattle.xcp_locked.proofs.dealing.deal.Goals as goal
+
+pub next_callers-requires : goal.next_callers-requires
+next_callers-requires g c =
+    let callers : vec_len c.args.callers ≡ length c.args.callers.items = search rules in
+    let all = ap length c.into_iter-spare.ensures.rest in
+    let ends = c.len.ensures in
+    let enough = c.requires.enough in
+    omega (arith, callers, all, ends, enough)
 
 pub employ-requires-clause-callers : goal.employ-requires-clause-callers
 employ-requires-clause-callers g c =
-    let ends : vec_len c.args.ends ≡ length c.args.ends.items = search rules in
     let callers : vec_len c.args.callers ≡ length c.args.callers.items = search rules in
-    let made = c.in_ok-connections.connections.items in
-    let each = each_length (IsConnectionOf {N = g.row.N.Denot} {I = g.row.I.Denot} {O = g.row.O.Denot} c.args.max_cto c.args.turns) 0 c.args.ends.items made c.in_ok-connections.ensures.each in
-    let rest = left_over (λ k. k.caller) made _ _ c.args.callers.items _ each c.in_ok-connections.ensures.dealt c.into_iter-spare.ensures.rest in
+    let all = ap length c.into_iter-spare.ensures.rest in
+    let tools : vec_len c.in_ok-tools.tools ≡ length c.in_ok-tools.tools.items = search rules in
+    let rest = left_behind c.in_ok-tools.tools.items (into_iter_items c.next_callers.new.callers) (into_iter_items c.into_iter-spare.result) c.in_ok-tools.ensures.dealt in
+    let count = c.in_ok-tools.ensures.count in
+    let ends = c.len.ensures in
     let enough = c.requires.enough in
-    omega (arith, ends, callers, rest, enough)
+    omega (arith, callers, all, tools, rest, count, ends, enough)
 
 pub employ-requires-clause-readers : goal.employ-requires-clause-readers
 employ-requires-clause-readers g c =
@@ -20,3 +29,34 @@ employ-requires-clause-readers g c =
     let all = ap length c.into_iter-unused.ensures.rest in
     let few = c.requires.few.1 in
     omega (arith, readers, all, few)
+
+pub connect-requires-clause-tools : goal.connect-requires-clause-tools
+connect-requires-clause-tools g c = let count = c.in_ok-tools.ensures.count in let ends = c.len.ensures in omega (arith, count, ends)
+
+pub connect-requires-clause-pumps : goal.connect-requires-clause-pumps
+connect-requires-clause-pumps g c =
+    let callers : vec_len c.args.callers ≡ length c.args.callers.items = search rules in
+    let all = ap length c.into_iter-spare.ensures.rest in
+    let tools : vec_len c.in_ok-tools.tools ≡ length c.in_ok-tools.tools.items = search rules in
+    let rest = left_behind c.in_ok-tools.tools.items (into_iter_items c.next_callers.new.callers) (into_iter_items c.into_iter-spare.result) c.in_ok-tools.ensures.dealt in
+    let count = c.in_ok-tools.ensures.count in
+    let workers : vec_len c.in_ok-workers.workers ≡ length c.in_ok-workers.workers.items = search rules in
+    let hired = length_map (λ w. w.caller) c.in_ok-workers.workers.items in
+    let more = left_behind (map (λ w. w.caller) c.in_ok-workers.workers.items) (into_iter_items c.employ.new.callers) (into_iter_items c.next_callers.new.callers) c.in_ok-workers.ensures.dealt in
+    let tasks = c.in_ok-workers.ensures.count in
+    let ends = c.len.ensures in
+    let enough = c.requires.enough in
+    omega (arith, callers, all, tools, rest, count, workers, hired, more, tasks, ends, enough)
+
+pub returns : goal.returns
+returns g c = record {
+  connections = c.in_ok-connections.ensures.each;
+  workers = c.in_ok-workers.workers.items;
+  hired = search rules;
+  numbered = c.in_ok-tasks.ensures;
+  in_order =
+      in_three_turns (map (λ k. k.0.caller) c.in_ok-connections.connections.items) (map (λ w. w.caller) c.in_ok-workers.workers.items) (map (λ k. k.1.caller) c.in_ok-connections.connections.items)
+      (into_iter_items c.connect.new.pumps) (into_iter_items c.next_callers.new.callers) (into_iter_items c.employ.new.callers) (into_iter_items c.into_iter-spare.result) c.args.callers.items
+      (ap (λ z. z ++ into_iter_items c.next_callers.new.callers) c.in_ok-connections.ensures.tools ∙ c.in_ok-tools.ensures.dealt) c.in_ok-workers.ensures.dealt c.in_ok-connections.ensures.dealt c.into_iter-spare.ensures.rest;
+  readers_in_order = search rules;
+}

@@ -1,20 +1,32 @@
 use denote.Param.Send.{sendable}
 use Rattle.std.proofs.Crossing.{crosses}
-use Rattle.xcp_locked.proofs.Crossing.{closed_crosses, connection_crosses}
-use Rattle.xcp_locked.specs.Attending.{Attended}
+use Rattle.xcp_locked.proofs.Crossing.{heard_crosses, hearing_crosses, pumped_crosses, pumping_crosses, sending_crosses, wrote_crosses}
+use Rattle.xcp_locked.specs.Serving.{CameOf}
 use Rattle.xcp_locked.specs.Tasks.{Worked}
 use Rattle.xcp_locked.proofs.Places.{each_of}
 use Rattle.xcp_locked.proofs.Plans.{if_ok}
 use Rattle.xcp_locked.proofs.server.run_all.Goals as goal
 
-pub run_both-requires-send-T : goal.run_both-requires-send-T
-run_both-requires-send-T g c κs within = search (sendable, crosses, closed_crosses) depth 12
+pub run_crews-requires-send-X : goal.run_crews-requires-send-X
+run_crews-requires-send-X g c κs within = search (sendable, crosses, heard_crosses) depth 12
 
-pub run_both-requires-send-W : goal.run_both-requires-send-W
-run_both-requires-send-W g c κs within = search (sendable, crosses, connection_crosses) depth 12
+pub run_crews-requires-send-A : goal.run_crews-requires-send-A
+run_crews-requires-send-A g c κs within = search (sendable, crosses, hearing_crosses) depth 12
 
-pub returns-clause-served : goal.returns-clause-served
-returns-clause-served g c = if_ok c.run_both.result (λ r h. each_of (λ k d. Attended g.I.Read.remaining g.O.Write.contents k.max_cto k.turns k.reader k.writer k.caller d) 0 c.args.connections.items r.0.items h.all h.each) c.run_both.ensures.works
+pub run_crews-requires-send-Y : goal.run_crews-requires-send-Y
+run_crews-requires-send-Y g c κs within = search (sendable, crosses, pumped_crosses) depth 12
+
+pub run_crews-requires-send-B : goal.run_crews-requires-send-B
+run_crews-requires-send-B g c κs within = search (sendable, crosses, pumping_crosses) depth 12
+
+pub run_crews-requires-send-Z : goal.run_crews-requires-send-Z
+run_crews-requires-send-Z g c κs within = search (sendable, crosses, wrote_crosses) depth 12
+
+pub run_crews-requires-send-C : goal.run_crews-requires-send-C
+run_crews-requires-send-C g c κs within = search (sendable, crosses, sending_crosses) depth 12
+
+pub returns-clause-parted : goal.returns-clause-parted
+returns-clause-parted g c = if_ok c.run_crews.result (λ r h. each_of (λ k d. CameOf g.I.Read.remaining g.O.Write.contents k d) 0 c.args.connections.items r.0.items h.all (λ i x y low. let gave = h.each i x y low in record { heard = gave.first; pumped = gave.second; wrote = gave.third })) c.run_crews.ensures.crews
 
 pub returns-clause-worked : goal.returns-clause-worked
-returns-clause-worked g c = if_ok c.run_both.result (λ r h. each_of (λ t d. Worked t.cycles t.task t.worker d.worker d.fault) 0 c.args.tasks.items r.1.items h.all h.each) c.run_both.ensures.others
+returns-clause-worked g c = if_ok c.run_crews.result (λ r h. each_of (λ t d. Worked t.cycles t.task t.worker d.worker d.fault) 0 c.args.tasks.items r.1.items h.all h.each) c.run_crews.ensures.works

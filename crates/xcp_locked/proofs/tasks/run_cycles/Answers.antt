@@ -1,4 +1,4 @@
-use Rattle.std.proofs.Common.{rules, ◌≡◌, ◌≤◌, ℕ, ◌+◌, Bool, true, false, true≢false, refl, sym, subst}
+use Rattle.std.proofs.Common.{rules, ◌≡◌, ◌≤◌, ℕ, ◌+◌, Bool, true, false, refl, subst}
 use Rattle.std.specs.Prelude.{is_none}
 use Rattle.xcp_locked.specs.Tasks.{Duty, Grew, duty}
 use Rattle.xcp_locked.proofs.Plans.{duty_same, same_after, starts, stopped}

@@ -1,4 +1,4 @@
-use Rattle.std.proofs.Common.{rules, ◌≡◌, ◌<◌, length, arith}
+use Rattle.std.proofs.Common.{rules, ◌≡◌, length, arith}
 use Rattle.xcp_locked.proofs.Taking.{took_image}
 use Rattle.xcp_locked.proofs.tasks.take_image.Goals as goal
 

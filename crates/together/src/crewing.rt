@@ -1,0 +1,92 @@
+//! Crews of three works and single works, all at the same time.
+ghost use Rattle.std.specs.Prelude.{IfOk, vec_len};
+ghost use Rattle.together.specs.Crews.{GivesEachCrew};
+ghost use Rattle.together.specs.Room.{HasRoom};
+ghost use Rattle.together.specs.Works.{GivesEach};
+
+use crate::crews::{CrewHandles, join_crews, start_crews};
+use crate::room::{Room, room_for};
+use crate::threads::{join_all, start_all};
+use crate::work::{Given, Work};
+use std::alloc::{AllocError, Global};
+use std::sync::{Mutex, Wait};
+use std::thread;
+use std::thread::{PromisedHandle, Scope, Threads};
+
+/// What comes of crews and of single works, each at its place.
+type Results<X, Y, Z, T> = Result<(Vec<(X, Y, Z)>, Vec<T>), AllocError>;
+
+/// Does each work in a thread of its own, all of them at the same time: none begins before all
+/// threads stand, and all are joined. Crews of three works are taken, which have something to do
+/// with each other, and single works.
+///
+/// Where memory or a thread is refused the answer is `Err`, none of the works has begun, and
+/// nothing hangs; the works are gone then.
+pub fn run_crews<
+    X: Send + Drop,
+    A: Work<X>,
+    Y: Send + Drop,
+    B: Work<Y>,
+    Z: Send + Drop,
+    C: Work<Z>,
+    T: Send + Drop,
+    W: Work<T>,
+    R: Threads + Wait + Sync,
+>(rt: &R, alloc: Global, crews: Vec<(A, B, C)>, works: Vec<W>) -> Results<X, Y, Z, T>
+    ensures crews { IfOk result (λ r. GivesEachCrew A.Work B.Work C.Work crews.items r.0.items) }
+    ensures works { IfOk result (λ r. GivesEach W.Work works.items r.1.items) }
+{
+    let first = room_for(alloc, crews.len())?;
+    let second = room_for(alloc, works.len())?;
+    let start = Mutex::new(false);
+    let signal = &start;
+    thread::scope(
+        thread::scope_env(),
+        rt,
+        move |scope| -> Results<X, Y, Z, T>
+            requires { HasRoom first (vec_len crews) × HasRoom second (vec_len works) }
+            ensures { IfOk result (λ r. GivesEachCrew A.Work B.Work C.Work crews.items r.0.items
+                × GivesEach W.Work works.items r.1.items) }
+        { in_scope(scope, rt, signal, crews, first, works, second) },
+    )
+}
+
+/// Makes all threads while it holds the start signal, lets them go, and joins them.
+fn in_scope<
+    's,
+    E,
+    X: Send + Drop + 's,
+    A: Work<X> + 's,
+    Y: Send + Drop + 's,
+    B: Work<Y> + 's,
+    Z: Send + Drop + 's,
+    C: Work<Z> + 's,
+    T: Send + Drop + 's,
+    W: Work<T> + 's,
+    R: Threads + Wait + Sync + 's,
+>(
+    scope: &'s Scope<'s, E>,
+    rt: &'s R,
+    start: &'s Mutex<bool>,
+    crews: Vec<(A, B, C)>,
+    first: Room<CrewHandles<X, A, Y, B, Z, C>, (X, Y, Z)>,
+    works: Vec<W>,
+    second: Room<PromisedHandle<T, Given<W>>, T>,
+) -> Results<X, Y, Z, T>
+    requires { HasRoom first (vec_len crews) × HasRoom second (vec_len works) }
+    ensures crews { IfOk result (λ r. GivesEachCrew A.Work B.Work C.Work crews.items r.0.items) }
+    ensures works { IfOk result (λ r. GivesEach W.Work works.items r.1.items) }
+{
+    let mut go = start.lock(rt);
+    let (crewed, all) = start_crews(scope, rt, start, crews, first.handles);
+    let (handles, both) = start_all(scope, rt, start, works, second.handles);
+    *go = all && both;
+    drop(go);
+    let done = join_crews(rt, crewed, first.results);
+    let rest = join_all(rt, handles, second.results);
+    if all && both {
+        Ok((done, rest))
+    } else {
+        Err(AllocError)
+    }
+}
