@@ -3,12 +3,25 @@
 // plain_tool echo PORT           accepts one tool, and sends each frame back as it came, with one buffer of 512 bytes
 // plain_tool trips PORT N        N times: sends one GET_STATUS, waits for its answer; prints the microseconds of all
 // plain_tool pipe PORT N         sends N of them behind one another, reads all answers meanwhile; prints the same
+// plain_tool data PORT N         starts a list of two bytes at 0x8000 on event channel 0, and reads N frames of data; prints the same
 use std::io::{Read, Write};
 use std::net::{TcpListener, TcpStream};
 use std::time::Instant;
 
 const CONNECT: [u8; 6] = [2, 0, 0, 0, 0xff, 0];
 const STATUS: [u8; 5] = [1, 0, 0, 0, 0xfd];
+
+// FREE_DAQ, ALLOC_DAQ, ALLOC_ODT, ALLOC_ODT_ENTRY, SET_DAQ_PTR, WRITE_DAQ, SET_DAQ_LIST_MODE, START_STOP_DAQ_LIST.
+const LIST: [&[u8]; 8] = [
+    &[1, 0, 0, 0, 0xd6],
+    &[4, 0, 0, 0, 0xd5, 0, 1, 0],
+    &[5, 0, 0, 0, 0xd4, 0, 0, 0, 1],
+    &[6, 0, 0, 0, 0xd3, 0, 0, 0, 0, 1],
+    &[6, 0, 0, 0, 0xe2, 0, 0, 0, 0, 0],
+    &[8, 0, 0, 0, 0xe1, 0xff, 2, 0, 0, 0x80, 0, 0],
+    &[8, 0, 0, 0, 0xe0, 0, 0, 0, 0, 0, 1, 0],
+    &[4, 0, 0, 0, 0xde, 1, 0, 0],
+];
 
 // Sends back what came, frame by frame: a frame that is cut is kept until the rest comes.
 fn echo(mut stream: TcpStream) -> std::io::Result<()> {
@@ -88,6 +101,12 @@ fn main() {
             stream.write_all(&STATUS).unwrap();
             take(&mut stream, 1);
         }
+    } else if words[1] == "data" {
+        begun = Instant::now();
+        for frame in LIST {
+            stream.write_all(frame).unwrap();
+        }
+        take(&mut stream, LIST.len() + times);
     } else {
         let all = STATUS.repeat(times);
         let mut writer = stream.try_clone().unwrap();

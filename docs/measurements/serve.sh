@@ -1,13 +1,13 @@
 #!/usr/bin/env bash
-# Measures `xcpd serve` over TCP, without tasks, beside a plain Rust program that only echoes frames: round trips of one tool, and
-# commands that are sent behind one another. The best of seven runs of 30,000 commands each (a command and the Drain behind it are
-# two calls, and the journal takes 65,536).
+# Measures `xcpd serve` over TCP beside a plain Rust program that only echoes frames: round trips of one tool without tasks, and
+# beside six tasks that each have a cycle every millisecond; and commands that are sent behind one another. The best of seven
+# runs of 30,000 commands each (the journal takes 65,536 calls).
 # Use: docs/measurements/serve.sh      from any folder; wants the built program and rustc.
 set -eu
 here=$(cd "$(dirname "$0")" && pwd)
 top=$(cd "$here/../.." && pwd)
 work=$(mktemp -d)
-trap 'kill $(jobs -p) 2>/dev/null; rm -rf "$work"' EXIT
+trap 'kill $(jobs -p) 2>/dev/null || true; rm -rf "$work"' EXIT
 rustc -O -o "$work/tool" "$here/plain_tool.rs"
 config=$top/crates/xcpd/data/L.toml
 port=$((20000 + RANDOM % 20000))
@@ -28,11 +28,14 @@ best() { # how the tool asks, and the words of the program that answers, where P
   echo "$least"
 }
 
+row() { # what the tool does, and the microseconds of the program and of the echo
+  awk -v h="$1" -v a="$2" -v b="$3" -v n="$times" 'BEGIN { printf "%-22s %14.2f %14.2f %8.2f\n", h, a / n, b / n, a / b }'
+}
+
 "$top/bin/xcpd" --version >/dev/null
-printf '%-8s %14s %14s %8s\n' tool 'xcpd, us each' 'echo, us each' ratio
-for how in trips pipe; do
-  plain=$(best "$how" "$work/tool" echo PORT)
-  ours=$(best "$how" "$top/out/xcpd" serve --config "$config" --port PORT --tasks 0)
-  awk -v h="$how" -v a="$ours" -v b="$plain" -v n="$times" \
-    'BEGIN { printf "%-8s %14.2f %14.2f %8.2f\n", h, a / n, b / n, a / b }'
-done
+xcpd=("$top/out/xcpd" serve --config "$config" --port PORT)
+printf '%-22s %14s %14s %8s\n' 'the tool' 'xcpd, us each' 'echo, us each' ratio
+plain=$(best trips "$work/tool" echo PORT)
+row trips "$(best trips "${xcpd[@]}" --tasks 0)" "$plain"
+row 'trips beside six tasks' "$(best trips "${xcpd[@]}" --tasks 6 --period 1 --cycles 1000)" "$plain"
+row pipe "$(best pipe "${xcpd[@]}" --tasks 0)" "$(best pipe "$work/tool" echo PORT)"
