@@ -53,7 +53,7 @@ none_right [] m e = e
 none_right (d ∷ l) m e = absurd (not_empty d (l ++ m) e)
 
 -- a run of two parts
-runs_split : (W : ℕ) (s t : PinState) (ds es : List Deed) → Runs W s (events_of (ds ++ es)) (answers_of (ds ++ es)) t → (u : PinState) × Runs W u (events_of es) (answers_of es) t
+pub runs_split : (W : ℕ) (s t : PinState) (ds es : List Deed) → Runs W s (events_of (ds ++ es)) (answers_of (ds ++ es)) t → (u : PinState) × Runs W u (events_of es) (answers_of es) t
 runs_split W s t [] es r = (s, r)
 runs_split W s t (d ∷ ds) es r = runs_split W r.1 t ds es (subst (λ (l : List Seen). Runs W r.1 (events_of (ds ++ es)) l t) (sym (tail_same d.1 r.0 (answers_of (ds ++ es)) r.2 r.3)) r.5)
 

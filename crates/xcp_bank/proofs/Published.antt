@@ -17,7 +17,7 @@ module _ (w : Writing) (current : ℕ) (started : List ℕ) (rests : Rests curre
       let ne : b ≢ w.idle = λ e. a (sym e ∙ (is ∙ sym c)) in
       record { quiet = s.quiet; history = s.history; is = s.is; scans = s.scans; grows = s.grows; only = s.only; most = omega arith; fewer = (λ l. omega arith); not_yet = omega arith }
 
-  module _ (apart : b ≢ current) (low : b < 8) (n : ℕ) (v : Writing) (g : Scanned b u n v) where
+  module _ (apart : b ≢ current) (low : b < 8) (n : ℕ) (v : Writing) (g : Scanned 256 b u n v) where
     scanned : v ≡ scanned_to (cond (eqb (get_or w.pins.started b 0) n) (Some b) None) (g.before ++ has_scanned b n ∷ []) w
     scanned = g.is ∙ ap (writing_after_scan b n g.before) s.is
 

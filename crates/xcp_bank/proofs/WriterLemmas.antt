@@ -8,7 +8,7 @@ use mathlib.Core.Option.{some}
 use lib.ListN.{get_elem?}
 use Rattle.atomic_table.specs.Table.{State, Step, keeps, Allows}
 use Rattle.pin_core.specs.State.{Reader, Writer, PinState, newcomer, words_of, leavings_of, started_of, published, publication}
-use Rattle.pin_core.specs.Effects.{CanScan, after_scan, CanReset, after_reset, CanWrite, after_write, CanPublish, after_publish}
+use Rattle.pin_core.specs.Effects.{scanning, CanScan, after_scan, CanReset, after_reset, CanWrite, after_write, CanPublish, after_publish}
 use Rattle.pin_core.specs.Lawful.{Lawful, holders}
 use Rattle.pin_core.proofs.WriterSteps.{scan_keeps, reset_keeps, write_keeps, publish_keeps}
 use Rattle.pin_core.proofs.Idle.{some_idle}
@@ -65,29 +65,30 @@ module _ (W : ℕ) (t : State (Unit {0}) Known) (b : Banked W t) (id : ℕ) (w :
       (λ other e. other at_seat)
 
   pub scan_step : (c : ℕ) → c < 8 → c ≢ w.current → w.pins.building ≡ None
-      → (let n : ℕ = get_or t.words (1 + c) 0 in Banked W record { words = set t.words (1 + c) n; homes = t.homes; views = set t.views id (the_writer (writing_after_scan c n b.history w)) } × Scanned c w n (writing_after_scan c n b.history w))
+      → (let n : ℕ = get_or t.words (1 + c) 0 in Banked W record { words = set t.words (1 + c) n; homes = t.homes; views = set t.views id (the_writer (writing_after_scan c n b.history w)) } × Scanned W c w n (writing_after_scan c n b.history w))
   scan_step c low apart none =
       let n : ℕ = get_or t.words (1 + c) 0 in
       let k = leads in
       let here : n ≡ leavings_of s c = b.shows.left c low in
       let can : CanScan s c = (low, (λ e. apart (e ∙ k.current)), ap (λ (z : Writer). z.building) k.pins ∙ none) in
-      let starts : started_of s c ≡ get_or w.pins.started c 0 = ap (λ (z : Writer). get_or z.started c 0) k.pins in (
+      let starts : started_of s c ≡ get_or w.pins.started c 0 = ap (λ (z : Writer). get_or z.started c 0) k.pins in
+      let scanned : (after_scan s c).writer ≡ scanning c n w.pins = (λ i. record (k.pins i) { quiet = cond (eqb (get_or (k.pins i).started c 0) (sym here i)) (Some c) None }) in (
         writer_step (set t.words (1 + c) n) (after_scan s c) (writing_after_scan c n b.history w) (scan_keeps W s c b.lawful can)
             (subst (λ (ws : List ℕ). Shows W ws (after_scan s c)) (sym (set-get_or t.words (1 + c) 0)) record { size = b.shows.size; head = b.shows.head; left = b.shows.left; image = b.shows.image })
             b.numbered
-            record {
-              pins = (λ i. record (k.pins i) { quiet = cond (eqb (get_or (k.pins i).started c 0) (sym here i)) (Some c) None });
-              current = k.current;
-              idle = k.idle;
-              apart = k.apart;
-              unheld = k.unheld;
-            }
+            record { pins = scanned; current = k.current; idle = k.idle; apart = k.apart; unheld = k.unheld }
             refl (λ m l. refl) (has_scanned c n) (can, ap an.Leavings here, refl) refl refl,
         record {
           before = b.history;
           grows = grows;
           is = refl;
           found = λ e. (let o = (b.lawful.others c low can.1).exact in let z : holders c s.readers ≡ 0 = ap (λ (q : ℕ). holders q s.readers) e ∙ k.unheld in omega arith);
+          up_to_date = record {
+            state = after_scan s c;
+            ran = (b.first, b.wide, runs_more W (opening b.first) s (after_scan s c) b.history (has_scanned c n) b.run (can, ap an.Leavings here, refl));
+            index = k.current;
+            pins = scanned;
+          };
         },
       )
 
@@ -240,8 +241,8 @@ module _ (W slots id : ℕ) (w : Writing) (i : ℕ) (f : ℕ → ℕ) (after : W
   lets me is make st = subst (λ (v : Known). Allows (Banked W) slots id (v, me.1) i f (writer_plays after st (v, me.1))) (sym is) (fits_writer me.1 make st)
 
 pub scan_allowed : (W slots id : ℕ) (w : Writing) (me : Seat) (c : ℕ) → me.0 ≡ the_writer w → c < 8 → c ≢ w.current → w.pins.building ≡ None → (st : Step (Unit {0}))
-    → Allows (Banked W) slots id me (1 + c) (λ n. n) (writer_plays (Scanned c) st me)
-scan_allowed W slots id w me c is low apart none st = lets W slots id w (1 + c) (λ n. n) (Scanned c) me is
+    → Allows (Banked W) slots id me (1 + c) (λ n. n) (writer_plays (Scanned W c) st me)
+scan_allowed W slots id w me c is low apart none st = lets W slots id w (1 + c) (λ n. n) (Scanned W c) me is
     (λ t b at. let p = scan_step W t b id w at c low apart none in (writing_after_scan c (get_or t.words (1 + c) 0) b.history w, p.0, p.1)) st
 
 pub publish_allowed : (W slots id : ℕ) (w : Writing) (me : Seat) (c : ℕ) → me.0 ≡ the_writer w → w.pins.building ≡ Some c → length w.pins.written ≡ W → get_or w.pins.written (W - 1) 0 ≡ length w.pins.publications % 18446744073709551616 → (st : Step (Unit {0}))

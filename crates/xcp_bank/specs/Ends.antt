@@ -1,8 +1,9 @@
 -- The two ends of a bank, as contracts see them: in images, without a word or a seat.
-use Rattle.std.specs.Prelude.{◌≡◌, ◌≢◌, ℕ, suc, ◌+◌, ◌-◌, ◌/◌, ◌≤◌, false, true, List, [], ◌∷◌, ◌++◌, length, map, slice_index_or, Option, Some, None}
+use Rattle.std.specs.Prelude.{◌≡◌, ◌≢◌, ℕ, suc, ◌+◌, ◌-◌, ◌/◌, ◌≤◌, false, true, List, [], ◌∷◌, ◌++◌, length, map, sum_by, slice_index_or, Option, Some, None}
 use Rattle.xcp_bank.specs.BankId.{BankId, bank_of}
 use Rattle.atomic_table.specs.Seated.{TableId}
 use Rattle.xcp_bank.specs.Deeds.{Deed, Grows, Does, Ran, Ends, AllScans, looked_at, pinned_at, given_up, has_reset, has_published, reads_of, writes_of}
+use Rattle.xcp_bank.specs.Held.{others, scanned_buffer, scan_of, unquiet}
 use Rattle.xcp_bank.specs.declared.taken.Taken.{Taken}
 use Rattle.xcp_bank.specs.declared.taken.Taken.TheVariants.{Same, Newer}
 use Rattle.xcp_bank.specs.Known.{Begins, Reading, Writing}
@@ -158,3 +159,17 @@ pub record PublishDoes (words : List ℕ) (old new : WriterEnd) : Type 0 where
   pub ran : Ran 256 new.history state
   pub current : state.index ≡ new.current
   pub published : images state.writer.publications ≡ new.publications
+
+-- What counting the held buffers does: a Scan of each buffer but the current one, seven in all, and no other deed. Its answer is how
+-- many of them weren't quiet. Nothing changes but the history.
+pub record HeldDoes (answer : ℕ) (old new : WriterEnd) : Type 0 where
+  pub found : List (ℕ × ℕ)
+  pub each : map scanned_buffer found ≡ others old.current 8
+  pub seven : length found ≡ 7
+  pub did : Grows 0 old.history new.history (map scan_of found)
+  pub same : new ≡ record old { history = new.history }
+  -- its history is a run to a state, in which each buffer has the pins by which these were or weren't quiet
+  pub state : PinState
+  pub ran : Ran 256 new.history state
+  pub current : state.index ≡ old.current
+  pub answer_is : answer ≡ sum_by (unquiet state.writer.started) found

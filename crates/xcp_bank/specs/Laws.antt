@@ -1,9 +1,11 @@
--- What the rule alone says of a step, whatever body makes it and whatever it leaves in words and view.
-use Rattle.std.specs.Prelude.{◌≡◌, ◌≢◌, ℕ, suc, List, [], ◌∷◌, slice_set, Some}
+-- What the rule alone says of a step, whatever body makes it and whatever it leaves in words and view; and what a Scan tells.
+use Rattle.std.specs.Prelude.{◌≡◌, ◌≢◌, ℕ, suc, ◌+◌, List, [], ◌∷◌, ◌++◌, slice_set, Some}
 use mathlib.Core.Option.{some}
 use lib.ListN.{get_elem?}
 use Rattle.atomic_table.specs.Table.{State}
-use Rattle.xcp_bank.specs.Deeds.{Does, Ends, looked_at}
+use Rattle.pin_core.specs.State.{PinState, started_of}
+use Rattle.pin_core.specs.Lawful.{holders}
+use Rattle.xcp_bank.specs.Deeds.{Deed, Ran, Does, Ends, looked_at, has_scanned}
 use Rattle.xcp_bank.specs.Known.{Reading, Writing, Known, one_reader}
 use Rattle.xcp_bank.specs.Rule.{Banked}
 
@@ -20,3 +22,9 @@ NotedLooksLook = (W : ℕ) (t : State (Unit {0}) Known) → Banked W t
     → (words : List ℕ) (y : Reading) (i : ℕ) → Banked W (stepped t id words (one_reader r y))
     → Does (suc r) x.history x.pending y.history y.pending (looked_at r i ∷ []) → y.pending ≡ [] → Ends y.history (looked_at r i)
     → i ≡ w.current
+
+-- A Scan tells who holds its buffer. Where it is the last deed of a history, as many pins of that buffer were started as it told were
+-- given back, and one more for each reader that holds the buffer then: so it is quiet exactly where nobody holds it.
+abbrev pub ScansTellHolders : Type 0
+ScansTellHolders = (before : List Deed) (b n : ℕ) (s : PinState) → Ran 256 (before ++ has_scanned b n ∷ []) s
+    → (b ≢ s.index) × (started_of s b ≡ n + holders b s.readers)

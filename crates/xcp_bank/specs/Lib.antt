@@ -1,5 +1,6 @@
 pub mod Images
 pub mod Deeds
+pub mod Held
 pub mod Known
 pub mod Rule
 pub mod Laws

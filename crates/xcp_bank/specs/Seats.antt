@@ -1,10 +1,11 @@
 -- A seat of the bank, for the contracts of its steps.
-use Rattle.std.specs.Prelude.{◌≡◌, ◌≢◌, ℕ, suc, ◌+◌, ◌-◌, ◌/◌, ◌<◌, ◌≤◌, ◌⊎◌, List, [], ◌∷◌, ◌++◌, length, slice_index, slice_index_or, false, Option, Some, None}
+use Rattle.std.specs.Prelude.{◌≡◌, ◌≢◌, ℕ, suc, ◌+◌, ◌-◌, ◌/◌, ◌<◌, ◌≤◌, ◌⊎◌, List, [], ◌∷◌, ◌++◌, length, map, sum_by, slice_index, slice_index_or, false, Option, Some, None}
 use Rattle.atomic_table.specs.Seated.{TableId}
 use Rattle.atomic_table.specs.declared.shared.Seat.{Seat}
 use Rattle.xcp_bank.specs.declared.taken.Taken.{Taken}
 use Rattle.xcp_bank.specs.declared.taken.Taken.TheVariants.{Same, Newer}
 use Rattle.xcp_bank.specs.Deeds.{Deed, Grows, Does, Ends, AllScans, looked_at, pinned_at, given_up, has_reset, has_published, reads_of, writes_of}
+use Rattle.xcp_bank.specs.Held.{others, scanned_buffer, scan_of, unquiet}
 use Rattle.xcp_bank.specs.ReaderSteps.{Reaches, Looked, Pinned, UpToDate, Follows, reading_after_read}
 use Rattle.xcp_bank.specs.Rule.{IsNumbered}
 use Rattle.xcp_bank.specs.Images.{image_of}
@@ -135,6 +136,22 @@ pub record FoundQuiet (b : ℕ) (w u : Writing) : Type 0 where
   pub grows : Grows 0 w.history history scans
   pub only : AllScans scans
   pub most : length scans ≤ 7
+
+-- A Scan of each buffer below `next` but the current one, of which `held` weren't quiet. The idle one was.
+pub record Counted (next held : ℕ) (w u : Writing) : Type 0 where
+  pub quiet : Option ℕ
+  pub history : List Deed
+  pub is : u ≡ scanned_to quiet history w
+  pub found : List (ℕ × ℕ)
+  pub each : map scanned_buffer found ≡ others w.current next
+  pub grows : Grows 0 w.history history (map scan_of found)
+  pub held_is : held ≡ sum_by (unquiet w.pins.started) found
+  pub long : length found ≤ next
+  pub ahead : next ≤ w.current → length found ≡ next
+  pub behind : w.current < next → length found + 1 ≡ next
+  pub most : held ≤ length found
+  pub fewer : w.idle < next → held + 1 ≤ length found
+  pub up_to_date : 0 < length found → WriterUpToDate 256 u
 
 -- What the writer knows between two publications.
 pub record Rests (current : ℕ) (started : List ℕ) (w : Writing) : Type 0 where

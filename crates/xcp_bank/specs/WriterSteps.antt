@@ -13,15 +13,23 @@ use Rattle.xcp_bank.specs.ReaderSteps.{Seat}
 abbrev pub writer_plays : (Writing → ℕ → Writing → Type 0) → Step (Unit {0}) → Seat → ℕ → Seat → Type 0
 writer_plays after st m n m' = (w : Writing) → m.0 ≡ the_writer w → (u : Writing) × (m' ≡ (the_writer u, m.1)) × after w n u
 
+-- What the writer knows is true of the state that its history ends in.
+pub record WriterUpToDate (W : ℕ) (u : Writing) : Type 0 where
+  pub state : PinState
+  pub ran : Ran W u.history state
+  pub index : state.index ≡ u.current
+  pub pins : state.writer ≡ u.pins
+
 abbrev pub writing_after_scan : ℕ → ℕ → List Deed → Writing → Writing
 writing_after_scan b n before w = record w { pins = scanning b n w.pins; history = before ++ has_scanned b n ∷ [] }
 
 -- Scan of buffer b: it is quiet where as many have left it as started. The idle buffer is.
-pub record Scanned (b : ℕ) (w : Writing) (n : ℕ) (u : Writing) : Type 0 where
+pub record Scanned (W b : ℕ) (w : Writing) (n : ℕ) (u : Writing) : Type 0 where
   pub before : List Deed
   pub grows : Grows 0 w.history before []
   pub is : u ≡ writing_after_scan b n before w
   pub found : b ≡ w.idle → slice_index w.pins.started b ≡ n
+  pub up_to_date : WriterUpToDate W u
 
 abbrev pub writing_after_reset : ℕ → List Deed → Writing → Writing
 writing_after_reset b before w = record w { pins = resetting b w.pins; history = before ++ has_reset b ∷ [] }
@@ -48,13 +56,6 @@ writing_after_publish b count idle before w = record {
   idle = idle;
   history = before ++ has_published ∷ [];
 }
-
--- What the writer knows is true of the state that its history ends in.
-pub record WriterUpToDate (W : ℕ) (u : Writing) : Type 0 where
-  pub state : PinState
-  pub ran : Ran W u.history state
-  pub index : state.index ≡ u.current
-  pub pins : state.writer ≡ u.pins
 
 -- Publish of buffer b: the number found tells the pins that the old current buffer got, and some buffer is idle then.
 pub record Published (W b : ℕ) (w : Writing) (n : ℕ) (u : Writing) : Type 0 where

@@ -8,6 +8,7 @@
 
 mod acquiring;
 mod bank;
+mod holding;
 mod laws;
 mod left;
 mod publishing;
@@ -19,7 +20,7 @@ mod words;
 mod writer;
 
 pub use bank::Bank;
-pub use laws::one_history;
+pub use laws::{one_history, scans_tell_holders};
 pub use left::Left;
 pub use reader::Reader;
 pub use taken::Taken;

@@ -127,7 +127,7 @@ pub(crate) fn read_word(board: &Board, token: &mut Token, buffer: usize, k: usiz
 pub(crate) fn scan(board: &Board, token: &mut Token, buffer: usize) -> u64
     requires buffer { buffer < BUFFERS }
     requires seat { (w : Writing) × IsWriterSeat token.old board.now w × (w.pins.building ≡ None) × (buffer ≢ w.current) }
-    ensures { WriterMoves (λ w u. Scanned buffer w result u) token.old token.new board.now }
+    ensures { WriterMoves (λ w u. Scanned 256 buffer w result u) token.old token.new board.now }
 {
     writer_steps::scan(&board.table.shared, &mut token.seat, buffer)
 }

@@ -5,9 +5,10 @@ ghost use Rattle.std.specs.Arc.{arc_value};
 ghost use Rattle.xcp_bank.specs.Cuts.{told, told_again};
 ghost use Rattle.xcp_bank.specs.Seats.{IsReaderSeat, IsWriterSeat};
 ghost use Rattle.xcp_bank.specs.Images.{image_of};
-ghost use Rattle.xcp_bank.specs.Ends.{writer_end, PublishDoes};
+ghost use Rattle.xcp_bank.specs.Ends.{writer_end, HeldDoes, PublishDoes};
 
 use crate::IMAGE_BYTES;
+use crate::holding::count_held;
 use crate::publishing::publish_at;
 use crate::table::{Board, Token, tell_at};
 use crate::words::words_of;
@@ -71,6 +72,19 @@ impl Writer {
             &words,
         );
         self.count = self.count.wrapping_add(1);
+    }
+
+    /// How many of the seven buffers that aren't current readers still hold, those included that were
+    /// dropped while they held one: at most six.
+    ///
+    /// One look at each of the seven, whatever the readers do meanwhile.
+    pub fn held(&mut self) -> u8
+        ensures most { result ≤ 6 }
+        ensures same_bank { self.new.bank ≡ self.old.bank }
+        ensures same_publications { self.new.publications ≡ self.old.publications }
+        ensures does { HeldDoes result self.old self.new }
+    {
+        count_held(&self.board, &mut self.seat, self.current, &self.started)
     }
 
     /// How many images were published, modulo 2^64, with the one that the bank began with.

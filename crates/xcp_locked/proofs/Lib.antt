@@ -1,8 +1,10 @@
 pub mod Attendings
 pub mod Callers
 pub mod Commands
+pub mod ConnectionEnds
 pub mod Crossing
 pub mod Journals
+pub mod KeptImages
 pub mod Places
 pub mod Plans
 pub mod Publications

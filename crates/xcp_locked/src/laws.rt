@@ -1,6 +1,6 @@
 //! Laws of what is published of a run, of settled callers, and of what a task's reader does. Each is the contract of a function
 //! with an empty body.
-ghost use Rattle.std.specs.Prelude.{◌≡◌, ◌≢◌, ◌↔◌, ◌<◌, ◌≤◌, ◌+◌, ℕ, suc, List, [], ◌∷◌, ◌++◌, length, take, Some};
+ghost use Rattle.std.specs.Prelude.{◌≡◌, ◌≢◌, ◌↔◌, ◌<◌, ◌≤◌, ◌+◌, ◌⊎◌, ℕ, suc, List, [], ◌∷◌, ◌++◌, length, take, Some, Result, Ok, Err, IsOk, IsErr};
 ghost use Rattle.std.specs.List.{slice_get};
 ghost use Rattle.xcp_slave.specs.declared.exchange.Exchange.{Exchange};
 ghost use Rattle.xcp_slave.specs.declared.Request.{Request};
@@ -8,7 +8,12 @@ ghost use Rattle.xcp_slave.specs.declared.Answer.{Answer};
 ghost use Rattle.xcp_bank.specs.Deeds.{reads_of};
 ghost use Rattle.xcp_bank.specs.Ends.{AcquireDoes, ReaderEnd};
 ghost use Rattle.xcp_bank.specs.declared.taken.Taken.{Taken};
+ghost use Rattle.xcp_framing.specs.declared.serving.ServeError.{ServeError};
+ghost use Rattle.xcp_framing.specs.declared.serving.ServeError.TheVariants as errors;
+ghost use Rattle.xcp_framing.specs.declared.serving.Served.{Served};
+ghost use Rattle.xcp_outlet.specs.declared.fault.SendError.{SendError};
 ghost use Rattle.xcp_trace.specs.declared.Entry.{Entry};
+ghost use Rattle.xcp_locked.specs.Attending.{end_of};
 ghost use Rattle.xcp_locked.specs.Caller.{CallerValue};
 ghost use Rattle.xcp_locked.specs.Journal.{entry};
 ghost use Rattle.xcp_locked.specs.Receipts.{receipt};
@@ -41,6 +46,14 @@ pub fn receipts_are_entries()
     ensures each { (journal : List Entry) (c : CallerValue) (i : ℕ) (r : Receipt) → IsSettled journal c → slice_get c.receipts i ≡ Some r → slice_get journal r.at ≡ Some (entry c.number r.request r.answer) }
     ensures all { (journal : List Entry) (c : CallerValue) (place : ℕ) (request : Request) (answer : Answer) → IsSettled journal c → slice_get journal place ≡ Some (entry c.number request answer) → (i : ℕ) × (slice_get c.receipts i ≡ Some (receipt place request answer)) }
     ensures rise { (journal : List Entry) (c : CallerValue) (i : ℕ) (r s : Receipt) → IsSettled journal c → slice_get c.receipts i ≡ Some r → slice_get c.receipts (suc i) ≡ Some s → r.at < s.at }
+{}
+
+/// A connection ends well exactly where its reading, its pump and its sender did; else its fault is that of its reading, or of its
+/// pump, or it is Write and its sender has one. Where its reading has a fault, it is that one.
+pub fn a_connection_ends_as_its_parts()
+    ensures well { (heard : Result Served ServeError) (pumped : Result ℕ ServeError) (sent : Result ℕ SendError) (s : Served) → (end_of heard pumped sent ≡ Ok s) ↔ ((heard ≡ Ok s) × IsOk pumped × IsOk sent) }
+    ensures fault { (heard : Result Served ServeError) (pumped : Result ℕ ServeError) (sent : Result ℕ SendError) (e : ServeError) → end_of heard pumped sent ≡ Err e → (heard ≡ Err e) ⊎ ((pumped ≡ Err e) ⊎ ((e ≡ errors.Write) × IsErr sent)) }
+    ensures reading { (heard : Result Served ServeError) (pumped : Result ℕ ServeError) (sent : Result ℕ SendError) (e : ServeError) → heard ≡ Err e → end_of heard pumped sent ≡ Err e }
 {}
 
 /// What counts as looking for the current image: each acquire does, and no read does.

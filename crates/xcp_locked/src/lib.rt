@@ -12,6 +12,7 @@ mod dealing;
 mod errors;
 mod gate;
 mod hearing;
+mod holding;
 mod laws;
 mod ledger;
 mod locked;
@@ -37,7 +38,8 @@ pub use errors::LockedError;
 pub use gate::Gate;
 pub use hearing::{Heard, Hearing};
 pub use laws::{
-    acquiring_is_looking, places_are_the_least, publications_follow_the_run, receipts_are_entries,
+    a_connection_ends_as_its_parts, acquiring_is_looking, places_are_the_least,
+    publications_follow_the_run, receipts_are_entries,
 };
 pub use ledger::Unsettled;
 pub use locked::{JOURNAL, Locked};

@@ -1,8 +1,10 @@
 //! What lies under the lock: a slave and its journal.
-ghost use Rattle.std.specs.Prelude.{◌≡◌, ◌↔◌, ◌<◌, ◌≤◌, [], ◌∷◌, ◌++◌, length, OnErr, IfOk, Err, true, vec_capacity, vec_len};
+ghost use Rattle.std.specs.Prelude.{◌≡◌, ◌≢◌, ◌↔◌, ◌<◌, ◌≤◌, [], ◌∷◌, ◌++◌, length, slice_index, OnErr, IfOk, Err, true, vec_capacity, vec_len};
 ghost use Rattle.xcp_memory.specs.Image.{ecu_image};
 ghost use Rattle.xcp_slave.specs.Run.{Run};
+ghost use Rattle.xcp_slave.specs.Steady.{IsNoWrite};
 ghost use Rattle.xcp_slave.specs.Step.{Answers};
+ghost use Rattle.xcp_slave.specs.Told.{answer_in};
 ghost use Rattle.xcp_slave.specs.Value.{SlaveValue, layout_of, opening};
 ghost use Rattle.xcp_locked.specs.Caller.{accepting};
 ghost use Rattle.xcp_locked.specs.Journal.{entry, exchanges, journal_limit};
@@ -15,11 +17,21 @@ use crate::publisher::Publisher;
 use crate::{Caller, LockedError, Name, Receipt};
 use std::marker::Model;
 use std::sync::ledger::Book;
-use xcp_slave::{Answer, Request, Slave};
+use xcp_packet::Packet;
+use xcp_slave::{Answer, Request, Slave, Told};
 use xcp_trace::Journal;
 
 /// The most entries of a journal.
 pub const JOURNAL: usize = 65_536;
+
+/// The code of COPY_CAL_PAGE.
+const COPY_CAL_PAGE: u8 = 0xE4;
+
+/// The code of SET_CAL_PAGE. The codes behind it, up to that of DOWNLOAD, are those of the commands
+/// that write: MODIFY_BITS, SHORT_DOWNLOAD, DOWNLOAD_MAX, DOWNLOAD_NEXT and DOWNLOAD.
+const SET_CAL_PAGE: u8 = 0xEB;
+
+const DOWNLOAD: u8 = 0xF0;
 
 /// A slave with its journal. The journal is a run of the slave, from the opening of its layout to
 /// the slave as it is, and the book of accepted calls has as many units as the journal has entries.
@@ -71,6 +83,36 @@ impl<N: Name> Locked<N> {
         ensures err { OnErr result ((self.new ≡ self.old) × (caller.new ≡ caller.old)) }
         ensures layout { layout_of self.new.slave ≡ layout_of self.old.slave }
     {
+        let at = self.len();
+        let mut packet = Packet::new();
+        let told = self.submit_into(caller, &request, &mut packet)?;
+        Ok(Receipt {
+            at,
+            request,
+            answer: told.with(packet),
+        })
+    }
+
+    /// Executes a request that is lent, as `submit` does. The answer's packet, if it is one, stands in
+    /// the lent packet, which has any bytes otherwise.
+    pub(crate) fn submit_into(
+        &mut self,
+        caller: &mut Caller<N>,
+        request: &Request,
+        packet: &mut Packet,
+    ) -> Result<Told, LockedError>
+        ensures answers { IfOk result (λ told. Answers self.old.slave request.now
+            (answer_in told packet.new) self.new.slave) }
+        ensures journal { IfOk result (λ told. self.new.journal ≡ self.old.journal
+            ++ entry caller.old.number request.now (answer_in told packet.new) ∷ []) }
+        ensures caller { IfOk result (λ told. caller.new ≡ accepting caller.old
+            (receipt (length self.old.journal) request.now (answer_in told packet.new))) }
+        ensures published { IfOk result (λ told. Publishes self.old self.new) }
+        ensures full { result ≡ Err LockedError.JournalFull
+            ↔ (journal_limit ≤ length self.old.journal) }
+        ensures err { OnErr result ((self.new ≡ self.old) × (caller.new ≡ caller.old)) }
+        ensures layout { layout_of self.new.slave ≡ layout_of self.old.slave }
+    {
         if self.journal.len() >= JOURNAL {
             return Err(LockedError::JournalFull);
         }
@@ -96,16 +138,15 @@ impl<N: Name> Locked<N> {
         }
         book.audit(share);
         let at = journal.len() as u64;
-        let answer = execute(slave, journal, publisher, *number, &request, at + 1);
+        let told = execute(slave, journal, publisher, *number, request, packet, at + 1);
         book.add(share, 1);
         *accepted += 1;
-        let receipt = Receipt {
+        receipts.push_reserved(Receipt {
             at,
-            request,
-            answer,
-        };
-        receipts.push_reserved(receipt.copy());
-        Ok(receipt)
+            request: request.copy(),
+            answer: answer_of(told, packet),
+        });
+        Ok(told)
     }
 
     /// How many calls were accepted, at most 65,536.
@@ -152,20 +193,30 @@ fn execute(
     publisher: &mut Publisher,
     caller: u8,
     request: &Request,
+    packet: &mut Packet,
     place: u64,
-) -> Answer
+) -> Told
     requires room { room_for_any_entry ≤ journal.old.room }
     requires room_for_place { vec_len publisher.old.places < vec_capacity publisher.old.places }
     requires last { publisher.old.last ≡ image_of slave.old }
-    ensures answers { Answers slave.old request.now result slave.new }
-    ensures journal { journal.new.entries
-        ≡ journal.old.entries ++ entry caller request.now result ∷ [] }
+    ensures answers { Answers slave.old request.now (answer_in result packet.new) slave.new }
+    ensures journal { journal.new.entries ≡ journal.old.entries
+        ++ entry caller request.now (answer_in result packet.new) ∷ [] }
     ensures offers { Offers place (image_of slave.new) publisher.old publisher.new }
 {
-    let answer = slave.submit(request);
+    let told = slave.submit_into(request, packet);
     publish(publisher, slave, request, place);
-    journal.push(caller, request, &answer);
-    answer
+    journal.push_told(caller, request, told, packet);
+    told
+}
+
+/// The answer whose packet, if it is one, stands in the lent one.
+fn answer_of(told: Told, packet: &Packet) -> Answer
+    ensures { result ≡ answer_in told packet.now }
+{
+    let mut own = Packet::new();
+    let _ = own.try_extend_from_slice(packet);
+    told.with(own)
 }
 
 /// Publishes the image that the slave has after this request, if it isn't the one published last. A
@@ -186,8 +237,20 @@ fn publish(publisher: &mut Publisher, slave: &Slave, request: &Request, place: u
 fn keeps_image(request: &Request) -> bool
     ensures { result ≡ true → KeepsImage request.now }
 {
-    matches!(
-        request,
-        Request::Event(_, _) | Request::Drain | Request::Hangup
-    )
+    match request {
+        Request::Command(packet) => is_reading(packet.as_slice()),
+        Request::Event(_, _) | Request::Drain | Request::Hangup => true,
+        Request::FinishStore => false,
+    }
+}
+
+/// Whether a command packet neither writes nor switches nor copies a page, by its code.
+fn is_reading(packet: &[u8]) -> bool
+    ensures { result ≡ true → (slice_index packet.now 0 ≢ 0xEB) × (slice_index packet.now 0 ≢ 0xE4)
+        × IsNoWrite packet.now }
+{
+    match packet {
+        [] => true,
+        [code, ..] => *code != COPY_CAL_PAGE && (*code < SET_CAL_PAGE || DOWNLOAD < *code),
+    }
 }

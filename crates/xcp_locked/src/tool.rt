@@ -3,7 +3,7 @@ ghost use Rattle.std.specs.Prelude.{◌≡◌};
 
 use crate::{Caller, Locked, LockedError, Name};
 use std::sync::{Mutex, Wait};
-use xcp_framing::{Station, StationError, told_of};
+use xcp_framing::{Station, StationError};
 use xcp_packet::Packet;
 use xcp_slave::{Request, Told};
 
@@ -48,9 +48,9 @@ impl<'a, N: Name, R: Wait> Station for Tool<'a, N, R> {
         let submitted = self
             .lock
             .lock(self.rt)
-            .submit(&mut self.caller, request.copy());
+            .submit_into(&mut self.caller, request, packet);
         match submitted {
-            Ok(receipt) => Ok(told_of(&receipt.answer, packet)),
+            Ok(told) => Ok(told),
             Err(LockedError::Memory) => Err(StationError::Memory),
             Err(LockedError::JournalFull) => Err(StationError::JournalFull),
         }

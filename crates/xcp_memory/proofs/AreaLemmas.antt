@@ -109,19 +109,25 @@ inside_computes l a n (i, h) =
           in_signals l a n (segment_of l a n) (holds a n (signals_extent l) ends.0 ends.1)
     ]
 
--- what was found lies inside an area
-found_lies : (l : LayoutValue) (a n : ℕ) (o : Option ℕ) → o ≡ segment_of l a n → lies_inside_by o l a n ≡ true → LiesInside l a n
-found_lies l a n (Some i) e h =
-    let p = located l a n (Some i) e in
+-- the segment that was found holds the range
+pub segment_lies : (l : LayoutValue) (a n i : ℕ) → segment_of l a n ≡ Some i → LiesIn l a n i
+segment_lies l a n i e =
+    let p = located l a n (Some i) (sym e) in
     let Holds : Extent → Type 0 = λ e. (e.address ≤ a) × (a + n ≤ e.address + e.size) in
     let ends = subst Holds (sym (extents-segment l i p.there)) (p.from, p.to) in
-    let there : i < length (extents l) = omega (arith, length-extents l, p.there) in
-    (i, record { there = there; from = ends.0; to = ends.1 })
-found_lies l a n None e h =
+    record { there = omega (arith, length-extents l, p.there); from = ends.0; to = ends.1 }
+
+-- the signals hold a range that passes their test
+pub signals_lie : (l : LayoutValue) (a n : ℕ) → is_inside a n (signals_extent l) ≡ true → LiesIn l a n (length l.segments)
+signals_lie l a n h =
     let Holds : Extent → Type 0 = λ e. (e.address ≤ a) × (a + n ≤ e.address + e.size) in
     let ends = subst Holds (sym (extents-signals l)) (inside a n (signals_extent l) h) in
-    let there : length l.segments < length (extents l) = omega (arith, length-extents l) in
-    (length l.segments, record { there = there; from = ends.0; to = ends.1 })
+    record { there = omega (arith, length-extents l); from = ends.0; to = ends.1 }
+
+-- what was found lies inside an area
+found_lies : (l : LayoutValue) (a n : ℕ) (o : Option ℕ) → o ≡ segment_of l a n → lies_inside_by o l a n ≡ true → LiesInside l a n
+found_lies l a n (Some i) e h = (i, segment_lies l a n i (sym e))
+found_lies l a n None e h = (length l.segments, signals_lie l a n h)
 
 -- a range that passes the test lies inside an area
 pub inside_lies : (l : LayoutValue) (a n : ℕ) → lies_inside l a n ≡ true → LiesInside l a n

@@ -64,7 +64,7 @@ text most bytes h =
     }
 
 -- a fact of a list's first element and of the others
-all_cons : {A : Type 0} (P : A → Type 0) (x : A) (xs : List A) → P x → All P xs → All P (x ∷ xs)
+pub all_cons : {A : Type 0} (P : A → Type 0) (x : A) (xs : List A) → P x → All P xs → All P (x ∷ xs)
 all_cons P x xs p h zero d below = p
 all_cons P x xs p h (suc k) d below = h k d (omega arith)
 
@@ -188,7 +188,7 @@ pub record IsCounted (a b : Limit) (rest : List Limit) : Type 0 where
   pub most : b.0 ≡ false
   pub behind : first_holding rest ≡ None
 
-counted : (a b : Limit) (rest : List Limit) → first_holding (a ∷ (b ∷ rest)) ≡ None → IsCounted a b rest
+pub counted : (a b : Limit) (rest : List Limit) → first_holding (a ∷ (b ∷ rest)) ≡ None → IsCounted a b rest
 counted a b rest h =
     let k = none_both (a ∷ (b ∷ [])) rest h in
     let c = all_kept (a ∷ (b ∷ [])) k.0 in
@@ -202,10 +202,10 @@ abbrev pub events_counted : List EventPart → Type 0
 events_counted es = IsCounted (must (nat_le 1 (length es)) (Range key.Event)) (must (nat_le (length es) 8) (TooMany key.Event)) (flat_map event_limits (enumerate_from 0 es))
 
 -- each segment is good, and so is each event channel
-good_segments : (ss : List SegmentPart) → segments_counted ss → All IsGoodSegment ss
+pub good_segments : (ss : List SegmentPart) → segments_counted ss → All IsGoodSegment ss
 good_segments ss c = each_kept (limits_in ss) IsGoodSegment (λ i s h. (good_segment ss i s h).1) 0 ss c.behind
 
-good_events : (es : List EventPart) → events_counted es → All IsGoodEvent es
+pub good_events : (es : List EventPart) → events_counted es → All IsGoodEvent es
 good_events es c = each_kept event_limits IsGoodEvent good_event 0 es c.behind
 
 -- parts that break no limit make a lawful layout

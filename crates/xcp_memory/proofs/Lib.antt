@@ -2,6 +2,7 @@ pub mod AreaLemmas
 pub mod LimitLemmas
 pub mod ApartLemmas
 pub mod LawfulLemmas
+pub mod Keeping
 pub mod BuildLemmas
 pub mod PageLemmas
 pub mod PageStore
@@ -12,6 +13,7 @@ pub mod Switching
 pub mod Reading
 pub mod Overwriting
 pub mod Writing
+pub mod Denying
 pub mod Copying
 pub mod SegmentModes
 pub mod Freezing

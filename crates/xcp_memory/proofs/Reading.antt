@@ -120,3 +120,10 @@ controller_is_read v a n xs l f =
           (let g = gives_by ecu_page v a n (segment_of v.layout a n) f z refl r.0 in
           subst (λ ys. Reads Controller v a n ys) (sym r.1) (record { inside = inside_lies v.layout a n r.0; long = g.0; each = g.1 })),
     )
+
+-- what is copied from the bytes that were found is read
+pub tool_reads : (v : PagesValue) (a n : ℕ) (xs : List ℕ) → IsLayout v.layout → IsPages v → lies_inside v.layout a n ≡ true → xs ≡ tool_bytes v a n → Reads Tool v a n xs
+tool_reads v a n xs l f h e = (tool_is_read v a n xs l f).1 (h, e)
+
+pub controller_reads : (v : PagesValue) (a n : ℕ) (xs : List ℕ) → IsLayout v.layout → IsPages v → lies_inside v.layout a n ≡ true → xs ≡ controller_bytes v a n → Reads Controller v a n xs
+controller_reads v a n xs l f h e = (controller_is_read v a n xs l f).1 (h, e)

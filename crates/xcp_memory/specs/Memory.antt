@@ -32,6 +32,16 @@ pub record LiesIn (l : LayoutValue) (a n i : ℕ) : Type 0 where
 abbrev pub LiesInside : LayoutValue → ℕ → ℕ → Type 0
 LiesInside l a n = (i : ℕ) × LiesIn l a n i
 
+-- n bytes from address a on lie in area i, which may not be written: it is the signals, or a segment in which the tool
+-- has page 0
+pub record IsProtected (v : PagesValue) (a n i : ℕ) : Type 0 where
+  pub lies : LiesIn v.layout a n i
+  pub kept : (i ≡ length v.layout.segments) ⊎ ((segment_at v i).xcp ≡ 0)
+
+-- they lie in one area, which may not be written
+abbrev pub LiesProtected : PagesValue → ℕ → ℕ → Type 0
+LiesProtected v a n = (i : ℕ) × IsProtected v a n i
+
 -- A read of n bytes from address a on in a set of pairs gives the list whose k-th byte pairs with a + k.
 pub record Reads (set : PagesValue → ℕ → ℕ → Type 0) (v : PagesValue) (a n : ℕ) (bytes : List ℕ) : Type 0 where
   pub inside : LiesInside v.layout a n

@@ -6,7 +6,7 @@ ghost use Rattle.xcp_memory.specs.Checksum.{checksum_of, modulus, numbers, summe
 ghost use Rattle.xcp_memory.specs.Layout.{IsLayout};
 ghost use Rattle.xcp_memory.specs.Memory.{Reads, Tool};
 ghost use Rattle.xcp_memory.specs.Pages.{IsPages, PagesValue};
-ghost use Rattle.xcp_memory.specs.AccessLaws.{ToolIsRead, ControllerIsRead, ToolIsWritten};
+ghost use Rattle.xcp_memory.specs.AccessLaws.{ToolIsRead, ControllerIsRead, ToolIsWritten, OutsideIsDenied, ProtectedIsRefused};
 
 /// What `Pages::read_xcp` gives is the read of the tool's bytes.
 pub fn tool_is_read()
@@ -21,6 +21,13 @@ pub fn controller_is_read()
 /// What `Pages::write_xcp` does is the write to the tool's bytes.
 pub fn tool_is_written()
     ensures { ToolIsWritten }
+{}
+
+/// Where a write is refused: it is denied exactly where its range lies in no one area, and protected
+/// exactly where it lies in one that may not be written.
+pub fn writes_are_refused()
+    ensures outside { OutsideIsDenied }
+    ensures protected { ProtectedIsRefused }
 {}
 
 /// A checksum is the sum of what a read of the tool gives: of its bytes, or of the words or double

@@ -1,5 +1,5 @@
 //! Where an area lies.
-ghost use Rattle.std.specs.Prelude.{◌≡◌, ◌+◌, ◌<◌, ◌^◌, Some, None, IfOk, IfErr};
+ghost use Rattle.std.specs.Prelude.{◌≡◌, ◌+◌, Some, None, IfOk, IfErr};
 ghost use Rattle.xcp_memory.specs.Words.{is_inside};
 ghost use Rattle.xcp_packet.specs.Rows.{first_holding};
 ghost use Rattle.xcp_memory.specs.Limits.{is_apart, signals_limits};
@@ -49,10 +49,10 @@ impl Extent {
 
     /// Whether n bytes from an address on lie in the area. Sums of addresses don't wrap.
     pub(crate) fn is_inside(&self, address: u32, n: usize) -> bool
-        requires { n < 2 ^ 32 }
         ensures { result ≡ is_inside address n self.now }
     {
-        self.address <= address && u64::from(address) + n as u64 <= self.end()
+        let first = u64::from(address);
+        self.address <= address && first <= self.end() && n as u64 <= self.end() - first
     }
 
     /// Whether no address lies in both areas.

@@ -1,5 +1,5 @@
 //! A layout: what a controller shows to a tool.
-ghost use Rattle.std.specs.Prelude.{◌≡◌, ◌+◌, ◌<◌, ◌≤◌, ◌^◌, ◌↔◌, length, All, Some, None, Ok, Err, IfOk, IfErr, IfSome, IsTrue, slice_index_or as get_or};
+ghost use Rattle.std.specs.Prelude.{◌≡◌, ◌+◌, ◌<◌, ◌≤◌, ◌↔◌, length, All, Some, None, Ok, Err, IfOk, IfErr, IfSome, IsTrue, slice_index_or as get_or};
 ghost use Rattle.xcp_memory.specs.Pages.{no_segment};
 ghost use Rattle.xcp_memory.specs.Layout.{IsLayout, IsPrintable, signals_extent, no_event};
 ghost use Rattle.xcp_memory.specs.declared.key.LayoutFault.{LayoutFault};
@@ -269,7 +269,6 @@ impl Layout {
 
     /// The segment in which n bytes from an address on lie. Sums of addresses don't wrap.
     pub fn segment_of(&self, address: u32, n: usize) -> Option<usize>
-        requires { n < 2 ^ 32 }
         ensures value { result ≡ segment_of self.now address n }
         ensures located { IfSome result (λ i. Located self.now address n i) }
     {
@@ -278,7 +277,6 @@ impl Layout {
 
     // The first segment in which the range lies.
     fn first_segment(&self, address: u32, n: usize) -> Option<usize>
-        requires { n < 2 ^ 32 }
         ensures { result ≡ segment_of self.now address n }
     {
         self.segments
@@ -288,7 +286,6 @@ impl Layout {
 
     /// Whether n bytes from an address on lie in the signals. Sums of addresses don't wrap.
     pub fn is_in_signals(&self, address: u32, n: usize) -> bool
-        requires { n < 2 ^ 32 }
         ensures value { result ≡ is_inside address n (signals_extent self.now) }
         ensures from { IsTrue result → self.now.signals_address ≤ address }
         ensures to { IsTrue result → address + n ≤ self.now.signals_address + self.now.signals_length }

@@ -6,7 +6,8 @@ pub fn areas_share_no_address()
     ensures { AreasShareNoAddress }
 {}
 
-/// Parts that break no limit make a layout that is within all limits.
+/// Parts break no limit exactly where the layout that they make is within all limits, and none of their
+/// numbers is one that no layout has.
 pub fn kept_limits_make_a_layout()
     ensures { KeptLimitsMakeALayout }
 {}

@@ -21,7 +21,9 @@ mod segment;
 mod segment_mode;
 mod switch_mode;
 
-pub use access_laws::{a_checksum_is_a_sum, controller_is_read, tool_is_read, tool_is_written};
+pub use access_laws::{
+    a_checksum_is_a_sum, controller_is_read, tool_is_read, tool_is_written, writes_are_refused,
+};
 pub use checksum_kind::ChecksumKind;
 pub use key::{Area, Key, LayoutFault};
 pub use layout::Layout;

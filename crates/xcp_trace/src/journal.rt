@@ -1,12 +1,14 @@
 //! Exchanges with the callers that asked.
 ghost use Rattle.std.specs.Prelude.{◌≡◌, ◌≤◌, ◌++◌, ◌∷◌, [], length, OnOk, OnErr, MatchOption, slice_get};
+ghost use Rattle.xcp_slave.specs.Told.{answer_in};
 ghost use Rattle.xcp_trace.specs.Entries.{IsEntry, entry_in, room_for_any_entry};
 
-use crate::spelling::{EXCHANGE_BYTES, read_exchange, spell};
+use crate::spelling::{EXCHANGE_BYTES, read_exchange, spell, spell_told};
 use crate::{Strings, Tape};
 use std::alloc::{AllocError, Global};
 use std::marker::Model;
-use xcp_slave::{Answer, Exchange, Request};
+use xcp_packet::Packet;
+use xcp_slave::{Answer, Exchange, Request, Told};
 
 /// The bytes before an exchange's string: the caller's number.
 const CALLER_BYTES: usize = 1;
@@ -71,6 +73,20 @@ impl Journal {
         let spelled = spell(request, answer);
         self.tape
             .push(&[caller], &spelled.head, spelled.asked, spelled.told);
+    }
+
+    /// Puts an entry behind the others, as `push` does. The answer's packet, if it is one, stands in the
+    /// lent one.
+    pub fn push_told(&mut self, caller: u8, request: &Request, told: Told, packet: &Packet)
+        requires { room_for_any_entry ≤ self.old.room }
+        ensures { self.new.entries ≡ self.old.entries ++ record {
+          caller = caller;
+          exchange = record { request = request.now; answer = answer_in told packet.now };
+        } ∷ [] }
+    {
+        let parts = spell_told(request, told, packet);
+        self.tape
+            .push(&[caller], &parts.head, parts.asked, parts.told);
     }
 
     /// The entry at an index from 0 on, if there is one. It passes over those before it.

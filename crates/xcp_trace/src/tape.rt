@@ -8,6 +8,9 @@ use std::marker::Model;
 /// The bytes before a string, which say its length.
 const LENGTH_BYTES: usize = 2;
 
+/// So many bytes at most are moved one by one: a call that copies them would cost more.
+const FEW: usize = 16;
+
 /// Byte strings of at most 65,535 bytes each, one behind another in one growing buffer.
 #[derive(Drop)]
 pub struct Tape {
@@ -101,7 +104,13 @@ fn put(bytes: &mut Vec<u8>, more: &[u8])
     ensures len { vec_len bytes.new ≡ vec_len bytes.old + length more.now }
     ensures capacity { vec_capacity bytes.old ≤ vec_capacity bytes.new }
 {
-    let _ = bytes.extend_from_slice(more);
+    if more.len() > FEW {
+        let _ = bytes.extend_from_slice(more);
+        return;
+    }
+    for byte in more {
+        bytes.push_reserved(*byte);
+    }
 }
 
 /// Appends a string behind its length.

@@ -1,10 +1,9 @@
 -- A block under way: DOWNLOAD_NEXT.
-use Rattle.std.proofs.Common.{◌≡◌, ◌≢◌, ℕ, ◌≤◌, Bool, true, false, not, cond, List, [], ◌∷◌, ◌++◌, length, take, min, Option, Some, None, inl, inr, refl, sym, ap, subst, arith, nat_le, nat_lt}
+use Rattle.std.proofs.Common.{◌≡◌, ℕ, ◌≤◌, Bool, true, false, not, cond, List, [], ◌∷◌, ◌++◌, length, take, min, Option, Some, None, refl, sym, ap, subst, arith, nat_le, nat_lt}
 use Rattle.std.specs.Prelude.{◌==◌}
 use Rattle.std.proofs.lemmas.Bool.Decides.{nat_tests}
-use Rattle.xcp_packet.specs.declared.Reply.{Reply}
 use Rattle.xcp_packet.specs.declared.Reply.TheVariants.{Done, Error, ErrorCount}
-use Rattle.xcp_packet.specs.declared.Code.TheVariants.{AccessDenied, WriteProtected, CmdSyntax, Sequence}
+use Rattle.xcp_packet.specs.declared.Code.TheVariants.{CmdSyntax, Sequence}
 use Rattle.xcp_memory.specs.AccessLaws.{ToolIsWritten}
 use Rattle.xcp_memory.specs.Memory.{Writes}
 use Rattle.xcp_memory.specs.Words.{pages_written}
@@ -13,19 +12,7 @@ use Rattle.xcp_packet.specs.Rows.{first_holding}
 use Rattle.xcp_transfer.specs.Downloads.{next_row, packet_room, download_next_row}
 use Rattle.xcp_transfer.specs.Laws.{IsLawful}
 use Rattle.xcp_transfer.proofs.Blocks.{whole}
-use Rattle.xcp_transfer.proofs.RowLemmas.{none_first, none_rest, one_of_two, chosen}
-
--- the error packets of DOWNLOAD_NEXT are about the sequence and the data bytes
-never_by : (o : Option BlockValue) (v : TransferValue) (remaining : ℕ) (bytes : List ℕ) (e : Reply) → first_holding (next_row o remaining bytes v).refusals ≡ Some e → (e ≢ Error AccessDenied) × (e ≢ Error WriteProtected)
-never_by None v remaining bytes e h = (λ k. cc, λ k. cc)
-never_by (Some b) v remaining bytes e h =
-    elim (one_of_two (not (remaining == b.expected)) (nat_lt (length bytes) (min remaining (packet_room v.pages.layout))) (ErrorCount Sequence b.expected) (Error CmdSyntax) e h) [
-      | inl q ↦ (λ k. cc, λ k. cc)
-      | inr q ↦ (λ k. cc, λ k. cc)
-    ]
-
-pub never_denied : (v : TransferValue) (remaining : ℕ) (bytes : List ℕ) (e : Reply) → IsLawful v → first_holding (download_next_row remaining bytes v).refusals ≡ Some e → (e ≢ Error AccessDenied) × (e ≢ Error WriteProtected)
-never_denied v remaining bytes e l h = never_by v.block v remaining bytes e h
+use Rattle.xcp_transfer.proofs.RowLemmas.{none_first, none_rest, chosen}
 
 expected_is : (remaining expected : ℕ) → not (remaining == expected) ≡ false → remaining ≡ expected
 expected_is remaining expected h = grind (arith, nat_tests, h)

@@ -1,5 +1,5 @@
 -- What is known of a row of which no refusal holds, or one does.
-use Rattle.std.proofs.Common.{◌≡◌, Bool, true, false, cond, List, [], ◌∷◌, Some, None, ◌⊎◌, inl, inr, refl}
+use Rattle.std.proofs.Common.{◌≡◌, Bool, true, false, cond, List, ◌∷◌, Some, None, refl}
 use Rattle.xcp_packet.specs.declared.Reply.{Reply}
 use Rattle.xcp_packet.specs.Rows.{first_holding}
 
@@ -11,12 +11,6 @@ none_first false x ts h = refl
 pub none_rest : (t : Bool) (x : Reply) (ts : List (Bool × Reply)) → first_holding ((t, x) ∷ ts) ≡ None → first_holding ts ≡ None
 none_rest true x ts h = absurd (cc)
 none_rest false x ts h = h
-
--- of two refusals the one that holds is one of them
-pub one_of_two : (s t : Bool) (x y e : Reply) → first_holding ((s, x) ∷ (t, y) ∷ []) ≡ Some e → (e ≡ x) ⊎ (e ≡ y)
-one_of_two true t x y e h = inl (cc)
-one_of_two false true x y e h = inr (cc)
-one_of_two false false x y e h = absurd (cc)
 
 -- which of two values it is, by which of two replies
 pub chosen : {V : Type 0} (c : Bool) (r : Reply) (x y : V) → cond c (Some r) None ≡ Some r → cond c x y ≡ x

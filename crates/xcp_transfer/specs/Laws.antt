@@ -1,8 +1,7 @@
 -- Laws of the transfers: statements alone. Each is the contract of a public function of src/laws.rt.
-use Rattle.std.specs.Prelude.{◌≡◌, ◌≢◌, ◌↔◌, ◌<◌, ℕ, true, List, ◌++◌, length, take, Some, None}
+use Rattle.std.specs.Prelude.{◌≡◌, ◌↔◌, ◌<◌, ℕ, true, List, ◌++◌, length, take, Some, None}
 use Rattle.xcp_packet.specs.declared.Reply.{Reply}
-use Rattle.xcp_packet.specs.declared.Reply.TheVariants.{Done, Error}
-use Rattle.xcp_packet.specs.declared.Code.TheVariants.{AccessDenied, WriteProtected}
+use Rattle.xcp_packet.specs.declared.Reply.TheVariants.{Done}
 use Rattle.xcp_packet.specs.Layout.{data_length}
 use Rattle.xcp_memory.specs.Layout.{IsLayout}
 use Rattle.xcp_memory.specs.Memory.{Writes}
@@ -33,14 +32,7 @@ RowsWrite =
     (p q : PagesValue) (mta : Mta) (bytes : List ℕ) → IsLayout p.layout → IsPages p → write_refusal_at p mta (length bytes) ≡ None
     → WritesAt p mta bytes q ↔ (q ≡ written_at p mta bytes)
 
--- DOWNLOAD_NEXT is never refused because of the memory: a block that may not be written doesn't begin
-abbrev pub BlockIsNeverDenied : Type 0
-BlockIsNeverDenied =
-    (v : TransferValue) (remaining : ℕ) (bytes : List ℕ) (e : Reply) → IsLawful v
-    → first_holding (download_next_row remaining bytes v).refusals ≡ Some e
-    → (e ≢ Error AccessDenied) × (e ≢ Error WriteProtected)
-
--- its last packet writes the whole block, from the block's address on
+-- the last packet of a block writes all of it, from the block's address on
 abbrev pub BlockIsWrittenWhole : Type 0
 BlockIsWrittenWhole =
     (v : TransferValue) (b : BlockValue) (remaining : ℕ) (bytes : List ℕ) → IsLawful v → v.block ≡ Some b

@@ -1,6 +1,6 @@
 //! Laws of the definitions. A function here does nothing: its contract is the law, and the check
 //! proves it.
-ghost use Rattle.xcp_transfer.specs.Laws.{RowsRead, RowsWrite, BlockIsNeverDenied, BlockIsWrittenWhole, BlockIsWrittenLast};
+ghost use Rattle.xcp_transfer.specs.Laws.{RowsRead, RowsWrite, BlockIsWrittenWhole, BlockIsWrittenLast};
 ghost use Rattle.xcp_transfer.specs.Laws.{UploadIsWithinPacket, ShortUploadIsWithinPacket};
 
 use xcp_memory::{tool_is_read, tool_is_written};
@@ -13,11 +13,6 @@ pub fn rows_read_and_write()
     tool_is_read();
     tool_is_written();
 }
-
-/// DOWNLOAD_NEXT never meets a range that can't be accessed or may not be written.
-pub fn block_is_never_denied()
-    ensures { BlockIsNeverDenied }
-{}
 
 /// A block is written whole, with its last packet, or not at all.
 pub fn block_is_written_whole()

@@ -14,7 +14,7 @@ impl Play<(), View> for ScanPlay {
     ghost use Rattle.std.specs.Prelude.{◌-◌};
     ghost use Rattle.xcp_bank.specs.WriterSteps.{Scanned, writer_plays};
 
-    ghost then = { λ st. writer_plays (Scanned (st.word - 1)) st };
+    ghost then = { λ st. writer_plays (Scanned 256 (st.word - 1)) st };
 }
 
 struct ResetPlay;
@@ -47,7 +47,7 @@ impl Play<(), View> for PublishPlay {
 pub(super) fn scan(store: &Store, seat: &mut Seat<(), View>, buffer: usize) -> u64
     requires buffer { buffer < BUFFERS }
     requires seat { (w : Writing) × IsWriterSeat seat.old store.now.table_id w × (w.pins.building ≡ None) × (buffer ≢ w.current) }
-    ensures { WriterMoves (λ w u. Scanned buffer w result u) seat.old seat.new store.now.table_id }
+    ensures { WriterMoves (λ w u. Scanned 256 buffer w result u) seat.old seat.new store.now.table_id }
 {
     store.load::<ScanPlay>(seat, 1 + buffer)
 }

@@ -1,5 +1,5 @@
-use Rattle.xcp_memory.proofs.LawfulLemmas.{lawful}
+use Rattle.xcp_memory.proofs.Keeping.{kept_limits}
 use Rattle.xcp_memory.proofs.layout_laws.kept_limits_make_a_layout.Goals as goal
 
 pub returns : goal.returns
-returns c = lawful
+returns c = kept_limits

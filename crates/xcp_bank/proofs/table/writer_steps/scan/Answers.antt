@@ -18,11 +18,11 @@ load-requires c =
     let st = step s.table_id.slots (1 + b) 0 0 none in (
       f.1.bank_is,
       omega arith,
-      subst (λ (i : ℕ). Allows (Banked 256) s.table_id.slots c.args.seat.now.id c.args.seat.now.me (1 + b) (λ n. n) (writer_plays (Scanned i) st c.args.seat.now.me)) (sym (back b))
+      subst (λ (i : ℕ). Allows (Banked 256) s.table_id.slots c.args.seat.now.id c.args.seat.now.me (1 + b) (λ n. n) (writer_plays (Scanned 256 i) st c.args.seat.now.me)) (sym (back b))
           (scan_allowed 256 s.table_id.slots c.args.seat.now.id f.0 c.args.seat.now.me b (ap (λ (m : Seat). m.0) f.1.me) low f.3 f.2 st),
     )
 
 pub returns : goal.returns
 returns c = let e = c.load.ensures in let b : ℕ = c.args.buffer in let st = step c.args.store.now.table_id.slots (1 + b) 0 0 none in
-    subst (λ (i : ℕ). WriterMoves (λ w. Scanned i w c.load.result) c.args.seat.now c.load.new.seat c.args.store.now.table_id) (back b)
-    (desk_step (Scanned (1 + b - 1)) st c.args.seat.now c.load.new.seat c.load.result c.args.store.now.table_id e.0 e.2)
+    subst (λ (i : ℕ). WriterMoves (λ w. Scanned 256 i w c.load.result) c.args.seat.now c.load.new.seat c.args.store.now.table_id) (back b)
+    (desk_step (Scanned 256 (1 + b - 1)) st c.args.seat.now c.load.new.seat c.load.result c.args.store.now.table_id e.0 e.2)

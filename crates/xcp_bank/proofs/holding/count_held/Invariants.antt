@@ -1,0 +1,6 @@
+use Rattle.xcp_bank.specs.Known.{Writing}
+use Rattle.xcp_bank.specs.Seats.{IsWriterSeat, Counted}
+use Rattle.xcp_bank.proofs.holding.count_held.Given as goal
+
+abbrev pub invariant-loop-buffer : goal.invariant-loop-buffer
+invariant-loop-buffer l = (w : Writing) → IsWriterSeat l.fn.token l.board w → (u : Writing) × IsWriterSeat l.token l.board u × Counted l.buffer l.held w u

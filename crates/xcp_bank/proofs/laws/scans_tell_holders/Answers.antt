@@ -1,0 +1,5 @@
+use Rattle.xcp_bank.proofs.Scans.{scans_tell}
+use Rattle.xcp_bank.proofs.laws.scans_tell_holders.Goals as goal
+
+pub returns : goal.returns
+returns c = λ front b n s ran. scans_tell front b n s ran

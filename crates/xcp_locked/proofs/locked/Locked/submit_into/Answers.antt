@@ -1,0 +1,24 @@
+use Rattle.std.proofs.Common.{◌+◌, ◌∙◌, ℕ, ap, arith, length, subst}
+use Rattle.xcp_memory.specs.Layout.{LayoutValue}
+use Rattle.xcp_slave.specs.Run.{Run}
+use Rattle.xcp_slave.specs.Told.{answer_in}
+use Rattle.xcp_slave.specs.Value.{layout_of, opening}
+use Rattle.xcp_locked.specs.Journal.{exchanges}
+use Rattle.xcp_slave.proofs.LayoutLaws.{answers-layout}
+use Rattle.xcp_locked.specs.Locked.{LockedValue}
+use Rattle.xcp_locked.proofs.Journals.{one_more, run_goes_on}
+use Rattle.xcp_locked.proofs.Publications.{kept_goes_on}
+use Rattle.xcp_locked.proofs.locked.Locked.submit_into.Goals as goal
+
+pub invariant_of-self-2 : goal.invariant_of-self-2
+invariant_of-self-2 g c =
+    let more = one_more c.self.inside.journal.entries _ _ _ c.reserve.ensures.entries c.execute-told.ensures.journal in (
+      run_goes_on c.self.inside.slave c.self.inside.journal.entries _ c.caller.inside.number c.args.request.now (answer_in c.execute-told.result c.execute-told.new.packet) c.execute-told.new.slave more.0 c.self.invariant.0 c.execute-told.ensures.answers,
+      omega (arith, more.1, c.add.ensures.total, c.audit.ensures.total, c.self.invariant.1),
+      omega (arith, more.1, c.if-len-ge-JOURNAL.false, c.len.ensures),
+      answers-layout c.self.inside.slave c.args.request.now (answer_in c.execute-told.result c.execute-told.new.packet) c.execute-told.new.slave c.execute-told.ensures.answers ∙ c.self.invariant.3,
+      kept_goes_on g.N.Name.bank (opening g.N.Name.layout) c.self.inside.journal.entries _ c.self.inside.slave c.caller.inside.number c.args.request.now (answer_in c.execute-told.result c.execute-told.new.packet) c.execute-told.new.slave (c.len-at.result + 1) c.self.inside.publisher c.reserve-else-is_err.new.self _ more.0 (subst (λ (l : LayoutValue). Run (opening l) (exchanges c.self.inside.journal.entries) c.self.inside.slave) c.self.invariant.3 c.self.invariant.0) c.execute-told.ensures.answers (ap (λ (n : ℕ). n + 1) (c.len-at.ensures ∙ ap length c.reserve.ensures.entries)) c.reserve-else-is_err.ensures.writer c.reserve-else-is_err.ensures.places c.reserve-else-is_err.ensures.last c.execute-told.ensures.offers c.self.invariant.4,
+    )
+
+pub returns-clause-layout : goal.returns-clause-layout
+returns-clause-layout g c = answers-layout c.self.inside.slave c.args.request.now (answer_in c.execute-told.result c.execute-told.new.packet) c.execute-told.new.slave c.execute-told.ensures.answers ∙ ap (λ (d : LockedValue). layout_of d.slave) c.self.view_is

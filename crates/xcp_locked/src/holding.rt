@@ -1,0 +1,18 @@
+//! How many buffers of the bank readers hold.
+ghost use Rattle.std.specs.Prelude.{◌≡◌, ◌≤◌};
+ghost use Rattle.xcp_bank.specs.Ends.{HeldDoes, WriterEnd};
+
+use crate::{Locked, Name};
+
+impl<N: Name> Locked<N> {
+    /// How many of the seven buffers that aren't current readers still hold, those included that were
+    /// dropped while they held one: at most six. Nothing is executed or published.
+    pub fn held(&mut self) -> u8
+        ensures most { result ≤ 6 }
+        ensures same { self.new ≡ self.old }
+        ensures does { (old : WriterEnd) × (new : WriterEnd) × (old.bank ≡ N.bank)
+            × (old.publications ≡ self.old.publications) × HeldDoes result old new }
+    {
+        self.publisher.writer.held()
+    }
+}

@@ -1,0 +1,16 @@
+use Rattle.std.proofs.Common.{ap, arith, ◌∙◌, ◌++◌, ◌∷◌, []}
+use Rattle.xcp_slave.specs.Told.{answer_in}
+use Rattle.xcp_trace.specs.declared.journal.Entry.{Entry}
+use Rattle.xcp_trace.specs.Entries.{IsEntry, JournalValue}
+use Rattle.xcp_trace.proofs.Spelled.{all_more, entry_pushed}
+use Rattle.xcp_trace.proofs.journal.Journal.push_told.Goals as goal
+
+pub invariant_of-self : goal.invariant_of-self
+invariant_of-self c =
+    rw (c.push.ensures, c.spell_told-parts.ensures.string)
+    (all_more IsEntry _ _ c.self.invariant (record { caller = omega arith; exchange = c.spell_told-parts.ensures.fits }))
+
+pub returns : goal.returns
+returns c =
+    let e : Entry = record { caller = c.args.caller; exchange = record { request = c.args.request.now; answer = answer_in c.args.told c.args.packet.now } } in
+    rw (c.push.ensures, c.spell_told-parts.ensures.string) (entry_pushed c.self.inside.tape.strings e ∙ ap (λ (j : JournalValue). j.entries ++ e ∷ []) c.self.view_is)
