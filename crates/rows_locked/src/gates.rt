@@ -11,7 +11,7 @@ use std::sync::{Mutex, Wait};
 use std::test::Fail;
 use std::thread;
 use std::thread::Threads;
-use xcp_locked::{Gate, Locked, Name, Opening, TaskError, Unnamed, run_tasks};
+use xcp_locked::{Gate, Locked, Name, Opening, Settled, TaskError, Unnamed, Worker, run_tasks};
 
 // How often a gate looks before it gives up.
 const LOOKS: u32 = 1_000_000;
@@ -83,5 +83,79 @@ fn workers_run_at_one_time(rt: HostRuntime) -> Result<(), Fail> {
     let second = unnamed(rt.alloc(), 2)?;
     let second = run_held::<Brand, _>(&rt, rt.alloc(), second, 1)?;
     assert!(rt; first == (None, 3) && second == (None, 3));
+    Ok(())
+}
+
+// Ends one task after one of its cycles.
+#[derive(Drop)]
+struct Spent {
+    task: u8,
+    cycle: u32,
+}
+
+impl Gate for Spent {
+    fn before(&self, _task: u8, _cycle: u32) -> bool {
+        true
+    }
+
+    fn after(&self, task: u8, cycle: u32) -> bool {
+        task != self.task || cycle != self.cycle
+    }
+}
+
+// The tasks' fault, how many workers came back and settle, and how many calls there were.
+type Ended = (Option<TaskError>, usize, u64);
+
+// Three tasks of six cycles, of which one is ended after cycle 3.
+fn run_spent<N: Name + Send + Sync, R: Threads + Wait + Abort + Sync>(
+    rt: &R,
+    alloc: Global,
+    unnamed: Unnamed,
+    task: u8,
+) -> Result<Ended, Fail>
+    requires { (unnamed.name ≡ N.name) × (unnamed.callers ≡ N.parts)
+        × (unnamed.layout ≡ N.layout) × (unnamed.bank ≡ N.bank) }
+{
+    let Opening {
+        locked,
+        mut callers,
+        readers,
+    } = Locked::<N>::new(alloc, unnamed)?;
+    let mut readers = Vec::from_array(alloc, readers)?;
+    let one = worker(&mut callers, &mut readers)?;
+    let two = worker(&mut callers, &mut readers)?;
+    let three = worker(&mut callers, &mut readers)?;
+    let workers = Vec::from_array(alloc, [one, two, three])?;
+    let lock = Mutex::new(locked);
+    let gate = Spent { task, cycle: 3 };
+    let mut ran = run_tasks(rt, alloc, &lock, workers, 6, &gate)?;
+    let mut locked = lock.into_inner();
+    let back = settling(&mut locked, &mut ran.workers);
+    Ok((ran.fault, back, locked.len()))
+}
+
+// How many of these workers settle: their receipts are the journal's, and their readers hold the opening's
+// image, which no task changes.
+fn settling<N: Name>(locked: &mut Locked<N>, workers: &mut [Worker<N>]) -> usize {
+    let mut count = 0usize;
+    for worker in workers.iter_mut() {
+        let held = locked.settle_reader(&mut worker.reader);
+        let opening = Some(Settled { number: 0, from: 0 });
+        if held == opening && locked.settle(&worker.caller).is_ok() {
+            count = count.wrapping_add(1);
+        }
+    }
+    count
+}
+
+// Tasks 0, 1 and 2 of six cycles make 12, 6 and 6 calls; the one that is ended makes those of four.
+#[test]
+fn spent_gate_ends_one_task(rt: HostRuntime) -> Result<(), Fail> {
+    let first = unnamed(rt.alloc(), 3)?;
+    let first = run_spent::<Brand, _>(&rt, rt.alloc(), first, 1)?;
+    let second = unnamed(rt.alloc(), 3)?;
+    let second = run_spent::<Brand, _>(&rt, rt.alloc(), second, 0)?;
+    assert!(rt; first == (Some(TaskError::GateSpent(1)), 3, 22));
+    assert!(rt; second == (Some(TaskError::GateSpent(0)), 3, 20));
     Ok(())
 }

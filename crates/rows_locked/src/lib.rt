@@ -4,6 +4,8 @@
 #[cfg(test)]
 mod asking;
 #[cfg(test)]
+mod counts;
+#[cfg(test)]
 mod crossings;
 #[cfg(test)]
 mod crowds;
@@ -16,6 +18,8 @@ mod journals;
 #[cfg(test)]
 mod meetings;
 #[cfg(test)]
+mod noise;
+#[cfg(test)]
 mod openings;
 #[cfg(test)]
 mod readers;
@@ -25,5 +29,7 @@ mod rows;
 mod servers;
 #[cfg(test)]
 mod sessions;
+#[cfg(test)]
+mod soaks;
 #[cfg(test)]
 mod streams;

@@ -33,12 +33,17 @@ fn layout(alloc: Global, bytes: &[u8], pages: i64) -> Result<Layout, Fail> {
     })?)
 }
 
+// The layout of `unnamed`.
+pub fn small(alloc: Global) -> Result<Layout, Fail> {
+    layout(alloc, &[0, 1, 2, 3], 2)
+}
+
 // One whose segment has four bytes and two pages.
 pub fn unnamed(alloc: Global, callers: u8) -> Result<Unnamed, Fail>
     requires { (1 ≤ callers) × (callers ≤ 16) }
     ensures { IfOk result (λ u. u.callers ≡ callers) }
 {
-    let layout = layout(alloc, &[0, 1, 2, 3], 2)?;
+    let layout = small(alloc)?;
     Ok(Unnamed::new(alloc, layout, callers)?)
 }
 

@@ -1,6 +1,6 @@
 // What readers hold, and which publication that is: rows of one tool and up to six readers.
 
-use crate::rows::{Row, first_wrong};
+use crate::rows::{Row, first_wrong, first_wrong_line};
 use std::test::Fail;
 
 // CONNECT, and its answer.
@@ -147,5 +147,64 @@ fn told_reader_keeps_its_image(rt: HostRuntime) -> Result<(), Fail> {
         ("reader 2 acquires", "same"),
     ];
     assert_eq!(rt; first_wrong(rt.alloc(), &rows)?, None);
+    Ok(())
+}
+
+// Readers take images, settle and are told, move on, leave and are dropped. What isn't current is held
+// by those alone that still have it; what isn't published changes nothing.
+const HELD: &str = "held > 0
+reader 0 acquires > newer
+FF 00 > FF 05 80 20 40 00 01 01
+EB 03 00 01 > FF
+held > 0
+ED 01 00 00 00 10 00 00 11 > FF
+held > 1
+reader 1 acquires > newer
+reader 2 acquires > newer
+held > 1
+ED 01 00 00 00 10 00 00 22 > FF
+held > 2
+F4 01 00 00 00 10 00 00 > FF 22
+drain > nothing
+held > 2
+reader 2 settles > 1 from 3
+reader 2 leaves > -
+held > 2
+reader 1 is told > -
+reader 1 settles > 1 from 3
+held > 2
+reader 1 acquires > newer
+held > 1
+reader 0 reads > 00 01 02 03
+reader 0 leaves > -
+held > 0
+reader 3 acquires > newer
+reader 1 acquires > same
+ED 01 00 00 00 10 00 00 33 > FF
+held > 1
+reader 3 is dropped > -
+reader 1 leaves > -
+held > 1
+reader 4 acquires > newer
+ED 01 00 00 00 10 00 00 44 > FF
+held > 2
+reader 5 acquires > newer
+ED 01 00 00 00 10 00 00 55 > FF
+held > 3
+reader 4 settles > 3 from 7
+reader 4 acquires > newer
+held > 2
+ED 01 00 00 00 10 00 00 66 > FF
+ED 01 00 00 00 10 00 00 77 > FF
+held > 3
+reader 5 leaves > -
+held > 2
+reader 4 settles > 5 from 9
+reader 4 leaves > -
+held > 1";
+
+#[test]
+fn held_buffers_are_counted(rt: HostRuntime) -> Result<(), Fail> {
+    assert_eq!(rt; first_wrong_line(rt.alloc(), HELD)?, None);
     Ok(())
 }

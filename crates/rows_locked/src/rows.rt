@@ -1,12 +1,13 @@
 // Rows as texts: what is asked, and what comes of it. A command packet in hex, `drain` or `store`, and
-// its answer; or the number of a reader, and that it `acquires` (`newer` or `same`), `reads` (the bytes
-// that its image begins with: the rest is 0), `is told` (`-`), or `settles` (`1 from 7`, or `none`).
+// its answer; `held`, and how many buffers are; or the number of a reader, and that it `acquires` (`newer`
+// or `same`), `reads` (the bytes that its image begins with: the rest is 0), `settles` (`1 from 7`, or
+// `none`), or, with `-`, that it `is told`, `leaves` or `is dropped`.
 ghost use Rattle.std.specs.Prelude.{◌≡◌};
 
 use crate::images::held;
 use crate::openings::unnamed;
 use arrayvec::ArrayVec;
-use std::alloc::Global;
+use std::alloc::{AllocError, Global};
 use std::marker::Brand;
 use std::test::Fail;
 use xcp_locked::{Caller, Locked, Name, Opening, Reader, Settled, Taken, Unnamed};
@@ -96,20 +97,54 @@ fn follows<N: Name>(
     }
 }
 
+// Readers, each at its place: none where it is gone.
+type Seats<N> = Vec<Option<Reader<N>>>;
+
+fn seats<N: Name>(alloc: Global, readers: [Reader<N>; 6]) -> Result<Seats<N>, AllocError> {
+    let mut seats = Vec::new(alloc);
+    for reader in Vec::from_array(alloc, readers)? {
+        seats.push(Some(reader))?;
+    }
+    Ok(seats)
+}
+
+// Whether what a reader does comes out so, of which it is gone or not.
+fn follows_or_goes<N: Name>(
+    locked: &mut Locked<N>,
+    seat: &mut Option<Reader<N>>,
+    deed: &str,
+    said: &str,
+) -> Option<bool> {
+    match deed {
+        "leaves" => {
+            seat.take()?.leave();
+            Some(said == "-")
+        }
+        "is dropped" => {
+            drop(seat.take()?);
+            Some(said == "-")
+        }
+        _ => follows(locked, seat.as_mut()?, deed, said),
+    }
+}
+
 // Whether a row comes out as it says; none where it means nothing.
-fn holds<N: Name>(opening: &mut Opening<N>, row: Row) -> Option<bool> {
-    let Opening {
-        locked,
-        callers,
-        readers,
-    } = opening;
+fn holds<N: Name>(
+    locked: &mut Locked<N>,
+    caller: &mut Caller<N>,
+    seats: &mut Seats<N>,
+    row: Row,
+) -> Option<bool> {
     let (question, said) = row;
+    if question == "held" {
+        return Some(locked.held() == said.parse::<u8>().ok()?);
+    }
     let Some(rest) = question.strip_prefix("reader ") else {
-        return answers(locked, callers.get_mut(0)?, question, said);
+        return answers(locked, caller, question, said);
     };
     let (number, deed) = rest.split_once(' ')?;
-    let reader = readers.get_mut(number.parse::<usize>().ok()?)?;
-    follows(locked, reader, deed, said)
+    let seat = seats.get_mut(number.parse::<usize>().ok()?)?;
+    follows_or_goes(locked, seat, deed, said)
 }
 
 fn first_wrong_of<N: Name>(
@@ -120,9 +155,15 @@ fn first_wrong_of<N: Name>(
     requires { (unnamed.name ≡ N.name) × (unnamed.callers ≡ N.parts)
         × (unnamed.layout ≡ N.layout) × (unnamed.bank ≡ N.bank) }
 {
-    let mut opening = Locked::<N>::new(alloc, unnamed)?;
+    let Opening {
+        mut locked,
+        mut callers,
+        readers,
+    } = Locked::<N>::new(alloc, unnamed)?;
+    let caller = callers.get_mut(0).ok_or("a caller")?;
+    let mut seats = seats(alloc, readers)?;
     for (number, row) in rows.iter().enumerate() {
-        if holds(&mut opening, *row) != Some(true) {
+        if holds(&mut locked, caller, &mut seats, *row) != Some(true) {
             return Ok(Some(number));
         }
     }
@@ -133,4 +174,14 @@ fn first_wrong_of<N: Name>(
 pub fn first_wrong(alloc: Global, rows: &[Row]) -> Result<Option<usize>, Fail> {
     let unnamed = unnamed(alloc, 1)?;
     first_wrong_of::<Brand>(alloc, unnamed, rows)
+}
+
+// The same of a text, each of whose lines is a row: a `>` stands between what is asked and what comes.
+pub fn first_wrong_line(alloc: Global, text: &'static str) -> Result<Option<usize>, Fail> {
+    let mut rows = Vec::new(alloc);
+    for line in text.lines() {
+        let (question, said) = line.split_once('>').ok_or("a row")?;
+        rows.push((question.trim(), said.trim()))?;
+    }
+    first_wrong(alloc, &rows)
 }

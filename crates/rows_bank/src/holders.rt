@@ -1,0 +1,112 @@
+// Which buffers the writer finds held: readers that hold, leave, are dropped and move on.
+ghost use Rattle.xcp_bank.specs.Ends.{Holds};
+
+use std::test::Fail;
+use xcp_bank::{Bank, IMAGE_BYTES, Reader, Taken, Writer};
+
+fn all(byte: u8) -> [u8; IMAGE_BYTES] {
+    [byte; IMAGE_BYTES]
+}
+
+// Publishes images, each of one byte only: `from` and what follows, but not `to`.
+fn publish_all(writer: &mut Writer, from: u8, to: u8) {
+    for byte in from..to {
+        writer.publish(&all(byte));
+    }
+}
+
+// What a reader takes, its number, and its last byte.
+fn take(reader: &mut Reader) -> (Taken, u64, u8)
+    ensures { Holds reader.new }
+{
+    let taken = reader.acquire();
+    let mut bytes = [0; 1];
+    reader.read(2039, &mut bytes);
+    (taken, reader.number(), bytes[0])
+}
+
+// Six readers hold the first six images, and 100 newer ones are published. One reader leaves, another is
+// dropped while it holds, and a third moves on to the newest image.
+#[test]
+fn held_buffers_are_counted(rt: HostRuntime) -> Result<(), Fail> {
+    let (mut writer, readers) = Bank::new(rt.alloc(), &all(0))?;
+    let mut readers = Vec::from_array(rt.alloc(), readers)?;
+    let none = writer.held();
+    for (n, reader) in readers.iter_mut().enumerate() {
+        if n > 0 {
+            writer.publish(&all((n % 256) as u8));
+        }
+        reader.acquire();
+    }
+    let five_held = writer.held();
+    publish_all(&mut writer, 6, 106);
+    let all_held = writer.held();
+    assert!(rt; [none, five_held, all_held] == [0, 5, 6] && writer.count() == 106);
+    let _five = readers.pop().ok_or("reader 5")?;
+    let _four = readers.pop().ok_or("reader 4")?;
+    readers.pop().ok_or("reader 3")?.leave();
+    let left = writer.held();
+    let _two = readers.pop().ok_or("reader 2")?;
+    let mut one = readers.pop().ok_or("reader 1")?;
+    drop(readers.pop().ok_or("reader 0")?);
+    let dropped = writer.held();
+    let newest = take(&mut one);
+    let moved = writer.held();
+    publish_all(&mut writer, 106, 107);
+    assert!(rt; [left, dropped, moved, writer.held()] == [5, 5, 4, 5]);
+    assert!(rt; newest == (Taken::Newer, 105, 105) && writer.count() == 107);
+    Ok(())
+}
+
+// A reader that never comes again keeps its image while another takes four newer ones.
+#[test]
+fn lost_reader_keeps_its_image(rt: HostRuntime) -> Result<(), Fail> {
+    let (mut writer, readers) = Bank::new(rt.alloc(), &all(9))?;
+    let mut readers = Vec::from_array(rt.alloc(), readers)?;
+    let mut other = readers.pop().ok_or("a reader")?;
+    let mut lost = readers.pop().ok_or("another")?;
+    let first = take(&mut lost);
+    let mut good = first == (Taken::Newer, 0, 9);
+    for byte in 101..105u8 {
+        writer.publish(&all(byte));
+        good = good && take(&mut other) == (Taken::Newer, u64::from(byte) - 100, byte);
+    }
+    let held = writer.held();
+    writer.publish(&all(105));
+    good = good && [held, writer.held()] == [1, 2];
+    assert!(rt; good && lost.holds() && writer.count() == 6);
+    assert!(rt; take(&mut lost) == (Taken::Newer, 5, 105));
+    Ok(())
+}
+
+// Readers find what they hold still current, two leave from the current buffer, and then nothing is held
+// but that.
+#[test]
+fn readers_take_the_same_again(rt: HostRuntime) -> Result<(), Fail> {
+    let (mut writer, readers) = Bank::new(rt.alloc(), &all(3))?;
+    let mut readers = Vec::from_array(rt.alloc(), readers)?;
+    let mut zero = readers.pop().ok_or("a reader")?;
+    let mut one = readers.pop().ok_or("another")?;
+    let mut two = readers.pop().ok_or("a third")?;
+    let mut three = readers.pop().ok_or("a fourth")?;
+    let mut good = take(&mut zero) == (Taken::Newer, 0, 3);
+    good = good && take(&mut zero) == (Taken::Same, 0, 3);
+    good = good && take(&mut one) == (Taken::Newer, 0, 3);
+    writer.publish(&all(4));
+    good = good && take(&mut one) == (Taken::Newer, 1, 4);
+    good = good && take(&mut one) == (Taken::Same, 1, 4);
+    good = good && take(&mut two) == (Taken::Newer, 1, 4);
+    good = good && writer.held() == 1;
+    two.leave();
+    writer.publish(&all(5));
+    good = good && writer.held() == 2;
+    good = good && take(&mut zero) == (Taken::Newer, 2, 5);
+    good = good && take(&mut three) == (Taken::Newer, 2, 5);
+    three.leave();
+    good = good && take(&mut one) == (Taken::Newer, 2, 5);
+    good = good && writer.held() == 0;
+    writer.publish(&all(6));
+    good = good && take(&mut zero) == (Taken::Newer, 3, 6);
+    assert!(rt; good && writer.held() == 1 && writer.count() == 4);
+    Ok(())
+}
