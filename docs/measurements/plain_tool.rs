@@ -1,11 +1,12 @@
-// A calibration tool that asks as fast as it can, and, with other words, a plain slave that echoes frames.
+// A calibration tool that asks as fast as it can, and, with other words, a plain slave of one thread.
 //
-// plain_tool echo PORT           accepts one tool, and sends each frame back as it came, with one buffer of 512 bytes
+// plain_tool slave PORT          accepts one tool, and answers it, with one buffer of 512 bytes for what it reads
 // plain_tool trips PORT N        N times: sends one GET_STATUS, waits for its answer; prints the microseconds of all
 // plain_tool pipe PORT N         sends N of them behind one another, reads all answers meanwhile; prints the same
 // plain_tool data PORT N         starts a list of two bytes at 0x8000 on event channel 0, and reads N frames of data; prints the same
 use std::io::{Read, Write};
 use std::net::{TcpListener, TcpStream};
+use std::sync::Mutex;
 use std::time::Instant;
 
 const CONNECT: [u8; 6] = [2, 0, 0, 0, 0xff, 0];
@@ -23,11 +24,15 @@ const LIST: [&[u8]; 8] = [
     &[4, 0, 0, 0, 0xde, 1, 0, 0],
 ];
 
-// Sends back what came, frame by frame: a frame that is cut is kept until the rest comes.
-fn echo(mut stream: TcpStream) -> std::io::Result<()> {
+// Answers CONNECT and GET_STATUS, and any other command as unknown; stores each exchange in one growing buffer behind a lock; and
+// writes the answers of one read together.
+fn answer(mut stream: TcpStream) -> std::io::Result<()> {
     stream.set_nodelay(true)?;
+    let journal: Mutex<Vec<u8>> = Mutex::new(Vec::new());
     let mut held = Vec::with_capacity(1024);
+    let mut frames: Vec<u8> = Vec::with_capacity(4096);
     let mut piece = [0; 512];
+    let mut counter = 0u16;
     loop {
         let count = stream.read(&mut piece)?;
         if count == 0 {
@@ -40,9 +45,25 @@ fn echo(mut stream: TcpStream) -> std::io::Result<()> {
             if held.len() - from < length {
                 break;
             }
+            let packet = &held[from + 4..from + length];
+            let told: &[u8] = match packet {
+                [0xff, _, ..] => &[0xff, 5, 0x80, 32, 64, 0, 1, 1],
+                [0xfd, ..] => &[0xff, 0, 0, 0, 0, 0],
+                _ => &[0xfe, 0x20],
+            };
+            let mut stored = journal.lock().unwrap();
+            stored.extend_from_slice(&[packet.len() as u8, told.len() as u8]);
+            stored.extend_from_slice(packet);
+            stored.extend_from_slice(told);
+            drop(stored);
+            frames.extend_from_slice(&(told.len() as u16).to_le_bytes());
+            frames.extend_from_slice(&counter.to_le_bytes());
+            frames.extend_from_slice(told);
+            counter = counter.wrapping_add(1);
             from += length;
         }
-        stream.write_all(&held[..from])?;
+        stream.write_all(&frames)?;
+        frames.clear();
         held.drain(..from);
     }
 }
@@ -84,10 +105,10 @@ fn take(stream: &mut TcpStream, frames: usize) {
 fn main() {
     let words: Vec<String> = std::env::args().collect();
     let port: u16 = words[2].parse().unwrap();
-    if words[1] == "echo" {
+    if words[1] == "slave" {
         let listener = TcpListener::bind(("127.0.0.1", port)).unwrap();
         let (stream, _) = listener.accept().unwrap();
-        let _ = echo(stream);
+        let _ = answer(stream);
         return;
     }
     let times: usize = words[3].parse().unwrap();

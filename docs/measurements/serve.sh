@@ -1,5 +1,5 @@
 #!/usr/bin/env bash
-# Measures `xcpd serve` over TCP beside a plain Rust program that only echoes frames: round trips of one tool without tasks, and
+# Measures `xcpd serve` over TCP beside a plain Rust slave of one thread: round trips of one tool without tasks, and
 # beside six tasks that each have a cycle every millisecond; and commands that are sent behind one another. The best of seven
 # runs of 30,000 commands each (the journal takes 65,536 calls).
 # Use: docs/measurements/serve.sh      from any folder; wants the built program and rustc.
@@ -28,14 +28,14 @@ best() { # how the tool asks, and the words of the program that answers, where P
   echo "$least"
 }
 
-row() { # what the tool does, and the microseconds of the program and of the echo
+row() { # what the tool does, and the microseconds of the program and of the plain slave
   awk -v h="$1" -v a="$2" -v b="$3" -v n="$times" 'BEGIN { printf "%-22s %14.2f %14.2f %8.2f\n", h, a / n, b / n, a / b }'
 }
 
 "$top/bin/xcpd" --version >/dev/null
 xcpd=("$top/out/xcpd" serve --config "$config" --port PORT)
-printf '%-22s %14s %14s %8s\n' 'the tool' 'xcpd, us each' 'echo, us each' ratio
-plain=$(best trips "$work/tool" echo PORT)
+printf '%-22s %14s %14s %8s\n' 'the tool' 'xcpd, us each' 'plain, us each' ratio
+plain=$(best trips "$work/tool" slave PORT)
 row trips "$(best trips "${xcpd[@]}" --tasks 0)" "$plain"
 row 'trips beside six tasks' "$(best trips "${xcpd[@]}" --tasks 6 --period 1 --cycles 1000)" "$plain"
-row pipe "$(best pipe "${xcpd[@]}" --tasks 0)" "$(best pipe "$work/tool" echo PORT)"
+row pipe "$(best pipe "${xcpd[@]}" --tasks 0)" "$(best pipe "$work/tool" slave PORT)"
