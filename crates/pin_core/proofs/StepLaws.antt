@@ -9,10 +9,10 @@ use Rattle.pin_core.specs.declared.events.Seen.TheVariants.{Index, Word, Leaving
 use Rattle.pin_core.specs.State.{Reader, PinState, newcomer, reader, words_of, leavings_of, published, publication}
 use Rattle.pin_core.specs.Effects.{looking, pinning, leaving, after_look, after_pin, after_unpin, after_scan, after_reset, after_write, after_publish}
 use Rattle.pin_core.specs.Steps.{IsEnabled, Steps, Runs}
-use Rattle.pin_core.specs.Lawful.{Lawful}
-use Rattle.pin_core.proofs.Lists.{at_each}
-use Rattle.pin_core.proofs.ReaderSteps.{look_keeps, pin_keeps, unpin_keeps}
-use Rattle.pin_core.proofs.WriterSteps.{scan_keeps, reset_keeps, write_keeps, publish_keeps}
+use Rattle.pin_core.specs.StateInvariant.{Lawful}
+use Rattle.pin_core.proofs.ListLemmas.{at_each}
+use Rattle.pin_core.proofs.ReaderStepLemmas.{look_keeps, pin_keeps, unpin_keeps}
+use Rattle.pin_core.proofs.WriterStepLemmas.{scan_keeps, reset_keeps, write_keeps, publish_keeps}
 
 pub step_keeps : (W : ℕ) (s t : PinState) (e : Event) (a : Seen) → Lawful W s → Steps W s e a t → Lawful W t
 step_keeps W s t (Look r) a law h = subst (Lawful W) (sym h.2) (look_keeps W s r law h.0)

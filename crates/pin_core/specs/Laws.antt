@@ -6,7 +6,7 @@ use Rattle.pin_core.specs.declared.events.Seen.{Seen}
 use Rattle.pin_core.specs.declared.events.Seen.TheVariants.{Word}
 use Rattle.pin_core.specs.State.{PinState, reader, words_of, published, publication, opening}
 use Rattle.pin_core.specs.Steps.{IsEnabled, Steps, Runs}
-use Rattle.pin_core.specs.Lawful.{holders, Lawful, IsIdle}
+use Rattle.pin_core.specs.StateInvariant.{holders, Lawful, IsIdle}
 
 -- The opening state of 1 to 256 words is lawful.
 abbrev pub OpensLawful : Type 0

@@ -1,7 +1,8 @@
 pub mod State
-pub mod Head
-pub mod Fields
+pub mod CurrentWord
+pub mod CoreFields
 pub mod Effects
 pub mod Steps
-pub mod Lawful
+pub mod StateInvariant
 pub mod Laws
+pub mod private

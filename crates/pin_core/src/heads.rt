@@ -1,6 +1,6 @@
 // The word in which a bank has the current buffer and its pins.
 ghost use Rattle.std.specs.Prelude.{◌≡◌, ℕ, ◌<◌};
-ghost use Rattle.pin_core.specs.Head.{head_of};
+ghost use Rattle.pin_core.specs.CurrentWord.{head_of};
 
 use crate::BUFFERS;
 

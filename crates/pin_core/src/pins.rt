@@ -1,7 +1,7 @@
 // The whole state, and how it begins.
 ghost use Rattle.std.specs.Prelude.{◌≡◌, ◌<◌, ◌≤◌, ◌∷◌, length, replicate, IfOk};
 ghost use Rattle.pin_core.specs.State.{newcomer, opening, width};
-ghost use Rattle.pin_core.specs.Lawful.{Lawful};
+ghost use Rattle.pin_core.specs.StateInvariant.{Lawful};
 
 use crate::reader::Reader;
 use crate::words::Words;
@@ -44,7 +44,8 @@ impl Model for Core {
 
     ghost Value = { PinState };
 
-    ghost use Rattle.pin_core.specs.Fields.{shown, IsSound};
+    ghost use Rattle.pin_core.specs.CoreFields.{shown};
+    ghost use Rattle.pin_core.specs.private.CoreFields.{IsSound};
 
     ghost view = { shown };
 

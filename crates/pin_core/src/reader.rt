@@ -2,7 +2,7 @@
 ghost use Rattle.std.specs.Prelude.{◌≡◌, ◌≢◌, ◌↔◌, ◌⊎◌, ◌-◌, ◌<◌, ◌||◌, true, IsTrue, if◌then◌else◌, Some, None};
 ghost use Rattle.pin_core.specs.State.{newcomer};
 ghost use Rattle.pin_core.specs.Effects.{looking, pinning, leaving};
-ghost use Rattle.pin_core.specs.Lawful.{at_buffer};
+ghost use Rattle.pin_core.specs.StateInvariant.{at_buffer};
 
 use std::marker::Model;
 

@@ -1,5 +1,5 @@
 // Which buffers the writer finds held: readers that hold, leave, are dropped and move on.
-ghost use Rattle.xcp_bank.specs.Ends.{Holds};
+ghost use Rattle.xcp_bank.specs.BankEnds.{Holds};
 
 use std::test::Fail;
 use xcp_bank::{Bank, IMAGE_BYTES, Reader, Taken, Writer};

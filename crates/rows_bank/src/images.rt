@@ -1,6 +1,6 @@
 // Images published, held and read, worked out by hand.
 ghost use Rattle.std.specs.Prelude.{◌≡◌, IfOk};
-ghost use Rattle.xcp_bank.specs.Ends.{Holds};
+ghost use Rattle.xcp_bank.specs.BankEnds.{Holds};
 
 use std::alloc::{AllocError, Global};
 use std::test::Fail;

@@ -1,3 +1,3 @@
-pub mod Room
 pub mod Works
 pub mod Crews
+pub mod private

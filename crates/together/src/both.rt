@@ -1,6 +1,6 @@
 //! Works of two kinds, all at the same time.
 ghost use Rattle.std.specs.Prelude.{IfOk, vec_len};
-ghost use Rattle.together.specs.Room.{HasRoom};
+ghost use Rattle.together.specs.private.ThreadRoom.{HasRoom};
 ghost use Rattle.together.specs.Works.{GivesEach};
 
 use crate::room::{Room, room_for};

@@ -1,7 +1,7 @@
 //! Crews of three works and single works, all at the same time.
 ghost use Rattle.std.specs.Prelude.{IfOk, vec_len};
 ghost use Rattle.together.specs.Crews.{GivesEachCrew};
-ghost use Rattle.together.specs.Room.{HasRoom};
+ghost use Rattle.together.specs.private.ThreadRoom.{HasRoom};
 ghost use Rattle.together.specs.Works.{GivesEach};
 
 use crate::crews::{CrewHandles, join_crews, start_crews};

@@ -1,6 +1,6 @@
 //! Room for threads, made before the first of them.
 ghost use Rattle.std.specs.Prelude.{IfOk};
-ghost use Rattle.together.specs.Room.{HasRoom};
+ghost use Rattle.together.specs.private.ThreadRoom.{HasRoom};
 
 use std::alloc::{AllocError, Global};
 

@@ -5,11 +5,11 @@ use Rattle.atomic_table.specs.Seated.{TableId}
 use Rattle.atomic_table.specs.declared.shared.Seat.{Seat as Token}
 use Rattle.pin_core.specs.State.{Writer}
 use Rattle.xcp_bank.specs.Images.{image_of, images}
-use Rattle.xcp_bank.specs.Known.{Writing, Known}
-use Rattle.xcp_bank.specs.Seats.{IsWriterSeat, Publishes}
-use Rattle.xcp_bank.specs.Ends.{WriterEnd, writer_end, PublishDoes}
-use Rattle.xcp_bank.specs.Fields.{shown_writer}
-use Rattle.xcp_bank.proofs.Kept.{writer_is}
+use Rattle.xcp_bank.specs.SeatKnowledge.{Writing, Known}
+use Rattle.xcp_bank.specs.private.SeatSteps.{IsWriterSeat, Publishes}
+use Rattle.xcp_bank.specs.BankEnds.{WriterEnd, writer_end, PublishDoes}
+use Rattle.xcp_bank.specs.EndFields.{shown_writer}
+use Rattle.xcp_bank.proofs.EndFieldLemmas.{writer_is}
 
 -- a seat that stands for the writer shows it
 pub writer_shown : (token : Token (Unit {0}) Known) (bank : TableId) (w : Writing) → IsWriterSeat token bank w → shown_writer bank token ≡ writer_end bank w

@@ -4,10 +4,10 @@ use mathlib.Core.Option.{some}
 use lib.ListN.{get_elem?}
 use Rattle.atomic_table.specs.Table.{State}
 use Rattle.pin_core.specs.State.{PinState, started_of}
-use Rattle.pin_core.specs.Lawful.{holders}
-use Rattle.xcp_bank.specs.Deeds.{Deed, Ran, Does, Ends, looked_at, has_scanned}
-use Rattle.xcp_bank.specs.Known.{Reading, Writing, Known, one_reader}
-use Rattle.xcp_bank.specs.Rule.{Banked}
+use Rattle.pin_core.specs.StateInvariant.{holders}
+use Rattle.xcp_bank.specs.PinHistory.{Deed, Ran, Does, Ends, looked_at, has_scanned}
+use Rattle.xcp_bank.specs.SeatKnowledge.{Reading, Writing, Known, one_reader}
+use Rattle.xcp_bank.specs.TableRule.{Banked}
 
 -- the table after a step of the seat `id`, which leaves these words and this view
 abbrev pub stepped : State (Unit {0}) Known → ℕ → List ℕ → Known → State (Unit {0}) Known

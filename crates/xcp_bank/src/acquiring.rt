@@ -1,7 +1,7 @@
 //! A reader takes the current image.
 ghost use Rattle.std.specs.Prelude.{◌≡◌, ℕ, ◌<◌, Some, false};
-ghost use Rattle.xcp_bank.specs.Known.{Reading};
-ghost use Rattle.xcp_bank.specs.Seats.{IsReaderSeat, ReaderMoves, Acquired, buffer_held};
+ghost use Rattle.xcp_bank.specs.SeatKnowledge.{Reading};
+ghost use Rattle.xcp_bank.specs.private.SeatSteps.{IsReaderSeat, ReaderMoves, Acquired, buffer_held};
 
 use crate::table::{Board, Token, look, pin, unpin};
 use crate::taken::Taken;

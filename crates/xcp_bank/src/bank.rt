@@ -1,11 +1,11 @@
 //! How a bank begins.
 ghost use Rattle.std.specs.Prelude.{◌≡◌, ℕ, suc, List, IfOk};
 ghost use Rattle.std.specs.Arc.{arc_value};
-ghost use Rattle.xcp_bank.specs.Known.{starting};
+ghost use Rattle.xcp_bank.specs.SeatKnowledge.{starting};
 ghost use Rattle.xcp_bank.specs.Images.{image_of};
-ghost use Rattle.xcp_bank.specs.Seats.{IsFirstSeat};
+ghost use Rattle.xcp_bank.specs.private.SeatSteps.{IsFirstSeat};
 ghost use Rattle.xcp_bank.specs.BankId.{bank_of};
-ghost use Rattle.xcp_bank.specs.Ends.{reader_end, six_readers, new_writer};
+ghost use Rattle.xcp_bank.specs.BankEnds.{reader_end, six_readers, new_writer};
 
 use crate::IMAGE_BYTES;
 use crate::reader::Reader;

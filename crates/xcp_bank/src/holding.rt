@@ -1,6 +1,6 @@
 //! The writer counts the buffers that are held.
-ghost use Rattle.xcp_bank.specs.Known.{Writing};
-ghost use Rattle.xcp_bank.specs.Seats.{Counted, IsWriterSeat, Rests, WriterMoves};
+ghost use Rattle.xcp_bank.specs.SeatKnowledge.{Writing};
+ghost use Rattle.xcp_bank.specs.private.SeatSteps.{Counted, IsWriterSeat, Rests, WriterMoves};
 
 use crate::table::{Board, Token, scan};
 use pin_core::BUFFERS;

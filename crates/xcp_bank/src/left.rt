@@ -1,7 +1,7 @@
 //! What is left of a reader.
 ghost use Rattle.std.specs.Prelude.{◌≡◌, Some};
 ghost use Rattle.std.specs.Arc.{arc_value};
-ghost use Rattle.xcp_bank.specs.Fields.{shown_reader};
+ghost use Rattle.xcp_bank.specs.EndFields.{shown_reader};
 
 use crate::table::{Board, Token};
 use std::marker::Model;
@@ -17,8 +17,8 @@ pub struct Left {
 impl Model for Left {
     ghost use Rattle.std.specs.Prelude.{Some};
     ghost use Rattle.std.specs.Arc.{arc_value};
-    ghost use Rattle.xcp_bank.specs.Ends.{ReaderEnd};
-    ghost use Rattle.xcp_bank.specs.Fields.{shown_reader};
+    ghost use Rattle.xcp_bank.specs.BankEnds.{ReaderEnd};
+    ghost use Rattle.xcp_bank.specs.EndFields.{shown_reader};
 
     ghost Value = { ReaderEnd };
 

@@ -1,8 +1,8 @@
 //! The writer publishes an image.
 ghost use Rattle.std.specs.Prelude.{◌≡◌, ◌%◌, ◌<◌, List, [], length, slice_index, Some};
-ghost use Rattle.xcp_bank.specs.Deeds.{Deed, Grows, writes_of};
-ghost use Rattle.xcp_bank.specs.Known.{Writing};
-ghost use Rattle.xcp_bank.specs.Seats.{IsWriterSeat, WriterMoves, Rests, FoundQuiet, Publishes, filled};
+ghost use Rattle.xcp_bank.specs.PinHistory.{Deed, Grows, writes_of};
+ghost use Rattle.xcp_bank.specs.SeatKnowledge.{Writing};
+ghost use Rattle.xcp_bank.specs.private.SeatSteps.{IsWriterSeat, WriterMoves, Rests, FoundQuiet, Publishes, filled};
 
 use crate::table::{BUFFER_WORDS, Board, Token, put_word, reset, scan, swap_in};
 use pin_core::BUFFERS;

@@ -1,10 +1,10 @@
 //! A reader of the bank.
 ghost use Rattle.std.specs.Prelude.{◌≡◌, ◌↔◌, ℕ, ◌+◌, ◌-◌, ◌/◌, ◌%◌, ◌<◌, ◌≤◌, List, [], ◌∷◌, length, take, drop, Some, None, IsTrue};
 ghost use Rattle.std.specs.Arc.{arc_value};
-ghost use Rattle.xcp_bank.specs.Deeds.{looked_at};
-ghost use Rattle.xcp_bank.specs.Known.{Begins, AllBegin, starting};
-ghost use Rattle.xcp_bank.specs.Seats.{IsReaderSeat};
-ghost use Rattle.xcp_bank.specs.Ends.{Holds, HoldsNumber, image_held, words_in, reader_end, IsRun, AcquireDoes, ReadDoes, ReaderDoes, LeavesBy};
+ghost use Rattle.xcp_bank.specs.PinHistory.{looked_at};
+ghost use Rattle.xcp_bank.specs.SeatKnowledge.{Begins, AllBegin, starting};
+ghost use Rattle.xcp_bank.specs.private.SeatSteps.{IsReaderSeat};
+ghost use Rattle.xcp_bank.specs.BankEnds.{Holds, HoldsNumber, image_held, words_in, reader_end, IsRun, AcquireDoes, ReadDoes, ReaderDoes, LeavesBy};
 
 use crate::IMAGE_BYTES;
 use crate::acquiring::acquire_at;
@@ -29,8 +29,9 @@ pub struct Reader {
 
 impl Model for Reader {
     ghost use Rattle.std.specs.Arc.{arc_value};
-    ghost use Rattle.xcp_bank.specs.Ends.{ReaderEnd};
-    ghost use Rattle.xcp_bank.specs.Fields.{shown_reader, ReaderKept};
+    ghost use Rattle.xcp_bank.specs.BankEnds.{ReaderEnd};
+    ghost use Rattle.xcp_bank.specs.EndFields.{shown_reader};
+    ghost use Rattle.xcp_bank.specs.private.EndFields.{ReaderKept};
 
     ghost Value = { ReaderEnd };
 

@@ -1,10 +1,10 @@
 //! A reader reads bytes of what it holds.
 ghost use Rattle.std.specs.Prelude.{◌≡◌, ◌≢◌, ℕ, ◌+◌, ◌-◌, ◌*◌, ◌/◌, ◌%◌, ◌<◌, ◌≤◌, [], length, take, drop, slice_index, slice_index_or, Some};
 ghost use Rattle.std.specs.Int.{w64, to_le_bytes};
-ghost use Rattle.xcp_bank.specs.Known.{Reading};
+ghost use Rattle.xcp_bank.specs.SeatKnowledge.{Reading};
 ghost use Rattle.xcp_bank.specs.Images.{image_of};
-ghost use Rattle.xcp_bank.specs.Seats.{IsReaderSeat, HasRead, ReadsOn};
-ghost use Rattle.xcp_bank.specs.Ends.{words_in};
+ghost use Rattle.xcp_bank.specs.private.SeatSteps.{IsReaderSeat, HasRead, ReadsOn};
+ghost use Rattle.xcp_bank.specs.BankEnds.{words_in};
 
 use crate::IMAGE_BYTES;
 use crate::table::{Board, Token, read_word};

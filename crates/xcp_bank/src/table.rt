@@ -6,12 +6,13 @@
 ghost use Rattle.std.specs.Prelude.{◌≡◌, ◌≢◌, ℕ, suc, ◌%◌, ◌<◌, List, [], length, slice_index, Some, None, IfOk, true, false};
 ghost use Rattle.std.specs.Arc.{arc_value};
 ghost use Rattle.atomic_table.specs.Table.{opening};
-ghost use Rattle.xcp_bank.specs.Known.{Reading, Writing, starting, everybody};
-ghost use Rattle.xcp_bank.specs.Rule.{Banked};
-ghost use Rattle.xcp_bank.specs.ReaderSteps.{GivesUp};
-ghost use Rattle.xcp_bank.specs.WriterSteps.{Scanned, WasReset, Written, Published};
-ghost use Rattle.xcp_bank.specs.Cuts.{told, told_again};
-ghost use Rattle.xcp_bank.specs.Seats.{IsReaderSeat, IsFirstSeat, IsWriterSeat, ReaderMoves, WriterMoves, PinnedAt, LookedAt, WordReadAt};
+ghost use Rattle.xcp_bank.specs.SeatKnowledge.{Reading, Writing, starting};
+ghost use Rattle.xcp_bank.specs.private.SeatKnowledge.{everybody};
+ghost use Rattle.xcp_bank.specs.TableRule.{Banked};
+ghost use Rattle.xcp_bank.specs.private.ReaderSteps.{GivesUp};
+ghost use Rattle.xcp_bank.specs.private.WriterSteps.{Scanned, WasReset, Written, Published};
+ghost use Rattle.xcp_bank.specs.private.SeatSplits.{told, told_again};
+ghost use Rattle.xcp_bank.specs.private.SeatSteps.{IsReaderSeat, IsFirstSeat, IsWriterSeat, ReaderMoves, WriterMoves, PinnedAt, LookedAt, WordReadAt};
 
 mod cuts;
 mod reader_steps;
@@ -35,7 +36,7 @@ pub struct Token {
 
 impl Model for Token {
     ghost use Rattle.atomic_table.specs.declared.shared.Seat.{Seat};
-    ghost use Rattle.xcp_bank.specs.Known.{Known};
+    ghost use Rattle.xcp_bank.specs.SeatKnowledge.{Known};
 
     ghost Value = { Seat (Unit {0}) Known };
 

@@ -1,11 +1,11 @@
 //! The writer of the bank.
 ghost use Rattle.std.specs.Prelude.{◌≡◌, ℕ, ◌+◌, ◌%◌, ◌≤◌, List, [], ◌∷◌, ◌++◌, length, false};
-ghost use Rattle.xcp_bank.specs.Known.{Reading, Writing, beginning};
+ghost use Rattle.xcp_bank.specs.SeatKnowledge.{Reading, Writing, beginning};
 ghost use Rattle.std.specs.Arc.{arc_value};
-ghost use Rattle.xcp_bank.specs.Cuts.{told, told_again};
-ghost use Rattle.xcp_bank.specs.Seats.{IsReaderSeat, IsWriterSeat};
+ghost use Rattle.xcp_bank.specs.private.SeatSplits.{told, told_again};
+ghost use Rattle.xcp_bank.specs.private.SeatSteps.{IsReaderSeat, IsWriterSeat};
 ghost use Rattle.xcp_bank.specs.Images.{image_of};
-ghost use Rattle.xcp_bank.specs.Ends.{writer_end, HeldDoes, PublishDoes};
+ghost use Rattle.xcp_bank.specs.BankEnds.{writer_end, HeldDoes, PublishDoes};
 
 use crate::IMAGE_BYTES;
 use crate::holding::count_held;
@@ -30,8 +30,9 @@ pub struct Writer {
 
 impl Model for Writer {
     ghost use Rattle.std.specs.Arc.{arc_value};
-    ghost use Rattle.xcp_bank.specs.Ends.{WriterEnd};
-    ghost use Rattle.xcp_bank.specs.Fields.{shown_writer, WriterKept};
+    ghost use Rattle.xcp_bank.specs.BankEnds.{WriterEnd};
+    ghost use Rattle.xcp_bank.specs.EndFields.{shown_writer};
+    ghost use Rattle.xcp_bank.specs.private.EndFields.{WriterKept};
 
     ghost Value = { WriterEnd };
 

@@ -4,7 +4,7 @@ use Rattle.std.specs.List.{flat_map, enumerate_from}
 use Rattle.std.proofs.Math.Seq.{drop-cons}
 use Rattle.xcp_config.specs.declared.config_error.ConfigError.{ConfigError}
 use Rattle.xcp_packet.specs.Rows.{first_holding}
-use Rattle.xcp_packet.proofs.TestLemmas.{holding_left, none_left}
+use Rattle.xcp_packet.proofs.RowTestLemmas.{holding_left, none_left}
 use Rattle.xcp_config.specs.Check.{Check}
 
 -- a fault other than Memory goes on

@@ -1,5 +1,5 @@
-pub mod Items
+pub mod TableArrayLemmas
 pub mod CheckLemmas
-pub mod Members
+pub mod ArrayMemberLemmas
 pub mod LimitLemmas
-pub mod Told
+pub mod TableFaultLemmas

@@ -10,19 +10,19 @@ use Rattle.xcp_memory.specs.declared.Key.TheVariants as key
 use Rattle.xcp_memory.specs.declared.Parts.{Parts}
 use Rattle.xcp_memory.specs.declared.SegmentPart.{SegmentPart}
 use Rattle.xcp_memory.specs.declared.EventPart.{EventPart}
-use Rattle.xcp_memory.specs.Parts.{number, size, layout_of, areas, segment_of_part, event_of_part}
+use Rattle.xcp_memory.specs.LayoutParts.{number, size, layout_of, areas, segment_of_part, event_of_part}
 use Rattle.xcp_memory.specs.Layout.{SegmentValue, EventValue}
 use Rattle.xcp_memory.specs.Limits.{Limit, first_fault as first_limit, own_limits, segment_limits, segments_limits, limits_in, signals_limits, event_limits, events_limits, apart_limits, is_within, is_text, is_address, ends_in_time, text_limit, number_limit, least_limit, count_limits, id_limit, max_cto_limit, max_dto_limit, segment_counts, address_limit, data_limit, pages_limit, signals_address_limit, signals_length_limit, event_counts, name_limit, cycle_limit, unit_limit, priority_limit}
 use Rattle.xcp_memory.specs.declared.LayoutFault.{LayoutFault}
 use Rattle.xcp_config.specs.declared.config_error.ConfigError.{ConfigError}
 use Rattle.xcp_config.specs.declared.config_error.ConfigError.TheVariants as error
 use Rattle.xcp_packet.specs.Rows.{first_holding}
-use Rattle.xcp_config.specs.ConfigError.{error_of}
-use Rattle.xcp_config.specs.Values.{text_of, integer_of, bytes_of, members_of, is_array_of_tables, byte_orders, checksums}
-use Rattle.xcp_config.specs.Layout.{layout_in, byte_order_of, checksum_of, segments_of, signals_of, events_of, address_of, size_of, pages_of, length_of, setting, segment_in, event_in}
-use Rattle.xcp_config.specs.Seen.{Reads, Segment, Event, segment_read, segment_written, event_read, event_written}
-use Rattle.xcp_config.specs.Table.{text_checks, name_checks, integer_checks, data_checks, array_checks, table_checks, own_checks, size_checks, segment_checks, checks_in, segments_checks, end_checks, place_checks, signals_checks, event_checks, events_checks, limit_check}
-use Rattle.xcp_packet.proofs.TestLemmas.{none_both, none_left}
+use Rattle.xcp_config.specs.FaultNumbers.{error_of}
+use Rattle.xcp_config.specs.TomlValues.{text_of, integer_of, bytes_of, members_of, is_array_of_tables, byte_orders, checksums}
+use Rattle.xcp_config.specs.TableLayout.{layout_in, byte_order_of, checksum_of, segments_of, signals_of, events_of, address_of, size_of, pages_of, length_of, setting, segment_in, event_in}
+use Rattle.xcp_config.specs.private.PartsRead.{Reads, Segment, Event, segment_read, segment_written, event_read, event_written}
+use Rattle.xcp_config.specs.TableChecks.{text_checks, name_checks, integer_checks, data_checks, array_checks, table_checks, own_checks, size_checks, segment_checks, checks_in, segments_checks, end_checks, place_checks, signals_checks, event_checks, events_checks, limit_check}
+use Rattle.xcp_packet.proofs.RowTestLemmas.{none_both, none_left}
 
 -- three limits that are kept, four, and five
 three_kept : (a b c : Bool) (e f g : LayoutFault) → a ≡ true → b ≡ true → c ≡ true → (if not a then Some e else (if not b then Some f else (if not c then Some g else None))) ≡ None

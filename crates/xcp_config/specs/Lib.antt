@@ -1,7 +1,7 @@
 pub mod Check
-pub mod ConfigError
-pub mod Values
-pub mod Table
-pub mod Layout
-pub mod Seen
-pub mod Text
+pub mod FaultNumbers
+pub mod TomlValues
+pub mod TableChecks
+pub mod TableLayout
+pub mod ConfigText
+pub mod private

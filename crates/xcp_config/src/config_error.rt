@@ -32,7 +32,7 @@ pub enum ConfigError {
 }
 
 impl ConfigError {
-    ghost use Rattle.xcp_config.specs.ConfigError.{number_of, error_of};
+    ghost use Rattle.xcp_config.specs.FaultNumbers.{number_of, error_of};
 
     /// The number that a user is told: 1 to 7.
     pub fn number(&self) -> u8

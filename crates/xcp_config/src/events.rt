@@ -3,9 +3,9 @@ ghost use Rattle.std.specs.Prelude.{◌≡◌, ◌≤◌, ◌⊎◌, length, map
 ghost use Rattle.std.specs.List.{flat_map, enumerate_from};
 ghost use Rattle.toml.specs.View.{view};
 ghost use Rattle.xcp_packet.specs.Rows.{first_holding};
-ghost use Rattle.xcp_config.specs.Layout.{events_of};
-ghost use Rattle.xcp_config.specs.Table.{event_checks, events_checks};
-ghost use Rattle.xcp_config.specs.Seen.{event_read, event_written};
+ghost use Rattle.xcp_config.specs.TableLayout.{events_of};
+ghost use Rattle.xcp_config.specs.TableChecks.{event_checks, events_checks};
+ghost use Rattle.xcp_config.specs.private.PartsRead.{event_read, event_written};
 
 use crate::ConfigError;
 use crate::limits::{MAX_EVENTS, MAX_NAME};

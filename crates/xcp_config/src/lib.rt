@@ -1,6 +1,6 @@
 //! The configuration file of a slave: a TOML document that describes a layout.
 //!
-//! The definitions that the contracts cite are in `specs/`; `specs/Table.antt` has the checks in their order.
+//! The definitions that the contracts cite are in `specs/`; `specs/TableChecks.antt` has the checks in their order.
 #![tactic(auto)]
 
 mod config_error;

@@ -3,12 +3,12 @@ ghost use Rattle.std.specs.Prelude.{◌≡◌, ◌⊎◌, codes, true, Some, Non
 ghost use Rattle.toml.specs.Data.{get};
 ghost use Rattle.toml.specs.View.{view};
 ghost use Rattle.xcp_memory.specs.declared.Key.TheVariants as key;
-ghost use Rattle.xcp_memory.specs.Parts.{number, checksum_of as kind_of};
+ghost use Rattle.xcp_memory.specs.LayoutParts.{number, checksum_of as kind_of};
 ghost use Rattle.xcp_memory.specs.Limits.{is_within};
 ghost use Rattle.xcp_packet.specs.Rows.{first_holding};
-ghost use Rattle.xcp_config.specs.Values.{byte_orders, checksums, integer_of, named, text_of};
-ghost use Rattle.xcp_config.specs.Layout.{byte_order_of, checksum_in, checksum_of, order_in};
-ghost use Rattle.xcp_config.specs.Table.{own_checks, name_checks};
+ghost use Rattle.xcp_config.specs.TomlValues.{byte_orders, checksums, integer_of, named, text_of};
+ghost use Rattle.xcp_config.specs.TableLayout.{byte_order_of, checksum_in, checksum_of, order_in};
+ghost use Rattle.xcp_config.specs.TableChecks.{own_checks, name_checks};
 
 use crate::ConfigError;
 use crate::limits::MAX_ID;
@@ -56,7 +56,7 @@ fn checksum_named(text: &str) -> Option<ChecksumKind>
 }
 
 /// The byte order: Intel where none is given.
-#[tactic(auto, unfolding(crate::specs::Table::name_checks))]
+#[tactic(auto, unfolding(crate::specs::TableChecks::name_checks))]
 fn read_order(table: &Value) -> Result<Order, ConfigError>
     ensures passes { IfOk result (λ _. first_holding (name_checks key.ByteOrder byte_orders (byte_order_of (view table.now))) ≡ None) }
     ensures value { IfOk result (λ order. order ≡ order_in (view table.now)) }
@@ -73,7 +73,7 @@ fn read_order(table: &Value) -> Result<Order, ConfigError>
 }
 
 /// The type of checksums: ADD_14 where none is given.
-#[tactic(auto, unfolding(crate::specs::Table::name_checks))]
+#[tactic(auto, unfolding(crate::specs::TableChecks::name_checks))]
 fn read_checksum(table: &Value) -> Result<ChecksumKind, ConfigError>
     ensures passes { IfOk result (λ _. first_holding (name_checks key.Checksum checksums (checksum_of (view table.now))) ≡ None) }
     ensures value { IfOk result (λ kind. kind ≡ checksum_in (view table.now)) }

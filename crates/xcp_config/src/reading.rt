@@ -2,10 +2,10 @@
 ghost use Rattle.std.specs.Prelude.{◌≡◌, ◌⊎◌, ◌++◌, Some, None, Err, IfOk, IfErr};
 ghost use Rattle.toml.specs.View.{view};
 ghost use Rattle.xcp_packet.specs.Rows.{first_holding};
-ghost use Rattle.xcp_config.specs.Layout.{layout_in};
-ghost use Rattle.xcp_config.specs.Seen.{Reads};
-ghost use Rattle.xcp_config.specs.Table.{events_checks, first_fault, own_checks, segments_checks, signals_checks};
-ghost use Rattle.xcp_config.specs.Text.{HasFault, HasLayout, IsNoDocument};
+ghost use Rattle.xcp_config.specs.TableLayout.{layout_in};
+ghost use Rattle.xcp_config.specs.private.PartsRead.{Reads};
+ghost use Rattle.xcp_config.specs.TableChecks.{events_checks, first_fault, own_checks, segments_checks, signals_checks};
+ghost use Rattle.xcp_config.specs.ConfigText.{HasFault, HasLayout, IsNoDocument};
 
 use crate::ConfigError;
 use crate::events::read_events;
@@ -17,9 +17,9 @@ use toml::Value;
 use xcp_memory::{Layout, Parts};
 
 /// The layout that a text describes. `Text` comes only where the text is no TOML document; then the keys are looked at
-/// in the order of `specs/Table.antt`, and the first check that fails tells the fault: for each key `Missing`, `Kind`,
-/// `Range`; for an array `TooMany` behind these; for a segment the number of bytes so far, its last address, and then
-/// its number of pages; areas that overlap last. `Memory` comes where memory is wanting, at any place.
+/// in the order of `specs/TableChecks.antt`, and the first check that fails tells the fault: for each key `Missing`,
+/// `Kind`, `Range`; for an array `TooMany` behind these; for a segment the number of bytes so far, its last address,
+/// and then its number of pages; areas that overlap last. `Memory` comes where memory is wanting, at any place.
 pub fn read_layout(alloc: Global, text: &str) -> Result<Layout, ConfigError>
     ensures layout { IfOk result (λ l. HasLayout text.now l) }
     ensures text { result ≡ Err ConfigError.Text → IsNoDocument text.now }

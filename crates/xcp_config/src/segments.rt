@@ -4,9 +4,9 @@ ghost use Rattle.std.specs.List.{flat_map, enumerate_from};
 ghost use Rattle.toml.specs.View.{view};
 ghost use Rattle.xcp_memory.specs.Limits.{is_address};
 ghost use Rattle.xcp_packet.specs.Rows.{first_holding};
-ghost use Rattle.xcp_config.specs.Layout.{segments_of, size_of};
-ghost use Rattle.xcp_config.specs.Table.{checks_in, segment_checks, segments_checks, size_checks};
-ghost use Rattle.xcp_config.specs.Seen.{segment_read, segment_written};
+ghost use Rattle.xcp_config.specs.TableLayout.{segments_of, size_of};
+ghost use Rattle.xcp_config.specs.TableChecks.{checks_in, segment_checks, segments_checks, size_checks};
+ghost use Rattle.xcp_config.specs.private.PartsRead.{segment_read, segment_written};
 
 use crate::ConfigError;
 use crate::limits::{DEFAULT_PAGES, LAST_ADDRESS, MAX_BYTES, MAX_PAGES, MAX_SEGMENTS, MIN_PAGES};

@@ -3,8 +3,8 @@ ghost use Rattle.std.specs.Prelude.{◌≡◌, true, Some, None, IfOk, IfErr};
 ghost use Rattle.toml.specs.View.{view};
 ghost use Rattle.xcp_memory.specs.Limits.{is_address, is_within};
 ghost use Rattle.xcp_packet.specs.Rows.{first_holding};
-ghost use Rattle.xcp_config.specs.Layout.{address_of, length_of, signals_of};
-ghost use Rattle.xcp_config.specs.Table.{end_checks, place_checks, signals_checks};
+ghost use Rattle.xcp_config.specs.TableLayout.{address_of, length_of, signals_of};
+ghost use Rattle.xcp_config.specs.TableChecks.{end_checks, place_checks, signals_checks};
 
 use crate::ConfigError;
 use crate::limits::{LAST_ADDRESS, MAX_SIGNALS};

@@ -5,8 +5,9 @@ ghost use Rattle.toml.specs.Data.{get, integer};
 ghost use Rattle.toml.specs.View.{view};
 ghost use Rattle.xcp_memory.specs.Limits.{is_within, is_text, is_printable, text_limit, number_limit, least_limit, count_limits};
 ghost use Rattle.xcp_packet.specs.Rows.{first_holding};
-ghost use Rattle.xcp_config.specs.Values.{bytes_of, integer_of, is_table, members_of, optional, text_of};
-ghost use Rattle.xcp_config.specs.Table.{array_checks, data_checks, integer_checks, table_checks, text_checks, text_there};
+ghost use Rattle.xcp_config.specs.TomlValues.{bytes_of, integer_of, is_table, members_of, optional, text_of};
+ghost use Rattle.xcp_config.specs.TableChecks.{array_checks, data_checks, integer_checks, table_checks, text_checks};
+ghost use Rattle.xcp_config.specs.private.TableChecks.{text_there};
 
 use crate::ConfigError;
 use hex::FromHexError;
@@ -44,7 +45,7 @@ fn is_text(bytes: &[u8], most: usize) -> bool
 }
 
 /// A text of 1 to `most` printable characters.
-#[tactic(auto, unfolding(crate::specs::Table::text_checks))]
+#[tactic(auto, unfolding(crate::specs::TableChecks::text_checks))]
 pub(crate) fn read_text(
     alloc: Global,
     table: &Value,
@@ -64,7 +65,7 @@ pub(crate) fn read_text(
 }
 
 /// An integer from `least` to `most`.
-#[tactic(auto, unfolding(crate::specs::Table::integer_checks))]
+#[tactic(auto, unfolding(crate::specs::TableChecks::integer_checks))]
 pub(crate) fn read_integer(
     table: &Value,
     name: &str,
@@ -91,7 +92,7 @@ pub(crate) fn read_integer(
 }
 
 /// An integer from `least` to `most`, and the default where the key isn't there.
-#[tactic(auto, unfolding(crate::specs::Table::integer_checks))]
+#[tactic(auto, unfolding(crate::specs::TableChecks::integer_checks))]
 pub(crate) fn read_setting(
     table: &Value,
     name: &str,
@@ -112,7 +113,7 @@ pub(crate) fn read_setting(
 }
 
 /// The bytes that a text of hex digits writes: one at least.
-#[tactic(auto, unfolding(crate::specs::Table::data_checks))]
+#[tactic(auto, unfolding(crate::specs::TableChecks::data_checks))]
 pub(crate) fn read_bytes(
     alloc: Global,
     table: &Value,
@@ -134,7 +135,7 @@ pub(crate) fn read_bytes(
 }
 
 /// A table.
-#[tactic(auto, unfolding(crate::specs::Table::table_checks))]
+#[tactic(auto, unfolding(crate::specs::TableChecks::table_checks))]
 pub(crate) fn table_in<'a>(table: &'a Value, name: &str, key: Key) -> Result<&'a Value, ConfigError>
     ensures passes { IfOk result (λ _. first_holding (table_checks key (get name.now (view table.now))) ≡ None) }
     ensures value { IfOk result (λ t. get name.now (view table.now) ≡ Some (view t.now)) }
@@ -160,7 +161,7 @@ fn all_tables(members: &[Value]) -> bool
 }
 
 /// The members of an array of 1 to `most` tables.
-#[tactic(auto, unfolding(crate::specs::Table::array_checks))]
+#[tactic(auto, unfolding(crate::specs::TableChecks::array_checks))]
 pub(crate) fn tables_in<'a>(
     table: &'a Value,
     name: &str,

@@ -1,8 +1,8 @@
-pub mod PartsLemmas
+pub mod PoolPartLemmas
 pub mod OdtLemmas
 pub mod SampleLemmas
-pub mod ListLemmas
-pub mod LawfulLemmas
-pub mod DueLemmas
-pub mod Changing
-pub mod BoundLemmas
+pub mod DaqListLemmas
+pub mod DaqInvariantLemmas
+pub mod DueListLemmas
+pub mod ListLoopLemmas
+pub mod SampleBoundLaws

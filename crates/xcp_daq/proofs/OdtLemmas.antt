@@ -3,12 +3,13 @@ use Rattle.std.proofs.Common.{◌≡◌, ℕ, zero, suc, ◌+◌, ◌-◌, ◌<�
 use Rattle.std.specs.Prelude.{replicate}
 use Rattle.std.proofs.lemmas.List.{length-set, length-replicate, length-take-le, take-append-drop, drop-drop, take-replicate, drop-replicate, length-map, take-take}
 use Rattle.xcp_daq.specs.declared.element.Element.{Element}
-use Rattle.xcp_daq.specs.Pools.{parts, joined, total, spliced, IsFit}
-use Rattle.xcp_daq.proofs.PartsLemmas.{length-parts, parts-cons, parts-grown, parts-set, parts-blank, get-part, joined-parts, length-part, length-spliced, spliced-end, total-spliced, total-zeros, total-set, total-append, total-take, end-le-total}
+use Rattle.xcp_daq.specs.Pools.{parts, joined}
+use Rattle.xcp_daq.specs.private.Pools.{total, spliced, IsFit}
+use Rattle.xcp_daq.proofs.PoolPartLemmas.{length-parts, parts-cons, parts-grown, parts-set, parts-blank, get-part, joined-parts, length-part, length-spliced, spliced-end, total-spliced, total-zeros, total-set, total-append, total-take, end-le-total}
 use Rattle.std.specs.Prelude.{Bool, true, false, ◌||◌, nat_lt}
 use Rattle.std.proofs.lemmas.Bool.Decides.{nat_tests}
 use Rattle.std.proofs.Math.Seq.{take-append-add}
-use Rattle.xcp_daq.specs.Daq.{odt_size, any_large}
+use Rattle.xcp_daq.specs.DaqLists.{odt_size, any_large}
 
 -- an entry
 abbrev E : Type 0

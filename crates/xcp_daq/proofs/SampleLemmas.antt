@@ -5,9 +5,9 @@ use Rattle.std.proofs.lemmas.List.{take_more, length-take}
 use Rattle.std.proofs.lemmas.List.Sums.{sum_by_push, sum_by-cons, sum_by-take-le}
 use Rattle.arrayvec.specs.ArrayVec.{ArrayVec}
 use Rattle.xcp_memory.specs.Pages.{PagesValue, SegmentPages, ecu_page}
-use Rattle.xcp_memory.specs.Words.{lies_inside, controller_bytes, bytes_by, segment_of}
+use Rattle.xcp_memory.specs.ComputedAccess.{lies_inside, controller_bytes, bytes_by, segment_of}
 use Rattle.xcp_daq.specs.declared.element.Element.{Element}
-use Rattle.xcp_daq.specs.Daq.{entry_size, odt_size}
+use Rattle.xcp_daq.specs.DaqLists.{entry_size, odt_size}
 use Rattle.xcp_daq.specs.Pools.{parts}
 use Rattle.xcp_daq.specs.Sample.{entry_bytes, odt_bytes, packet_of, odt_packets, packets_from}
 use Rattle.xcp_daq.proofs.OdtLemmas.{parts_step}

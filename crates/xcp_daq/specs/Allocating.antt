@@ -5,8 +5,8 @@ use Rattle.xcp_packet.specs.declared.Code.{Code}
 use Rattle.xcp_packet.specs.declared.Code.TheVariants.{Sequence, OutOfRange, DaqActive, MemoryOverflow}
 use Rattle.xcp_packet.specs.Rows.{first_holding}
 use Rattle.xcp_daq.specs.declared.allocation.Allocation.TheVariants.{FreeDaq, AllocDaq, AllocOdt, AllocOdtEntry}
-use Rattle.xcp_daq.specs.Daq.{DaqValue, no_list, list_at, odt_at, lacks_list, lacks_odt, any_running, all_odts, all_entries, with_list, with_odt}
-use Rattle.xcp_daq.specs.Phase.{may_follow}
+use Rattle.xcp_daq.specs.DaqLists.{DaqValue, no_list, list_at, odt_at, lacks_list, lacks_odt, any_running, all_odts, all_entries, with_list, with_odt}
+use Rattle.xcp_daq.specs.AllocationSequence.{may_follow}
 
 -- FREE_DAQ leaves no list and no pointer
 abbrev pub free_daq_after : DaqValue

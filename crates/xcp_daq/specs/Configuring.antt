@@ -5,11 +5,11 @@ use Rattle.std.specs.Prelude.{ℕ, ◌+◌, ◌==◌, not, ◌&&◌, nat_le, nat
 use Rattle.xcp_packet.specs.declared.Code.{Code}
 use Rattle.xcp_packet.specs.declared.Code.TheVariants.{OutOfRange, DaqActive, DaqConfig, AccessDenied, ModeNotValid}
 use Rattle.xcp_memory.specs.Layout.{LayoutValue}
-use Rattle.xcp_memory.specs.Words.{lies_inside}
+use Rattle.xcp_memory.specs.ComputedAccess.{lies_inside}
 use Rattle.xcp_packet.specs.Rows.{first_holding}
 use Rattle.xcp_daq.specs.declared.element.Element.{Element}
 use Rattle.xcp_daq.specs.declared.pointer.Pointer.{Pointer}
-use Rattle.xcp_daq.specs.Daq.{DaqValue, DaqList, list_at, odt_at, lacks_list, lacks_odt, lacks_entry, greatest_size, with_list, with_odt}
+use Rattle.xcp_daq.specs.DaqLists.{DaqValue, DaqList, list_at, odt_at, lacks_list, lacks_odt, lacks_entry, greatest_size, with_list, with_odt}
 
 -- when CLEAR_DAQ_LIST is refused
 abbrev pub clear_daq_list_refusal : ℕ → DaqValue → Option Code
@@ -58,10 +58,6 @@ element_rows layout offset size extension address =
     ∷ (not (extension == 0), OutOfRange)
     ∷ (not (lies_inside layout address size), AccessDenied)
     ∷ []
-
--- when an element is refused
-abbrev pub element_refusal : LayoutValue → ℕ → ℕ → ℕ → ℕ → Option Code
-element_refusal layout offset size extension address = first_holding (element_rows layout offset size extension address)
 
 -- when WRITE_DAQ is refused: the pointer is looked at first, and then the element
 abbrev pub write_daq_refusal : LayoutValue → ℕ → ℕ → ℕ → ℕ → DaqValue → Option Code

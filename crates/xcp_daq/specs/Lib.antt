@@ -1,10 +1,11 @@
-pub mod Daq
-pub mod Phase
+pub mod DaqLists
+pub mod AllocationSequence
 pub mod Allocating
 pub mod Configuring
 pub mod Starting
-pub mod Telling
+pub mod DaqInfo
 pub mod Sample
-pub mod Lawful
+pub mod DaqInvariant
 pub mod SampleLaws
 pub mod Pools
+pub mod private

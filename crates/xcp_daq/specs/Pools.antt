@@ -1,32 +1,18 @@
 -- The pools that hold the lists, and the tree that they are. No public contract names them.
-use Rattle.std.specs.Prelude.{◌≡◌, ℕ, ◌+◌, ◌%◌, ◌==◌, ◌&&◌, not, true, false, if◌then◌else◌, List, [], ◌∷◌, ◌++◌, length, take, drop, Option}
+use Rattle.std.specs.Prelude.{ℕ, List, [], ◌∷◌, take, drop, Option}
 use Rattle.std.specs.List.{flat_map}
 use Rattle.xcp_daq.specs.declared.element.Element.{Element}
 use Rattle.xcp_daq.specs.declared.mode.Mode.{Mode}
-use Rattle.xcp_daq.specs.Daq.{DaqList}
+use Rattle.xcp_daq.specs.DaqLists.{DaqList}
 
 -- xs cut into parts of these lengths
 abbrev pub parts : {A : Type 0} → List ℕ → List A → List (List A)
 parts [] xs = []
 parts (n ∷ ns) xs = take n xs ∷ parts ns (drop n xs)
 
--- the sum of the numbers
-abbrev pub total : List ℕ → ℕ
-total [] = 0
-total (n ∷ ns) = n + total ns
-
--- xs with ys put in at place i
-abbrev pub spliced : {A : Type 0} → List A → ℕ → List A → List A
-spliced xs i ys = take i xs ++ (ys ++ drop i xs)
-
 -- the parts, one after another
 abbrev pub joined : {A : Type 0} → List (List A) → List A
 joined parts = flat_map (λ part. part) parts
-
--- when the pools of ODTs and entries fit each other
-pub record IsFit (odt_counts entry_counts : List ℕ) (entries : List (Option Element)) : Type 0 where
-  pub cut : total odt_counts ≡ length entry_counts
-  pub filled : total entry_counts ≡ length entries
 
 -- a list of its mode and its ODTs
 abbrev pub list_of : Mode → List (List (Option Element)) → DaqList
@@ -37,12 +23,3 @@ abbrev pub lists_of : List Mode → List (List (List (Option Element))) → List
 lists_of (m ∷ ms) (odts ∷ rest) = list_of m odts ∷ lists_of ms rest
 lists_of (m ∷ ms) [] = []
 lists_of [] rest = []
-
--- what START_STOP_SYNCH does to the mode of a list
-abbrev pub synchronised_mode : ℕ → Mode → Mode
-synchronised_mode mode m =
-    record (if mode == 0 then record m { running = false; since = 0 } else (if not m.selected then m else (if mode == 1 then record m { running = true; since = 0 } else record m { running = false; since = 0 }))) { selected = false }
-
--- what an event does to the mode of a list
-abbrev pub counted_mode : ℕ → Mode → Mode
-counted_mode channel m = if m.running && (m.event == channel) then record m { since = (m.since + 1) % m.prescaler } else m

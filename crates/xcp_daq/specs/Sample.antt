@@ -4,9 +4,9 @@ use Rattle.std.specs.Prelude.{ℕ, ◌+◌, ◌%◌, ◌==◌, ◌&&◌, Bool, L
 use Rattle.std.specs.List.{flat_map, enumerate_from}
 use Rattle.arrayvec.specs.ArrayVec.{ArrayVec}
 use Rattle.xcp_memory.specs.Pages.{PagesValue}
-use Rattle.xcp_memory.specs.Words.{lies_inside, controller_bytes}
+use Rattle.xcp_memory.specs.ComputedAccess.{lies_inside, controller_bytes}
 use Rattle.xcp_daq.specs.declared.element.Element.{Element}
-use Rattle.xcp_daq.specs.Daq.{DaqValue, DaqList, first_pid}
+use Rattle.xcp_daq.specs.DaqLists.{DaqValue, DaqList, first_pid}
 
 -- a list that runs counts the events of its channel
 abbrev pub counts : ℕ → DaqList → Bool

@@ -1,8 +1,8 @@
 -- A law of samples.
 use Rattle.std.specs.Prelude.{ℕ, ◌≤◌, length, All}
 use Rattle.xcp_memory.specs.Pages.{PagesValue}
-use Rattle.xcp_daq.specs.Daq.{DaqValue}
-use Rattle.xcp_daq.specs.Lawful.{IsDaq}
+use Rattle.xcp_daq.specs.DaqLists.{DaqValue}
+use Rattle.xcp_daq.specs.DaqInvariant.{IsDaq}
 use Rattle.xcp_daq.specs.Sample.{sampled}
 
 -- an event gives 64 packets at most, each of 1 to 255 bytes

@@ -6,7 +6,7 @@ use Rattle.xcp_packet.specs.declared.Code.{Code}
 use Rattle.xcp_packet.specs.declared.Code.TheVariants.{OutOfRange, DaqConfig, ModeNotValid}
 use Rattle.xcp_memory.specs.Layout.{LayoutValue}
 use Rattle.xcp_packet.specs.Rows.{first_holding}
-use Rattle.xcp_daq.specs.Daq.{DaqValue, DaqList, list_at, lacks_list, has_large_odt, with_list}
+use Rattle.xcp_daq.specs.DaqLists.{DaqValue, DaqList, list_at, lacks_list, has_large_odt, with_list}
 
 -- a list that is stopped; its selection stays
 abbrev pub stopped : DaqList → DaqList

@@ -1,6 +1,6 @@
 //! The allocating commands.
 ghost use Rattle.std.specs.Prelude.{◌≡◌};
-ghost use Rattle.xcp_daq.specs.Phase.{may_follow};
+ghost use Rattle.xcp_daq.specs.AllocationSequence.{may_follow};
 
 /// An allocating command.
 ///

@@ -1,8 +1,8 @@
 //! The acquisition lists.
 ghost use Rattle.std.specs.Prelude.{◌≡◌, ◌<◌, length, None};
 ghost use Rattle.std.specs.List.{list_any};
-ghost use Rattle.xcp_daq.specs.Daq.{opening_daq, any_running};
-ghost use Rattle.xcp_daq.specs.Lawful.{IsDaq};
+ghost use Rattle.xcp_daq.specs.DaqLists.{opening_daq, any_running};
+ghost use Rattle.xcp_daq.specs.DaqInvariant.{IsDaq};
 
 mod allocating;
 mod configuring;
@@ -31,8 +31,8 @@ pub struct Daq {
 
 impl Model for Daq {
     ghost use Rattle.std.specs.Prelude.{◌≡◌, length};
-    ghost use Rattle.xcp_daq.specs.Daq.{DaqValue};
-    ghost use Rattle.xcp_daq.specs.Lawful.{IsDaq};
+    ghost use Rattle.xcp_daq.specs.DaqLists.{DaqValue};
+    ghost use Rattle.xcp_daq.specs.DaqInvariant.{IsDaq};
     ghost use Rattle.xcp_daq.specs.Pools.{lists_of};
 
     ghost Value = { DaqValue };

@@ -1,6 +1,6 @@
 //! What an ODT entry reads.
 ghost use Rattle.std.specs.Prelude.{◌≡◌};
-ghost use Rattle.xcp_memory.specs.Words.{lies_inside};
+ghost use Rattle.xcp_memory.specs.ComputedAccess.{lies_inside};
 
 use xcp_memory::Layout;
 

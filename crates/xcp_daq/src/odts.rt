@@ -29,7 +29,8 @@ pub(crate) struct Odts {
 impl Model for Odts {
     ghost use Rattle.std.specs.Prelude.{List, Option};
     ghost use Rattle.xcp_daq.specs.declared.element.Element.{Element};
-    ghost use Rattle.xcp_daq.specs.Pools.{parts, IsFit};
+    ghost use Rattle.xcp_daq.specs.Pools.{parts};
+    ghost use Rattle.xcp_daq.specs.private.Pools.{IsFit};
 
     ghost Value = { List (List (List (Option Element))) };
 

@@ -1,7 +1,7 @@
 //! Flat pools, cut into parts by counts.
 ghost use Rattle.std.specs.Prelude.{◌≡◌, ◌≤◌, ◌<◌, ◌+◌, ◌-◌, ◌^◌, None, length, take, drop, ◌++◌, replicate, slice_index, slice_set};
 ghost use Rattle.arrayvec.specs.ArrayVec.{array_vec_len};
-ghost use Rattle.xcp_daq.specs.Pools.{spliced, total};
+ghost use Rattle.xcp_daq.specs.private.Pools.{spliced, total};
 
 use crate::Element;
 use arrayvec::ArrayVec;
@@ -41,7 +41,7 @@ fn turn<T: Copy + Drop>(pool: &mut [T], at: usize, n: usize)
 }
 
 /// The sum of the first counts.
-#[tactic(auto, using(crate::proofs::PartsLemmas::sums))]
+#[tactic(auto, using(crate::proofs::PoolPartLemmas::sums))]
 pub(crate) fn sum_before<const N: usize>(counts: &ArrayVec<u16, N>, i: usize) -> usize
     requires bound { total counts.now.items < 2 ^ 32 }
     requires place { i ≤ array_vec_len counts.now }
@@ -56,7 +56,7 @@ pub(crate) fn sum_before<const N: usize>(counts: &ArrayVec<u16, N>, i: usize) ->
 }
 
 /// The place behind part i.
-#[tactic(auto, using(crate::proofs::PartsLemmas::sums))]
+#[tactic(auto, using(crate::proofs::PoolPartLemmas::sums))]
 pub(crate) fn end_of<const N: usize>(counts: &ArrayVec<u16, N>, i: usize) -> usize
     requires bound { total counts.now.items < 2 ^ 32 }
     requires place { i < array_vec_len counts.now }
@@ -85,7 +85,7 @@ pub(crate) fn put<T: Copy + Drop, const N: usize>(pool: &mut ArrayVec<T, N>, i: 
 }
 
 /// The place of element j of part i.
-#[tactic(auto, using(crate::proofs::PartsLemmas::sums))]
+#[tactic(auto, using(crate::proofs::PoolPartLemmas::sums))]
 pub(crate) fn place_of<const N: usize>(counts: &ArrayVec<u16, N>, i: usize, j: usize) -> usize
     requires bound { total counts.now.items < 2 ^ 32 }
     requires part { i < array_vec_len counts.now }

@@ -1,6 +1,6 @@
 -- A desk as contracts see it.
 use Rattle.std.specs.Prelude.{List}
-use Rattle.xcp_slave.specs.Value.{SlaveValue}
+use Rattle.xcp_slave.specs.SlaveValue.{SlaveValue}
 use Rattle.xcp_slave.specs.declared.Exchange.{Exchange}
 
 -- a slave, and the exchanges that it has had, in order

@@ -9,10 +9,10 @@ use Rattle.xcp_framing.specs.declared.line.Line.{Line}
 use Rattle.xcp_framing.specs.declared.line.Line.TheVariants.{Ask, Faulty}
 use Rattle.xcp_framing.specs.declared.fault.ReplayError.{ReplayError}
 use Rattle.xcp_framing.specs.declared.fault.ReplayError.TheVariants as errors
-use Rattle.xcp_framing.specs.Front.{IsFront, AppendsFront}
+use Rattle.xcp_framing.specs.Prefix.{IsFront, AppendsFront}
 use Rattle.xcp_framing.specs.Lines.{Lines}
-use Rattle.xcp_framing.specs.Meaning.{meaning}
-use Rattle.xcp_framing.specs.Told.{told}
+use Rattle.xcp_framing.specs.ScriptLine.{meaning}
+use Rattle.xcp_framing.specs.AnswerText.{told}
 
 abbrev pub is_faulty : Line → Bool
 is_faulty Faulty = true

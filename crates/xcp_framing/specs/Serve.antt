@@ -12,7 +12,7 @@ use Rattle.xcp_framing.specs.declared.station.StationError.TheVariants as refusa
 use Rattle.xcp_framing.specs.declared.serving.Served.{Served}
 use Rattle.xcp_framing.specs.declared.serving.ServeError.{ServeError}
 use Rattle.xcp_framing.specs.declared.serving.ServeError.TheVariants as errors
-use Rattle.xcp_framing.specs.Front.{AppendsFront}
+use Rattle.xcp_framing.specs.Prefix.{AppendsFront}
 use Rattle.xcp_framing.specs.Wire.{wire, len_of, IsBadLength}
 use Rattle.xcp_framing.specs.Frames.{frames, rest}
 
@@ -33,9 +33,6 @@ pub record GavePacket (x : Exchange) : Type 0 where
 -- the most Drains behind a command, and the most packets of a command: its answer's and those of the Drains
 abbrev pub most_drains : ℕ
 most_drains = 64
-
-abbrev pub most_packets : ℕ
-most_packets = 1 + most_drains
 
 -- behind n Drains that gave a packet each: one that gave none; none at all where they were the most
 abbrev pub EndsDrains : ℕ → List Exchange → Type 0

@@ -2,8 +2,8 @@
 ghost use Rattle.std.specs.Prelude.{◌≡◌, [], ◌∷◌, ◌++◌, IfOk, OnErr, IfErr, length};
 ghost use Rattle.xcp_slave.specs.Run.{Run};
 ghost use Rattle.xcp_slave.specs.Step.{Answers};
-ghost use Rattle.xcp_slave.specs.Told.{answer_in};
-ghost use Rattle.xcp_slave.specs.Value.{layout_of, opening};
+ghost use Rattle.xcp_slave.specs.AnswerInBytes.{answer_in};
+ghost use Rattle.xcp_slave.specs.SlaveValue.{layout_of, opening};
 
 use crate::{Station, StationError};
 use std::alloc::Global;
@@ -23,7 +23,7 @@ pub struct Desk {
 impl Model for Desk {
     ghost use Rattle.xcp_framing.specs.Desk.{DeskValue};
     ghost use Rattle.xcp_slave.specs.Run.{Run};
-    ghost use Rattle.xcp_slave.specs.Value.{layout_of, opening};
+    ghost use Rattle.xcp_slave.specs.SlaveValue.{layout_of, opening};
 
     ghost Value = { DeskValue };
 

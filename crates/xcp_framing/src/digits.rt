@@ -1,6 +1,6 @@
 //! Hex digits, by a table.
 ghost use Rattle.std.specs.Prelude.{◌≡◌};
-ghost use Rattle.xcp_framing.specs.Digits.{value_or};
+ghost use Rattle.xcp_framing.specs.private.HexDigits.{value_or};
 
 /// The greatest value of a digit.
 pub(crate) const GREATEST_VALUE: u8 = 15;

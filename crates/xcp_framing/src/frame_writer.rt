@@ -1,6 +1,6 @@
 //! Frames that are gathered, so that one write takes many of them.
 ghost use Rattle.std.specs.Prelude.{◌≡◌, ◌<◌, ◌≤◌, ◌+◌, ◌^◌, [], ◌∷◌, OnOk, OnErr, IfOk, IfErr, length};
-ghost use Rattle.xcp_framing.specs.Gathered.{Sends, output};
+ghost use Rattle.xcp_framing.specs.private.FrameOutput.{Sends, output};
 ghost use Rattle.xcp_framing.specs.Serve.{Writes};
 ghost use Rattle.xcp_framing.specs.Wire.{wire_from};
 
@@ -23,7 +23,7 @@ pub(crate) struct FrameWriter {
 
 impl Model for FrameWriter {
     ghost use Rattle.std.specs.Prelude.{◌≤◌, vec_capacity, vec_len};
-    ghost use Rattle.xcp_framing.specs.Gathered.{FrameWriterValue};
+    ghost use Rattle.xcp_framing.specs.private.FrameOutput.{FrameWriterValue};
 
     ghost Value = { FrameWriterValue };
 

@@ -2,7 +2,8 @@
 ghost use Rattle.std.specs.Prelude.{◌≡◌, ◌≢◌, ◌<◌, ◌≤◌, ◌+◌, ◌↔◌, [], IsTrue, IfSome, IfNone, ℕ, length};
 ghost use Rattle.xcp_framing.specs.Wire.{IsBadLength, len_of};
 ghost use Rattle.xcp_framing.specs.Frames.{frames, rest};
-ghost use Rattle.xcp_framing.specs.Feeding.{Feeds, got_in, missing_of, packets_given};
+ghost use Rattle.xcp_framing.specs.FramerInput.{Feeds, got_in, packets_given};
+ghost use Rattle.xcp_framing.specs.private.FramerInput.{missing_of};
 
 use crate::wire::{FRAME_SIZE, HEADER_SIZE, LEN_SIZE};
 use arrayvec::ArrayVec;
@@ -68,7 +69,7 @@ pub struct Framer {
 }
 
 impl Model for Framer {
-    ghost use Rattle.xcp_framing.specs.Feeding.{FramerValue};
+    ghost use Rattle.xcp_framing.specs.FramerInput.{FramerValue};
     ghost use Rattle.xcp_framing.specs.Wire.{IsUnfinished};
 
     ghost Value = { FramerValue };

@@ -4,7 +4,7 @@ ghost use Rattle.xcp_slave.specs.declared.Exchange.{Exchange};
 ghost use Rattle.xcp_slave.specs.declared.Request.{Request};
 ghost use Rattle.xcp_framing.specs.Desk.{DeskValue};
 ghost use Rattle.xcp_framing.specs.Lines.{Lines};
-ghost use Rattle.xcp_framing.specs.Refusal.{ReadsNext, Refused};
+ghost use Rattle.xcp_framing.specs.ServeRefusal.{ReadsNext, Refused};
 
 use crate::{Desk, Station, StationError};
 

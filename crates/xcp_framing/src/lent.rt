@@ -1,7 +1,7 @@
 //! What is lent for each command of a stream, so that no request and no packet is made anew for it.
 ghost use Rattle.std.specs.Prelude.{◌≡◌, ◌<◌, ℕ, length};
 ghost use Rattle.xcp_slave.specs.declared.Request.TheVariants as requests;
-ghost use Rattle.xcp_framing.specs.Feeding.{Feeds, got_in, packets_given};
+ghost use Rattle.xcp_framing.specs.FramerInput.{Feeds, got_in, packets_given};
 ghost use Rattle.xcp_framing.specs.Wire.{IsBadLength, len_of};
 
 use crate::{Brought, Cut, Framer};
@@ -18,7 +18,7 @@ pub(crate) struct LentCommand {
 impl Model for LentCommand {
     ghost use Rattle.arrayvec.specs.ArrayVec.{ArrayVec};
     ghost use Rattle.std.specs.Prelude.{ℕ};
-    ghost use Rattle.xcp_framing.specs.Lent.{IsCommand, packet_in_command};
+    ghost use Rattle.xcp_framing.specs.private.CommandPacket.{IsCommand, packet_in_command};
 
     ghost Value = { ArrayVec ℕ };
 

@@ -6,8 +6,8 @@
 //! in pieces. Both run over any reader and writer. A reader or writer stands in a [`Watched`], so
 //! that contracts can say that a fault came of a call that failed.
 //!
-//! `specs/Lines.antt` has the lines of a text, `specs/Meaning.antt` what a line says,
-//! `specs/Told.antt` the text of the answers, `specs/Replay.antt` what a replay promises.
+//! `specs/Lines.antt` has the lines of a text, `specs/ScriptLine.antt` what a line says,
+//! `specs/AnswerText.antt` the text of the answers, `specs/Replay.antt` what a replay promises.
 //! `specs/Wire.antt` has the frames of a stream, `specs/Serve.antt` what serving promises.
 #![tactic(auto)]
 

@@ -1,7 +1,7 @@
 //! The lines of a text that comes in pieces.
 ghost use Rattle.std.specs.Prelude.{◌≡◌, ◌<◌, ◌+◌, ◌++◌, ◌∷◌, [], MatchBool, MatchOption, drop, length, take};
 ghost use Rattle.xcp_framing.specs.Lines.{HasNoFeed, without_return};
-ghost use Rattle.xcp_framing.specs.Reading.{LineCut, line_in};
+ghost use Rattle.xcp_framing.specs.private.LineReading.{LineCut, line_in};
 
 use arrayvec::ArrayVec;
 use memchr::memchr;

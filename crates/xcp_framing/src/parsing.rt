@@ -1,7 +1,7 @@
 //! The lines of a script, read one by one.
 ghost use Rattle.std.specs.Prelude.{◌≡◌, ◌≤◌, MatchBool, position, length, false, Some, None};
-ghost use Rattle.xcp_framing.specs.Meaning.{meaning, channel_of, command_of, command_with, event_of, event_with, hex_bytes, is_skipped, is_space};
-ghost use Rattle.xcp_framing.specs.Parsed.{line_in};
+ghost use Rattle.xcp_framing.specs.ScriptLine.{meaning, channel_of, command_of, command_with, event_of, event_with, hex_bytes, is_skipped, is_space};
+ghost use Rattle.xcp_framing.specs.private.LineInSlot.{line_in};
 
 use crate::Line;
 use crate::digits::{GREATEST_VALUE, digit_value};
@@ -30,7 +30,7 @@ pub fn parse_line(max_cto: u8, line: &[u8]) -> Line
 }
 
 /// What a line says, as `parse_line` has it. A command or an event stands in the slot then.
-#[tactic(auto, unfolding(crate::specs::Meaning::meaning))]
+#[tactic(auto, unfolding(crate::specs::ScriptLine::meaning))]
 pub(crate) fn parse_into(max_cto: u8, line: &[u8], slot: &mut Slot) -> Parsed
     ensures { line_in result slot.new ≡ meaning max_cto line.now }
 {
@@ -44,7 +44,7 @@ pub(crate) fn parse_into(max_cto: u8, line: &[u8], slot: &mut Slot) -> Parsed
     }
 }
 
-#[tactic(auto, unfolding(crate::specs::Meaning::meaning))]
+#[tactic(auto, unfolding(crate::specs::ScriptLine::meaning))]
 fn parse_request(max_cto: u8, line: &[u8], slot: &mut Slot) -> Parsed
     requires some { is_skipped line.now ≡ false }
     requires short { length line.now ≤ 1024 }
@@ -154,7 +154,7 @@ fn read_command(max_cto: u8, digits: &[u8], slot: &mut Slot) -> Parsed
 
 /// Reads the bytes that hex digits write, if they are 1 to `most` bytes. If they are not, any may
 /// stand there.
-#[tactic(auto, unfolding(crate::specs::Meaning::hex_bytes))]
+#[tactic(auto, unfolding(crate::specs::ScriptLine::hex_bytes))]
 fn read_hex<const N: usize>(most: usize, digits: &[u8], read: &mut ArrayVec<u8, N>) -> bool
     requires bounded { most ≤ 255 }
     requires room { most ≤ N }
@@ -177,7 +177,7 @@ fn read_hex<const N: usize>(most: usize, digits: &[u8], read: &mut ArrayVec<u8, 
 }
 
 /// The number of an event channel, if the digits write one.
-#[tactic(auto, unfolding(crate::specs::Meaning::channel_of))]
+#[tactic(auto, unfolding(crate::specs::ScriptLine::channel_of))]
 fn parse_channel(digits: &[u8]) -> Option<u16>
     ensures { result ≡ channel_of digits.now }
 {

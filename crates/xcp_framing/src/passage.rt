@@ -2,8 +2,8 @@
 ghost use Rattle.std.specs.Prelude.{◌≡◌, ◌≢◌, ◌<◌, ◌≤◌, ◌+◌, ◌*◌, ◌^◌, ◌++◌, [], ℕ, List, OnOk, IfErr, length, Err};
 ghost use Rattle.xcp_framing.specs.declared.passage.Stop.{Stop};
 ghost use Rattle.xcp_framing.specs.Frames.{frames, rest};
-ghost use Rattle.xcp_framing.specs.Serve.{most_packets};
-ghost use Rattle.xcp_framing.specs.Chain.{Stand, Answered, EndsPart, Streams, AtReaderEnd, told};
+ghost use Rattle.xcp_framing.specs.private.Serve.{most_packets};
+ghost use Rattle.xcp_framing.specs.private.PacketChain.{Stand, Answered, EndsPart, Streams, AtReaderEnd, told};
 
 use crate::{Framer, Got, ServeError, Watched};
 use std::alloc::Global;

@@ -1,8 +1,8 @@
 //! The packets that wait in a station, put at an end for another thread to send.
 ghost use Rattle.std.specs.Prelude.{◌≡◌, ◌≤◌, IfOk, IfErr};
 ghost use Rattle.xcp_framing.specs.Pump.{DrainAgain, Pumps};
-ghost use Rattle.xcp_framing.specs.Refusal.{OnRefusal, Refused};
-ghost use Rattle.xcp_framing.specs.Turns.{IsInterruption};
+ghost use Rattle.xcp_framing.specs.ServeRefusal.{OnRefusal, Refused};
+ghost use Rattle.xcp_framing.specs.ServeParts.{IsInterruption};
 
 use crate::{End, ServeError, Station};
 use std::sync::atomic::{AtomicBool, Ordering};

@@ -2,11 +2,11 @@
 ghost use Rattle.std.specs.Prelude.{◌≡◌, ◌≢◌, ◌<◌, ◌≤◌, ◌+◌, ◌^◌, ◌++◌, [], ℕ, List, Option, OnOk, OnErr, IfErr, ◌⊎◌};
 ghost use Rattle.std.specs.Io.KnownBytes.{Appends, IsAtEnd};
 ghost use Rattle.xcp_slave.specs.Run.{Run, requests_of};
-ghost use Rattle.xcp_slave.specs.Value.{layout_of, opening};
-ghost use Rattle.xcp_framing.specs.Front.{IsFront};
-ghost use Rattle.xcp_framing.specs.Reading.{OfRead};
+ghost use Rattle.xcp_slave.specs.SlaveValue.{layout_of, opening};
+ghost use Rattle.xcp_framing.specs.Prefix.{IsFront};
+ghost use Rattle.xcp_framing.specs.private.LineReading.{OfRead};
 ghost use Rattle.xcp_framing.specs.Replay.{EndsShort, OfLines, Replayed, Tells, asked};
-ghost use Rattle.xcp_framing.specs.Told.{told};
+ghost use Rattle.xcp_framing.specs.AnswerText.{told};
 
 use crate::script::{LineError, Pending};
 use crate::{Desk, ReplayError, Watched};

@@ -2,13 +2,13 @@
 ghost use Rattle.std.specs.Prelude.{◌≡◌, ◌≢◌, ◌≤◌, ◌<◌, ◌+◌, ◌^◌, ◌++◌, ◌∷◌, [], ℕ, List, Some, None, true, false, OnOk, OnErr, IfErr, length};
 ghost use Rattle.xcp_slave.specs.declared.Request.{Request};
 ghost use Rattle.xcp_slave.specs.Run.{requests_of};
-ghost use Rattle.xcp_slave.specs.Value.{layout_of};
-ghost use Rattle.xcp_framing.specs.Front.{IsFront};
+ghost use Rattle.xcp_slave.specs.SlaveValue.{layout_of};
+ghost use Rattle.xcp_framing.specs.Prefix.{IsFront};
 ghost use Rattle.xcp_framing.specs.Lines.{unless_empty};
-ghost use Rattle.xcp_framing.specs.Meaning.{meaning};
-ghost use Rattle.xcp_framing.specs.Reading.{asked_before, faulty_from, lines_from, ShortOf};
+ghost use Rattle.xcp_framing.specs.ScriptLine.{meaning};
+ghost use Rattle.xcp_framing.specs.private.LineReading.{asked_before, faulty_from, lines_from, ShortOf};
 ghost use Rattle.xcp_framing.specs.Replay.{asked_by, is_faulty};
-ghost use Rattle.xcp_framing.specs.Told.{told};
+ghost use Rattle.xcp_framing.specs.AnswerText.{told};
 
 use crate::liner::{Lined, Liner};
 use crate::parsing::parse_into;

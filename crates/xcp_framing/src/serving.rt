@@ -1,10 +1,12 @@
 //! A station behind a stream: commands in frames from a reader, answers in frames to a writer.
 ghost use Rattle.std.specs.Prelude.{◌≡◌, ◌≢◌, ◌<◌, ◌≤◌, ◌+◌, ◌*◌, ◌^◌, [], ◌∷◌, ◌++◌, ◌⊎◌, OnOk, IfErr, length};
 ghost use Rattle.xcp_framing.specs.Frames.{frames, rest};
-ghost use Rattle.xcp_framing.specs.Gathered.{output};
-ghost use Rattle.xcp_framing.specs.Serve.{AnswersSoFar, EndsReader, Serves, most_drains, most_packets, number_of};
-ghost use Rattle.xcp_framing.specs.Refusal.{AsksNext, DrainsNext, OnRefusal, ReadsNext, Refused};
-ghost use Rattle.xcp_framing.specs.Turns.{Grows, DrainsSoFar, EndsPiece, IsInterruption};
+ghost use Rattle.xcp_framing.specs.private.FrameOutput.{output};
+ghost use Rattle.xcp_framing.specs.Serve.{AnswersSoFar, EndsReader, Serves, most_drains, number_of};
+ghost use Rattle.xcp_framing.specs.private.Serve.{most_packets};
+ghost use Rattle.xcp_framing.specs.ServeRefusal.{AsksNext, DrainsNext, OnRefusal, ReadsNext, Refused};
+ghost use Rattle.xcp_framing.specs.ServeParts.{IsInterruption};
+ghost use Rattle.xcp_framing.specs.private.ServeParts.{Grows, DrainsSoFar, EndsPiece};
 
 use crate::frame_writer::FrameWriter;
 use crate::lent::Lent;

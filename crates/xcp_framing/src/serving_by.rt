@@ -1,9 +1,9 @@
 //! A station behind a stream, whose answers' packets are put for another thread to send.
 ghost use Rattle.std.specs.Prelude.{◌≡◌, ◌≢◌, ◌<◌, ◌≤◌, ◌+◌, ◌⊎◌, Err};
 ghost use Rattle.xcp_framing.specs.Serve.{EndsReader};
-ghost use Rattle.xcp_framing.specs.Refusal.{OnRefusal, Refused};
+ghost use Rattle.xcp_framing.specs.ServeRefusal.{OnRefusal, Refused};
 ghost use Rattle.xcp_framing.specs.ServeBy.{CommandNext, ServesBy};
-ghost use Rattle.xcp_framing.specs.Chain.{told};
+ghost use Rattle.xcp_framing.specs.private.PacketChain.{told};
 
 use crate::passage::{Answerer, Stop, answer_stream, told};
 use crate::{End, ServeError, Served, Station, StationError, Watched};
@@ -16,7 +16,7 @@ use xcp_slave::{Answer, Request};
 struct ByCommand;
 
 impl<S: Station, E: End> Answerer<S, E> for ByCommand {
-    ghost use Rattle.xcp_framing.specs.ServeBy.{Exchanged, EndsAt};
+    ghost use Rattle.xcp_framing.specs.private.ServeBy.{Exchanged, EndsAt};
 
     ghost answers = { Exchanged S.exchanges E.put_so_far E.same };
 

@@ -1,6 +1,6 @@
 //! What is lent for each line of a script.
 ghost use Rattle.std.specs.Prelude.{◌≡◌};
-ghost use Rattle.xcp_framing.specs.Parsed.{asked_for, line_in};
+ghost use Rattle.xcp_framing.specs.private.LineInSlot.{asked_for, line_in};
 
 use crate::Line;
 use arrayvec::ArrayVec;

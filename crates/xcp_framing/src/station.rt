@@ -2,7 +2,7 @@
 ghost use Rattle.std.specs.Prelude.{◌≡◌, [], ◌∷◌, ◌++◌, List, IfOk, OnErr, IfErr};
 ghost use Rattle.xcp_slave.specs.declared.Exchange.{Exchange};
 ghost use Rattle.xcp_slave.specs.declared.Request.{Request};
-ghost use Rattle.xcp_slave.specs.Told.{answer_in};
+ghost use Rattle.xcp_slave.specs.AnswerInBytes.{answer_in};
 ghost use Rattle.xcp_framing.specs.declared.station.StationError.{StationError};
 
 use thiserror::Error;
@@ -21,7 +21,7 @@ pub enum StationError {
 }
 
 impl StationError {
-    ghost use Rattle.xcp_framing.specs.Refusal.{refusal_number};
+    ghost use Rattle.xcp_framing.specs.ServeRefusal.{refusal_number};
 
     /// The error's number: 1 Memory, 2 JournalFull.
     pub fn number(&self) -> u8

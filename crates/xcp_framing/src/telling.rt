@@ -1,8 +1,8 @@
 //! The text of an answer.
 ghost use Rattle.std.specs.Prelude.{◌≡◌, ◌++◌, ◌∷◌, [], OnOk, decimal, length, ◌≤◌, ◌+◌, vec_len, vec_capacity};
 ghost use Rattle.hex.specs.Hex.{encode_upper};
-ghost use Rattle.xcp_slave.specs.Told.{answer_in};
-ghost use Rattle.xcp_framing.specs.Told.{text_of};
+ghost use Rattle.xcp_slave.specs.AnswerInBytes.{answer_in};
+ghost use Rattle.xcp_framing.specs.AnswerText.{text_of};
 
 use std::alloc::AllocError;
 use xcp_packet::Packet;
@@ -12,7 +12,7 @@ const HEX_DIGITS: [u8; 16] = *b"0123456789ABCDEF";
 
 /// Appends the line of an answer, whose packet, if it is one, stands in the lent one. After an
 /// `Err` a front of it may have been appended.
-#[tactic(auto, unfolding(crate::specs::Told::text_of))]
+#[tactic(auto, unfolding(crate::specs::AnswerText::text_of))]
 pub fn push_text(texts: &mut Vec<u8>, told: Told, packet: &Packet) -> Result<(), AllocError>
     ensures { OnOk result (texts.new.items
         ≡ texts.old.items ++ text_of (answer_in told packet.now)) }

@@ -2,8 +2,8 @@
 ghost use Rattle.std.specs.Prelude.{◌≡◌, ◌+◌, OnOk, OnErr};
 ghost use Rattle.std.specs.Io.{ReadsAtMost, WritesAtMost};
 ghost use Rattle.std.specs.Io.KnownBytes.{Appends, ReadConsumes, WriteAppends};
-ghost use Rattle.xcp_framing.specs.Front.{AppendsFront};
-ghost use Rattle.xcp_framing.specs.Watched.{Counted, is_failed_read, is_failed_write};
+ghost use Rattle.xcp_framing.specs.Prefix.{AppendsFront};
+ghost use Rattle.xcp_framing.specs.CountedCalls.{Counted, is_failed_read, is_failed_write};
 
 use crate::tally::Tally;
 use std::io::{self, Read, Write};
@@ -20,7 +20,7 @@ pub struct Watched<T> {
 }
 
 impl<T> Model for Watched<T> {
-    ghost use Rattle.xcp_framing.specs.Watched.{Watched as Watching, watched_code};
+    ghost use Rattle.xcp_framing.specs.CountedCalls.{Watched as Watching, watched_code};
 
     ghost Value = { Watching T };
 

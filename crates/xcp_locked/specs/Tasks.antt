@@ -9,7 +9,7 @@ use Rattle.xcp_locked.specs.declared.tasks.TaskError.{TaskError}
 use Rattle.xcp_locked.specs.declared.tasks.TaskError.TheVariants as faults
 use Rattle.xcp_locked.specs.declared.worker.Worker.{Worker}
 use Rattle.xcp_locked.specs.Caller.{CallerValue}
-use Rattle.xcp_locked.specs.Taking.{Took}
+use Rattle.xcp_locked.specs.TaskImages.{Took}
 
 -- A task's duty: by how many event channels and how many bytes of signals it goes, and its number.
 pub record Duty : Type 0 where
@@ -47,10 +47,6 @@ pub record Grew (p : Duty) (cycles : ℕ) (whole : Bool) (old new : List Receipt
   pub rest : List Request
   pub planned : plan p cycles ≡ requests_of more ++ rest
   pub all : whole ≡ true → rest ≡ []
-
--- the receipts grew by those of these requests
-abbrev pub Adds : List Request → List Receipt → List Receipt → Type 0
-Adds requests old new = (more : List Receipt) × (requests_of more ≡ requests) × (new ≡ old ++ more)
 
 -- the caller is the same one: its receipts, and how many of its calls were accepted, may be others
 pub record Same (old new : CallerValue) : Type 0 where

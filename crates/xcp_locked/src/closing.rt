@@ -2,13 +2,13 @@
 ghost use Rattle.std.specs.Prelude.{◌≡◌, ◌<◌, ◌≤◌, ◌+◌, ◌++◌, [], IfErr, IfOk, length, map, sum_by, vec_capacity, vec_len};
 ghost use Rattle.std.specs.Vec.Iter.{into_iter_items};
 ghost use Rattle.xcp_locked.specs.Caller.{accepted_by};
-ghost use Rattle.xcp_locked.specs.Room.{IsEndedRoom, IsRoom};
-ghost use Rattle.xcp_locked.specs.HangingUp.{HungUp};
-ghost use Rattle.xcp_locked.specs.Running.{first_fault};
+ghost use Rattle.xcp_locked.specs.private.ServerRoom.{IsEndedRoom, IsRoom};
+ghost use Rattle.xcp_locked.specs.LastHangup.{HungUp};
+ghost use Rattle.xcp_locked.specs.TaskOutcome.{first_fault};
 ghost use Rattle.xcp_locked.specs.Journal.{exchanges};
 ghost use Rattle.xcp_slave.specs.Run.{Run};
-ghost use Rattle.xcp_slave.specs.Value.{opening};
-ghost use Rattle.xcp_locked.specs.Settling.{AreSettled, FirstUnsettled};
+ghost use Rattle.xcp_slave.specs.SlaveValue.{opening};
+ghost use Rattle.xcp_locked.specs.SettledReceipts.{AreSettled, FirstUnsettled};
 
 use crate::dealing::{Ended, add_rest, dismiss, take_apart};
 use crate::running::collect;

@@ -1,7 +1,9 @@
 //! A connection: a tool that is heard, a pump, and a sender, each in a thread of its own.
 ghost use Rattle.std.specs.Prelude.{◌≡◌, ◌≤◌, ◌+◌, [], vec_len, vec_capacity};
-ghost use Rattle.xcp_locked.specs.Attending.{AreOfOneOutlet, ClosedAs, IsClosingOf, end_of};
-ghost use Rattle.xcp_locked.specs.Places.{Each, EachFrom};
+ghost use Rattle.xcp_locked.specs.ConnectionOutcome.{end_of};
+ghost use Rattle.xcp_locked.specs.private.ConnectionOutcome.{AreOfOneOutlet, ClosedAs, IsClosingOf};
+ghost use Rattle.xcp_locked.specs.PairedLists.{EachFrom};
+ghost use Rattle.xcp_locked.specs.private.PairedLists.{Each};
 
 use crate::hearing::{Heard, Hearing};
 use crate::pumping::{Pumped, Pumping};

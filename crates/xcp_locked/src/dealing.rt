@@ -1,9 +1,9 @@
 //! Callers are dealt to connections and tasks, and gathered again.
 ghost use Rattle.std.specs.Prelude.{◌≡◌, ◌≤◌, ◌+◌, ◌++◌, [], IfOk, map, length, vec_len, vec_capacity};
 ghost use Rattle.std.specs.Vec.Iter.{into_iter_items, into_iter_len};
-ghost use Rattle.xcp_locked.specs.Dealing.{Dealt};
-ghost use Rattle.xcp_locked.specs.Places.{EachFrom};
-ghost use Rattle.xcp_locked.specs.Serving.{IsConnectionOf};
+ghost use Rattle.xcp_locked.specs.private.DealtCallers.{Dealt};
+ghost use Rattle.xcp_locked.specs.PairedLists.{EachFrom};
+ghost use Rattle.xcp_locked.specs.private.ServerOutcome.{IsConnectionOf};
 
 use crate::hearing::Hearing;
 use crate::pumping::Pumping;

@@ -1,6 +1,6 @@
 //! Why a call was not accepted.
 ghost use Rattle.std.specs.Prelude.{◌≡◌};
-ghost use Rattle.xcp_locked.specs.Numbers.{locked_number};
+ghost use Rattle.xcp_locked.specs.FaultNumbers.{locked_number};
 
 use thiserror::Error;
 

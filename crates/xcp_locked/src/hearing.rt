@@ -35,7 +35,7 @@ pub struct Heard<N: Name, I: Read + Drop> {
 }
 
 impl<'a, N: Name + Send + Sync, I: Read + Send + Drop> Work<Heard<N, I>> for Hearing<'a, N, I> {
-    ghost use Rattle.xcp_locked.specs.Attending.{HeardFor};
+    ghost use Rattle.xcp_locked.specs.ConnectionOutcome.{HeardFor};
 
     ghost gives = { λ h d. HeardFor I.remaining h.max_cto h.turns h.reader h.caller h.replies d };
 

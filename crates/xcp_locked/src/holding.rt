@@ -1,6 +1,6 @@
 //! How many buffers of the bank readers hold.
 ghost use Rattle.std.specs.Prelude.{◌≡◌, ◌≤◌};
-ghost use Rattle.xcp_bank.specs.Ends.{HeldDoes, WriterEnd};
+ghost use Rattle.xcp_bank.specs.BankEnds.{HeldDoes, WriterEnd};
 
 use crate::{Locked, Name};
 

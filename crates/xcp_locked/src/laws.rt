@@ -5,25 +5,25 @@ ghost use Rattle.std.specs.List.{slice_get};
 ghost use Rattle.xcp_slave.specs.declared.exchange.Exchange.{Exchange};
 ghost use Rattle.xcp_slave.specs.declared.Request.{Request};
 ghost use Rattle.xcp_slave.specs.declared.Answer.{Answer};
-ghost use Rattle.xcp_bank.specs.Deeds.{reads_of};
-ghost use Rattle.xcp_bank.specs.Ends.{AcquireDoes, ReaderEnd};
+ghost use Rattle.xcp_bank.specs.PinHistory.{reads_of};
+ghost use Rattle.xcp_bank.specs.BankEnds.{AcquireDoes, ReaderEnd};
 ghost use Rattle.xcp_bank.specs.declared.taken.Taken.{Taken};
 ghost use Rattle.xcp_framing.specs.declared.serving.ServeError.{ServeError};
 ghost use Rattle.xcp_framing.specs.declared.serving.ServeError.TheVariants as errors;
 ghost use Rattle.xcp_framing.specs.declared.serving.Served.{Served};
 ghost use Rattle.xcp_outlet.specs.declared.fault.SendError.{SendError};
 ghost use Rattle.xcp_trace.specs.declared.Entry.{Entry};
-ghost use Rattle.xcp_locked.specs.Attending.{end_of};
+ghost use Rattle.xcp_locked.specs.ConnectionOutcome.{end_of};
 ghost use Rattle.xcp_locked.specs.Caller.{CallerValue};
 ghost use Rattle.xcp_locked.specs.Journal.{entry};
 ghost use Rattle.xcp_locked.specs.Receipts.{receipt};
-ghost use Rattle.xcp_locked.specs.Settling.{IsSettled};
-ghost use Rattle.xcp_locked.specs.Taking.{looks};
+ghost use Rattle.xcp_locked.specs.SettledReceipts.{IsSettled};
+ghost use Rattle.xcp_locked.specs.TaskImages.{looks};
 ghost use Rattle.xcp_locked.specs.declared.receipt.Receipt.{Receipt};
 ghost use Rattle.xcp_slave.specs.Run.{Run};
 ghost use Rattle.xcp_slave.specs.Step.{Answers};
-ghost use Rattle.xcp_slave.specs.Value.{SlaveValue};
-ghost use Rattle.xcp_locked.specs.Published.{Publication, Published, image_of, publication};
+ghost use Rattle.xcp_slave.specs.SlaveValue.{SlaveValue};
+ghost use Rattle.xcp_locked.specs.Publications.{Publication, Published, image_of, publication};
 
 /// A run determines what is published of it: the newest is the image of the slave that it leads to,
 /// and one more exchange adds the new image, with its place, exactly where that is another one.

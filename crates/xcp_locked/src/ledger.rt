@@ -2,7 +2,7 @@
 ghost use Rattle.std.specs.Prelude.{◌≡◌, ◌<◌, ◌+◌, ℕ, IfErr, IfOk, Some, length, sum_by};
 ghost use Rattle.std.specs.List.{slice_get};
 ghost use Rattle.xcp_locked.specs.Caller.{CallerValue, accepted_by};
-ghost use Rattle.xcp_locked.specs.Settling.{AreSettled, FirstUnsettled};
+ghost use Rattle.xcp_locked.specs.SettledReceipts.{AreSettled, FirstUnsettled};
 
 use crate::{Caller, Locked, Name};
 use std::sync::ledger::{Book, Share};

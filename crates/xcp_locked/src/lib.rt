@@ -1,8 +1,8 @@
 //! One slave under a lock, with a journal of all that it was asked.
 //!
 //! A [`Locked`] executes requests one by one, and its journal stores each with its answer and its
-//! caller; a [`Caller`] gets a receipt for each. `specs/Locked.antt` has what contracts see of the
-//! slave and its journal, `specs/Settling.antt` when a caller's receipts are the journal's.
+//! caller; a [`Caller`] gets a receipt for each. `specs/LockedSlave.antt` has what contracts see of the
+//! slave and its journal, `specs/SettledReceipts.antt` when a caller's receipts are the journal's.
 #![tactic(auto)]
 
 mod caller;

@@ -1,17 +1,18 @@
 //! What lies under the lock: a slave and its journal.
 ghost use Rattle.std.specs.Prelude.{◌≡◌, ◌≢◌, ◌↔◌, ◌<◌, ◌≤◌, [], ◌∷◌, ◌++◌, length, slice_index, OnErr, IfOk, Err, true, vec_capacity, vec_len};
-ghost use Rattle.xcp_memory.specs.Image.{ecu_image};
+ghost use Rattle.xcp_memory.specs.EcuImage.{ecu_image};
 ghost use Rattle.xcp_slave.specs.Run.{Run};
-ghost use Rattle.xcp_slave.specs.Steady.{IsNoWrite};
+ghost use Rattle.xcp_slave.specs.MemoryEffects.{IsNoWrite};
 ghost use Rattle.xcp_slave.specs.Step.{Answers};
-ghost use Rattle.xcp_slave.specs.Told.{answer_in};
-ghost use Rattle.xcp_slave.specs.Value.{SlaveValue, layout_of, opening};
+ghost use Rattle.xcp_slave.specs.AnswerInBytes.{answer_in};
+ghost use Rattle.xcp_slave.specs.SlaveValue.{SlaveValue, layout_of, opening};
 ghost use Rattle.xcp_locked.specs.Caller.{accepting};
 ghost use Rattle.xcp_locked.specs.Journal.{entry, exchanges, journal_limit};
-ghost use Rattle.xcp_locked.specs.Published.{image_of};
-ghost use Rattle.xcp_locked.specs.Publishing.{AreImages, KeepsImage, Offers, Publishes};
+ghost use Rattle.xcp_locked.specs.Publications.{image_of};
+ghost use Rattle.xcp_locked.specs.PublishingCalls.{AreImages, Publishes};
+ghost use Rattle.xcp_locked.specs.private.PublishingCalls.{KeepsImage, Offers};
 ghost use Rattle.xcp_locked.specs.Receipts.{receipt};
-ghost use Rattle.xcp_trace.specs.Entries.{room_for_any_entry};
+ghost use Rattle.xcp_trace.specs.EntrySpelling.{room_for_any_entry};
 
 use crate::publisher::Publisher;
 use crate::{Caller, LockedError, Name, Receipt};
@@ -48,10 +49,10 @@ pub struct Locked<N: Name> {
 impl<N: Name> Model for Locked<N> {
     ghost use Rattle.std.specs.Prelude.{◌≡◌, ◌≤◌, length};
     ghost use Rattle.xcp_slave.specs.Run.{Run};
-    ghost use Rattle.xcp_slave.specs.Value.{layout_of, opening};
-    ghost use Rattle.xcp_locked.specs.Locked.{LockedValue};
+    ghost use Rattle.xcp_slave.specs.SlaveValue.{layout_of, opening};
+    ghost use Rattle.xcp_locked.specs.LockedSlave.{LockedValue};
     ghost use Rattle.xcp_locked.specs.Journal.{exchanges, journal_limit};
-    ghost use Rattle.xcp_locked.specs.Publishing.{IsKept};
+    ghost use Rattle.xcp_locked.specs.private.PublishingCalls.{IsKept};
 
     ghost Value = { LockedValue };
 

@@ -1,10 +1,10 @@
 //! A slave that no type names yet, and its opening.
 ghost use Rattle.std.specs.Prelude.{◌≡◌, ◌≤◌, [], ◌∷◌, IfOk};
 ghost use Rattle.std.specs.List.{AllByRecursion};
-ghost use Rattle.xcp_bank.specs.Ends.{six_readers};
-ghost use Rattle.xcp_slave.specs.Value.{layout_of, opening};
+ghost use Rattle.xcp_bank.specs.BankEnds.{six_readers};
+ghost use Rattle.xcp_slave.specs.SlaveValue.{layout_of, opening};
 ghost use Rattle.xcp_locked.specs.Caller.{callers_of, fresh_caller};
-ghost use Rattle.xcp_locked.specs.Published.{image_of};
+ghost use Rattle.xcp_locked.specs.Publications.{image_of};
 
 use crate::publisher::Publisher;
 use crate::{Caller, Locked, Name, Reader};
@@ -30,10 +30,10 @@ pub struct Unnamed {
 
 impl Model for Unnamed {
     ghost use Rattle.std.specs.Prelude.{◌≡◌, ◌≤◌};
-    ghost use Rattle.xcp_bank.specs.Ends.{new_writer, six_readers};
-    ghost use Rattle.xcp_locked.specs.Published.{image_of};
-    ghost use Rattle.xcp_slave.specs.Value.{layout_of, opening};
-    ghost use Rattle.xcp_locked.specs.Opening.{UnnamedValue};
+    ghost use Rattle.xcp_bank.specs.BankEnds.{new_writer, six_readers};
+    ghost use Rattle.xcp_locked.specs.Publications.{image_of};
+    ghost use Rattle.xcp_slave.specs.SlaveValue.{layout_of, opening};
+    ghost use Rattle.xcp_locked.specs.UnnamedSlave.{UnnamedValue};
 
     ghost Value = { UnnamedValue };
 

@@ -29,7 +29,7 @@ pub struct Pumped<N: Name> {
 }
 
 impl<'a, N: Name + Send + Sync, C: Clock + Sync> Work<Pumped<N>> for Pumping<'a, N, C> {
-    ghost use Rattle.xcp_locked.specs.Attending.{PumpedFor};
+    ghost use Rattle.xcp_locked.specs.ConnectionOutcome.{PumpedFor};
 
     ghost gives = { λ p d. PumpedFor p.caller p.samples d };
 

@@ -1,7 +1,7 @@
 //! A reader of a slave's images.
 ghost use Rattle.std.specs.Prelude.{◌≡◌, ◌↔◌, ℕ, ◌+◌, ◌-◌, ◌/◌, ◌%◌, ◌<◌, ◌≤◌, [], length, take, drop, Some, IsTrue};
-ghost use Rattle.xcp_bank.specs.Known.{AllBegin, Begins};
-ghost use Rattle.xcp_bank.specs.Ends.{AcquireDoes, Holds, HoldsNumber, IsRun, LeavesBy, ReadDoes, image_held, words_in};
+ghost use Rattle.xcp_bank.specs.SeatKnowledge.{AllBegin, Begins};
+ghost use Rattle.xcp_bank.specs.BankEnds.{AcquireDoes, Holds, HoldsNumber, IsRun, LeavesBy, ReadDoes, image_held, words_in};
 
 use crate::Name;
 use std::marker::{Model, PhantomData};
@@ -17,7 +17,7 @@ pub struct Reader<N: Name> {
 
 impl<N: Name> Model for Reader<N> {
     ghost use Rattle.std.specs.Prelude.{◌≡◌};
-    ghost use Rattle.xcp_bank.specs.Ends.{ReaderEnd};
+    ghost use Rattle.xcp_bank.specs.BankEnds.{ReaderEnd};
 
     ghost Value = { ReaderEnd };
 

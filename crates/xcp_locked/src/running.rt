@@ -1,7 +1,8 @@
 //! Tasks, each in a thread of its own.
 ghost use Rattle.std.specs.Prelude.{◌≡◌, ◌<◌, ◌≤◌, [], IfErr, IfOk, map, length, vec_len, vec_capacity};
-ghost use Rattle.xcp_locked.specs.Places.{EachFrom};
-ghost use Rattle.xcp_locked.specs.Running.{IsTaskOf, RanTasks, first_fault};
+ghost use Rattle.xcp_locked.specs.PairedLists.{EachFrom};
+ghost use Rattle.xcp_locked.specs.TaskOutcome.{RanTasks, first_fault};
+ghost use Rattle.xcp_locked.specs.private.TaskOutcome.{IsTaskOf};
 
 use crate::{Done, Gate, Locked, Name, Ran, Task, TaskError, Worker};
 use std::alloc::{AllocError, Global};

@@ -23,7 +23,7 @@ pub struct Wrote<O: Write + Drop> {
 }
 
 impl<O: Write + Send + Drop> Work<Wrote<O>> for Sending<O> {
-    ghost use Rattle.xcp_locked.specs.Attending.{WroteFor};
+    ghost use Rattle.xcp_locked.specs.ConnectionOutcome.{WroteFor};
 
     ghost gives = { λ s d. WroteFor O.contents s.end.outlet s.writer d };
 

@@ -1,15 +1,15 @@
 //! Connections and tasks of one slave, all at the same time.
 ghost use Rattle.std.specs.Prelude.{◌≡◌, ◌<◌, ◌≤◌, ◌+◌, IfOk, vec_len};
-ghost use Rattle.xcp_bank.specs.Ends.{six_readers};
+ghost use Rattle.xcp_bank.specs.BankEnds.{six_readers};
 ghost use Rattle.xcp_locked.specs.Caller.{callers_of};
-ghost use Rattle.xcp_locked.specs.HangingUp.{EndsSession};
-ghost use Rattle.xcp_locked.specs.Places.{EachFrom};
-ghost use Rattle.xcp_locked.specs.Published.{image_of};
-ghost use Rattle.xcp_locked.specs.Running.{DoneAs};
+ghost use Rattle.xcp_locked.specs.LastHangup.{EndsSession};
+ghost use Rattle.xcp_locked.specs.PairedLists.{EachFrom};
+ghost use Rattle.xcp_locked.specs.Publications.{image_of};
+ghost use Rattle.xcp_locked.specs.private.TaskOutcome.{DoneAs};
 ghost use Rattle.xcp_locked.specs.Journal.{exchanges};
 ghost use Rattle.xcp_slave.specs.Run.{Run};
-ghost use Rattle.xcp_slave.specs.Value.{opening};
-ghost use Rattle.xcp_locked.specs.Serving.{Closes, CountTheirCommands, PartedAs};
+ghost use Rattle.xcp_slave.specs.SlaveValue.{opening};
+ghost use Rattle.xcp_locked.specs.ServerOutcome.{Closes, CountTheirCommands, PartedAs};
 
 use crate::closing::{close_all, make_rooms};
 use crate::connection::close_each;

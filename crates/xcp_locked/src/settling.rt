@@ -1,7 +1,7 @@
 //! Whether a caller's receipts are the journal's.
 ghost use Rattle.std.specs.Prelude.{◌≡◌, ◌≢◌, MatchBool, MatchResult};
 ghost use Rattle.xcp_locked.specs.Receipts.{receipt_of};
-ghost use Rattle.xcp_locked.specs.Settling.{DifferAt, IsSettled, tally};
+ghost use Rattle.xcp_locked.specs.SettledReceipts.{DifferAt, IsSettled, tally};
 
 use crate::{Caller, Locked, Name, Receipt};
 use xcp_slave::{Answer, Request};

@@ -1,8 +1,9 @@
 //! Tasks of the controller: what each submits, cycle by cycle.
 ghost use Rattle.std.specs.Prelude.{◌≡◌, ◌≤◌, ◌+◌, ℕ, List, [], ◌∷◌, IfSome, MatchBool, is_none, replicate, true};
-ghost use Rattle.xcp_locked.specs.Numbers.{task_number};
-ghost use Rattle.xcp_locked.specs.Taking.{Took};
-ghost use Rattle.xcp_locked.specs.Tasks.{Adds, Grew, IsOwn, Same, closing_of, duty, event_of};
+ghost use Rattle.xcp_locked.specs.FaultNumbers.{task_number};
+ghost use Rattle.xcp_locked.specs.TaskImages.{Took};
+ghost use Rattle.xcp_locked.specs.Tasks.{Grew, IsOwn, Same, closing_of, duty, event_of};
+ghost use Rattle.xcp_locked.specs.private.Tasks.{Adds};
 
 use crate::{Caller, Gate, Locked, LockedError, Name, Reader, Worker};
 use arrayvec::ArrayVec;

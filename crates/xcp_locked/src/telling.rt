@@ -1,10 +1,10 @@
 //! What readers are told under the lock.
 ghost use Rattle.std.specs.Prelude.{◌≡◌, ◌↔◌, ◌∷◌, IfSome, IsNone, None};
-ghost use Rattle.xcp_bank.specs.Ends.{ReaderEnd};
-ghost use Rattle.xcp_slave.specs.Value.{opening};
+ghost use Rattle.xcp_bank.specs.BankEnds.{ReaderEnd};
+ghost use Rattle.xcp_slave.specs.SlaveValue.{opening};
 ghost use Rattle.xcp_locked.specs.Journal.{exchanges};
-ghost use Rattle.xcp_locked.specs.Publishing.{AreImages};
-ghost use Rattle.xcp_locked.specs.Telling.{IsSettledAt};
+ghost use Rattle.xcp_locked.specs.PublishingCalls.{AreImages};
+ghost use Rattle.xcp_locked.specs.SettledReader.{IsSettledAt};
 
 use crate::{Locked, Name, Reader};
 

@@ -34,7 +34,7 @@ impl<'a, N: Name, R: Wait> Tool<'a, N, R> {
 
 impl<'a, N: Name, R: Wait> Station for Tool<'a, N, R> {
     ghost use Rattle.xcp_locked.specs.Receipts.{exchanges_of};
-    ghost use Rattle.xcp_locked.specs.Refusals.{MayRefuse};
+    ghost use Rattle.xcp_locked.specs.CallRefusal.{MayRefuse};
 
     ghost exchanges = { λ t. exchanges_of t.caller.receipts };
 

@@ -3,10 +3,10 @@ use Rattle.std.proofs.Common.{◌≡◌, ℕ, ◌+◌, ◌<◌, true, false, Lis
 use Rattle.std.proofs.lemmas.List.{take_all}
 use Rattle.std.proofs.Math.Seq.{drop-cons}
 use Rattle.xcp_memory.specs.declared.key.LayoutFault.{LayoutFault}
-use Rattle.xcp_memory.specs.Parts.{Placed}
+use Rattle.xcp_memory.specs.LayoutParts.{Placed}
 use Rattle.xcp_packet.specs.Rows.{first_holding}
 use Rattle.xcp_memory.specs.Limits.{apart_limit, apart_limits}
-use Rattle.xcp_packet.proofs.TestLemmas.{holding_left, none_left}
+use Rattle.xcp_packet.proofs.RowTestLemmas.{holding_left, none_left}
 
 -- a list from one of its elements on
 pub drop_here : {A : Type 0} (xs : List A) (i : ℕ) (x : A) → i < length xs → x ≡ get_or xs i x → drop i xs ≡ x ∷ drop (i + 1) xs

@@ -2,7 +2,7 @@
 use Rattle.std.proofs.Common.{◌≡◌, ℕ, ◌+◌, ◌≤◌, List, ◌++◌, length, take, drop, arith, length-append, length-drop}
 use Rattle.std.proofs.lemmas.List.{length-take}
 use Rattle.std.proofs.lemmas.Grind.{common_steps}
-use Rattle.xcp_memory.specs.Words.{overwritten}
+use Rattle.xcp_memory.specs.ComputedAccess.{overwritten}
 
 pub length-overwritten : (xs ys : List ℕ) (i : ℕ) → i + length ys ≤ length xs → length (overwritten xs i ys) ≡ length xs
 length-overwritten xs ys i h = simp (length-append, length-take, length-drop) (omega arith)

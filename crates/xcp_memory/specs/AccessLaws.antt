@@ -4,7 +4,7 @@ use Rattle.xcp_packet.specs.declared.Code.TheVariants.{AccessDenied, WriteProtec
 use Rattle.xcp_memory.specs.Layout.{IsLayout}
 use Rattle.xcp_memory.specs.Memory.{Tool, Controller, LiesInside, LiesProtected, Reads, Writes}
 use Rattle.xcp_memory.specs.Pages.{PagesValue, IsPages}
-use Rattle.xcp_memory.specs.Words.{lies_inside, tool_bytes, controller_bytes, write_refusal, pages_written}
+use Rattle.xcp_memory.specs.ComputedAccess.{lies_inside, tool_bytes, controller_bytes, write_refusal, pages_written}
 
 -- a read of the tool's bytes gives the list that is computed, and no other
 abbrev pub ToolIsRead : Type 0

@@ -4,12 +4,12 @@ use Rattle.std.specs.Prelude.{ℕ, zero, suc, Bool, List, not, [], ◌∷◌, le
 use Rattle.xcp_packet.specs.declared.Code.{Code}
 use Rattle.xcp_packet.specs.declared.Code.TheVariants.{OutOfRange, AccessDenied}
 use Rattle.xcp_packet.specs.declared.Order.{Order}
-use Rattle.xcp_packet.specs.Order.{number_in}
+use Rattle.xcp_packet.specs.ByteOrder.{number_in}
 use Rattle.xcp_packet.specs.Rows.{first_holding}
 use Rattle.xcp_memory.specs.declared.checksum_kind.ChecksumKind.{ChecksumKind}
 use Rattle.xcp_memory.specs.declared.checksum_kind.ChecksumKind.TheVariants.{Add11, Add12, Add14, Add22, Add24, Add44}
 use Rattle.xcp_memory.specs.Pages.{PagesValue}
-use Rattle.xcp_memory.specs.Words.{lies_inside, tool_bytes}
+use Rattle.xcp_memory.specs.ComputedAccess.{lies_inside, tool_bytes}
 
 -- the number of a type of checksum
 abbrev pub checksum_number : ChecksumKind → ℕ

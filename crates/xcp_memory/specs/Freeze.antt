@@ -3,7 +3,7 @@
 use Rattle.std.specs.Prelude.{ℕ, Bool, not, [], ◌∷◌, map, count_by, Option, ◌==◌, bit_and, if◌then◌else◌, slice_set}
 use Rattle.xcp_packet.specs.declared.Code.{Code}
 use Rattle.xcp_packet.specs.declared.Code.TheVariants.{ModeNotValid, SegmentNotValid}
-use Rattle.xcp_memory.specs.Copying.{lacks_segment, with_content}
+use Rattle.xcp_memory.specs.PageCopy.{lacks_segment, with_content}
 use Rattle.xcp_memory.specs.Pages.{PagesValue, SegmentPages, segment_at, xcp_page}
 use Rattle.xcp_packet.specs.Rows.{first_holding}
 

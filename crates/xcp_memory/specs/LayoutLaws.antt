@@ -2,10 +2,10 @@
 use Rattle.std.specs.Prelude.{◌≡◌, ℕ, ℤ, pos, ◌≤◌, ◌↔◌, All, true, None}
 use Rattle.xcp_memory.specs.declared.parts.Parts.{Parts}
 use Rattle.xcp_memory.specs.Layout.{LayoutValue, IsLayout}
-use Rattle.xcp_memory.specs.Parts.{number, layout_of}
+use Rattle.xcp_memory.specs.LayoutParts.{number, layout_of}
 use Rattle.xcp_memory.specs.Limits.{first_fault}
 use Rattle.xcp_memory.specs.Memory.{LiesIn, LiesInside}
-use Rattle.xcp_memory.specs.Words.{lies_inside}
+use Rattle.xcp_memory.specs.ComputedAccess.{lies_inside}
 
 -- an address lies in one area at most
 abbrev pub AreasShareNoAddress : Type 0

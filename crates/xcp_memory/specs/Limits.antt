@@ -9,7 +9,7 @@ use Rattle.xcp_memory.specs.declared.key.Key.{Key}
 use Rattle.xcp_memory.specs.declared.key.Key.TheVariants as key
 use Rattle.xcp_memory.specs.declared.key.LayoutFault.{LayoutFault}
 use Rattle.xcp_memory.specs.declared.key.LayoutFault.TheVariants.{Range, Overlap, TooMany}
-use Rattle.xcp_memory.specs.Parts.{Placed, number, size, layout_of, areas}
+use Rattle.xcp_memory.specs.LayoutParts.{Placed, number, size, layout_of, areas}
 use Rattle.xcp_memory.specs.Layout.{Extent}
 
 -- a limit: the test that it is broken, and the fault if it is

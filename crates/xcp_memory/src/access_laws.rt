@@ -1,6 +1,6 @@
 //! Laws of reads and writes: each function's contract is the law, and it does nothing.
 ghost use Rattle.std.specs.Prelude.{◌≡◌, ◌<◌, ◌*◌, ◌%◌, ℕ, List, drop, get_or, length, sum};
-ghost use Rattle.xcp_packet.specs.Order.{number_in};
+ghost use Rattle.xcp_packet.specs.ByteOrder.{number_in};
 ghost use Rattle.xcp_packet.specs.declared.Order.{Order};
 ghost use Rattle.xcp_memory.specs.Checksum.{checksum_of, modulus, numbers, summed, unit};
 ghost use Rattle.xcp_memory.specs.Layout.{IsLayout};

@@ -1,7 +1,7 @@
 //! The areas of a layout, by name.
 ghost use Rattle.std.specs.Prelude.{◌≡◌, ◌≤◌, ◌∷◌, ◌++◌, [], length, map, true, false, Some, None, IfOk, IfErr};
 ghost use Rattle.std.specs.List.{enumerate_from};
-ghost use Rattle.xcp_memory.specs.Parts.{Placed as PlacedValue, placed_segment};
+ghost use Rattle.xcp_memory.specs.LayoutParts.{Placed as PlacedValue, placed_segment};
 ghost use Rattle.xcp_packet.specs.Rows.{first_holding};
 ghost use Rattle.xcp_memory.specs.Limits.{apart_limit, apart_limits};
 
@@ -21,7 +21,7 @@ pub(crate) struct Placed {
 }
 
 impl Model for Placed {
-    ghost use Rattle.xcp_memory.specs.Parts.{Placed as PlacedValue};
+    ghost use Rattle.xcp_memory.specs.LayoutParts.{Placed as PlacedValue};
 
     ghost Value = { PlacedValue };
 

@@ -1,6 +1,6 @@
 //! Checks of single values.
 ghost use Rattle.std.specs.Prelude.{◌≡◌, true, false, IfOk, IfErr};
-ghost use Rattle.xcp_memory.specs.Parts.{number as number_of};
+ghost use Rattle.xcp_memory.specs.LayoutParts.{number as number_of};
 ghost use Rattle.xcp_memory.specs.Limits.{is_within, is_printable, is_text};
 ghost use Rattle.std.specs.List.{list_all};
 

@@ -2,7 +2,7 @@
 ghost use Rattle.std.specs.Prelude.{◌≡◌, ◌≤◌, ◌<◌, Bool, not, [], ◌∷◌, Some, OnOk, IfErr};
 ghost use Rattle.xcp_packet.specs.Rows.{first_holding};
 ghost use Rattle.xcp_memory.specs.Checksum.{checksum_number, unit, sum_refusal};
-ghost use Rattle.xcp_memory.specs.Parts.{checksum_of};
+ghost use Rattle.xcp_memory.specs.LayoutParts.{checksum_of};
 
 use xcp_packet::Code;
 

@@ -1,6 +1,6 @@
 //! An event channel of a layout.
 ghost use Rattle.std.specs.Prelude.{◌≡◌, map, Some, None, IfOk, IfErr};
-ghost use Rattle.xcp_memory.specs.Parts.{event_of_part};
+ghost use Rattle.xcp_memory.specs.LayoutParts.{event_of_part};
 ghost use Rattle.xcp_packet.specs.Rows.{first_holding};
 ghost use Rattle.xcp_memory.specs.Limits.{event_limits, events_limits};
 

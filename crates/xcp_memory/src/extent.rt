@@ -1,9 +1,9 @@
 //! Where an area lies.
 ghost use Rattle.std.specs.Prelude.{◌≡◌, ◌+◌, Some, None, IfOk, IfErr};
-ghost use Rattle.xcp_memory.specs.Words.{is_inside};
+ghost use Rattle.xcp_memory.specs.ComputedAccess.{is_inside};
 ghost use Rattle.xcp_packet.specs.Rows.{first_holding};
 ghost use Rattle.xcp_memory.specs.Limits.{is_apart, signals_limits};
-ghost use Rattle.xcp_memory.specs.Parts.{number};
+ghost use Rattle.xcp_memory.specs.LayoutParts.{number};
 
 use crate::limits::{LAST_ADDRESS, MAX_SIGNALS};
 use crate::{Key, LayoutFault, checks};

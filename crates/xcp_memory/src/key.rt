@@ -1,6 +1,6 @@
 //! Where a layout breaks a limit.
 ghost use Rattle.std.specs.Prelude.{◌≡◌};
-ghost use Rattle.xcp_memory.specs.LayoutFault.{number_of};
+ghost use Rattle.xcp_memory.specs.FaultNumbers.{number_of};
 
 use thiserror::Error;
 

@@ -3,10 +3,10 @@ ghost use Rattle.std.specs.Prelude.{◌≡◌, ◌+◌, ◌<◌, ◌≤◌, ◌�
 ghost use Rattle.xcp_memory.specs.Pages.{no_segment};
 ghost use Rattle.xcp_memory.specs.Layout.{IsLayout, IsPrintable, signals_extent, no_event};
 ghost use Rattle.xcp_memory.specs.declared.key.LayoutFault.{LayoutFault};
-ghost use Rattle.xcp_memory.specs.Parts.{layout_of, number, checksum_of};
+ghost use Rattle.xcp_memory.specs.LayoutParts.{layout_of, number, checksum_of};
 ghost use Rattle.xcp_packet.specs.Rows.{first_holding};
 ghost use Rattle.xcp_memory.specs.Limits.{first_fault, own_limits};
-ghost use Rattle.xcp_memory.specs.Words.{segment_of, is_inside, Located};
+ghost use Rattle.xcp_memory.specs.ComputedAccess.{segment_of, is_inside, Located};
 
 use crate::areas::{areas_of, check_apart};
 use crate::event_channel::{EventChannel, read_events};

@@ -1,10 +1,10 @@
 //! The pages of one segment.
 ghost use Rattle.std.specs.Prelude.{◌≡◌, ◌≤◌, ◌<◌, ◌+◌, length, [], IfOk, false, replicate, take, drop, slice_index_or as get_or};
 ghost use Rattle.xcp_memory.specs.Pages.{xcp_page};
-ghost use Rattle.xcp_memory.specs.Copying.{with_content};
+ghost use Rattle.xcp_memory.specs.PageCopy.{with_content};
 ghost use Rattle.xcp_memory.specs.Freeze.{segment_frozen};
-ghost use Rattle.xcp_memory.specs.Switch.{segment_switched};
-ghost use Rattle.xcp_memory.specs.Words.{overwritten, segment_written};
+ghost use Rattle.xcp_memory.specs.PageSwitch.{segment_switched};
+ghost use Rattle.xcp_memory.specs.ComputedAccess.{overwritten, segment_written};
 
 use crate::switch_mode::SwitchMode;
 use bitflags::Flags;
@@ -34,7 +34,7 @@ pub(crate) struct PageSet {
 impl Model for PageSet {
     ghost use Rattle.std.specs.Prelude.{◌≡◌, ◌*◌, length};
     ghost use Rattle.xcp_memory.specs.Pages.{SegmentPages};
-    ghost use Rattle.xcp_memory.specs.PageStore.{pages_in};
+    ghost use Rattle.xcp_memory.specs.private.PageStore.{pages_in};
 
     ghost Value = { SegmentPages };
 
@@ -44,7 +44,7 @@ impl Model for PageSet {
 }
 
 impl PageSet {
-    ghost use Rattle.xcp_memory.specs.Sides.{number_by, page_by};
+    ghost use Rattle.xcp_memory.specs.private.PagesBySide.{number_by, page_by};
 
     /// So many pages with these bytes; both sides have page 0, and FREEZE is off.
     pub(crate) fn new(alloc: Global, page: &[u8], count: u8) -> Result<PageSet, AllocError>

@@ -1,6 +1,6 @@
 //! A segment of a layout.
 ghost use Rattle.std.specs.Prelude.{◌≡◌, ◌+◌, ◌≤◌, length, map, Some, None, IfOk, IfErr};
-ghost use Rattle.xcp_memory.specs.Parts.{segment_of_part, size};
+ghost use Rattle.xcp_memory.specs.LayoutParts.{segment_of_part, size};
 ghost use Rattle.xcp_packet.specs.Rows.{first_holding};
 ghost use Rattle.xcp_memory.specs.Limits.{segment_limits, segments_limits};
 

@@ -1,6 +1,6 @@
 //! The mode of SET_CAL_PAGE.
 ghost use Rattle.std.specs.Prelude.{⊤, ◌≡◌, [], ◌∷◌, codes, true, false, IfSome, IfNone};
-ghost use Rattle.xcp_memory.specs.Switch.{is_switch_mode};
+ghost use Rattle.xcp_memory.specs.PageSwitch.{is_switch_mode};
 
 use bitflags::{Flag, Flags, bitflag_items};
 

@@ -1,3 +1,3 @@
-pub mod Routing
-pub mod Sendings
-pub mod Wires
+pub mod ChannelRuleLemmas
+pub mod SendingLemmas
+pub mod WireLemmas

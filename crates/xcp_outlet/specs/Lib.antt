@@ -1,5 +1,6 @@
-pub mod Known
-pub mod Rule
-pub mod Ends
+pub mod PassKnowledge
+pub mod ChannelRule
+pub mod OutletEnds
 pub mod Sending
-pub mod Fault
+pub mod FaultNumbers
+pub mod private

@@ -17,7 +17,7 @@ pub struct ReplyEnd {
 
 impl Model for ReplyEnd {
     ghost use Rattle.std.specs.Prelude.{◌≡◌, false};
-    ghost use Rattle.xcp_outlet.specs.Ends.{EndSeen};
+    ghost use Rattle.xcp_outlet.specs.OutletEnds.{EndSeen};
 
     ghost Value = { EndSeen };
 
@@ -67,7 +67,7 @@ pub struct DataEnd {
 
 impl Model for DataEnd {
     ghost use Rattle.std.specs.Prelude.{◌≡◌, true};
-    ghost use Rattle.xcp_outlet.specs.Ends.{EndSeen};
+    ghost use Rattle.xcp_outlet.specs.OutletEnds.{EndSeen};
 
     ghost Value = { EndSeen };
 
@@ -121,8 +121,10 @@ impl Model for End {
     ghost use Rattle.std.specs.Prelude.{◌≡◌, false};
     ghost use Rattle.crossbeam_channel.specs.Claims.{IsSeatAt};
     ghost use Rattle.crossbeam_channel.specs.Ends.{sends_on};
-    ghost use Rattle.xcp_outlet.specs.Known.{one_half, half};
-    ghost use Rattle.xcp_outlet.specs.Ends.{EndSeen, end_of, knows};
+    ghost use Rattle.xcp_outlet.specs.PassKnowledge.{half};
+    ghost use Rattle.xcp_outlet.specs.private.PassKnowledge.{one_half};
+    ghost use Rattle.xcp_outlet.specs.OutletEnds.{EndSeen, knows};
+    ghost use Rattle.xcp_outlet.specs.private.OutletEnds.{end_of};
 
     ghost Value = { EndSeen };
 

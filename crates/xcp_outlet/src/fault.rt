@@ -1,6 +1,6 @@
 //! Why not all that was put is sent.
 ghost use Rattle.std.specs.Prelude.{◌≡◌};
-ghost use Rattle.xcp_outlet.specs.Fault.{number_of};
+ghost use Rattle.xcp_outlet.specs.FaultNumbers.{number_of};
 
 use thiserror::Error;
 

@@ -1,6 +1,6 @@
 //! The end that takes.
 ghost use Rattle.std.specs.Prelude.{◌≡◌, ◌++◌, [], ◌∷◌, IfSome, IfNone};
-ghost use Rattle.xcp_outlet.specs.Sending.{NoneInHand};
+ghost use Rattle.xcp_outlet.specs.private.Sending.{NoneInHand};
 
 use crate::line::Line;
 use crate::message::Message;
@@ -18,7 +18,7 @@ pub struct SendEnd {
 
 impl Model for SendEnd {
     ghost use Rattle.std.specs.Prelude.{◌≡◌, []};
-    ghost use Rattle.xcp_outlet.specs.Ends.{Taking};
+    ghost use Rattle.xcp_outlet.specs.OutletEnds.{Taking};
 
     ghost Value = { Taking };
 
@@ -46,7 +46,7 @@ impl Model for Intake {
     ghost use Rattle.std.specs.Prelude.{◌≡◌, Some, None};
     ghost use Rattle.crossbeam_channel.specs.Claims.{IsSeatAt};
     ghost use Rattle.crossbeam_channel.specs.Ends.{receives_on};
-    ghost use Rattle.xcp_outlet.specs.Ends.{Taking, taking_of, knows};
+    ghost use Rattle.xcp_outlet.specs.OutletEnds.{Taking, taking_of, knows};
 
     ghost Value = { Taking };
 

@@ -6,8 +6,8 @@
 //! put with what was taken of it. [`PutReplies`] and [`PutData`] lend either end to a loop that
 //! knows no runtime.
 //!
-//! `specs/Known.antt` has what each end knows, `specs/Rule.antt` the rule of the channel between
-//! them, `specs/Ends.antt` what contracts see of the ends, `specs/Sending.antt` what a sender
+//! `specs/PassKnowledge.antt` has what each end knows, `specs/ChannelRule.antt` the rule of the channel between
+//! them, `specs/OutletEnds.antt` what contracts see of the ends, `specs/Sending.antt` what a sender
 //! promises.
 #![tactic(auto)]
 

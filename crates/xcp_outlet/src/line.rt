@@ -1,7 +1,8 @@
 //! Frames of packets that were taken, from their making to their writing.
 ghost use Rattle.std.specs.Prelude.{◌≡◌, ℕ, List, Option, [], ◌∷◌, ◌++◌, ◌+◌, ◌≤◌, false, length};
 ghost use Rattle.xcp_outlet.specs.declared.message.Message.{Message};
-ghost use Rattle.xcp_outlet.specs.Sending.{NoneInHand, Progress, Sends};
+ghost use Rattle.xcp_outlet.specs.Sending.{Sends};
+ghost use Rattle.xcp_outlet.specs.private.Sending.{NoneInHand, Progress};
 
 use crate::fault::SendError;
 use crate::message::Message;

@@ -1,8 +1,8 @@
 //! What was taken, and the meeting with what was put.
 ghost use Rattle.std.specs.Prelude.{◌≡◌, true};
-ghost use Rattle.xcp_framing.specs.Front.{IsFront};
-ghost use Rattle.xcp_outlet.specs.Ends.{packets, has_mark};
-ghost use Rattle.xcp_outlet.specs.Rule.{of};
+ghost use Rattle.xcp_framing.specs.Prefix.{IsFront};
+ghost use Rattle.xcp_outlet.specs.OutletEnds.{packets, has_mark};
+ghost use Rattle.xcp_outlet.specs.ChannelRule.{of};
 
 use crate::opening::Token;
 use crate::put::Put;
@@ -17,7 +17,7 @@ pub struct Took {
 
 impl Model for Took {
     ghost use Rattle.std.specs.Prelude.{◌≡◌, [], Some};
-    ghost use Rattle.xcp_outlet.specs.Ends.{Taking, taking_of, knows};
+    ghost use Rattle.xcp_outlet.specs.OutletEnds.{Taking, taking_of, knows};
 
     ghost Value = { Taking };
 

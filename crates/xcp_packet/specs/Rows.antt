@@ -7,7 +7,7 @@ use Rattle.xcp_packet.specs.declared.reply.Reply.TheVariants.{Error}
 use Rattle.xcp_packet.specs.declared.order.Order.{Order}
 use Rattle.xcp_packet.specs.declared.lent.Sent.{Sent}
 use Rattle.xcp_packet.specs.declared.lent.Fault.{Fault}
-use Rattle.xcp_packet.specs.Lent.{fault_reply, sent_bytes, reply_bytes}
+use Rattle.xcp_packet.specs.ReplyInBytes.{fault_reply, sent_bytes, reply_bytes}
 
 -- what stands beside the first test that holds, where one does
 abbrev pub first_holding : {A : Type 0} → List (Bool × A) → Option A

@@ -1,8 +1,8 @@
 //! From bytes to a command.
 ghost use Rattle.std.specs.Prelude.{◌≡◌, ◌≤◌, ◌↔◌, length, drop};
-ghost use Rattle.xcp_packet.specs.Reading.{Reads};
-ghost use Rattle.xcp_packet.specs.Refusal.{Refused};
-ghost use Rattle.xcp_packet.specs.Spelling.{spells};
+ghost use Rattle.xcp_packet.specs.DecodeByCode.{Reads};
+ghost use Rattle.xcp_packet.specs.Decoding.{Refused};
+ghost use Rattle.xcp_packet.specs.CommandSpelling.{spells};
 
 use crate::{Command, Data, Order, Refuse, commands};
 

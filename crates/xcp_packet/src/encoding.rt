@@ -1,10 +1,10 @@
 //! From a command to bytes.
 ghost use Rattle.std.specs.Prelude.{◌≡◌, ◌≤◌, ◌<◌, ◌+◌, ◌↔◌, length, IsTrue, [], ◌∷◌};
 ghost use Rattle.arrayvec.specs.ArrayVec.{array_vec_len};
-ghost use Rattle.xcp_packet.specs.Building.{built, start, up_to, put};
-ghost use Rattle.xcp_packet.specs.Order.{word_bytes, double_bytes};
-ghost use Rattle.xcp_packet.specs.Plain.{plain, OnePacket, HasWidths};
-ghost use Rattle.xcp_packet.specs.Spelling.{spells};
+ghost use Rattle.xcp_packet.specs.private.EncodeByParameter.{built, start, up_to, put};
+ghost use Rattle.xcp_packet.specs.ByteOrder.{word_bytes, double_bytes};
+ghost use Rattle.xcp_packet.specs.PlainSpelling.{plain, OnePacket, HasWidths};
+ghost use Rattle.xcp_packet.specs.CommandSpelling.{spells};
 
 use crate::words::{append, append_double, append_word};
 use crate::{Command, Order, Packet, Refuse, commands, decode};
@@ -21,7 +21,7 @@ fn pad(packet: &mut Packet, len: usize)
     }
 }
 
-#[tactic(auto, unfolding(crate::specs::Building::start))]
+#[tactic(auto, unfolding(crate::specs::private::EncodeByParameter::start))]
 fn started(code: u8) -> Packet
     ensures items { result.items ≡ start code }
     ensures length { array_vec_len result ≡ 1 }
@@ -31,7 +31,7 @@ fn started(code: u8) -> Packet
     packet
 }
 
-#[tactic(auto, unfolding(crate::specs::Building::put))]
+#[tactic(auto, unfolding(crate::specs::private::EncodeByParameter::put))]
 fn put_byte(packet: &mut Packet, place: usize, value: u8)
     requires from { array_vec_len packet.old ≤ place }
     requires to { place < 255 }
@@ -42,7 +42,7 @@ fn put_byte(packet: &mut Packet, place: usize, value: u8)
     packet.push(value);
 }
 
-#[tactic(auto, unfolding(crate::specs::Building::put))]
+#[tactic(auto, unfolding(crate::specs::private::EncodeByParameter::put))]
 fn put_word(packet: &mut Packet, place: usize, value: u16, order: Order)
     requires from { array_vec_len packet.old ≤ place }
     requires to { place + 2 ≤ 255 }
@@ -53,7 +53,7 @@ fn put_word(packet: &mut Packet, place: usize, value: u16, order: Order)
     append_word(packet, value, order);
 }
 
-#[tactic(auto, unfolding(crate::specs::Building::put))]
+#[tactic(auto, unfolding(crate::specs::private::EncodeByParameter::put))]
 fn put_double(packet: &mut Packet, place: usize, value: u32, order: Order)
     requires from { array_vec_len packet.old ≤ place }
     requires to { place + 4 ≤ 255 }
@@ -64,7 +64,7 @@ fn put_double(packet: &mut Packet, place: usize, value: u32, order: Order)
     append_double(packet, value, order);
 }
 
-#[tactic(auto, unfolding(crate::specs::Building::put))]
+#[tactic(auto, unfolding(crate::specs::private::EncodeByParameter::put))]
 fn put_data(packet: &mut Packet, place: usize, bytes: &[u8])
     requires from { array_vec_len packet.old ≤ place }
     requires to { place + length bytes.now ≤ 255 }

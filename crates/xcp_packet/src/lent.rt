@@ -1,8 +1,8 @@
 //! What comes of a command whose reply is written where it is sent from: into a packet that the
 //! caller lends.
 ghost use Rattle.std.specs.Prelude.{◌≡◌};
-ghost use Rattle.xcp_packet.specs.Layout.{layout};
-ghost use Rattle.xcp_packet.specs.Lent.{fault_reply};
+ghost use Rattle.xcp_packet.specs.ReplyPacket.{layout};
+ghost use Rattle.xcp_packet.specs.ReplyInBytes.{fault_reply};
 
 use crate::replying::{write_error, write_error_count};
 use crate::{Code, Order, Packet};

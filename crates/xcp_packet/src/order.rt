@@ -1,6 +1,6 @@
 //! The order of the bytes of a number. This file alone knows where the lowest byte stands.
 ghost use Rattle.std.specs.Prelude.{◌≡◌, ◌≤◌, ◌+◌, length};
-ghost use Rattle.xcp_packet.specs.Order.{byte_order, word_at, double_at, word_bytes, double_bytes};
+ghost use Rattle.xcp_packet.specs.ByteOrder.{byte_order, word_at, double_at, word_bytes, double_bytes};
 
 use byteorder::{BigEndian, ByteOrder, LittleEndian};
 

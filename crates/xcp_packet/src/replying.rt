@@ -1,8 +1,8 @@
 //! From a reply to bytes.
 ghost use Rattle.std.specs.Prelude.{◌≡◌, ◌≤◌, ◌+◌, ◌++◌, ◌∷◌, [], length, replicate};
 ghost use Rattle.arrayvec.specs.ArrayVec.{array_vec_len};
-ghost use Rattle.xcp_packet.specs.Layout.{layout, number_of, Fits};
-ghost use Rattle.xcp_packet.specs.Order.{word_bytes, double_bytes};
+ghost use Rattle.xcp_packet.specs.ReplyPacket.{layout, number_of, Fits};
+ghost use Rattle.xcp_packet.specs.ByteOrder.{word_bytes, double_bytes};
 
 use crate::words::{append, append_double, append_word};
 use crate::{Code, Order, Packet, Reply};

@@ -1,7 +1,7 @@
 //! Bytes, words and double words at the end of a packet.
 ghost use Rattle.std.specs.Prelude.{◌≡◌, ◌≤◌, ◌+◌, ◌++◌, length};
 ghost use Rattle.arrayvec.specs.ArrayVec.{array_vec_len};
-ghost use Rattle.xcp_packet.specs.Order.{word_bytes, double_bytes};
+ghost use Rattle.xcp_packet.specs.ByteOrder.{word_bytes, double_bytes};
 
 use crate::{Order, Packet};
 

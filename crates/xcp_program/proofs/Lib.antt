@@ -1,5 +1,5 @@
 pub mod SourceLemmas
 pub mod CommandLineLemmas
-pub mod RowLemmas
-pub mod WalkLemmas
+pub mod ClapRowLemmas
+pub mod ClapWalkLemmas
 pub mod NoFaultLemmas

@@ -11,9 +11,10 @@ use Rattle.clap.specs.Values.{IsUnsignedIn}
 use Rattle.clap.proofs.ValueTestLemmas.{accepts-Accepts}
 use Rattle.clap.specs.declared.builder.value_parser.ValueParser.TheVariants.{Unsigned}
 use Rattle.clap.specs.declared.error.kind.ErrorKind.TheVariants as kind
-use Rattle.xcp_program.specs.CommandLine.{AsksSomething, HasNumber, Numeric, cycles, period, port, program, tasks, tools}
-use Rattle.xcp_program.proofs.RowLemmas.{Each, EachRule, Good, IsGiven, Keeps, default_row, defaults_leave, found_row, found_rule, keeps_set, no_kinds, default_among, parts, row_for}
-use Rattle.xcp_program.proofs.WalkLemmas.{NoHelp, settles, walk_kept, walk_stops}
+use Rattle.xcp_program.specs.CommandLine.{HasNumber, Numeric, cycles, period, port, program, tasks, tools}
+use Rattle.xcp_program.specs.private.CommandLine.{AsksSomething}
+use Rattle.xcp_program.proofs.ClapRowLemmas.{Each, EachRule, Good, IsGiven, Keeps, default_row, defaults_leave, found_row, found_rule, keeps_set, no_kinds, default_among, parts, row_for}
+use Rattle.xcp_program.proofs.ClapWalkLemmas.{NoHelp, settles, walk_kept, walk_stops}
 
 -- ---- the program as clap builds it: `replay`, `serve` and `help`, and the arguments of each
 

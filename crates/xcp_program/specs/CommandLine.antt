@@ -122,13 +122,6 @@ InRange (Replay config) = ⊤
 InRange (Serve config p t k n m) = (port.least ≤ p) × (p ≤ port.most) × (tools.least ≤ t) × (t ≤ tools.most) × (tasks.least ≤ k) × (k ≤ tasks.most) × (cycles.least ≤ n) × (n ≤ cycles.most)
     × (period.least ≤ m) × (m ≤ period.most)
 
--- it is a server, and it is a replay or a server
-abbrev pub AsksServe : Option (Text × List Row) → Type 0
-AsksServe found = (file : Text) × (p : ℕ) × (t : ℕ) × (k : ℕ) × (n : ℕ) × (m : ℕ) × IsServe found file p t k n m
-
-abbrev pub AsksSomething : Option (Text × List Row) → Type 0
-AsksSomething found = ((file : Text) × IsReplay found file) ⊎ AsksServe found
-
 -- Why the words ask for nothing, by the kinds of error of the first fault that clap finds in them (a wish for help is one): the error
 -- has one of these kinds. Memory may be wanting at any place.
 abbrev pub IsMistake : Kinds → OptionsFault → Type 0

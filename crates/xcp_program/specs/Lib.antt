@@ -1,3 +1,4 @@
 pub mod CommandLine
-pub mod Fault
-pub mod Replay
+pub mod ExitStatus
+pub mod ReplayOutcome
+pub mod private

@@ -4,7 +4,8 @@ ghost use Rattle.std.specs.Prelude.{IfOk, IfErr, IfSome, string_bytes};
 ghost use Rattle.clap.specs.Words.{app_of, kind_of, rule_of, subcommand_of, subcommand_rows_of, takes};
 ghost use Rattle.clap.specs.Words.{fault_of as faults_in};
 ghost use Rattle.clap.specs.declared.builder.command.Command.TheViews.{out-Command as fields_of};
-ghost use Rattle.xcp_program.specs.CommandLine.{Asks, AsksServe, InRange, AsksSomething, HasText, IsMistake, Spells};
+ghost use Rattle.xcp_program.specs.CommandLine.{Asks, InRange, HasText, IsMistake, Spells};
+ghost use Rattle.xcp_program.specs.private.CommandLine.{AsksServe, AsksSomething};
 ghost use Rattle.xcp_program.specs.CommandLine.{config_rule, numeric_rule, program, replay_app, serve_app};
 
 use crate::purpose::{Options, OptionsFault};

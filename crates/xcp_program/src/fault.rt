@@ -33,7 +33,7 @@ pub enum Fault {
 }
 
 impl Fault {
-    ghost use Rattle.xcp_program.specs.Fault.{status_of};
+    ghost use Rattle.xcp_program.specs.ExitStatus.{status_of};
 
     /// The status with which the program ends, 1 to 5.
     pub fn status(&self) -> u8

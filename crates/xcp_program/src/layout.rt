@@ -1,7 +1,7 @@
 //! The layout that the configuration describes.
 ghost use Rattle.std.specs.Prelude.{◌≡◌, ◌⊎◌, IfErr, IfOk};
-ghost use Rattle.xcp_config.specs.Text.{HasLayout};
-ghost use Rattle.xcp_program.specs.Replay.{IsFault};
+ghost use Rattle.xcp_config.specs.ConfigText.{HasLayout};
+ghost use Rattle.xcp_program.specs.ReplayOutcome.{IsFault};
 
 use crate::fault::Fault;
 use std::alloc::Global;

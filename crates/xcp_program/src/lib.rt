@@ -1,8 +1,8 @@
 //! The XCP slave's program, but for its `main`: the words of its command line, its faults with their statuses, the
 //! reading of the layout file, and a replay of a script on the slave that this file describes.
 //!
-//! `specs/CommandLine.antt` has the command line, `specs/Replay.antt` what a replay promises, `specs/Fault.antt` the
-//! statuses.
+//! `specs/CommandLine.antt` has the command line, `specs/ReplayOutcome.antt` what a replay promises,
+//! `specs/ExitStatus.antt` the statuses.
 #![tactic(auto)]
 
 mod command_line;

@@ -1,6 +1,6 @@
 //! A replay: a script of requests on a slave of a configured layout.
 ghost use Rattle.std.specs.Prelude.{◌≡◌, ◌≢◌, ◌<◌, ◌≤◌, ◌+◌, ◌⊎◌, ℕ};
-ghost use Rattle.xcp_program.specs.Replay.{AnswersScript, Ends, ReplaysShort, RunsShort};
+ghost use Rattle.xcp_program.specs.ReplayOutcome.{AnswersScript, Ends, ReplaysShort, RunsShort};
 
 use crate::fault::Fault;
 use crate::layout::layout_of;

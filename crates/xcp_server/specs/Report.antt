@@ -2,21 +2,21 @@
 use Rattle.std.specs.Prelude.{◌≡◌, ℕ, List, [], ◌∷◌, Option, Some, None, Result, Ok, Err, MatchResult, length, vec_len}
 use Rattle.std.specs.List.{slice_get}
 use Rattle.xcp_bank.specs.BankId.{BankId}
-use Rattle.xcp_bank.specs.Ends.{six_readers}
+use Rattle.xcp_bank.specs.BankEnds.{six_readers}
 use Rattle.xcp_memory.specs.Layout.{LayoutValue}
 use Rattle.xcp_slave.specs.Run.{Run}
-use Rattle.xcp_slave.specs.Value.{opening}
+use Rattle.xcp_slave.specs.SlaveValue.{opening}
 use Rattle.xcp_framing.specs.Serve.{number_of}
-use Rattle.xcp_framing.specs.Watched.{Watched}
+use Rattle.xcp_framing.specs.CountedCalls.{Watched}
 use Rattle.xcp_framing.specs.declared.serving.ServeError.{ServeError}
 use Rattle.xcp_framing.specs.declared.serving.ServeError.TheVariants as errors
 use Rattle.xcp_framing.specs.declared.serving.Served.{Served}
 use Rattle.xcp_locked.specs.Caller.{CallerValue, callers_of}
 use Rattle.xcp_locked.specs.Journal.{exchanges}
-use Rattle.xcp_locked.specs.HangingUp.{EndsSession}
-use Rattle.xcp_locked.specs.Published.{image_of}
-use Rattle.xcp_locked.specs.Serving.{Closes, CountTheirCommands}
-use Rattle.xcp_locked.specs.Settling.{AreSettled, DifferAt, tally}
+use Rattle.xcp_locked.specs.LastHangup.{EndsSession}
+use Rattle.xcp_locked.specs.Publications.{image_of}
+use Rattle.xcp_locked.specs.ServerOutcome.{Closes, CountTheirCommands}
+use Rattle.xcp_locked.specs.SettledReceipts.{AreSettled, DifferAt, tally}
 use Rattle.xcp_locked.specs.declared.closing.Closing.{Closing}
 use Rattle.xcp_locked.specs.declared.Entry.{Entry}
 use Rattle.xcp_locked.specs.declared.tasks.TaskError.{TaskError}

@@ -4,9 +4,9 @@ use Rattle.std.specs.Prelude.{◌==◌, not, ◌||◌, if◌then◌else◌}
 use Rattle.std.proofs.lemmas.Bool.Decides.{nat_tests}
 use Rattle.std.proofs.lemmas.List.{length-take-le}
 use Rattle.arrayvec.specs.ArrayVec.{ArrayVec}
-use Rattle.xcp_packet.proofs.Deciding.{decodes_once}
+use Rattle.xcp_packet.proofs.DecodingLaws.{decodes_once}
 use Rattle.xcp_packet.specs.Rows.{Meets, first_holding, refused}
-use Rattle.xcp_packet.specs.Spelling.{spells}
+use Rattle.xcp_packet.specs.CommandSpelling.{spells}
 use Rattle.xcp_packet.specs.declared.Command.{Command}
 use Rattle.xcp_packet.specs.declared.Command.TheVariants as commands
 use Rattle.xcp_packet.specs.declared.Refuse.{Refuse}
@@ -15,17 +15,17 @@ use Rattle.xcp_packet.specs.declared.Reply.TheVariants.{Done, Error, ErrorCount}
 use Rattle.xcp_packet.specs.declared.Code.TheVariants.{CmdSyntax, OutOfRange, Sequence}
 use Rattle.xcp_transfer.specs.declared.Mta.{Mta}
 use Rattle.xcp_transfer.specs.declared.Mta.TheVariants.{Memory}
-use Rattle.xcp_transfer.specs.Value.{TransferValue, BlockValue}
-use Rattle.xcp_transfer.specs.Words.{write_refusal_at}
+use Rattle.xcp_transfer.specs.TransferValue.{TransferValue, BlockValue}
+use Rattle.xcp_transfer.specs.MtaAccess.{write_refusal_at}
 use Rattle.xcp_transfer.specs.Downloads.{next_row, packet_room, greatest_download, downloaded, block_begun, block_with}
 use Rattle.xcp_slave.specs.declared.request.Request.TheVariants as requests
 use Rattle.xcp_slave.specs.declared.answer.Answer.TheVariants as answers
-use Rattle.xcp_slave.specs.Value.{SlaveValue, layout_of, noblock}
+use Rattle.xcp_slave.specs.SlaveValue.{SlaveValue, layout_of, noblock}
 use Rattle.xcp_slave.specs.Rows.{row}
 use Rattle.xcp_slave.specs.Step.{Answers, Heeds, answer_of, sent_reply, found_by, is_connect}
-use Rattle.xcp_slave.proofs.ListsKept.{none-holds}
-use Rattle.xcp_slave.proofs.TransfersKept.{next-sizes}
-use Rattle.xcp_slave.proofs.SlaveKept.{either-test}
+use Rattle.xcp_slave.proofs.ListInvariantLemmas.{none-holds}
+use Rattle.xcp_slave.proofs.TransferInvariantLemmas.{next-sizes}
+use Rattle.xcp_slave.proofs.SlaveInvariantLaws.{either-test}
 use Rattle.xcp_slave.proofs.PageLaws.{connected-or}
 
 -- a command that is executed without an answer

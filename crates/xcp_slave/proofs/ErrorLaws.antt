@@ -3,10 +3,10 @@ use Rattle.std.proofs.Common.{◌≡◌, ◌≢◌, ℕ, zero, ◌+◌, Bool, tr
 use Rattle.std.specs.Prelude.{◌==◌, ◌&&◌, ◌||◌, ◌⊎◌}
 use Rattle.std.proofs.lemmas.Bool.Decides.{nat_tests}
 use Rattle.arrayvec.specs.ArrayVec.{ArrayVec}
-use Rattle.xcp_packet.specs.Layout.{layout, number_of}
-use Rattle.xcp_packet.specs.Form.{code}
-use Rattle.xcp_packet.specs.Spelling.{spells}
-use Rattle.xcp_packet.specs.Refusal.{Decodes}
+use Rattle.xcp_packet.specs.ReplyPacket.{layout, number_of}
+use Rattle.xcp_packet.specs.CommandForms.{code}
+use Rattle.xcp_packet.specs.CommandSpelling.{spells}
+use Rattle.xcp_packet.specs.Decoding.{Decodes}
 use Rattle.xcp_packet.specs.Rows.{Meets}
 use Rattle.xcp_packet.specs.declared.Order.{Order}
 use Rattle.xcp_packet.specs.declared.Command.{Command}
@@ -23,14 +23,14 @@ use Rattle.xcp_slave.specs.declared.request.Request.{Request}
 use Rattle.xcp_slave.specs.declared.request.Request.TheVariants as requests
 use Rattle.xcp_slave.specs.declared.answer.Answer.{Answer}
 use Rattle.xcp_slave.specs.declared.answer.Answer.TheVariants as answers
-use Rattle.xcp_slave.specs.Value.{SlaveValue, layout_of, noblock}
-use Rattle.xcp_slave.specs.Refused.{IsErrorPacket, IsRefusing, is_refusal_code}
+use Rattle.xcp_slave.specs.SlaveValue.{SlaveValue, layout_of, noblock}
+use Rattle.xcp_slave.specs.RefusingAnswers.{IsErrorPacket, IsRefusing, is_refusal_code}
 use Rattle.xcp_slave.specs.Rows.{row}
 use Rattle.xcp_slave.specs.Step.{Answers, Heeds, Executes, Drains, Samples, outbox_size, with_signals, found_by, answer_of, sent_reply, is_connect}
-use Rattle.xcp_slave.specs.Lawful.{IsSlave, IsWaiting}
+use Rattle.xcp_slave.specs.SlaveInvariant.{IsSlave, IsWaiting}
 use Rattle.xcp_slave.proofs.StepLaws.{either}
 use Rattle.xcp_slave.proofs.RefusalLaws.{items_of, error-leaves, row-synch}
-use Rattle.xcp_slave.proofs.ErrorLemmas.{is_error, refusal-error}
+use Rattle.xcp_slave.proofs.RefusalCodeLemmas.{is_error, refusal-error}
 
 -- what waits is no response
 no-response : (l : LayoutValue) (p : ArrayVec ℕ) → IsWaiting l p → (slice_index p.items 0 ≢ 0xFF) × (slice_index p.items 0 ≢ 0xFE)

@@ -3,10 +3,10 @@ use Rattle.std.proofs.Common.{◌≡◌, ◌≢◌, ℕ, zero, suc, ◌+◌, ◌
 use Rattle.std.specs.Prelude.{◌==◌, not, ◌||◌, if◌then◌else◌}
 use Rattle.std.proofs.lemmas.List.{length-take-le}
 use Rattle.arrayvec.specs.ArrayVec.{ArrayVec}
-use Rattle.xcp_packet.specs.Order.{byte_at, double_at, double_bytes}
-use Rattle.xcp_packet.proofs.OrderLemmas.{length-bytes_of}
-use Rattle.xcp_packet.specs.Spelling.{spells}
-use Rattle.xcp_packet.specs.Refusal.{Decodes}
+use Rattle.xcp_packet.specs.ByteOrder.{byte_at, double_at, double_bytes}
+use Rattle.xcp_packet.proofs.ByteOrderLemmas.{length-bytes_of}
+use Rattle.xcp_packet.specs.CommandSpelling.{spells}
+use Rattle.xcp_packet.specs.Decoding.{Decodes}
 use Rattle.xcp_packet.specs.declared.Order.{Order}
 use Rattle.xcp_packet.specs.declared.Command.{Command}
 use Rattle.xcp_packet.specs.declared.Command.TheVariants as commands
@@ -18,33 +18,33 @@ use Rattle.xcp_packet.specs.declared.Code.TheVariants.{OutOfRange, CmdSyntax, Se
 use Rattle.xcp_memory.specs.Layout.{LayoutValue}
 use Rattle.xcp_memory.specs.Pages.{PagesValue}
 use Rattle.xcp_memory.specs.Memory.{Tool, Reads, Writes, LiesInside}
-use Rattle.xcp_memory.specs.Words.{write_refusal, pages_written}
+use Rattle.xcp_memory.specs.ComputedAccess.{write_refusal, pages_written}
 use Rattle.xcp_memory.specs.Freeze.{set_freeze_refusal}
-use Rattle.xcp_memory.proofs.Reading.{tool_is_read}
-use Rattle.xcp_memory.proofs.Writing.{tool_is_written}
+use Rattle.xcp_memory.proofs.ReadLaws.{tool_is_read}
+use Rattle.xcp_memory.proofs.WriteLaws.{tool_is_written}
 use Rattle.xcp_transfer.specs.declared.mta.Mta.{Mta}
 use Rattle.xcp_transfer.specs.declared.mta.Mta.TheVariants.{Memory}
-use Rattle.xcp_transfer.specs.Value.{TransferValue, BlockValue, IsBlock, IsUnderWay}
-use Rattle.xcp_transfer.specs.Words.{bytes_at, write_refusal_at, written_at, moved}
+use Rattle.xcp_transfer.specs.TransferValue.{TransferValue, BlockValue, IsBlock, IsUnderWay}
+use Rattle.xcp_transfer.specs.MtaAccess.{bytes_at, write_refusal_at, written_at, moved}
 use Rattle.xcp_packet.specs.Rows.{Meets, first_holding, refused}
 use Rattle.xcp_transfer.specs.Downloads.{next_row, packet_room, greatest_download, downloaded, block_begun, block_with, modified}
 use Rattle.xcp_slave.specs.declared.request.Request.{Request}
 use Rattle.xcp_slave.specs.declared.request.Request.TheVariants as requests
 use Rattle.xcp_slave.specs.declared.answer.Answer.{Answer}
 use Rattle.xcp_slave.specs.declared.exchange.Exchange.{Exchange}
-use Rattle.xcp_slave.specs.Value.{SlaveValue, layout_of, noblock, ended}
+use Rattle.xcp_slave.specs.SlaveValue.{SlaveValue, layout_of, noblock, ended}
 use Rattle.xcp_slave.specs.Rows.{row}
 use Rattle.xcp_slave.specs.Step.{Answers, Heeds, Drains, found_by, is_connect}
 use Rattle.xcp_slave.specs.Run.{Run}
-use Rattle.xcp_slave.specs.Lawful.{IsSlave}
-use Rattle.xcp_slave.specs.Accepting.{Accepts}
-use Rattle.xcp_slave.specs.Steady.{SameMemory, IsReading, IsNoWrite}
+use Rattle.xcp_slave.specs.SlaveInvariant.{IsSlave}
+use Rattle.xcp_slave.specs.AcceptedCommands.{Accepts}
+use Rattle.xcp_slave.specs.MemoryEffects.{SameMemory, IsReading, IsNoWrite}
 use Rattle.xcp_slave.proofs.StepLaws.{either}
-use Rattle.xcp_slave.proofs.ListsKept.{none-holds}
-use Rattle.xcp_slave.proofs.TransfersKept.{none-refused, none-behind}
-use Rattle.xcp_slave.proofs.AcceptLemmas.{accepted, short-upload-reads}
+use Rattle.xcp_slave.proofs.ListInvariantLemmas.{none-holds}
+use Rattle.xcp_slave.proofs.TransferInvariantLemmas.{none-refused, none-behind}
+use Rattle.xcp_slave.proofs.AcceptedCommandLaws.{accepted, short-upload-reads}
 use Rattle.xcp_slave.proofs.WriteLaws.{bits-put, same-memory, enough, is_same, mode-same, not-less}
-use Rattle.xcp_slave.proofs.KeepLaws.{same-tool, same-trans}
+use Rattle.xcp_slave.proofs.RunMemoryLaws.{same-tool, same-trans}
 
 is_sent : (b : Bool) (reply : Reply) → (if b then Some Done else None) ≡ Some reply → b ≡ true
 is_sent true reply h = refl

@@ -4,9 +4,9 @@ use Rattle.std.specs.Prelude.{◌==◌, not, ◌&&◌, ◌||◌, if◌then◌els
 use Rattle.std.proofs.lemmas.Bool.Decides.{nat_tests}
 use Rattle.std.proofs.lemmas.List.{get_or-set_same, get_or-set_other, get_or-map}
 use Rattle.arrayvec.specs.ArrayVec.{ArrayVec}
-use Rattle.xcp_packet.specs.Order.{byte_at}
-use Rattle.xcp_packet.specs.Spelling.{spells}
-use Rattle.xcp_packet.specs.Refusal.{Decodes}
+use Rattle.xcp_packet.specs.ByteOrder.{byte_at}
+use Rattle.xcp_packet.specs.CommandSpelling.{spells}
+use Rattle.xcp_packet.specs.Decoding.{Decodes}
 use Rattle.xcp_packet.specs.declared.Order.{Order}
 use Rattle.xcp_packet.specs.declared.Command.{Command}
 use Rattle.xcp_packet.specs.declared.Command.TheVariants as commands
@@ -16,27 +16,27 @@ use Rattle.xcp_packet.specs.declared.Reply.{Reply}
 use Rattle.xcp_packet.specs.declared.Code.TheVariants.{OutOfRange, WriteProtected, SegmentNotValid, PageNotValid}
 use Rattle.xcp_memory.specs.Freeze.{frozen_count, segment_frozen}
 use Rattle.xcp_memory.specs.Pages.{PagesValue, SegmentPages, segment_at, no_pages, xcp_page}
-use Rattle.xcp_memory.specs.Words.{segment_of, write_refusal_by, Located, is_inside}
+use Rattle.xcp_memory.specs.ComputedAccess.{segment_of, write_refusal_by, Located, is_inside}
 use Rattle.xcp_memory.specs.Layout.{signals_extent}
-use Rattle.xcp_memory.specs.Switch.{segment_switched, is_of_all, lacks_page}
-use Rattle.xcp_memory.specs.Copying.{copy_refusal, lacks_segment, content, with_content}
-use Rattle.xcp_memory.proofs.AreaLemmas as areas
-use Rattle.xcp_transfer.specs.Value.{BlockValue, IsUnderWay, IsBlock}
+use Rattle.xcp_memory.specs.PageSwitch.{segment_switched, is_of_all, lacks_page}
+use Rattle.xcp_memory.specs.PageCopy.{copy_refusal, lacks_segment, content, with_content}
+use Rattle.xcp_memory.proofs.AreaLaws as areas
+use Rattle.xcp_transfer.specs.TransferValue.{BlockValue, IsUnderWay, IsBlock}
 use Rattle.xcp_packet.specs.Rows.{Meets}
 use Rattle.xcp_slave.specs.declared.request.Request.{Request}
 use Rattle.xcp_slave.specs.declared.request.Request.TheVariants as requests
 use Rattle.xcp_slave.specs.declared.answer.Answer.{Answer}
 use Rattle.xcp_slave.specs.declared.answer.Answer.TheVariants as answers
-use Rattle.xcp_slave.specs.Value.{SlaveValue, layout_of, noblock}
+use Rattle.xcp_slave.specs.SlaveValue.{SlaveValue, layout_of, noblock}
 use Rattle.xcp_slave.specs.Rows.{row}
 use Rattle.xcp_slave.specs.Step.{Answers, Heeds, Drains, Samples, Fires, outbox_size, with_signals, found_by, is_connect}
-use Rattle.xcp_slave.specs.Lawful.{IsSlave}
-use Rattle.xcp_slave.specs.Accepting.{Accepts, Concerns}
+use Rattle.xcp_slave.specs.SlaveInvariant.{IsSlave}
+use Rattle.xcp_slave.specs.AcceptedCommands.{Accepts, Concerns}
 use Rattle.xcp_slave.proofs.StepLaws.{either}
-use Rattle.xcp_slave.proofs.ListsKept.{none-holds, is_below, equal, differs}
-use Rattle.xcp_slave.proofs.TransfersKept.{none-refused, outside, unprotected}
-use Rattle.xcp_slave.proofs.SlaveKept.{either-test}
-use Rattle.xcp_slave.proofs.AcceptLemmas.{accepted}
+use Rattle.xcp_slave.proofs.ListInvariantLemmas.{none-holds, is_below, equal, differs}
+use Rattle.xcp_slave.proofs.TransferInvariantLemmas.{none-refused, outside, unprotected}
+use Rattle.xcp_slave.proofs.SlaveInvariantLaws.{either-test}
+use Rattle.xcp_slave.proofs.AcceptedCommandLaws.{accepted}
 
 unequal : (n m : ℕ) → n ≢ m → (n == m) ≡ false
 unequal n m h = grind (arith, nat_tests, h)

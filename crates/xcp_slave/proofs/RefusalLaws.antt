@@ -2,7 +2,7 @@
 use Rattle.std.proofs.Common.{◌≡◌, ℕ, ◌+◌, length, ◌==◌, ◌&&◌, nat_le, nat_lt, Bool, true, false, List, [], ◌∷◌, refl, sym, ap, ◌∙◌, subst, arith, slice_index, Option, Some, None, Result, Ok, Err, ◌||◌}
 use Rattle.std.specs.Prelude.{if◌then◌else◌}
 use Rattle.arrayvec.specs.ArrayVec.{ArrayVec}
-use Rattle.xcp_packet.specs.Layout.{layout}
+use Rattle.xcp_packet.specs.ReplyPacket.{layout}
 use Rattle.xcp_packet.specs.declared.Order.{Order}
 use Rattle.xcp_packet.specs.declared.Command.{Command}
 use Rattle.xcp_packet.specs.declared.Command.TheVariants as commands
@@ -10,7 +10,7 @@ use Rattle.xcp_packet.specs.declared.Refuse.{Refuse}
 use Rattle.xcp_packet.specs.declared.Refuse.TheVariants as refuses
 use Rattle.xcp_packet.specs.declared.Reply.{Reply}
 use Rattle.xcp_packet.specs.declared.Reply.TheVariants as replies
-use Rattle.xcp_transfer.specs.Value.{BlockValue, TransferValue}
+use Rattle.xcp_transfer.specs.TransferValue.{BlockValue, TransferValue}
 use Rattle.xcp_packet.specs.Rows.{Meets}
 use Rattle.xcp_transfer.specs.Downloads.{next_row}
 use Rattle.xcp_slave.specs.declared.request.Request.{Request}
@@ -20,8 +20,8 @@ use Rattle.xcp_slave.specs.declared.answer.Answer.TheVariants as answers
 use Rattle.xcp_daq.specs.declared.Element.{Element}
 use Rattle.xcp_daq.specs.Configuring.{read_daq_reply}
 use Rattle.xcp_slave.specs.DaqRows.{told_entry}
-use Rattle.xcp_slave.specs.Value.{SlaveValue, layout_of, noblock}
-use Rattle.xcp_slave.specs.Refused.{IsErrorPacket, IsRefusal}
+use Rattle.xcp_slave.specs.SlaveValue.{SlaveValue, layout_of, noblock}
+use Rattle.xcp_slave.specs.RefusingAnswers.{IsErrorPacket, IsRefusal}
 use Rattle.xcp_slave.specs.Rows.{row}
 use Rattle.xcp_slave.specs.Step.{Answers, Heeds, Executes, Drains, Stores, Samples, Fires, outbox_size, with_event, with_signals, found_by, sent_reply, answer_of, is_connect}
 use Rattle.xcp_slave.proofs.StepLaws.{either}

@@ -3,26 +3,26 @@ use Rattle.std.proofs.Common.{◌≡◌, ℕ, ◌-◌, ◌≤◌, Bool, true, fa
 use Rattle.std.specs.Prelude.{if◌then◌else◌}
 use Rattle.std.proofs.lemmas.List.{length-take}
 use Rattle.std.proofs.lemmas.Bool.Decides.{nat_tests}
-use Rattle.xcp_packet.specs.Layout.{data_length}
+use Rattle.xcp_packet.specs.ReplyPacket.{data_length}
 use Rattle.xcp_packet.specs.declared.Command.{Command}
 use Rattle.xcp_packet.specs.declared.Command.TheVariants as commands
 use Rattle.xcp_packet.specs.declared.Reply.{Reply}
 use Rattle.xcp_packet.specs.declared.Reply.TheVariants as replies
 use Rattle.xcp_packet.specs.declared.Code.TheVariants.{OutOfRange, AccessDenied}
 use Rattle.xcp_memory.specs.Pages.{PagesValue, SegmentPages, xcp_page}
-use Rattle.xcp_memory.specs.Words.{segment_of, bytes_by}
+use Rattle.xcp_memory.specs.ComputedAccess.{segment_of, bytes_by}
 use Rattle.xcp_transfer.specs.declared.Mta.{Mta}
 use Rattle.xcp_transfer.specs.declared.Mta.TheVariants.{Nowhere, Memory, Text}
-use Rattle.xcp_transfer.specs.Value.{BlockValue, TransferValue}
-use Rattle.xcp_transfer.specs.Words.{bytes_at, is_readable}
+use Rattle.xcp_transfer.specs.TransferValue.{BlockValue, TransferValue}
+use Rattle.xcp_transfer.specs.MtaAccess.{bytes_at, is_readable}
 use Rattle.xcp_packet.specs.Rows.{first_holding}
 use Rattle.xcp_transfer.specs.Downloads.{next_row}
 use Rattle.xcp_daq.specs.declared.Element.{Element}
 use Rattle.xcp_daq.specs.Configuring.{read_daq_reply}
 use Rattle.xcp_slave.specs.DaqRows.{told_entry}
-use Rattle.xcp_slave.specs.Value.{SlaveValue, layout_of}
+use Rattle.xcp_slave.specs.SlaveValue.{SlaveValue, layout_of}
 use Rattle.xcp_slave.specs.Rows.{row}
-use Rattle.xcp_slave.proofs.ErrorLemmas.{is_error, refusal-error}
+use Rattle.xcp_slave.proofs.RefusalCodeLemmas.{is_error, refusal-error}
 
 error-data : (reply : Reply) → is_error reply ≡ true → data_length reply ≡ 0
 error-data (replies.Error code) h = refl

@@ -4,11 +4,11 @@ use Rattle.xcp_slave.specs.declared.request.Request.{Request}
 use Rattle.xcp_slave.specs.declared.answer.Answer.{Answer}
 use Rattle.xcp_slave.specs.declared.exchange.Exchange.{Exchange}
 use Rattle.xcp_memory.specs.Layout.{LayoutValue}
-use Rattle.xcp_slave.specs.Value.{SlaveValue, layout_of, opening}
+use Rattle.xcp_slave.specs.SlaveValue.{SlaveValue, layout_of, opening}
 use Rattle.xcp_slave.specs.Step.{Answers}
 use Rattle.xcp_slave.specs.Run.{Run, requests_of}
 use Rattle.xcp_slave.proofs.StepLaws.{answers-single, answers-some}
-use Rattle.xcp_slave.proofs.LayoutLaws.{answers-layout}
+use Rattle.xcp_slave.proofs.LayoutKeptLemmas.{answers-layout}
 
 pub run-some : (v : SlaveValue) (qs : List Request) → (xs : List Exchange) × (w : SlaveValue) × (requests_of xs ≡ qs) × Run v xs w
 run-some v [] = ([], v, refl, refl)

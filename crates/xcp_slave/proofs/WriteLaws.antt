@@ -5,10 +5,10 @@ use Rattle.std.proofs.lemmas.Bool.{cases_eq}
 use Rattle.std.proofs.lemmas.Bool.Decides.{nat_tests}
 use Rattle.std.proofs.lemmas.List.{get_or-set_same, get_or-set_other, length-set, length-take-le}
 use Rattle.arrayvec.specs.ArrayVec.{ArrayVec}
-use Rattle.xcp_packet.specs.Order.{byte_at, double_at, double_bytes}
-use Rattle.xcp_packet.proofs.OrderLemmas.{length-bytes_of}
-use Rattle.xcp_packet.specs.Spelling.{spells}
-use Rattle.xcp_packet.specs.Refusal.{Decodes}
+use Rattle.xcp_packet.specs.ByteOrder.{byte_at, double_at, double_bytes}
+use Rattle.xcp_packet.proofs.ByteOrderLemmas.{length-bytes_of}
+use Rattle.xcp_packet.specs.CommandSpelling.{spells}
+use Rattle.xcp_packet.specs.Decoding.{Decodes}
 use Rattle.xcp_packet.specs.declared.Order.{Order}
 use Rattle.xcp_packet.specs.declared.Command.{Command}
 use Rattle.xcp_packet.specs.declared.Command.TheVariants as commands
@@ -20,33 +20,33 @@ use Rattle.xcp_packet.specs.declared.Code.TheVariants.{OutOfRange, CmdSyntax, Se
 use Rattle.xcp_memory.specs.Layout.{IsLayout, signals_extent}
 use Rattle.xcp_memory.specs.Pages.{PagesValue, SegmentPages, IsPages, segment_at, no_pages}
 use Rattle.xcp_memory.specs.Memory.{Writes}
-use Rattle.xcp_memory.specs.Words.{segment_of, place_in, written_by, pages_written, segment_written, write_refusal, write_refusal_by, is_inside, lies_inside, lies_inside_by, tool_bytes}
-use Rattle.xcp_memory.proofs.Reading.{tool_is_read}
+use Rattle.xcp_memory.specs.ComputedAccess.{segment_of, place_in, written_by, pages_written, segment_written, write_refusal, write_refusal_by, is_inside, lies_inside, lies_inside_by, tool_bytes}
+use Rattle.xcp_memory.proofs.ReadLaws.{tool_is_read}
 use Rattle.xcp_memory.specs.Freeze.{set_freeze_refusal, is_segment_mode, pages_with_mode, is_freeze}
-use Rattle.xcp_memory.specs.Copying.{lacks_segment}
-use Rattle.xcp_memory.proofs.Places.{located}
-use Rattle.xcp_memory.proofs.Writing.{tool_is_written}
+use Rattle.xcp_memory.specs.PageCopy.{lacks_segment}
+use Rattle.xcp_memory.proofs.RangeLemmas.{located}
+use Rattle.xcp_memory.proofs.WriteLaws.{tool_is_written}
 use Rattle.xcp_transfer.specs.declared.mta.Mta.{Mta}
 use Rattle.xcp_transfer.specs.declared.mta.Mta.TheVariants.{Nowhere, Memory, Text}
-use Rattle.xcp_transfer.specs.Value.{TransferValue, BlockValue, IsUnderWay}
-use Rattle.xcp_transfer.specs.Words.{bytes_at, write_refusal_at, written_at}
+use Rattle.xcp_transfer.specs.TransferValue.{TransferValue, BlockValue, IsUnderWay}
+use Rattle.xcp_transfer.specs.MtaAccess.{bytes_at, write_refusal_at, written_at}
 use Rattle.xcp_transfer.specs.Laws.{IsLawful}
 use Rattle.xcp_packet.specs.Rows.{Meets, first_holding, refused}
 use Rattle.xcp_transfer.specs.Downloads.{download_row, next_row, packet_room, greatest_download, download_max_row, short_download_row, modify_bits_row, modified}
-use Rattle.xcp_transfer.proofs.Blocks.{whole}
+use Rattle.xcp_transfer.proofs.WholeBlockLemmas.{whole}
 use Rattle.xcp_slave.specs.declared.request.Request.{Request}
 use Rattle.xcp_slave.specs.declared.request.Request.TheVariants as requests
 use Rattle.xcp_slave.specs.declared.answer.Answer.{Answer}
 use Rattle.xcp_slave.specs.declared.answer.Answer.TheVariants as answers
-use Rattle.xcp_slave.specs.Value.{SlaveValue, layout_of, noblock, ended}
+use Rattle.xcp_slave.specs.SlaveValue.{SlaveValue, layout_of, noblock, ended}
 use Rattle.xcp_slave.specs.Rows.{row}
 use Rattle.xcp_slave.specs.Step.{Answers, Heeds, Executes, Drains, answer_of, sent_reply, found_by, is_connect}
-use Rattle.xcp_slave.specs.Lawful.{IsSlave}
-use Rattle.xcp_slave.specs.Steady.{IsQuiet, SameMemory, Write, PutBy, IsPut, IsStill, IsWrite}
+use Rattle.xcp_slave.specs.SlaveInvariant.{IsSlave}
+use Rattle.xcp_slave.specs.MemoryEffects.{IsQuiet, SameMemory, Write, PutBy, IsPut, IsStill, IsWrite}
 use Rattle.xcp_slave.proofs.StepLaws.{either}
-use Rattle.xcp_slave.proofs.ListsKept.{none-holds, is_below, differs}
-use Rattle.xcp_slave.proofs.TransfersKept.{none-refused, none-behind, outside, unprotected}
-use Rattle.xcp_slave.proofs.SlaveKept.{found-kept}
+use Rattle.xcp_slave.proofs.ListInvariantLemmas.{none-holds, is_below, differs}
+use Rattle.xcp_slave.proofs.TransferInvariantLemmas.{none-refused, none-behind, outside, unprotected}
+use Rattle.xcp_slave.proofs.SlaveInvariantLaws.{found-kept}
 
 -- a write that isn't refused
 pub record Written (p q : PagesValue) : Type 0 where

@@ -10,9 +10,9 @@ use Rattle.xcp_daq.specs.declared.Element.{Element}
 use Rattle.xcp_daq.specs.declared.ListMode.{ListMode}
 use Rattle.xcp_daq.specs.declared.ProcessorInfo.{ProcessorInfo}
 use Rattle.xcp_daq.specs.declared.EventInfo.{EventInfo}
-use Rattle.xcp_daq.specs.Daq.{DaqValue}
-use Rattle.xcp_daq.specs.Telling.{event_info_refusal, event_info_reply}
-use Rattle.xcp_slave.specs.Value.{SlaveValue, layout_of, noblock}
+use Rattle.xcp_daq.specs.DaqLists.{DaqValue}
+use Rattle.xcp_daq.specs.DaqInfo.{event_info_refusal, event_info_reply}
+use Rattle.xcp_slave.specs.SlaveValue.{SlaveValue, layout_of, noblock}
 
 -- a row that changes the DAQ lists and nothing else
 abbrev pub daq_row : Option Code → Reply → DaqValue → SlaveValue → Row SlaveValue

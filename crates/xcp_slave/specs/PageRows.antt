@@ -4,11 +4,11 @@ use Rattle.xcp_packet.specs.declared.Reply.TheVariants as replies
 use Rattle.xcp_packet.specs.declared.Code.TheVariants.{OutOfRange, SegmentNotValid}
 use Rattle.xcp_memory.specs.Layout.{LayoutValue}
 use Rattle.xcp_memory.specs.Pages.{segment_at, no_segment}
-use Rattle.xcp_memory.specs.Switch.{switch_refusal, pages_switched, page_refusal, page_number}
-use Rattle.xcp_memory.specs.Copying.{lacks_segment, page_refusal_of, copy_refusal, pages_copied}
+use Rattle.xcp_memory.specs.PageSwitch.{switch_refusal, pages_switched, page_refusal, page_number}
+use Rattle.xcp_memory.specs.PageCopy.{lacks_segment, page_refusal_of, copy_refusal, pages_copied}
 use Rattle.xcp_memory.specs.Freeze.{set_freeze_refusal, pages_with_mode, freeze_mode_refusal, segment_mode}
 use Rattle.xcp_packet.specs.Rows.{Row, refused}
-use Rattle.xcp_slave.specs.Value.{SlaveValue, layout_of, noblock, with_pages}
+use Rattle.xcp_slave.specs.SlaveValue.{SlaveValue, layout_of, noblock, with_pages}
 
 -- SET_CAL_PAGE gives a page to the controller, to the tool, or to both, in one segment or in all.
 -- (ASAM MCD-1 XCP, protocol layer, description of commands: SET_CAL_PAGE.)

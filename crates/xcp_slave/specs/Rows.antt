@@ -1,24 +1,22 @@
 -- The row of each command: why it is refused, and else its reply and its effect.
-use Rattle.std.specs.Prelude.{ℕ, ◌+◌, true, List, [], ◌∷◌, Some, None, Result, not, ◌==◌, if◌then◌else◌}
-use Rattle.xcp_packet.specs.Order.{byte_order}
+use Rattle.std.specs.Prelude.{ℕ, ◌+◌, true, [], ◌∷◌, Some, None, not, ◌==◌, if◌then◌else◌}
+use Rattle.xcp_packet.specs.ByteOrder.{byte_order}
 use Rattle.xcp_packet.specs.declared.Order.{Order}
 use Rattle.xcp_packet.specs.declared.Command.{Command}
 use Rattle.xcp_packet.specs.declared.Command.TheVariants as commands
 use Rattle.xcp_packet.specs.declared.Reply.TheVariants as replies
 use Rattle.xcp_packet.specs.declared.Code.TheVariants.{CmdSynch, OutOfRange}
 use Rattle.xcp_transfer.specs.declared.Mta.TheVariants.{Nowhere, Memory}
-use Rattle.xcp_transfer.specs.Value.{TransferValue}
-use Rattle.xcp_packet.specs.declared.Sent.{Sent}
-use Rattle.xcp_packet.specs.declared.Fault.{Fault}
-use Rattle.xcp_packet.specs.Rows.{Row, Tells, row_within}
+use Rattle.xcp_transfer.specs.TransferValue.{TransferValue}
+use Rattle.xcp_packet.specs.Rows.{Row, row_within}
 use Rattle.xcp_transfer.specs.Uploads.{upload_row, short_upload_row, build_checksum_row, get_id_row}
 use Rattle.xcp_transfer.specs.Downloads.{download_row, download_next_row, download_max_row, short_download_row, modify_bits_row}
-use Rattle.xcp_daq.specs.Daq.{any_running, first_pid, greatest_size}
+use Rattle.xcp_daq.specs.DaqLists.{any_running, first_pid, greatest_size}
 use Rattle.xcp_daq.specs.Allocating.{free_daq_after, alloc_daq_refusal, alloc_daq_after, alloc_odt_refusal, alloc_odt_after, alloc_odt_entry_refusal, alloc_odt_entry_after}
 use Rattle.xcp_daq.specs.Configuring.{clear_daq_list_refusal, clear_daq_list_after, set_daq_ptr_refusal, set_daq_ptr_after, write_daq_refusal, write_daq_after, read_daq_refusal, read_daq_reply, read_daq_after, set_daq_list_mode_refusal, set_daq_list_mode_after}
 use Rattle.xcp_daq.specs.Starting.{start_stop_daq_list_refusal, start_stop_daq_list_after, start_stop_synch_refusal, start_stop_synch_after}
-use Rattle.xcp_daq.specs.Telling.{daq_list_mode_refusal, daq_list_mode_reply, processor_info_reply}
-use Rattle.xcp_slave.specs.Value.{SlaveValue, layout_of, noblock, ended}
+use Rattle.xcp_daq.specs.DaqInfo.{daq_list_mode_refusal, daq_list_mode_reply, processor_info_reply}
+use Rattle.xcp_slave.specs.SlaveValue.{SlaveValue, layout_of, ended}
 use Rattle.xcp_slave.specs.PageRows.{set_cal_page_row, get_cal_page_row, get_pag_processor_info_row, get_segment_info_row, get_page_info_row, set_segment_mode_row, get_segment_mode_row, copy_cal_page_row, set_request_row}
 use Rattle.xcp_slave.specs.DaqRows.{daq_row, told_row, told_entry, told_mode, told_info, get_daq_event_info_row}
 
@@ -97,8 +95,3 @@ row commands.FreeDaq v = daq_row None replies.Done free_daq_after v
 row (commands.AllocDaq count) v = daq_row (alloc_daq_refusal count v.daq) replies.Done (alloc_daq_after count v.daq) v
 row (commands.AllocOdt list count) v = daq_row (alloc_odt_refusal list count v.daq) replies.Done (alloc_odt_after list count v.daq) v
 row (commands.AllocOdtEntry list odt count) v = daq_row (alloc_odt_entry_refusal list odt count v.daq) replies.Done (alloc_odt_entry_after list odt count v.daq) v
-
--- The command's row is met at v, and its reply stands in the packet that was lent, which has these bytes. A refusal leaves
--- the slave without its block.
-unfoldable pub TellsRow : Command → SlaveValue → Result Sent Fault → List ℕ → SlaveValue → Type 0
-TellsRow c v r bytes w = Tells (layout_of v).order (row c v) (noblock v) r bytes w

@@ -2,7 +2,7 @@
 use Rattle.std.specs.Prelude.{◌≡◌, List, [], ◌∷◌, map}
 use Rattle.xcp_slave.specs.declared.request.Request.{Request}
 use Rattle.xcp_slave.specs.declared.exchange.Exchange.{Exchange}
-use Rattle.xcp_slave.specs.Value.{SlaveValue}
+use Rattle.xcp_slave.specs.SlaveValue.{SlaveValue}
 use Rattle.xcp_slave.specs.Step.{Answers}
 
 -- the exchanges lead from v to w, one step each

@@ -1,14 +1,14 @@
 //! Laws of what a request changes, and of what it leaves alone. Each is the contract of a function
 //! with an empty body.
 ghost use Rattle.std.specs.Prelude.{◌≡◌, ◌≢◌, ℕ, List, None, [], false, length, true};
-ghost use Rattle.xcp_daq.specs.Daq.{DaqValue};
+ghost use Rattle.xcp_daq.specs.DaqLists.{DaqValue};
 ghost use Rattle.xcp_memory.specs.Memory.{Writes};
 ghost use Rattle.xcp_packet.specs.declared.Command.{Command};
-ghost use Rattle.xcp_slave.specs.Accepting.{Accepts};
-ghost use Rattle.xcp_slave.specs.Beside.{IsBeside, IsNoEvent, list_codes, mta_codes, session_codes, store_codes};
-ghost use Rattle.xcp_slave.specs.Lawful.{IsSlave};
+ghost use Rattle.xcp_slave.specs.AcceptedCommands.{Accepts};
+ghost use Rattle.xcp_slave.specs.CodesByEffect.{IsBeside, IsNoEvent, list_codes, mta_codes, session_codes, store_codes};
+ghost use Rattle.xcp_slave.specs.SlaveInvariant.{IsSlave};
 ghost use Rattle.xcp_slave.specs.Step.{Answers};
-ghost use Rattle.xcp_slave.specs.Value.{SlaveValue};
+ghost use Rattle.xcp_slave.specs.SlaveValue.{SlaveValue};
 ghost use Rattle.xcp_slave.specs.declared.answer.Answer.{Answer};
 ghost use Rattle.xcp_slave.specs.declared.request.Request.{Request};
 ghost use Rattle.xcp_transfer.specs.declared.Mta.{Mta};

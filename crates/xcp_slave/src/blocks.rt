@@ -3,13 +3,13 @@ ghost use Rattle.std.specs.Prelude.{◌≡◌, ◌≢◌, ◌+◌, ◌++◌, ℕ
 ghost use Rattle.arrayvec.specs.ArrayVec.{ArrayVec};
 ghost use Rattle.xcp_memory.specs.Memory.{Writes};
 ghost use Rattle.xcp_packet.specs.declared.Command.{Command};
-ghost use Rattle.xcp_slave.specs.Accepting.{Accepts};
-ghost use Rattle.xcp_slave.specs.Gathering.{Comes};
-ghost use Rattle.xcp_slave.specs.Lawful.{IsSlave};
-ghost use Rattle.xcp_slave.specs.Value.{SlaveValue};
+ghost use Rattle.xcp_slave.specs.AcceptedCommands.{Accepts};
+ghost use Rattle.xcp_slave.specs.BlockDownload.{Comes};
+ghost use Rattle.xcp_slave.specs.SlaveInvariant.{IsSlave};
+ghost use Rattle.xcp_slave.specs.SlaveValue.{SlaveValue};
 ghost use Rattle.xcp_slave.specs.declared.exchange.Exchange.{Exchange};
 ghost use Rattle.xcp_slave.specs.declared.request.Request.{Request};
-ghost use Rattle.xcp_transfer.specs.Value.{BlockValue};
+ghost use Rattle.xcp_transfer.specs.TransferValue.{BlockValue};
 ghost use Rattle.xcp_transfer.specs.declared.Mta.{Mta};
 
 /// A block of n bytes from its first packet to its last, whatever events, drains and stores come

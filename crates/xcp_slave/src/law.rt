@@ -5,10 +5,10 @@ ghost use Rattle.xcp_memory.specs.Layout.{IsLayout};
 ghost use Rattle.xcp_slave.specs.declared.answer.Answer.{Answer};
 ghost use Rattle.xcp_slave.specs.declared.exchange.Exchange.{Exchange};
 ghost use Rattle.xcp_slave.specs.declared.request.Request.{Request};
-ghost use Rattle.xcp_slave.specs.Refused.{IsErrorPacket, IsRefusal};
+ghost use Rattle.xcp_slave.specs.RefusingAnswers.{IsErrorPacket, IsRefusal};
 ghost use Rattle.xcp_slave.specs.Run.{Run, requests_of};
 ghost use Rattle.xcp_slave.specs.Step.{Answers, with_event, with_signals};
-ghost use Rattle.xcp_slave.specs.Value.{SlaveValue, layout_of, noblock};
+ghost use Rattle.xcp_slave.specs.SlaveValue.{SlaveValue, layout_of, noblock};
 
 /// For each slave and each request there is one answer and one slave after it, and no other.
 pub fn each_request_has_one_answer()

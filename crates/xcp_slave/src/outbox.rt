@@ -1,6 +1,6 @@
 //! The packets that wait to be sent.
 ghost use Rattle.std.specs.Prelude.{◌≡◌, ◌≤◌, ◌<◌, ◌+◌, [], ◌∷◌, ◌++◌, length, Option, Some, None, if◌then◌else◌};
-ghost use Rattle.xcp_slave.specs.Outbox.{first_of, behind_first, wrapped};
+ghost use Rattle.xcp_slave.specs.private.OutboxRing.{first_of, behind_first, wrapped};
 
 use crate::packet::{copied, copy_into};
 use arrayvec::ArrayVec;
@@ -24,7 +24,7 @@ pub(crate) struct Outbox {
 impl Model for Outbox {
     ghost use Rattle.std.specs.Prelude.{List, ℕ};
     ghost use Rattle.arrayvec.specs.ArrayVec.{ArrayVec};
-    ghost use Rattle.xcp_slave.specs.Outbox.{ring, IsRing};
+    ghost use Rattle.xcp_slave.specs.private.OutboxRing.{ring, IsRing};
 
     ghost Value = { List (ArrayVec ℕ) };
 

@@ -5,19 +5,19 @@ ghost use Rattle.arrayvec.specs.ArrayVec.{ArrayVec};
 ghost use Rattle.xcp_memory.specs.Freeze.{frozen_count};
 ghost use Rattle.xcp_memory.specs.Layout.{IsLayout, LayoutValue};
 ghost use Rattle.xcp_memory.specs.Pages.{PagesValue, ecu_page, no_segment, segment_at, xcp_page};
-ghost use Rattle.xcp_memory.specs.Words.{Located};
+ghost use Rattle.xcp_memory.specs.ComputedAccess.{Located};
 ghost use Rattle.xcp_packet.specs.declared.Command.{Command};
-ghost use Rattle.xcp_slave.specs.Accepting.{Accepts};
-ghost use Rattle.xcp_slave.specs.Lawful.{IsOfBytes, IsSlave};
-ghost use Rattle.xcp_slave.specs.Refused.{IsErrorPacket, IsRefusing};
+ghost use Rattle.xcp_slave.specs.AcceptedCommands.{Accepts};
+ghost use Rattle.xcp_slave.specs.SlaveInvariant.{IsOfBytes, IsSlave};
+ghost use Rattle.xcp_slave.specs.RefusingAnswers.{IsErrorPacket, IsRefusing};
 ghost use Rattle.xcp_slave.specs.Run.{Run};
-ghost use Rattle.xcp_slave.specs.Steady.{Follows, IsLeft, IsQuiet, IsReading, IsSteady, IsStill, IsWrite, Puts, SameMemory, Write, last_at};
+ghost use Rattle.xcp_slave.specs.MemoryEffects.{Follows, IsLeft, IsQuiet, IsReading, IsSteady, IsStill, IsWrite, Puts, SameMemory, Write, last_at};
 ghost use Rattle.xcp_slave.specs.Step.{Answers};
-ghost use Rattle.xcp_slave.specs.Value.{SlaveValue, layout_of, noblock, opening};
+ghost use Rattle.xcp_slave.specs.SlaveValue.{SlaveValue, layout_of, noblock, opening};
 ghost use Rattle.xcp_slave.specs.declared.answer.Answer.{Answer};
 ghost use Rattle.xcp_slave.specs.declared.exchange.Exchange.{Exchange};
 ghost use Rattle.xcp_slave.specs.declared.request.Request.{Request};
-ghost use Rattle.xcp_transfer.specs.Value.{BlockValue};
+ghost use Rattle.xcp_transfer.specs.TransferValue.{BlockValue};
 
 /// A slave at its opening is within its limits, each step keeps it so, and so does each run.
 pub fn each_run_stays_within_its_limits()

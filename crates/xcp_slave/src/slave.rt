@@ -1,16 +1,16 @@
 //! The slave: its value, and one answer for each request.
 ghost use Rattle.std.specs.Prelude.{◌≡◌, ◌≤◌, ◌<◌, Err, IfOk, IsTrue, Some, drop, length};
-ghost use Rattle.xcp_memory.specs.Image.{ecu_image};
-ghost use Rattle.xcp_packet.specs.Layout.{Fits};
-ghost use Rattle.xcp_packet.specs.Lent.{reply_bytes, sent_bytes};
-ghost use Rattle.xcp_packet.specs.Order.{byte_at};
-ghost use Rattle.xcp_packet.specs.Reading.{coded, readings};
-ghost use Rattle.xcp_slave.specs.Hearing.{TellsCoded, found_at, heeded};
+ghost use Rattle.xcp_memory.specs.EcuImage.{ecu_image};
+ghost use Rattle.xcp_packet.specs.ReplyPacket.{Fits};
+ghost use Rattle.xcp_packet.specs.ReplyInBytes.{reply_bytes, sent_bytes};
+ghost use Rattle.xcp_packet.specs.ByteOrder.{byte_at};
+ghost use Rattle.xcp_packet.specs.DecodeByCode.{coded, readings};
+ghost use Rattle.xcp_slave.specs.private.ExecuteByCode.{TellsCoded, found_at, heeded};
 ghost use Rattle.xcp_slave.specs.Step.{Answers, AnswersPacket};
-ghost use Rattle.xcp_slave.specs.Told.{answer_in};
-ghost use Rattle.xcp_slave.specs.Value.{ended, layout_of, noblock, opening};
+ghost use Rattle.xcp_slave.specs.AnswerInBytes.{answer_in};
+ghost use Rattle.xcp_slave.specs.SlaveValue.{ended, layout_of, noblock, opening};
 ghost use Rattle.xcp_transfer.specs.Laws.{IsLawful};
-ghost use Rattle.xcp_daq.specs.Lawful.{IsDaq};
+ghost use Rattle.xcp_daq.specs.DaqInvariant.{IsDaq};
 
 mod acquisition;
 mod allocation;
@@ -52,7 +52,7 @@ pub struct Slave {
 }
 
 impl Model for Slave {
-    ghost use Rattle.xcp_slave.specs.Value.{SlaveValue};
+    ghost use Rattle.xcp_slave.specs.SlaveValue.{SlaveValue};
 
     ghost Value = { SlaveValue };
 
@@ -335,7 +335,7 @@ impl Slave {
         }
     }
 
-    #[tactic(auto, unfolding(crate::specs::Rows::TellsRow))]
+    #[tactic(auto, unfolding(crate::specs::private::Rows::TellsRow))]
     fn execute(&mut self, bytes: &[u8], packet: &mut Packet) -> Outcome
         requires some { 0 < length bytes.now }
         requires most { length bytes.now ≤ 255 }

@@ -1,6 +1,7 @@
 //! What a slave answers, where the answer's packet stands in one that was lent.
 ghost use Rattle.std.specs.Prelude.{◌≡◌};
-ghost use Rattle.xcp_slave.specs.Told.{answer_in, answer_said};
+ghost use Rattle.xcp_slave.specs.AnswerInBytes.{answer_in};
+ghost use Rattle.xcp_slave.specs.private.AnswerInBytes.{answer_said};
 
 use crate::Answer;
 use xcp_packet::{Fault, Order, Packet, Sent, write_fault};

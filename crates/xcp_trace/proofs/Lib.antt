@@ -1,3 +1,3 @@
-mod Cursor
-mod Joined
-mod Spelled
+mod CursorLemmas
+mod TapeLaws
+mod SpellingLaws

@@ -1,7 +1,8 @@
 //! Exchanges with the callers that asked.
 ghost use Rattle.std.specs.Prelude.{◌≡◌, ◌≤◌, ◌++◌, ◌∷◌, [], length, OnOk, OnErr, MatchOption, slice_get};
-ghost use Rattle.xcp_slave.specs.Told.{answer_in};
-ghost use Rattle.xcp_trace.specs.Entries.{IsEntry, entry_in, room_for_any_entry};
+ghost use Rattle.xcp_slave.specs.AnswerInBytes.{answer_in};
+ghost use Rattle.xcp_trace.specs.EntrySpelling.{entry_in, room_for_any_entry};
+ghost use Rattle.xcp_trace.specs.private.EntrySpelling.{IsEntry};
 
 use crate::spelling::{EXCHANGE_BYTES, read_exchange, spell, spell_told};
 use crate::{Strings, Tape};
@@ -29,7 +30,8 @@ pub struct Journal {
 impl Model for Journal {
     ghost use Rattle.std.specs.Prelude.{map};
     ghost use Rattle.std.specs.List.{AllByRecursion};
-    ghost use Rattle.xcp_trace.specs.Entries.{IsEntry, JournalValue, entry_in};
+    ghost use Rattle.xcp_trace.specs.EntrySpelling.{JournalValue, entry_in};
+    ghost use Rattle.xcp_trace.specs.private.EntrySpelling.{IsEntry};
 
     ghost Value = { JournalValue };
 
@@ -117,7 +119,8 @@ impl<'a> Model for Entries<'a> {
     ghost use Rattle.std.specs.Prelude.{List, map};
     ghost use Rattle.std.specs.List.{AllByRecursion};
     ghost use Rattle.xcp_trace.specs.declared.journal.Entry.{Entry};
-    ghost use Rattle.xcp_trace.specs.Entries.{IsEntry, entry_in};
+    ghost use Rattle.xcp_trace.specs.EntrySpelling.{entry_in};
+    ghost use Rattle.xcp_trace.specs.private.EntrySpelling.{IsEntry};
 
     ghost Value = { List Entry };
 

@@ -2,8 +2,8 @@
 ghost use Rattle.std.specs.Prelude.{◌≡◌, ℕ, List, length};
 ghost use Rattle.xcp_slave.specs.declared.Exchange.{Exchange};
 ghost use Rattle.xcp_trace.specs.declared.journal.Entry.{Entry};
-ghost use Rattle.xcp_trace.specs.Entries.{entry_in, entry_spelling};
-ghost use Rattle.xcp_trace.specs.Spelling.{exchange_in, spelling};
+ghost use Rattle.xcp_trace.specs.EntrySpelling.{entry_in, entry_spelling};
+ghost use Rattle.xcp_trace.specs.ExchangeSpelling.{exchange_in, spelling};
 ghost use Rattle.xcp_trace.specs.Tape.{spelt, strings_in};
 
 /// Does nothing: its contract says that strings are read again off their bytes, an exchange off its

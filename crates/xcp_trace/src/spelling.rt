@@ -1,8 +1,9 @@
 //! The string of an exchange, in its parts.
 ghost use Rattle.std.specs.Prelude.{◌≡◌, ◌≤◌, ◌<◌, ◌++◌, length};
 ghost use Rattle.xcp_slave.specs.declared.Answer.{Answer};
-ghost use Rattle.xcp_slave.specs.Told.{answer_in};
-ghost use Rattle.xcp_trace.specs.Spelling.{IsSpelling, answer_bytes, answer_count, answer_of, answer_tag, exchange_in, request_bytes, request_channel, request_of, request_tag, spelling};
+ghost use Rattle.xcp_slave.specs.AnswerInBytes.{answer_in};
+ghost use Rattle.xcp_trace.specs.ExchangeSpelling.{answer_bytes, answer_count, answer_of, answer_tag, exchange_in, request_bytes, request_channel, request_of, request_tag, spelling};
+ghost use Rattle.xcp_trace.specs.private.ExchangeSpelling.{IsSpelling};
 
 use arrayvec::ArrayVec;
 use xcp_packet::Packet;

@@ -1,7 +1,7 @@
 //! The exchanges that a slave has had.
 ghost use Rattle.std.specs.Prelude.{◌≡◌, ◌≤◌, ◌++◌, ◌∷◌, [], length, OnOk, OnErr, MatchOption, slice_get};
-ghost use Rattle.xcp_slave.specs.Told.{answer_in};
-ghost use Rattle.xcp_trace.specs.Spelling.{room_for_any};
+ghost use Rattle.xcp_slave.specs.AnswerInBytes.{answer_in};
+ghost use Rattle.xcp_trace.specs.ExchangeSpelling.{room_for_any};
 
 use crate::spelling::{EXCHANGE_BYTES, read_exchange, spell, spell_told};
 use crate::{Strings, Tape};
@@ -19,7 +19,8 @@ pub struct Trace {
 impl Model for Trace {
     ghost use Rattle.std.specs.Prelude.{map};
     ghost use Rattle.std.specs.List.{AllByRecursion};
-    ghost use Rattle.xcp_trace.specs.Spelling.{IsSpelling, TraceValue, exchange_in};
+    ghost use Rattle.xcp_trace.specs.ExchangeSpelling.{TraceValue, exchange_in};
+    ghost use Rattle.xcp_trace.specs.private.ExchangeSpelling.{IsSpelling};
 
     ghost Value = { TraceValue };
 
@@ -105,7 +106,8 @@ impl<'a> Model for Exchanges<'a> {
     ghost use Rattle.std.specs.Prelude.{List, map};
     ghost use Rattle.std.specs.List.{AllByRecursion};
     ghost use Rattle.xcp_slave.specs.declared.Exchange.{Exchange};
-    ghost use Rattle.xcp_trace.specs.Spelling.{IsSpelling, exchange_in};
+    ghost use Rattle.xcp_trace.specs.ExchangeSpelling.{exchange_in};
+    ghost use Rattle.xcp_trace.specs.private.ExchangeSpelling.{IsSpelling};
 
     ghost Value = { List Exchange };
 

@@ -6,12 +6,12 @@ use Rattle.xcp_packet.specs.declared.Reply.TheVariants.{Done, Error, ErrorCount}
 use Rattle.xcp_packet.specs.declared.Code.TheVariants.{CmdSyntax, Sequence}
 use Rattle.xcp_memory.specs.AccessLaws.{ToolIsWritten}
 use Rattle.xcp_memory.specs.Memory.{Writes}
-use Rattle.xcp_memory.specs.Words.{pages_written}
-use Rattle.xcp_transfer.specs.Value.{TransferValue, BlockValue, IsBlock, IsUnderWay}
+use Rattle.xcp_memory.specs.ComputedAccess.{pages_written}
+use Rattle.xcp_transfer.specs.TransferValue.{TransferValue, BlockValue, IsBlock, IsUnderWay}
 use Rattle.xcp_packet.specs.Rows.{first_holding}
 use Rattle.xcp_transfer.specs.Downloads.{next_row, packet_room, download_next_row}
 use Rattle.xcp_transfer.specs.Laws.{IsLawful}
-use Rattle.xcp_transfer.proofs.Blocks.{whole}
+use Rattle.xcp_transfer.proofs.WholeBlockLemmas.{whole}
 use Rattle.xcp_transfer.proofs.RowLemmas.{none_first, none_rest, chosen}
 
 expected_is : (remaining expected : ℕ) → not (remaining == expected) ≡ false → remaining ≡ expected

@@ -1,5 +1,5 @@
-pub mod Ends
-pub mod Blocks
+pub mod AreaEndLemmas
+pub mod WholeBlockLemmas
 pub mod RowLemmas
 pub mod BlockLaws
-pub mod Transfers
+pub mod MtaAccessLaws

@@ -1,14 +1,14 @@
 -- The rows of the commands by which a tool writes.
 use Rattle.std.specs.Prelude.{ℕ, ◌-◌, ◌*◌, ◌^◌, ◌%◌, true, not, ◌||◌, List, [], ◌∷◌, ◌++◌, length, take, Option, Some, None, nat_le, nat_lt, min, ◌==◌, if◌then◌else◌, bit_and, bit_xor}
 use Rattle.std.specs.Int.{bit_not, w16, w32}
-use Rattle.xcp_packet.specs.Order.{double_at, double_bytes}
+use Rattle.xcp_packet.specs.ByteOrder.{double_at, double_bytes}
 use Rattle.xcp_packet.specs.declared.Reply.TheVariants.{Done, Error, ErrorCount}
 use Rattle.xcp_packet.specs.declared.Code.TheVariants.{CmdSyntax, OutOfRange, Sequence}
 use Rattle.xcp_memory.specs.Layout.{LayoutValue}
 use Rattle.xcp_transfer.specs.declared.mta.Mta.{Mta}
 use Rattle.xcp_transfer.specs.declared.mta.Mta.TheVariants.{Nowhere, Memory, Text}
-use Rattle.xcp_transfer.specs.Value.{TransferValue, BlockValue}
-use Rattle.xcp_transfer.specs.Words.{bytes_at, write_refusal_at, written_at, moved}
+use Rattle.xcp_transfer.specs.TransferValue.{TransferValue, BlockValue}
+use Rattle.xcp_transfer.specs.MtaAccess.{bytes_at, write_refusal_at, written_at, moved}
 use Rattle.xcp_packet.specs.Rows.{Row, refused}
 
 -- MAX_BS: the greatest number of packets in a block.
@@ -27,14 +27,6 @@ greatest_download l = min (max_bs * packet_room l) 255
 -- after a write at an MTA, which then stands behind the bytes
 abbrev pub downloaded : TransferValue → Mta → List ℕ → TransferValue
 downloaded v mta bytes = record { pages = written_at v.pages mta bytes; mta = moved mta (length bytes); block = None }
-
--- A write of the first n of these bytes at an MTA: why it is refused, or what it does.
-abbrev pub write_row : Mta → ℕ → List ℕ → TransferValue → Row TransferValue
-write_row mta n bytes v = record {
-  refusals = refused (write_refusal_at v.pages mta n);
-  reply = Some Done;
-  after = downloaded v mta (take n bytes);
-}
 
 -- the block that has these bytes and expects so many more; only an address has one
 abbrev pub block_begun : Mta → ℕ → List ℕ → Option BlockValue

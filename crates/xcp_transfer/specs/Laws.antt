@@ -2,14 +2,14 @@
 use Rattle.std.specs.Prelude.{◌≡◌, ◌↔◌, ◌<◌, ℕ, true, List, ◌++◌, length, take, Some, None}
 use Rattle.xcp_packet.specs.declared.Reply.{Reply}
 use Rattle.xcp_packet.specs.declared.Reply.TheVariants.{Done}
-use Rattle.xcp_packet.specs.Layout.{data_length}
+use Rattle.xcp_packet.specs.ReplyPacket.{data_length}
 use Rattle.xcp_memory.specs.Layout.{IsLayout}
 use Rattle.xcp_memory.specs.Memory.{Writes}
 use Rattle.xcp_memory.specs.Pages.{PagesValue, IsPages}
 use Rattle.xcp_transfer.specs.declared.mta.Mta.{Mta}
-use Rattle.xcp_transfer.specs.Value.{TransferValue, BlockValue, IsTransfer}
-use Rattle.xcp_transfer.specs.Words.{is_readable, bytes_at, write_refusal_at, written_at}
-use Rattle.xcp_transfer.specs.Relations.{ReadsAt, WritesAt}
+use Rattle.xcp_transfer.specs.TransferValue.{TransferValue, BlockValue, IsTransfer}
+use Rattle.xcp_transfer.specs.MtaAccess.{is_readable, bytes_at, write_refusal_at, written_at}
+use Rattle.xcp_transfer.specs.MtaRelations.{ReadsAt, WritesAt}
 use Rattle.xcp_packet.specs.Rows.{Row, first_holding}
 use Rattle.xcp_transfer.specs.Uploads.{upload_row, short_upload_row}
 use Rattle.xcp_transfer.specs.Downloads.{download_next_row}

@@ -1,6 +1,7 @@
-pub mod Value
-pub mod Words
+pub mod TransferValue
+pub mod MtaAccess
 pub mod Downloads
 pub mod Uploads
-pub mod Relations
+pub mod MtaRelations
 pub mod Laws
+pub mod private

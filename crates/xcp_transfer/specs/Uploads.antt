@@ -6,8 +6,8 @@ use Rattle.xcp_packet.specs.declared.Code.TheVariants.{OutOfRange, AccessDenied}
 use Rattle.xcp_memory.specs.Checksum.{checksum_number}
 use Rattle.xcp_transfer.specs.declared.mta.Mta.TheVariants.{Memory, Text}
 use Rattle.xcp_transfer.specs.declared.mta.TextId.TheVariants.{Id}
-use Rattle.xcp_transfer.specs.Value.{TransferValue}
-use Rattle.xcp_transfer.specs.Words.{is_readable, bytes_at, moved, sum_refusal_at, sum_at}
+use Rattle.xcp_transfer.specs.TransferValue.{TransferValue}
+use Rattle.xcp_transfer.specs.MtaAccess.{is_readable, bytes_at, moved, sum_refusal_at, sum_at}
 use Rattle.xcp_packet.specs.Rows.{Row, refused}
 
 -- UPLOAD of n bytes, 1 to MAX_CTO - 1, moves the MTA on by n.

@@ -1,9 +1,9 @@
 //! Reads and writes of the pages at a memory transfer address (MTA).
 ghost use Rattle.std.specs.Prelude.{◌≡◌, ◌≤◌, ◌<◌, ◌+◌, ◌∷◌, length, drop, take, true, false, None, Some, IfOk, OnOk, IfErr, nat_le};
-ghost use Rattle.xcp_memory.specs.Words.{lies_inside, tool_bytes, write_refusal, pages_written};
-ghost use Rattle.xcp_packet.specs.Order.{double_at, double_bytes};
-ghost use Rattle.xcp_transfer.specs.Value.{text_of, IsText, IsMta};
-ghost use Rattle.xcp_transfer.specs.Words.{is_readable, sum_refusal_at, sum_at, bytes_at, write_refusal_at, written_at, moved};
+ghost use Rattle.xcp_memory.specs.ComputedAccess.{lies_inside, tool_bytes, write_refusal, pages_written};
+ghost use Rattle.xcp_packet.specs.ByteOrder.{double_at, double_bytes};
+ghost use Rattle.xcp_transfer.specs.TransferValue.{text_of, IsText, IsMta};
+ghost use Rattle.xcp_transfer.specs.MtaAccess.{is_readable, sum_refusal_at, sum_at, bytes_at, write_refusal_at, written_at, moved};
 
 use crate::{Mta, TextId};
 use xcp_memory::{Layout, Pages};
@@ -46,7 +46,7 @@ fn read_through(pages: &Pages, mta: Mta, buffer: &mut [u8]) -> Result<Mta, Code>
     }
 }
 
-#[tactic(auto, using(crate::proofs::Ends::inside_last))]
+#[tactic(auto, using(crate::proofs::AreaEndLemmas::inside_last))]
 fn read_memory(pages: &Pages, address: u32, buffer: &mut [u8]) -> Result<(), Code>
     requires some { 0 < length buffer.old }
     requires most { length buffer.old ≤ 254 }
@@ -79,7 +79,7 @@ fn read_text(layout: &Layout, id: TextId, place: u8, buffer: &mut [u8]) -> Resul
 /// Sums up `size` bytes from an MTA on: the checksum, and the MTA behind them. `OutOfRange` where
 /// the layout's type of checksum has no such size, then `AccessDenied` where the bytes don't lie in
 /// one area, also nowhere and at a text.
-#[tactic(auto, using(crate::proofs::Ends::summed_last))]
+#[tactic(auto, using(crate::proofs::AreaEndLemmas::summed_last))]
 pub(crate) fn checksum(pages: &Pages, mta: Mta, size: u32) -> Result<(u32, Mta), Code>
     ensures ok { IfOk result (λ r. (sum_refusal_at pages.now mta size ≡ None) × (r.0 ≡ sum_at pages.now mta size) × (r.1 ≡ moved mta size)) }
     ensures next { IfOk result (λ r. IsMta pages.now.layout r.1) }
@@ -136,7 +136,7 @@ pub(crate) fn write(pages: &mut Pages, mta: Mta, bytes: &[u8]) -> Result<Mta, Co
     Ok(write_allowed(pages, address, bytes))
 }
 
-#[tactic(auto, using(crate::proofs::Ends::allowed_last))]
+#[tactic(auto, using(crate::proofs::AreaEndLemmas::allowed_last))]
 /// Writes bytes where they may be written, and answers the MTA behind them.
 pub(crate) fn write_allowed(pages: &mut Pages, address: u32, bytes: &[u8]) -> Mta
     requires some { 0 < length bytes.now }

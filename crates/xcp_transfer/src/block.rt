@@ -15,7 +15,7 @@ pub(crate) struct Block {
 }
 
 impl Model for Block {
-    ghost use Rattle.xcp_transfer.specs.Value.{BlockValue};
+    ghost use Rattle.xcp_transfer.specs.TransferValue.{BlockValue};
 
     ghost Value = { BlockValue };
 

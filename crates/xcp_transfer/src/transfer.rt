@@ -1,10 +1,10 @@
 //! The tool's transfers: its memory transfer address, and the block under way.
 ghost use Rattle.std.specs.Prelude.{◌≡◌, length, None, OnOk, IfErr};
-ghost use Rattle.xcp_memory.specs.Copying.{copy_refusal, pages_copied};
+ghost use Rattle.xcp_memory.specs.PageCopy.{copy_refusal, pages_copied};
 ghost use Rattle.xcp_memory.specs.Freeze.{set_freeze_refusal, pages_with_mode, pages_frozen, frozen_count};
-ghost use Rattle.xcp_memory.specs.Switch.{switch_refusal, pages_switched};
+ghost use Rattle.xcp_memory.specs.PageSwitch.{switch_refusal, pages_switched};
 ghost use Rattle.xcp_transfer.specs.Laws.{IsLawful};
-ghost use Rattle.xcp_transfer.specs.Value.{opening_transfer, without_block, IsMta};
+ghost use Rattle.xcp_transfer.specs.TransferValue.{opening_transfer, without_block, IsMta};
 
 mod bits;
 mod downloads;
@@ -29,7 +29,7 @@ pub struct Transfer {
 }
 
 impl Model for Transfer {
-    ghost use Rattle.xcp_transfer.specs.Value.{TransferValue, IsTransfer};
+    ghost use Rattle.xcp_transfer.specs.TransferValue.{TransferValue, IsTransfer};
 
     ghost Value = { TransferValue };
 

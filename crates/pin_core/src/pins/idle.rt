@@ -1,6 +1,6 @@
 // A buffer that a writer could take.
 ghost use Rattle.std.specs.Prelude.{ℕ, ◌<◌, ◌↔◌, IsTrue};
-ghost use Rattle.pin_core.specs.Lawful.{holders, IsIdle};
+ghost use Rattle.pin_core.specs.StateInvariant.{holders, IsIdle};
 
 use crate::pins::Core;
 use crate::reader::Reader;

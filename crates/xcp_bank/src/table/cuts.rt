@@ -1,7 +1,7 @@
 //! Cutting the readers' seats off the first one.
 ghost use Rattle.std.specs.Prelude.{ℕ, suc, List};
-ghost use Rattle.xcp_bank.specs.Known.{starting};
-ghost use Rattle.xcp_bank.specs.Seats.{IsReaderSeat, IsFirstSeat};
+ghost use Rattle.xcp_bank.specs.SeatKnowledge.{starting};
+ghost use Rattle.xcp_bank.specs.private.SeatSteps.{IsReaderSeat, IsFirstSeat};
 
 use super::rule::{Store, View};
 use atomic_table::{Seat, Split};
@@ -9,7 +9,7 @@ use atomic_table::{Seat, Split};
 struct CutFirst;
 
 impl Split<View> for CutFirst {
-    ghost use Rattle.xcp_bank.specs.Cuts.{without_first, only_first};
+    ghost use Rattle.xcp_bank.specs.private.SeatSplits.{without_first, only_first};
 
     ghost left = { without_first };
 

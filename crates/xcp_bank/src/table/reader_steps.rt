@@ -1,9 +1,9 @@
 //! The steps of a reader, each on one word of the table.
 ghost use Rattle.std.specs.Prelude.{◌≡◌, ◌≢◌, ℕ, ◌+◌, ◌*◌, ◌<◌, Some, None, true, false};
-ghost use Rattle.pin_core.specs.Head.{head_of};
-ghost use Rattle.xcp_bank.specs.Known.{Reading};
-ghost use Rattle.xcp_bank.specs.ReaderSteps.{GivesUp};
-ghost use Rattle.xcp_bank.specs.Seats.{IsReaderSeat, ReaderMoves, PinnedAt, LookedAt, WordReadAt};
+ghost use Rattle.pin_core.specs.CurrentWord.{head_of};
+ghost use Rattle.xcp_bank.specs.SeatKnowledge.{Reading};
+ghost use Rattle.xcp_bank.specs.private.ReaderSteps.{GivesUp};
+ghost use Rattle.xcp_bank.specs.private.SeatSteps.{IsReaderSeat, ReaderMoves, PinnedAt, LookedAt, WordReadAt};
 
 use super::rule::{BUFFER_WORDS, Store, View};
 use atomic_table::{Play, Seat};
@@ -12,7 +12,7 @@ use pin_core::{BUFFERS, parts};
 struct LookPlay;
 
 impl Play<(), View> for LookPlay {
-    ghost use Rattle.xcp_bank.specs.ReaderSteps.{Looked, reader_plays};
+    ghost use Rattle.xcp_bank.specs.private.ReaderSteps.{Looked, reader_plays};
 
     ghost then = { reader_plays (Looked 256) };
 }
@@ -20,7 +20,7 @@ impl Play<(), View> for LookPlay {
 struct PinPlay;
 
 impl Play<(), View> for PinPlay {
-    ghost use Rattle.xcp_bank.specs.ReaderSteps.{Pinned, reader_plays};
+    ghost use Rattle.xcp_bank.specs.private.ReaderSteps.{Pinned, reader_plays};
 
     ghost then = { reader_plays (Pinned 256) };
 }
@@ -29,7 +29,7 @@ struct UnpinPlay;
 
 impl Play<(), View> for UnpinPlay {
     ghost use Rattle.std.specs.Prelude.{false};
-    ghost use Rattle.xcp_bank.specs.ReaderSteps.{Unpinned, reader_plays};
+    ghost use Rattle.xcp_bank.specs.private.ReaderSteps.{Unpinned, reader_plays};
 
     ghost then = { reader_plays (Unpinned 256 false) };
 }
@@ -38,7 +38,7 @@ struct LeavePlay;
 
 impl Play<(), View> for LeavePlay {
     ghost use Rattle.std.specs.Prelude.{true};
-    ghost use Rattle.xcp_bank.specs.ReaderSteps.{Unpinned, reader_plays};
+    ghost use Rattle.xcp_bank.specs.private.ReaderSteps.{Unpinned, reader_plays};
 
     ghost then = { reader_plays (Unpinned 256 true) };
 }
@@ -46,7 +46,7 @@ impl Play<(), View> for LeavePlay {
 struct ReadPlay;
 
 impl Play<(), View> for ReadPlay {
-    ghost use Rattle.xcp_bank.specs.ReaderSteps.{ReadAt, reader_plays};
+    ghost use Rattle.xcp_bank.specs.private.ReaderSteps.{ReadAt, reader_plays};
 
     ghost then = { λ st. reader_plays (ReadAt 256 st.word) st };
 }

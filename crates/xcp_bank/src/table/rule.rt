@@ -18,7 +18,7 @@ pub struct View {
 }
 
 impl Model for View {
-    ghost use Rattle.xcp_bank.specs.Known.{Known, nobody};
+    ghost use Rattle.xcp_bank.specs.SeatKnowledge.{Known, nobody};
 
     ghost Value = { Known };
 
@@ -29,8 +29,8 @@ impl Model for View {
 pub struct Pins;
 
 impl TableRule<(), View, [u64; 256]> for Pins {
-    ghost use Rattle.xcp_bank.specs.Known.{everybody};
-    ghost use Rattle.xcp_bank.specs.Rule.{Banked};
+    ghost use Rattle.xcp_bank.specs.private.SeatKnowledge.{everybody};
+    ghost use Rattle.xcp_bank.specs.TableRule.{Banked};
 
     ghost holds = { λ _ t. Banked 256 t };
 

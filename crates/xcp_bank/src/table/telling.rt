@@ -1,8 +1,8 @@
 //! A reader is told what was published.
 ghost use Rattle.std.specs.Prelude.{◌≡◌, ℕ, false};
-ghost use Rattle.xcp_bank.specs.Known.{Reading, Writing};
-ghost use Rattle.xcp_bank.specs.Cuts.{told, told_again};
-ghost use Rattle.xcp_bank.specs.Seats.{IsReaderSeat, IsWriterSeat};
+ghost use Rattle.xcp_bank.specs.SeatKnowledge.{Reading, Writing};
+ghost use Rattle.xcp_bank.specs.private.SeatSplits.{told, told_again};
+ghost use Rattle.xcp_bank.specs.private.SeatSteps.{IsReaderSeat, IsWriterSeat};
 
 use super::rule::{Store, View};
 use atomic_table::{Join, Seat, Split};
@@ -10,8 +10,8 @@ use atomic_table::{Join, Seat, Split};
 struct Telling;
 
 impl Join<View> for Telling {
-    ghost use Rattle.xcp_bank.specs.Known.{nobody};
-    ghost use Rattle.xcp_bank.specs.Cuts.{together};
+    ghost use Rattle.xcp_bank.specs.SeatKnowledge.{nobody};
+    ghost use Rattle.xcp_bank.specs.private.SeatSplits.{together};
 
     ghost both = { together };
 
@@ -19,7 +19,7 @@ impl Join<View> for Telling {
 }
 
 impl Split<View> for Telling {
-    ghost use Rattle.xcp_bank.specs.Cuts.{writer_alone, readers_apart};
+    ghost use Rattle.xcp_bank.specs.private.SeatSplits.{writer_alone, readers_apart};
 
     ghost left = { writer_alone };
 

@@ -1,8 +1,8 @@
 //! The steps of the writer, each on one word of the table.
 ghost use Rattle.std.specs.Prelude.{◌≡◌, ◌≢◌, ℕ, ◌+◌, ◌*◌, ◌%◌, ◌<◌, length, slice_index, Some, None};
-ghost use Rattle.xcp_bank.specs.Known.{Writing};
-ghost use Rattle.xcp_bank.specs.WriterSteps.{Scanned, WasReset, Written, Published};
-ghost use Rattle.xcp_bank.specs.Seats.{IsWriterSeat, WriterMoves};
+ghost use Rattle.xcp_bank.specs.SeatKnowledge.{Writing};
+ghost use Rattle.xcp_bank.specs.private.WriterSteps.{Scanned, WasReset, Written, Published};
+ghost use Rattle.xcp_bank.specs.private.SeatSteps.{IsWriterSeat, WriterMoves};
 
 use super::rule::{BUFFER_WORDS, Store, View};
 use atomic_table::{Play, Seat};
@@ -12,7 +12,7 @@ struct ScanPlay;
 
 impl Play<(), View> for ScanPlay {
     ghost use Rattle.std.specs.Prelude.{◌-◌};
-    ghost use Rattle.xcp_bank.specs.WriterSteps.{Scanned, writer_plays};
+    ghost use Rattle.xcp_bank.specs.private.WriterSteps.{Scanned, writer_plays};
 
     ghost then = { λ st. writer_plays (Scanned 256 (st.word - 1)) st };
 }
@@ -21,7 +21,7 @@ struct ResetPlay;
 
 impl Play<(), View> for ResetPlay {
     ghost use Rattle.std.specs.Prelude.{◌-◌};
-    ghost use Rattle.xcp_bank.specs.WriterSteps.{WasReset, writer_plays};
+    ghost use Rattle.xcp_bank.specs.private.WriterSteps.{WasReset, writer_plays};
 
     ghost then = { λ st m n. writer_plays (WasReset (st.word - 1)) st m 0 };
 }
@@ -29,7 +29,7 @@ impl Play<(), View> for ResetPlay {
 struct WritePlay;
 
 impl Play<(), View> for WritePlay {
-    ghost use Rattle.xcp_bank.specs.WriterSteps.{Written, writer_plays};
+    ghost use Rattle.xcp_bank.specs.private.WriterSteps.{Written, writer_plays};
 
     ghost then = { λ st m n. writer_plays (Written st.first) st m st.first };
 }
@@ -38,7 +38,7 @@ struct PublishPlay;
 
 impl Play<(), View> for PublishPlay {
     ghost use Rattle.std.specs.Prelude.{◌/◌};
-    ghost use Rattle.xcp_bank.specs.WriterSteps.{Published, writer_plays};
+    ghost use Rattle.xcp_bank.specs.private.WriterSteps.{Published, writer_plays};
 
     ghost then = { λ st. writer_plays (Published 256 (st.first / 4294967296)) st };
 }

@@ -1,7 +1,7 @@
 //! The commands that allocate lists, ODTs and entries.
 ghost use Rattle.std.specs.Prelude.{◌≡◌, ◌<◌, ◌≤◌, ◌+◌, length, None, Some, OnOk, IfErr, false};
-ghost use Rattle.xcp_memory.specs.Refusals.{Checks};
-ghost use Rattle.xcp_daq.specs.Daq.{list_at, any_running, all_odts, all_entries};
+ghost use Rattle.xcp_memory.specs.FirstRefusal.{Checks};
+ghost use Rattle.xcp_daq.specs.DaqLists.{list_at, any_running, all_odts, all_entries};
 ghost use Rattle.xcp_daq.specs.Allocating.{free_daq_after, alloc_daq_refusal, alloc_daq_after, alloc_odt_refusal, alloc_odt_after, alloc_odt_entry_refusal, alloc_odt_entry_after};
 
 use super::{Daq, MAX_LISTS};

@@ -1,7 +1,7 @@
 //! What the commands ask of the lists.
 ghost use Rattle.std.specs.Prelude.{◌≡◌, ◌<◌, ◌≤◌, length};
-ghost use Rattle.xcp_daq.specs.Daq.{list_at, odt_at, all_odts, all_entries, any_large, first_pid, with_list};
-ghost use Rattle.xcp_daq.specs.Lawful.{IsList};
+ghost use Rattle.xcp_daq.specs.DaqLists.{list_at, odt_at, all_odts, all_entries, any_large, first_pid, with_list};
+ghost use Rattle.xcp_daq.specs.DaqInvariant.{IsList};
 ghost use Rattle.xcp_daq.specs.Pools.{list_of};
 
 use super::Daq;

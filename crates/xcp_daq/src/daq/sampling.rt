@@ -1,9 +1,10 @@
 //! The sample of an event.
 ghost use Rattle.std.specs.Prelude.{◌≡◌, ◌≤◌, ◌<◌, All, ◌+◌, ◌++◌, [], length, map, take, None, slice_index_or as get_or};
-ghost use Rattle.xcp_daq.specs.Lawful.{IsEntry, IsList};
+ghost use Rattle.xcp_daq.specs.DaqInvariant.{IsEntry, IsList};
 ghost use Rattle.arrayvec.specs.ArrayVec.{array_vec_len};
 ghost use Rattle.xcp_daq.specs.Sample.{sampled, list_packets, after_event};
-ghost use Rattle.xcp_daq.specs.Pools.{counted_mode, joined, list_of, lists_of};
+ghost use Rattle.xcp_daq.specs.Pools.{joined, list_of, lists_of};
+ghost use Rattle.xcp_daq.specs.private.Pools.{counted_mode};
 
 use super::Daq;
 use crate::mode::{Mode, NEW_LIST};

@@ -1,9 +1,9 @@
 //! The commands that start, stop and select lists.
 ghost use Rattle.std.specs.Prelude.{◌≡◌, ◌<◌, ◌≤◌, ◌&&◌, All, length, map, None, Some, OnOk, IfOk, IfErr, true};
 ghost use Rattle.std.specs.List.{list_any};
-ghost use Rattle.xcp_memory.specs.Refusals.{Checks};
-ghost use Rattle.xcp_daq.specs.Daq.{first_pid, list_at, any_large, odt_size};
-ghost use Rattle.xcp_daq.specs.Pools.{synchronised_mode};
+ghost use Rattle.xcp_memory.specs.FirstRefusal.{Checks};
+ghost use Rattle.xcp_daq.specs.DaqLists.{first_pid, list_at, any_large, odt_size};
+ghost use Rattle.xcp_daq.specs.private.Pools.{synchronised_mode};
 ghost use Rattle.xcp_daq.specs.Starting.{start_stop_daq_list_refusal, start_stop_daq_list_after, start_stop_synch_refusal, start_stop_synch_after};
 
 use super::Daq;

@@ -1,7 +1,7 @@
 //! The commands that only ask.
 ghost use Rattle.std.specs.Prelude.{◌≡◌, ◌-◌, ◌<◌, length, None, Some, IfOk, IfErr};
-ghost use Rattle.xcp_daq.specs.Daq.{greatest_size};
-ghost use Rattle.xcp_daq.specs.Telling.{daq_list_mode_refusal, daq_list_mode_reply, processor_info_reply, event_info_refusal, event_info_reply};
+ghost use Rattle.xcp_daq.specs.DaqLists.{greatest_size};
+ghost use Rattle.xcp_daq.specs.DaqInfo.{daq_list_mode_refusal, daq_list_mode_reply, processor_info_reply, event_info_refusal, event_info_reply};
 
 use super::Daq;
 use crate::list_flags::ListFlags;

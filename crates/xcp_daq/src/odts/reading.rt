@@ -1,7 +1,8 @@
 //! What is asked of the ODTs.
 ghost use Rattle.std.specs.Prelude.{◌≡◌, ℕ, ◌<◌, ◌≤◌, ◌+◌, [], None, length, take, drop, slice_index_or as get_or};
-ghost use Rattle.xcp_daq.specs.Daq.{any_large, odt_size};
-ghost use Rattle.xcp_daq.specs.Pools.{joined, parts, total};
+ghost use Rattle.xcp_daq.specs.DaqLists.{any_large, odt_size};
+ghost use Rattle.xcp_daq.specs.Pools.{joined, parts};
+ghost use Rattle.xcp_daq.specs.private.Pools.{total};
 
 use super::Odts;
 use crate::Element;

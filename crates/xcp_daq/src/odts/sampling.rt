@@ -1,10 +1,11 @@
 //! The data packets of a list.
 ghost use Rattle.std.specs.Prelude.{◌≡◌, ◌<◌, ◌≤◌, ◌+◌, ◌++◌, ◌∷◌, [], ◌^◌, All, length, take, slice_index_or as get_or, OnOk, OnErr, true, false, nat_lt};
-ghost use Rattle.xcp_memory.specs.Words.{lies_inside, controller_bytes};
+ghost use Rattle.xcp_memory.specs.ComputedAccess.{lies_inside, controller_bytes};
 ghost use Rattle.arrayvec.specs.ArrayVec.{array_vec_len};
-ghost use Rattle.xcp_daq.specs.Daq.{entry_size, odt_size};
-ghost use Rattle.xcp_daq.specs.Lawful.{IsEntry};
-ghost use Rattle.xcp_daq.specs.Pools.{joined, parts, total};
+ghost use Rattle.xcp_daq.specs.DaqLists.{entry_size, odt_size};
+ghost use Rattle.xcp_daq.specs.DaqInvariant.{IsEntry};
+ghost use Rattle.xcp_daq.specs.Pools.{joined, parts};
+ghost use Rattle.xcp_daq.specs.private.Pools.{total};
 ghost use Rattle.xcp_daq.specs.Sample.{element_bytes, entry_bytes, odt_bytes, packet_of, packets_from};
 
 use super::Odts;

@@ -1,17 +1,17 @@
 //! Reads and writes of address ranges.
 ghost use Rattle.std.specs.Prelude.{◌≡◌, ◌≤◌, ◌<◌, ◌+◌, length, Option, Some, None, true, false, IfOk, OnOk, IfErr, IfSome, Err, ◌↔◌};
 ghost use Rattle.xcp_packet.specs.declared.Code.{Code};
-ghost use Rattle.xcp_memory.specs.Words.{lies_inside, segment_of, bytes_by, tool_bytes, controller_bytes, write_refusal, pages_written};
+ghost use Rattle.xcp_memory.specs.ComputedAccess.{lies_inside, segment_of, bytes_by, tool_bytes, controller_bytes, write_refusal, pages_written};
 ghost use Rattle.xcp_memory.specs.Memory.{Tool, Controller, LiesInside, LiesProtected, Reads};
-ghost use Rattle.xcp_memory.specs.Refusals.{Checks};
-ghost use Rattle.xcp_memory.specs.Places.{LiesOnPages, IsSpot};
+ghost use Rattle.xcp_memory.specs.FirstRefusal.{Checks};
+ghost use Rattle.xcp_memory.specs.private.RangeInSegment.{LiesOnPages, IsSpot};
 
 use super::Pages;
 use crate::page_set::{Side, cut};
 use xcp_packet::Code;
 
 impl Pages {
-    ghost use Rattle.xcp_memory.specs.Sides.{page_by};
+    ghost use Rattle.xcp_memory.specs.private.PagesBySide.{page_by};
 
     /// Reads the bytes that the tool has at a range, at least one. `AccessDenied` where the range
     /// does not lie in one area.

@@ -1,9 +1,9 @@
 //! Copying pages.
 ghost use Rattle.std.specs.Prelude.{◌≡◌, ◌≢◌, ◌<◌, length, None, Some, true, false, OnOk, IfOk, IfErr, slice_index_or as get_or, slice_set, []};
 ghost use Rattle.xcp_packet.specs.declared.Code.{Code};
-ghost use Rattle.xcp_memory.specs.Copying.{copy_refusal, pages_copied, content, with_content, lacks_segment, page_refusal_of, HasPage};
+ghost use Rattle.xcp_memory.specs.PageCopy.{copy_refusal, pages_copied, content, with_content, lacks_segment, page_refusal_of, HasPage};
 ghost use Rattle.xcp_memory.specs.Pages.{no_pages, segment_at};
-ghost use Rattle.xcp_memory.specs.Refusals.{Checks};
+ghost use Rattle.xcp_memory.specs.FirstRefusal.{Checks};
 
 use super::Pages;
 use crate::page_set::PageSet;

@@ -2,7 +2,7 @@
 ghost use Rattle.std.specs.Prelude.{◌≡◌, ◌<◌, ◌≤◌, ℕ, length, map, count_by, None, Some, OnOk, IfOk, IfErr, All, slice_index_or as get_or, []};
 ghost use Rattle.xcp_memory.specs.Freeze.{set_freeze_refusal, pages_with_mode, freeze_mode_refusal, segment_mode, segment_frozen, pages_frozen, frozen_count};
 ghost use Rattle.xcp_memory.specs.Pages.{segment_at, xcp_page};
-ghost use Rattle.xcp_memory.specs.Words.{write_refusal};
+ghost use Rattle.xcp_memory.specs.ComputedAccess.{write_refusal};
 
 use super::Pages;
 use crate::page_set::PageSet;

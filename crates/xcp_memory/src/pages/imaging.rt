@@ -1,7 +1,7 @@
 //! The image of the controller's pages.
 ghost use Rattle.std.specs.Prelude.{◌≡◌, ◌<◌, ◌≤◌, ◌+◌, ◌-◌, ◌++◌, length, take, replicate, All};
 ghost use Rattle.std.specs.List.{flat_map};
-ghost use Rattle.xcp_memory.specs.Image.{ecu_image};
+ghost use Rattle.xcp_memory.specs.EcuImage.{ecu_image};
 ghost use Rattle.xcp_memory.specs.Pages.{ecu_page};
 
 use super::Pages;

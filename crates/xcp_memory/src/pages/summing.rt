@@ -26,7 +26,7 @@ impl Pages {
 }
 
 /// The sum of the bytes, words or double words that bytes are.
-#[tactic(auto, using(crate::proofs::Summing::byte_numbers))]
+#[tactic(auto, using(crate::proofs::ChecksumLaws::byte_numbers))]
 fn number_sum(bytes: &[u8], kind: ChecksumKind, order: Order) -> u64
     requires { length bytes.now < 2 ^ 32 }
     ensures { result ≡ sum (numbers order (unit kind) (length bytes.now / unit kind) bytes.now) }
@@ -47,7 +47,7 @@ fn byte_sum(bytes: &[u8]) -> u64
 }
 
 /// The sum of words.
-#[tactic(auto, using(crate::proofs::Summing::one_more_number))]
+#[tactic(auto, using(crate::proofs::ChecksumLaws::one_more_number))]
 fn word_sum(bytes: &[u8], order: Order) -> u64
     requires { length bytes.now < 2 ^ 32 }
     ensures { result ≡ sum (numbers order 2 (length bytes.now / 2) bytes.now) }
@@ -60,7 +60,7 @@ fn word_sum(bytes: &[u8], order: Order) -> u64
 }
 
 /// The sum of double words.
-#[tactic(auto, using(crate::proofs::Summing::one_more_number))]
+#[tactic(auto, using(crate::proofs::ChecksumLaws::one_more_number))]
 fn double_sum(bytes: &[u8], order: Order) -> u64
     requires { length bytes.now < 2 ^ 32 }
     ensures { result ≡ sum (numbers order 4 (length bytes.now / 4) bytes.now) }

@@ -4,8 +4,8 @@ ghost use Rattle.std.specs.List.{list_any};
 ghost use Rattle.xcp_packet.specs.declared.Code.{Code};
 ghost use Rattle.xcp_memory.specs.Pages.{segment_at, no_pages};
 ghost use Rattle.xcp_packet.specs.Rows.{first_holding};
-ghost use Rattle.xcp_memory.specs.Refusals.{Checks};
-ghost use Rattle.xcp_memory.specs.Switch.{switch_refusal, pages_switched, segment_switched, is_switch_mode, names_none, concerned, lacks_page, page_refusal, page_number};
+ghost use Rattle.xcp_memory.specs.FirstRefusal.{Checks};
+ghost use Rattle.xcp_memory.specs.PageSwitch.{switch_refusal, pages_switched, segment_switched, is_switch_mode, names_none, concerned, lacks_page, page_refusal, page_number};
 
 use super::Pages;
 use crate::page_set::{PageSet, Side};

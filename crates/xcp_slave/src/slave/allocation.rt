@@ -1,7 +1,7 @@
 //! The commands that allocate DAQ lists, ODTs and entries.
-#![tactic(auto, unfolding(crate::specs::Rows::TellsRow))]
+#![tactic(auto, unfolding(crate::specs::private::Rows::TellsRow))]
 
-ghost use Rattle.xcp_slave.specs.Rows.{TellsRow};
+ghost use Rattle.xcp_slave.specs.private.Rows.{TellsRow};
 
 use super::{Outcome, Slave};
 use xcp_packet::{Command, Packet};

@@ -1,7 +1,7 @@
 //! The commands that move the tool's bytes: SET_MTA, uploads, BUILD_CHECKSUM, downloads.
-#![tactic(auto, unfolding(crate::specs::Rows::TellsRow))]
+#![tactic(auto, unfolding(crate::specs::private::Rows::TellsRow))]
 
-ghost use Rattle.xcp_slave.specs.Rows.{TellsRow};
+ghost use Rattle.xcp_slave.specs.private.Rows.{TellsRow};
 
 use super::{Outcome, Slave};
 use xcp_packet::{Code, Command, Fault, Packet};

@@ -2,7 +2,7 @@
 ghost use Rattle.std.specs.Prelude.{◌≡◌, ℕ, MatchBool};
 ghost use Rattle.arrayvec.specs.ArrayVec.{ArrayVec};
 ghost use Rattle.xcp_slave.specs.Step.{Drains, Fires, Samples, Stores, store_event};
-ghost use Rattle.xcp_slave.specs.Told.{answer_in};
+ghost use Rattle.xcp_slave.specs.AnswerInBytes.{answer_in};
 ghost use Rattle.xcp_daq.specs.Sample.{sampled};
 
 use super::Slave;

@@ -1,7 +1,7 @@
 //! The commands of a session: CONNECT, DISCONNECT, GET_STATUS, SYNCH, GET_COMM_MODE_INFO, GET_ID.
-#![tactic(auto, unfolding(crate::specs::Rows::TellsRow))]
+#![tactic(auto, unfolding(crate::specs::private::Rows::TellsRow))]
 
-ghost use Rattle.xcp_slave.specs.Rows.{TellsRow};
+ghost use Rattle.xcp_slave.specs.private.Rows.{TellsRow};
 
 use super::{Outcome, Slave};
 use crate::SessionStatus;

@@ -2,7 +2,7 @@
 ghost use Rattle.std.specs.Prelude.{◌≡◌, ◌≤◌, None, Some};
 ghost use Rattle.xcp_transfer.specs.Downloads.{modify_bits_row, modified};
 ghost use Rattle.xcp_packet.specs.Rows.{Tells};
-ghost use Rattle.xcp_transfer.specs.Value.{without_block};
+ghost use Rattle.xcp_transfer.specs.TransferValue.{without_block};
 
 use super::Transfer;
 use crate::access::{read_double, writable, write_double};

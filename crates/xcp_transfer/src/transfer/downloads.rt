@@ -2,8 +2,9 @@
 //! MODIFY_BITS.
 ghost use Rattle.std.specs.Prelude.{◌≡◌, ◌≤◌, ◌<◌, length, None};
 ghost use Rattle.xcp_packet.specs.Rows.{Tells};
-ghost use Rattle.xcp_transfer.specs.Downloads.{download_row, download_next_row, download_max_row, short_download_row, write_row, packet_room, greatest_download};
-ghost use Rattle.xcp_transfer.specs.Value.{without_block};
+ghost use Rattle.xcp_transfer.specs.Downloads.{download_row, download_next_row, download_max_row, short_download_row, packet_room, greatest_download};
+ghost use Rattle.xcp_transfer.specs.private.Downloads.{write_row};
+ghost use Rattle.xcp_transfer.specs.TransferValue.{without_block};
 
 use super::Transfer;
 use crate::Mta;

@@ -1,7 +1,7 @@
 //! The commands by which a tool reads: UPLOAD, SHORT_UPLOAD, BUILD_CHECKSUM, GET_ID.
 ghost use Rattle.xcp_packet.specs.Rows.{Tells};
 ghost use Rattle.xcp_transfer.specs.Uploads.{upload_row, short_upload_row, build_checksum_row, get_id_row};
-ghost use Rattle.xcp_transfer.specs.Value.{without_block};
+ghost use Rattle.xcp_transfer.specs.TransferValue.{without_block};
 
 use super::Transfer;
 use crate::access::{checksum, read};

@@ -1,8 +1,8 @@
-use Rattle.pin_core.proofs.Start.{opening_lawful}
+use Rattle.pin_core.proofs.OpeningLaws.{opening_lawful}
 use Rattle.pin_core.proofs.StepLaws.{run_keeps, determined, enabled_steps, step_enabled, run_adds}
-use Rattle.pin_core.proofs.Idle.{some_idle}
-use Rattle.pin_core.proofs.Holding.{left_alone, reads_one, pins_last, only_current}
-use Rattle.pin_core.proofs.Scans.{scans_find}
+use Rattle.pin_core.proofs.IdleBufferLaws.{some_idle}
+use Rattle.pin_core.proofs.HeldBufferLaws.{left_alone, reads_one, pins_last, only_current}
+use Rattle.pin_core.proofs.ScanLaws.{scans_find}
 use Rattle.pin_core.proofs.laws.reclamation.Goals as goal
 
 pub returns-clause-opens_lawful : goal.returns-clause-opens_lawful

@@ -1,5 +1,5 @@
 use Rattle.std.proofs.Common.{◌≡◌, ℕ, ◌≤◌, ◌-◌, List, ◌∷◌, ◌++◌, [], length, replicate, arith, sym, ap, ◌∙◌}
-use Rattle.pin_core.proofs.Start.{replicate_next}
+use Rattle.pin_core.proofs.OpeningLaws.{replicate_next}
 use Rattle.pin_core.proofs.pins.buffers.Goals as goal
 
 pub loop-made-preserved : goal.loop-made-preserved

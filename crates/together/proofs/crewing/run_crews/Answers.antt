@@ -1,5 +1,5 @@
 use Rattle.std.proofs.Common.{rules, vec_len}
-use Rattle.together.specs.Room.{HasRoom}
+use Rattle.together.specs.private.ThreadRoom.{HasRoom}
 use Rattle.together.proofs.crewing.run_crews.Goals as goal
 
 pub scoped-requires : goal.scoped-requires

@@ -1,7 +1,7 @@
 use Rattle.std.proofs.Common.{◌≡◌, ℕ, false, ◌||◌, Bool, Option, ap, ◌∙◌, sym, subst}
-use Rattle.xcp_bank.specs.Known.{Reading}
-use Rattle.xcp_bank.specs.Seats.{buffer_held, LookedAt, PinnedAt}
-use Rattle.xcp_bank.proofs.Seating.{sits_one, held_at, held_none, acquired_first, acquired_same, acquired_other}
+use Rattle.xcp_bank.specs.SeatKnowledge.{Reading}
+use Rattle.xcp_bank.specs.private.SeatSteps.{buffer_held, LookedAt, PinnedAt}
+use Rattle.xcp_bank.proofs.ReaderSeatLemmas.{sits_one, held_at, held_none, acquired_first, acquired_same, acquired_other}
 use Rattle.xcp_bank.proofs.acquiring.acquire_at.Goals as goal
 
 -- what is known of the reader that the caller has, of each that fits the seat

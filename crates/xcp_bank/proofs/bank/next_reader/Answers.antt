@@ -1,10 +1,10 @@
 use Rattle.std.proofs.Common.{◌≡◌, suc, sym, ap, ◌∙◌, subst}
 use Rattle.std.specs.Arc.{arc_value}
 use Rattle.atomic_table.specs.Seated.{TableId}
-use Rattle.xcp_bank.specs.Known.{starting}
-use Rattle.xcp_bank.specs.Seats.{IsFirstSeat}
-use Rattle.xcp_bank.specs.Ends.{reader_end}
-use Rattle.xcp_bank.proofs.Kept.{sits_at}
+use Rattle.xcp_bank.specs.SeatKnowledge.{starting}
+use Rattle.xcp_bank.specs.private.SeatSteps.{IsFirstSeat}
+use Rattle.xcp_bank.specs.BankEnds.{reader_end}
+use Rattle.xcp_bank.proofs.EndFieldLemmas.{sits_at}
 use Rattle.xcp_bank.proofs.bank.next_reader.Goals as goal
 
 pub cut-own-requires : goal.cut-own-requires

@@ -1,8 +1,8 @@
 use Rattle.std.proofs.Common.{◌≡◌, ℕ, ap, ◌∙◌, arith, subst}
-use Rattle.xcp_bank.specs.Known.{Writing}
-use Rattle.xcp_bank.specs.Seats.{Counted, Rests}
-use Rattle.xcp_bank.proofs.Desking.{desks_one}
-use Rattle.xcp_bank.proofs.Counting.{counted_none, counted_few, counted_skip, counted_quiet, counted_held}
+use Rattle.xcp_bank.specs.SeatKnowledge.{Writing}
+use Rattle.xcp_bank.specs.private.SeatSteps.{Counted, Rests}
+use Rattle.xcp_bank.proofs.WriterSeatLemmas.{desks_one}
+use Rattle.xcp_bank.proofs.ScanCountLemmas.{counted_none, counted_few, counted_skip, counted_quiet, counted_held}
 use Rattle.xcp_bank.proofs.holding.count_held.Goals as goal
 
 pub loop-buffer-init : goal.loop-buffer-init

@@ -1,5 +1,5 @@
-use Rattle.xcp_bank.specs.Known.{Writing}
-use Rattle.xcp_bank.specs.Seats.{IsWriterSeat, Counted}
+use Rattle.xcp_bank.specs.SeatKnowledge.{Writing}
+use Rattle.xcp_bank.specs.private.SeatSteps.{IsWriterSeat, Counted}
 use Rattle.xcp_bank.proofs.holding.count_held.Given as goal
 
 abbrev pub invariant-loop-buffer : goal.invariant-loop-buffer

@@ -1,4 +1,4 @@
-use Rattle.xcp_bank.proofs.Looks.{noted_looks_look}
+use Rattle.xcp_bank.proofs.LookLaws.{noted_looks_look}
 use Rattle.xcp_bank.proofs.laws.one_history.Goals as goal
 
 pub returns : goal.returns

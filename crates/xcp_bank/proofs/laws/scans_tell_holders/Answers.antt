@@ -1,4 +1,4 @@
-use Rattle.xcp_bank.proofs.Scans.{scans_tell}
+use Rattle.xcp_bank.proofs.ScanLaws.{scans_tell}
 use Rattle.xcp_bank.proofs.laws.scans_tell_holders.Goals as goal
 
 pub returns : goal.returns

@@ -1,8 +1,8 @@
 use Rattle.std.proofs.Common.{ap, ◌∙◌, subst}
-use Rattle.xcp_bank.specs.Known.{Writing}
-use Rattle.xcp_bank.specs.Seats.{Rests}
-use Rattle.xcp_bank.proofs.Desking.{desks_one}
-use Rattle.xcp_bank.proofs.Published.{searched_none, searched_skip, searched_more, searched_found, never}
+use Rattle.xcp_bank.specs.SeatKnowledge.{Writing}
+use Rattle.xcp_bank.specs.private.SeatSteps.{Rests}
+use Rattle.xcp_bank.proofs.WriterSeatLemmas.{desks_one}
+use Rattle.xcp_bank.proofs.PublishStepLemmas.{searched_none, searched_skip, searched_more, searched_found, never}
 use Rattle.xcp_bank.proofs.publishing.find_quiet.Goals as goal
 
 pub loop-buffer-init : goal.loop-buffer-init

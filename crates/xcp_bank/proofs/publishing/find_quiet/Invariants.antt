@@ -1,5 +1,5 @@
-use Rattle.xcp_bank.specs.Known.{Writing}
-use Rattle.xcp_bank.specs.Seats.{IsWriterSeat, Searched}
+use Rattle.xcp_bank.specs.SeatKnowledge.{Writing}
+use Rattle.xcp_bank.specs.private.SeatSteps.{IsWriterSeat, Searched}
 use Rattle.xcp_bank.proofs.publishing.find_quiet.Given as goal
 
 abbrev pub invariant-loop-buffer : goal.invariant-loop-buffer

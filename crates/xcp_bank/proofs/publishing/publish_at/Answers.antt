@@ -1,8 +1,8 @@
 use Rattle.std.proofs.Common.{◌≡◌, ℕ, ◌%◌, List, length, arith, ap, ◌∙◌, sym, subst}
-use Rattle.xcp_bank.specs.Known.{Writing}
-use Rattle.xcp_bank.specs.Seats.{Rests, filled}
-use Rattle.xcp_bank.proofs.Desking.{desks_one}
-use Rattle.xcp_bank.proofs.Published.{rests_again, published_now}
+use Rattle.xcp_bank.specs.SeatKnowledge.{Writing}
+use Rattle.xcp_bank.specs.private.SeatSteps.{Rests, filled}
+use Rattle.xcp_bank.proofs.WriterSeatLemmas.{desks_one}
+use Rattle.xcp_bank.proofs.PublishStepLemmas.{rests_again, published_now}
 use Rattle.xcp_bank.proofs.publishing.publish_at.Goals as goal
 
 pub reset-requires-clause-buffer : goal.reset-requires-clause-buffer

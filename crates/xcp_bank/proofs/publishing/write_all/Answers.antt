@@ -1,10 +1,10 @@
 use Rattle.std.proofs.Common.{◌≡◌, ℕ, List, [], ◌∷◌, ◌++◌, take, get_or, arith, subst, take_all, length, length-take, sym, ap, ◌∙◌}
-use Rattle.xcp_bank.specs.Deeds.{Grows, has_written, writes_of}
-use Rattle.xcp_bank.specs.Known.{Writing}
-use Rattle.xcp_bank.specs.Seats.{IsWriterSeat, filled}
-use Rattle.xcp_bank.proofs.Desking.{desks_one}
-use Rattle.xcp_bank.proofs.History.{grows_none}
-use Rattle.xcp_bank.proofs.Published.{filled_more, writes_more}
+use Rattle.xcp_bank.specs.PinHistory.{Grows, has_written, writes_of}
+use Rattle.xcp_bank.specs.SeatKnowledge.{Writing}
+use Rattle.xcp_bank.specs.private.SeatSteps.{IsWriterSeat, filled}
+use Rattle.xcp_bank.proofs.WriterSeatLemmas.{desks_one}
+use Rattle.xcp_bank.proofs.HistoryLemmas.{grows_none}
+use Rattle.xcp_bank.proofs.PublishStepLemmas.{filled_more, writes_more}
 use Rattle.xcp_bank.proofs.publishing.write_all.Goals as goal
 
 pub loop-k-init : goal.loop-k-init

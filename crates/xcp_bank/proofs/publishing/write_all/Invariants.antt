@@ -1,7 +1,7 @@
 use Rattle.std.proofs.Common.{List, take}
-use Rattle.xcp_bank.specs.Deeds.{Deed, Grows, writes_of}
-use Rattle.xcp_bank.specs.Known.{Writing}
-use Rattle.xcp_bank.specs.Seats.{IsWriterSeat, filled}
+use Rattle.xcp_bank.specs.PinHistory.{Deed, Grows, writes_of}
+use Rattle.xcp_bank.specs.SeatKnowledge.{Writing}
+use Rattle.xcp_bank.specs.private.SeatSteps.{IsWriterSeat, filled}
 use Rattle.xcp_bank.proofs.publishing.write_all.Given as goal
 
 abbrev pub invariant-loop-k : goal.invariant-loop-k

@@ -1,9 +1,9 @@
 use Rattle.std.proofs.Common.{◌≡◌, ℕ, ◌+◌, ◌/◌, ◌<◌, [], length, get_or, refl, subst, arith}
 use Rattle.xcp_bank.specs.Images.{image_of}
-use Rattle.xcp_bank.specs.Ends.{words_in}
-use Rattle.xcp_bank.specs.Seats.{HasRead}
+use Rattle.xcp_bank.specs.BankEnds.{words_in}
+use Rattle.xcp_bank.specs.private.SeatSteps.{HasRead}
 use Rattle.xcp_bank.proofs.ImageLemmas.{image_length, part_is}
-use Rattle.xcp_bank.proofs.Seating.{read_none}
+use Rattle.xcp_bank.proofs.ReaderSeatLemmas.{read_none}
 use Rattle.xcp_bank.proofs.reading.read_at.Goals as goal
 
 pub returns : goal.returns

@@ -1,5 +1,5 @@
 use Rattle.std.proofs.Common.{◌+◌, ◌-◌, ◌*◌, arith}
-use Rattle.xcp_bank.proofs.WordReads.{reads_hold, reads_within, reads_behind}
+use Rattle.xcp_bank.proofs.WordReadLemmas.{reads_hold, reads_within, reads_behind}
 use Rattle.xcp_bank.proofs.reading.read_block.Goals as goal
 
 pub read_seventeen-requires-2-clause-seat : goal.read_seventeen-requires-2-clause-seat

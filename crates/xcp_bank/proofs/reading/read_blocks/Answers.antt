@@ -1,6 +1,6 @@
 use Rattle.std.proofs.Common.{◌≡◌, ℕ, ◌+◌, ◌*◌, arith, subst}
-use Rattle.xcp_bank.specs.Seats.{ReadsOn}
-use Rattle.xcp_bank.proofs.WordReads.{reads_on, reads_hold}
+use Rattle.xcp_bank.specs.private.SeatSteps.{ReadsOn}
+use Rattle.xcp_bank.proofs.WordReadLemmas.{reads_on, reads_hold}
 use Rattle.xcp_bank.proofs.reading.read_blocks.Goals as goal
 
 pub read_block-requires-clause-seat : goal.read_block-requires-clause-seat

@@ -1,4 +1,4 @@
-use Rattle.xcp_bank.proofs.WordReads.{reads_one}
+use Rattle.xcp_bank.proofs.WordReadLemmas.{reads_one}
 use Rattle.xcp_bank.proofs.reading.read_part.Goals as goal
 
 pub returns : goal.returns

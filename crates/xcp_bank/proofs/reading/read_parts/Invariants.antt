@@ -1,5 +1,5 @@
 use Rattle.std.proofs.Common.{◌-◌}
-use Rattle.xcp_bank.specs.Seats.{ReadsOn}
+use Rattle.xcp_bank.specs.private.SeatSteps.{ReadsOn}
 use Rattle.xcp_bank.proofs.reading.read_parts.Given as goal
 
 abbrev pub invariant-loop-k : goal.invariant-loop-k

@@ -1,5 +1,5 @@
 use Rattle.std.proofs.Common.{◌*◌}
-use Rattle.xcp_bank.proofs.WordReads.{reads_on, reads_hold}
+use Rattle.xcp_bank.proofs.WordReadLemmas.{reads_on, reads_hold}
 use Rattle.xcp_bank.proofs.reading.read_seventeen.Goals as goal
 
 pub read_three-requires-2-clause-seat : goal.read_three-requires-2-clause-seat

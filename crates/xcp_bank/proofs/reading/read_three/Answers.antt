@@ -1,4 +1,4 @@
-use Rattle.xcp_bank.proofs.WordReads.{reads_on, reads_hold}
+use Rattle.xcp_bank.proofs.WordReadLemmas.{reads_on, reads_hold}
 use Rattle.xcp_bank.proofs.reading.read_three.Goals as goal
 
 pub read_whole-requires-2-clause-seat : goal.read_whole-requires-2-clause-seat

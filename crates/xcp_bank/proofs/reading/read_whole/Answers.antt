@@ -2,7 +2,7 @@ use Rattle.std.proofs.Common.{◌≡◌, ℕ, suc, ◌+◌, ◌-◌, ◌*◌, �
 use Rattle.std.specs.Int.{w64, to_le_bytes}
 use mathlib.Core.Logic.{dite}
 use native.Mathlib.Decide.{dec_le}
-use Rattle.xcp_bank.proofs.WordReads.{reads_one}
+use Rattle.xcp_bank.proofs.WordReadLemmas.{reads_one}
 use Rattle.xcp_bank.proofs.reading.read_whole.Goals as goal
 
 pub returns : goal.returns

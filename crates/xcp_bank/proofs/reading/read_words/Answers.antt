@@ -1,7 +1,7 @@
 use Rattle.std.proofs.Common.{◌≡◌, ℕ, ◌+◌, ◌-◌, ◌*◌, ◌/◌, length, min, arith, subst}
-use Rattle.xcp_bank.specs.Ends.{words_in}
-use Rattle.xcp_bank.specs.Seats.{ReadsOn}
-use Rattle.xcp_bank.proofs.WordReads.{reads_on, reads_hold}
+use Rattle.xcp_bank.specs.BankEnds.{words_in}
+use Rattle.xcp_bank.specs.private.SeatSteps.{ReadsOn}
+use Rattle.xcp_bank.proofs.WordReadLemmas.{reads_on, reads_hold}
 use Rattle.xcp_bank.proofs.reading.read_words.Goals as goal
 
 pub read_blocks-requires-clause-seat : goal.read_blocks-requires-clause-seat

@@ -1,9 +1,9 @@
 use Rattle.std.proofs.Common.{subst}
 use Rattle.atomic_table.specs.Seated.{TableId}
 use Rattle.atomic_table.specs.declared.shared.Seat.{Seat as Seated}
-use Rattle.xcp_bank.specs.Known.{Known}
-use Rattle.xcp_bank.specs.WriterSteps.{WasReset}
-use Rattle.xcp_bank.specs.Seats.{WriterMoves}
+use Rattle.xcp_bank.specs.SeatKnowledge.{Known}
+use Rattle.xcp_bank.specs.private.WriterSteps.{WasReset}
+use Rattle.xcp_bank.specs.private.SeatSteps.{WriterMoves}
 use Rattle.xcp_bank.proofs.table.reset.Goals as goal
 
 -- what the step says of the seat and the table inside, said of the sealed ones

@@ -1,9 +1,9 @@
 use Rattle.std.proofs.Common.{◌≡◌, ℕ, subst}
 use Rattle.atomic_table.specs.Seated.{TableId}
 use Rattle.atomic_table.specs.declared.shared.Seat.{Seat as Seated}
-use Rattle.xcp_bank.specs.Known.{Known}
-use Rattle.xcp_bank.specs.WriterSteps.{Published}
-use Rattle.xcp_bank.specs.Seats.{WriterMoves}
+use Rattle.xcp_bank.specs.SeatKnowledge.{Known}
+use Rattle.xcp_bank.specs.private.WriterSteps.{Published}
+use Rattle.xcp_bank.specs.private.SeatSteps.{WriterMoves}
 use Rattle.xcp_bank.proofs.table.swap_in.Goals as goal
 
 -- what the step says of the seat and the table inside, said of the sealed ones

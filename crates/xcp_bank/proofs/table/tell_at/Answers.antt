@@ -1,9 +1,9 @@
 use Rattle.std.proofs.Common.{ℕ, subst}
 use Rattle.atomic_table.specs.Seated.{TableId}
 use Rattle.atomic_table.specs.declared.shared.Seat.{Seat as Seated}
-use Rattle.xcp_bank.specs.Known.{Reading, Writing, Known}
-use Rattle.xcp_bank.specs.Cuts.{told, told_again}
-use Rattle.xcp_bank.specs.Seats.{IsReaderSeat, IsWriterSeat}
+use Rattle.xcp_bank.specs.SeatKnowledge.{Reading, Writing, Known}
+use Rattle.xcp_bank.specs.private.SeatSplits.{told, told_again}
+use Rattle.xcp_bank.specs.private.SeatSteps.{IsReaderSeat, IsWriterSeat}
 use Rattle.xcp_bank.proofs.table.tell_at.Goals as goal
 
 -- what the two steps say of the seats and the table inside, said of the sealed ones

@@ -1,9 +1,9 @@
 use Rattle.std.proofs.Common.{true, subst}
 use Rattle.atomic_table.specs.Seated.{TableId}
 use Rattle.atomic_table.specs.declared.shared.Seat.{Seat as Seated}
-use Rattle.xcp_bank.specs.Known.{Known}
-use Rattle.xcp_bank.specs.ReaderSteps.{GivesUp}
-use Rattle.xcp_bank.specs.Seats.{ReaderMoves}
+use Rattle.xcp_bank.specs.SeatKnowledge.{Known}
+use Rattle.xcp_bank.specs.private.ReaderSteps.{GivesUp}
+use Rattle.xcp_bank.specs.private.SeatSteps.{ReaderMoves}
 use Rattle.xcp_bank.proofs.table.unpin_for_good.Goals as goal
 
 -- what the step says of the seat and the table inside, said of the sealed ones

@@ -1,10 +1,10 @@
 use Rattle.std.proofs.Common.{map, ◌∙◌, ap}
 use Rattle.std.proofs.lemmas.Result.{err_from_is_err_and}
 use Rattle.toml.specs.View.{view}
-use Rattle.xcp_config.specs.Table.{event_checks}
-use Rattle.xcp_config.specs.Seen.{event_read, event_written}
+use Rattle.xcp_config.specs.TableChecks.{event_checks}
+use Rattle.xcp_config.specs.private.PartsRead.{event_read, event_written}
 use Rattle.xcp_config.proofs.CheckLemmas.{or_so, member_passed, member_failed}
-use Rattle.xcp_config.proofs.Members.{seen, one_more_read}
+use Rattle.xcp_config.proofs.ArrayMemberLemmas.{seen, one_more_read}
 use Rattle.xcp_config.proofs.events.read_each.Goals as goal
 
 pub returns-in_err-part-clause-refused : goal.returns-in_err-part-clause-refused

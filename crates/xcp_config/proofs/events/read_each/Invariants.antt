@@ -2,8 +2,8 @@ use Rattle.std.proofs.Common.{◌≡◌, map, take, drop}
 use Rattle.std.specs.List.{flat_map, enumerate_from}
 use Rattle.toml.specs.View.{view}
 use Rattle.xcp_packet.specs.Rows.{first_holding}
-use Rattle.xcp_config.specs.Table.{event_checks}
-use Rattle.xcp_config.specs.Seen.{event_read, event_written}
+use Rattle.xcp_config.specs.TableChecks.{event_checks}
+use Rattle.xcp_config.specs.private.PartsRead.{event_read, event_written}
 use Rattle.xcp_config.proofs.events.read_each.Given as goal
 
 abbrev pub invariant-loop-i : goal.invariant-loop-i

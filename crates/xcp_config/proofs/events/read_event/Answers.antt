@@ -4,10 +4,10 @@ use Rattle.toml.specs.View.{view}
 use Rattle.xcp_memory.specs.declared.Key.TheVariants as key
 use Rattle.xcp_config.specs.Check.{Check}
 use Rattle.xcp_memory.specs.Limits.{name_limit, cycle_limit, unit_limit, priority_limit}
-use Rattle.xcp_config.specs.Layout.{setting}
-use Rattle.xcp_config.specs.Table.{text_checks, integer_checks, event_checks}
+use Rattle.xcp_config.specs.TableLayout.{setting}
+use Rattle.xcp_config.specs.TableChecks.{text_checks, integer_checks, event_checks}
 use Rattle.std.proofs.lemmas.Result.{err_from_is_err_and}
-use Rattle.xcp_packet.proofs.TestLemmas.{behind_3, holding_1_of_4, holding_2_of_4, holding_3_of_4}
+use Rattle.xcp_packet.proofs.RowTestLemmas.{behind_3, holding_1_of_4, holding_2_of_4, holding_3_of_4}
 use Rattle.xcp_config.proofs.CheckLemmas.{or_so}
 use Rattle.xcp_config.proofs.events.read_event.Goals as goal
 

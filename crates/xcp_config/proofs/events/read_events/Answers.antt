@@ -6,11 +6,11 @@ use Rattle.toml.specs.View.{view}
 use Rattle.xcp_memory.specs.declared.Key.TheVariants as key
 use Rattle.xcp_packet.specs.Rows.{first_holding}
 use Rattle.xcp_config.specs.Check.{Check}
-use Rattle.xcp_config.specs.Layout.{events_of}
+use Rattle.xcp_config.specs.TableLayout.{events_of}
 use Rattle.xcp_memory.specs.Limits.{event_counts}
-use Rattle.xcp_config.specs.Table.{array_checks, event_checks, events_checks}
-use Rattle.xcp_config.specs.Seen.{event_written}
-use Rattle.xcp_packet.proofs.TestLemmas.{holding_left, none_left}
+use Rattle.xcp_config.specs.TableChecks.{array_checks, event_checks, events_checks}
+use Rattle.xcp_config.specs.private.PartsRead.{event_written}
+use Rattle.xcp_packet.proofs.RowTestLemmas.{holding_left, none_left}
 use Rattle.xcp_config.proofs.CheckLemmas.{if_ok, if_err, or_so}
 use Rattle.xcp_config.proofs.events.read_events.Goals as goal
 

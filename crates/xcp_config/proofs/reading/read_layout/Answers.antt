@@ -1,5 +1,5 @@
 use Rattle.std.proofs.Common.{inl, inr}
-use Rattle.xcp_config.proofs.Told.{not_text}
+use Rattle.xcp_config.proofs.TableFaultLemmas.{not_text}
 use Rattle.xcp_config.proofs.reading.read_layout.Goals as goal
 
 pub returns-in-Ok-clause-text : goal.returns-in-Ok-clause-text

@@ -2,9 +2,9 @@ use Rattle.std.proofs.Common.{List, ◌∙◌, inr}
 use Rattle.toml.specs.Data.{Data}
 use Rattle.toml.specs.View.{view}
 use Rattle.xcp_config.specs.Check.{Check}
-use Rattle.xcp_config.specs.Table.{own_checks, segments_checks, signals_checks, events_checks, limit_checks, checks}
+use Rattle.xcp_config.specs.TableChecks.{own_checks, segments_checks, signals_checks, events_checks, limit_checks, checks}
 use Rattle.std.proofs.lemmas.Result.{err_from_is_err_and}
-use Rattle.xcp_packet.proofs.TestLemmas.{behind_3, holding_1_of_5, holding_2_of_5, holding_3_of_5, holding_4_of_5}
+use Rattle.xcp_packet.proofs.RowTestLemmas.{behind_3, holding_1_of_5, holding_2_of_5, holding_3_of_5, holding_4_of_5}
 use Rattle.xcp_config.proofs.CheckLemmas.{or_so}
 use Rattle.xcp_config.proofs.reading.read_parts.Goals as goal
 

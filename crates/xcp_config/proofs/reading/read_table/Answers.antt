@@ -1,12 +1,12 @@
 use Rattle.std.proofs.Common.{List, ◌++◌, ◌∙◌, ap, sym, refl, inr, Some, None}
 use Rattle.toml.specs.Data.{Data}
 use Rattle.toml.specs.View.{view}
-use Rattle.xcp_memory.specs.Parts.{areas}
+use Rattle.xcp_memory.specs.LayoutParts.{areas}
 use Rattle.xcp_memory.specs.Limits.{apart_limits}
 use Rattle.xcp_config.specs.Check.{Check}
-use Rattle.xcp_config.specs.Layout.{layout_in}
-use Rattle.xcp_config.specs.Table.{own_checks, segments_checks, signals_checks, events_checks, limit_checks, checks}
-use Rattle.xcp_packet.proofs.TestLemmas.{none_left}
+use Rattle.xcp_config.specs.TableLayout.{layout_in}
+use Rattle.xcp_config.specs.TableChecks.{own_checks, segments_checks, signals_checks, events_checks, limit_checks, checks}
+use Rattle.xcp_packet.proofs.RowTestLemmas.{none_left}
 use Rattle.xcp_config.proofs.LimitLemmas.{areas_decide, layout_read, overlaps}
 use Rattle.xcp_config.proofs.reading.read_table.Goals as goal
 

@@ -1,10 +1,10 @@
 use Rattle.std.proofs.Common.{◌≡◌, length, map, ◌∙◌, ap, rules, arith}
 use Rattle.std.proofs.lemmas.Result.{err_from_is_err_and}
 use Rattle.toml.specs.View.{view}
-use Rattle.xcp_config.specs.Layout.{size_of}
-use Rattle.xcp_config.specs.Seen.{Segment, segment_read, segment_written}
+use Rattle.xcp_config.specs.TableLayout.{size_of}
+use Rattle.xcp_config.specs.private.PartsRead.{Segment, segment_read, segment_written}
 use Rattle.xcp_config.proofs.CheckLemmas.{or_so}
-use Rattle.xcp_config.proofs.Members.{seen, sum_here, one_more_read, segment_passed, segment_failed}
+use Rattle.xcp_config.proofs.ArrayMemberLemmas.{seen, sum_here, one_more_read, segment_passed, segment_failed}
 use Rattle.xcp_config.proofs.segments.read_each.Goals as goal
 
 pub returns-in_err-part-clause-refused : goal.returns-in_err-part-clause-refused

@@ -2,9 +2,9 @@ use Rattle.std.proofs.Common.{◌≡◌, ◌≤◌, map, take, drop, sum_by}
 use Rattle.std.specs.List.{flat_map, enumerate_from}
 use Rattle.toml.specs.View.{view}
 use Rattle.xcp_packet.specs.Rows.{first_holding}
-use Rattle.xcp_config.specs.Layout.{size_of}
-use Rattle.xcp_config.specs.Table.{checks_in}
-use Rattle.xcp_config.specs.Seen.{segment_read, segment_written}
+use Rattle.xcp_config.specs.TableLayout.{size_of}
+use Rattle.xcp_config.specs.TableChecks.{checks_in}
+use Rattle.xcp_config.specs.private.PartsRead.{segment_read, segment_written}
 use Rattle.xcp_config.proofs.segments.read_each.Given as goal
 
 abbrev pub invariant-loop-i : goal.invariant-loop-i

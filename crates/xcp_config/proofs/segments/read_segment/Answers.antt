@@ -6,10 +6,10 @@ use Rattle.xcp_config.specs.Check.{Check}
 use mir.Val.{SFits}
 use Rattle.std.proofs.lemmas.Int.{to_z-of_z}
 use Rattle.xcp_memory.specs.Limits.{address_limit, data_limit, pages_limit}
-use Rattle.xcp_config.specs.Layout.{address_of, size_of, pages_of}
-use Rattle.xcp_config.specs.Table.{integer_checks, data_checks, size_checks, segment_checks}
+use Rattle.xcp_config.specs.TableLayout.{address_of, size_of, pages_of}
+use Rattle.xcp_config.specs.TableChecks.{integer_checks, data_checks, size_checks, segment_checks}
 use Rattle.std.proofs.lemmas.Result.{err_from_is_err_and}
-use Rattle.xcp_packet.proofs.TestLemmas.{behind_3, holding_1_of_4, holding_2_of_4, holding_3_of_4}
+use Rattle.xcp_packet.proofs.RowTestLemmas.{behind_3, holding_1_of_4, holding_2_of_4, holding_3_of_4}
 use Rattle.xcp_config.proofs.CheckLemmas.{or_so}
 use Rattle.xcp_config.proofs.segments.read_segment.Goals as goal
 

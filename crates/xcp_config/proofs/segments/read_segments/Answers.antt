@@ -6,11 +6,11 @@ use Rattle.toml.specs.View.{view}
 use Rattle.xcp_memory.specs.declared.Key.TheVariants as key
 use Rattle.xcp_packet.specs.Rows.{first_holding}
 use Rattle.xcp_config.specs.Check.{Check}
-use Rattle.xcp_config.specs.Layout.{segments_of}
+use Rattle.xcp_config.specs.TableLayout.{segments_of}
 use Rattle.xcp_memory.specs.Limits.{segment_counts}
-use Rattle.xcp_config.specs.Table.{array_checks, checks_in, segments_checks}
-use Rattle.xcp_config.specs.Seen.{segment_written}
-use Rattle.xcp_packet.proofs.TestLemmas.{holding_left, none_left}
+use Rattle.xcp_config.specs.TableChecks.{array_checks, checks_in, segments_checks}
+use Rattle.xcp_config.specs.private.PartsRead.{segment_written}
+use Rattle.xcp_packet.proofs.RowTestLemmas.{holding_left, none_left}
 use Rattle.xcp_config.proofs.CheckLemmas.{if_ok, if_err, or_so}
 use Rattle.xcp_config.proofs.segments.read_segments.Goals as goal
 

@@ -7,9 +7,9 @@ use Rattle.toml.specs.View.{view}
 use Rattle.xcp_memory.specs.declared.Key.TheVariants as key
 use Rattle.xcp_memory.specs.Limits.{signals_address_limit, signals_length_limit}
 use Rattle.xcp_config.specs.Check.{Check}
-use Rattle.xcp_config.specs.Layout.{address_of, length_of}
-use Rattle.xcp_config.specs.Table.{integer_checks, end_checks, place_checks}
-use Rattle.xcp_packet.proofs.TestLemmas.{holding_1_of_3, holding_2_of_3, behind_2}
+use Rattle.xcp_config.specs.TableLayout.{address_of, length_of}
+use Rattle.xcp_config.specs.TableChecks.{integer_checks, end_checks, place_checks}
+use Rattle.xcp_packet.proofs.RowTestLemmas.{holding_1_of_3, holding_2_of_3, behind_2}
 use Rattle.xcp_config.proofs.signals.read_place.Goals as goal
 
 abbrev first : Data → List Check

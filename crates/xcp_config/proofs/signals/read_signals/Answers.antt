@@ -6,9 +6,9 @@ use Rattle.toml.specs.View.{view}
 use Rattle.xcp_memory.specs.declared.Key.TheVariants as key
 use Rattle.xcp_packet.specs.Rows.{first_holding}
 use Rattle.xcp_config.specs.Check.{Check}
-use Rattle.xcp_config.specs.Layout.{signals_of, address_of, length_of}
-use Rattle.xcp_config.specs.Table.{table_checks, place_checks, signals_checks}
-use Rattle.xcp_packet.proofs.TestLemmas.{holding_left, none_left}
+use Rattle.xcp_config.specs.TableLayout.{signals_of, address_of, length_of}
+use Rattle.xcp_config.specs.TableChecks.{table_checks, place_checks, signals_checks}
+use Rattle.xcp_packet.proofs.RowTestLemmas.{holding_left, none_left}
 use Rattle.xcp_config.proofs.CheckLemmas.{if_ok, if_err}
 use Rattle.xcp_config.proofs.signals.read_signals.Goals as goal
 

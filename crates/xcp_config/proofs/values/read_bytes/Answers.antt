@@ -3,9 +3,10 @@ use Rattle.std.proofs.lemmas.Result.{err_from_is_err_and}
 use Rattle.toml.specs.Data.{get}
 use Rattle.toml.specs.View.{view}
 use Rattle.xcp_memory.specs.Limits.{least_limit}
-use Rattle.xcp_packet.proofs.TestLemmas.{holding_left}
-use Rattle.xcp_config.specs.Values.{bytes_of}
-use Rattle.xcp_config.specs.Table.{limit_check, text_there, data_checks}
+use Rattle.xcp_packet.proofs.RowTestLemmas.{holding_left}
+use Rattle.xcp_config.specs.TomlValues.{bytes_of}
+use Rattle.xcp_config.specs.TableChecks.{limit_check, data_checks}
+use Rattle.xcp_config.specs.private.TableChecks.{text_there}
 use Rattle.xcp_config.proofs.values.read_bytes.Goals as goal
 
 pub returns-in_err-text-clause-refused : goal.returns-in_err-text-clause-refused

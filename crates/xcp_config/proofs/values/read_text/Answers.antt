@@ -2,10 +2,11 @@ use Rattle.std.proofs.Common.{[], ◌∷◌, inr}
 use Rattle.std.proofs.lemmas.Result.{err_from_is_err_and}
 use Rattle.toml.specs.Data.{get}
 use Rattle.toml.specs.View.{view}
-use Rattle.xcp_packet.proofs.TestLemmas.{holding_left}
+use Rattle.xcp_packet.proofs.RowTestLemmas.{holding_left}
 use Rattle.xcp_memory.specs.Limits.{text_limit}
-use Rattle.xcp_config.specs.Values.{text_of}
-use Rattle.xcp_config.specs.Table.{limit_check, text_there, text_checks}
+use Rattle.xcp_config.specs.TomlValues.{text_of}
+use Rattle.xcp_config.specs.TableChecks.{limit_check, text_checks}
+use Rattle.xcp_config.specs.private.TableChecks.{text_there}
 use Rattle.xcp_config.proofs.values.read_text.Goals as goal
 
 pub returns-in_err-text-clause-refused : goal.returns-in_err-text-clause-refused

@@ -3,7 +3,7 @@ use Rattle.std.proofs.lemmas.List.{length-map}
 use Rattle.std.proofs.lemmas.Bool.Decides.{nat_tests}
 use Rattle.toml.specs.Data.{get, as_array}
 use Rattle.toml.specs.View.{view, items_of}
-use Rattle.xcp_config.proofs.Items.{has_members, counted}
+use Rattle.xcp_config.proofs.TableArrayLemmas.{has_members, counted}
 use Rattle.xcp_config.proofs.values.tables_in.Goals as goal
 
 pub returns-then-not-all_tables-clause-refused : goal.returns-then-not-all_tables-clause-refused

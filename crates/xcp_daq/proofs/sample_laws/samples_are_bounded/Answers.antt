@@ -1,4 +1,4 @@
-use Rattle.xcp_daq.proofs.BoundLemmas.{bounded}
+use Rattle.xcp_daq.proofs.SampleBoundLaws.{bounded}
 use Rattle.xcp_daq.proofs.sample_laws.samples_are_bounded.Goals as goal
 
 pub returns : goal.returns

@@ -1,4 +1,4 @@
-use Rattle.xcp_framing.proofs.Pairs.{in_table}
+use Rattle.xcp_framing.proofs.HexDigitLemmas.{in_table}
 use Rattle.xcp_framing.proofs.digits.digit_value.Goals as goal
 
 pub returns : goal.returns

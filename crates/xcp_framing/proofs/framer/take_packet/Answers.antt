@@ -1,7 +1,7 @@
 use Rattle.std.proofs.Common.{◌≡◌, ◌≤◌, ◌+◌, ◌∷◌, [], List, ℕ, ap, sym, ◌∙◌, length, drop, arith}
 use Rattle.std.proofs.lemmas.Grind.{common_steps}
 use Rattle.xcp_framing.specs.Wire.{len_of}
-use Rattle.xcp_framing.proofs.Gathering.{held_short, held_bad, held_packet}
+use Rattle.xcp_framing.proofs.PartialFrameLemmas.{held_short, held_bad, held_packet}
 use Rattle.xcp_framing.proofs.framer.take_packet.Goals as goal
 
 pub returns-then-length-from-clause-brings : goal.returns-then-length-from-clause-brings

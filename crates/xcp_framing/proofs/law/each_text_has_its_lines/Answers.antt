@@ -1,5 +1,5 @@
-use Rattle.xcp_framing.specs.Reading.{lines_from}
-use Rattle.xcp_framing.proofs.WholeLines.{lines_of, one_list_only}
+use Rattle.xcp_framing.specs.private.LineReading.{lines_from}
+use Rattle.xcp_framing.proofs.LineReadingLaws.{lines_of, one_list_only}
 use Rattle.std.proofs.Common.{[]}
 use Rattle.xcp_framing.proofs.law.each_text_has_its_lines.Goals as goal
 

@@ -1,5 +1,5 @@
 use Rattle.std.proofs.Common.{arith}
-use Rattle.xcp_framing.proofs.Events.{too_great_at}
+use Rattle.xcp_framing.proofs.EventLineLemmas.{too_great_at}
 use Rattle.xcp_framing.proofs.parsing.parse_channel.Goals as goal
 
 pub returns-then-value-from : goal.returns-then-value-from

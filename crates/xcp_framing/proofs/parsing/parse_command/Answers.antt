@@ -1,5 +1,5 @@
 use Rattle.std.proofs.Common.{sym}
-use Rattle.xcp_framing.proofs.Pairs.{no_space_out}
+use Rattle.xcp_framing.proofs.HexDigitLemmas.{no_space_out}
 use Rattle.xcp_framing.proofs.parsing.parse_command.Goals as goal
 
 pub returns : goal.returns

@@ -1,4 +1,4 @@
-use Rattle.xcp_framing.proofs.Events.{no_space}
+use Rattle.xcp_framing.proofs.EventLineLemmas.{no_space}
 use Rattle.xcp_framing.proofs.parsing.parse_event.Goals as goal
 
 pub returns-in_default : goal.returns-in_default

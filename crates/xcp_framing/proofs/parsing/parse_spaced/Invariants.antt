@@ -1,5 +1,5 @@
 use Rattle.std.proofs.Common.{◌≡◌, ◌≤◌, ◌++◌, length, drop, filter, not}
-use Rattle.xcp_framing.specs.Meaning.{is_space}
+use Rattle.xcp_framing.specs.ScriptLine.{is_space}
 use Rattle.xcp_framing.proofs.parsing.parse_spaced.Given as goal
 
 abbrev pub invariant-loop-byte : goal.invariant-loop-byte

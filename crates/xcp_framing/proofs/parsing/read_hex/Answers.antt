@@ -1,6 +1,6 @@
 use Rattle.std.proofs.Common.{◌<◌, ◌≤◌, ◌*◌, ◌+◌, ◌⊎◌, length, slice_index, ◌∙◌, arith, inl, inr}
-use Rattle.xcp_framing.specs.Digits.{value_or}
-use Rattle.xcp_framing.proofs.Pairs.{whole, one_more, no_more, no_digit_left}
+use Rattle.xcp_framing.specs.private.HexDigits.{value_or}
+use Rattle.xcp_framing.proofs.HexDigitLemmas.{whole, one_more, no_more, no_digit_left}
 use Rattle.xcp_framing.proofs.parsing.read_hex.Goals as goal
 
 pub returns-then-high-gt-GREATEST_VALUE : goal.returns-then-high-gt-GREATEST_VALUE

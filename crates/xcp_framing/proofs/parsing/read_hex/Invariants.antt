@@ -1,7 +1,7 @@
 use Rattle.std.proofs.Common.{◌≡◌, ◌*◌, length, drop}
 use Rattle.hex.specs.Hex.{decode_pairs}
-use Rattle.xcp_framing.specs.Meaning.{bytes_if_ok}
-use Rattle.xcp_framing.proofs.Pairs.{behind}
+use Rattle.xcp_framing.specs.ScriptLine.{bytes_if_ok}
+use Rattle.xcp_framing.proofs.HexDigitLemmas.{behind}
 use Rattle.xcp_framing.proofs.parsing.read_hex.Given as goal
 
 abbrev pub invariant-loop-i : goal.invariant-loop-i

@@ -1,7 +1,7 @@
 use Rattle.std.proofs.Common.{◌≡◌, ◌-◌, ℕ, length, take, drop, ap, ◌∙◌, List, arith, length-drop}
 use Rattle.std.proofs.lemmas.List.{take_all}
-use Rattle.xcp_framing.proofs.Answering.{cons≢nil}
-use Rattle.xcp_framing.proofs.Chaining.{uses_more, uses_all, uses_bad, uses_part}
+use Rattle.xcp_framing.proofs.ExchangeLemmas.{cons≢nil}
+use Rattle.xcp_framing.proofs.PacketChainLemmas.{uses_more, uses_all, uses_bad, uses_part}
 use Rattle.xcp_framing.proofs.passage.answer_piece.Goals as goal
 
 pub returns-in-BadLength-clause-answered : goal.returns-in-BadLength-clause-answered

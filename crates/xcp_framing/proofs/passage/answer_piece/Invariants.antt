@@ -1,6 +1,6 @@
 use Rattle.std.proofs.Common.{◌≡◌, ◌≤◌, ◌+◌, ◌*◌, ◌-◌, length}
-use Rattle.xcp_framing.specs.Serve.{most_packets}
-use Rattle.xcp_framing.proofs.Chaining.{Uses}
+use Rattle.xcp_framing.specs.private.Serve.{most_packets}
+use Rattle.xcp_framing.proofs.PacketChainLemmas.{Uses}
 use Rattle.xcp_framing.proofs.passage.answer_piece.Given as goal
 
 abbrev pub invariant-loop-length : goal.invariant-loop-length

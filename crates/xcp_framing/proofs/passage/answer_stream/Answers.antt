@@ -1,8 +1,8 @@
 use Rattle.std.proofs.Common.{◌≡◌, ◌≤◌, ◌∙◌, ℕ, length, take, sym, ap, refl, arith, length-take}
 use Rattle.std.proofs.lemmas.Bool.{false≢true}
-use Rattle.xcp_framing.proofs.Answering.{passed_on}
-use Rattle.xcp_framing.proofs.Streaming.{whole_buffer, nothing_held}
-use Rattle.xcp_framing.proofs.Chaining.{stream_passed, along_start, along_more, streams_none, streams_read, streams_all, streams_truncated, streams_part, part_goes_on, part_for}
+use Rattle.xcp_framing.proofs.ExchangeLemmas.{passed_on}
+use Rattle.xcp_framing.proofs.StreamLemmas.{whole_buffer, nothing_held}
+use Rattle.xcp_framing.proofs.PacketChainLemmas.{stream_passed, along_start, along_more, streams_none, streams_read, streams_all, streams_truncated, streams_part, part_goes_on, part_for}
 use Rattle.xcp_framing.proofs.passage.answer_stream.Goals as goal
 
 pub returns-in_default-clause-streams : goal.returns-in_default-clause-streams

@@ -1,7 +1,7 @@
 use Rattle.std.proofs.Common.{◌≡◌, ◌≤◌, ◌+◌, ◌*◌}
 use Rattle.std.specs.Prelude.{vec_len}
-use Rattle.xcp_framing.specs.Serve.{most_packets}
-use Rattle.xcp_framing.proofs.Chaining.{Along}
+use Rattle.xcp_framing.specs.private.Serve.{most_packets}
+use Rattle.xcp_framing.proofs.PacketChainLemmas.{Along}
 use Rattle.xcp_framing.proofs.passage.answer_stream.Given as goal
 
 abbrev pub invariant-loop-turn : goal.invariant-loop-turn

@@ -1,7 +1,7 @@
 use Rattle.std.proofs.Common.{refl, sym}
 use Rattle.std.proofs.lemmas.List.{append-nil, map-append}
-use Rattle.xcp_framing.proofs.LongLines.{last_is_none, last_is_one}
-use Rattle.xcp_framing.proofs.WholeLines.{lines_done}
+use Rattle.xcp_framing.proofs.LongLineLemmas.{last_is_none, last_is_one}
+use Rattle.xcp_framing.proofs.LineReadingLaws.{lines_done}
 use Rattle.xcp_framing.proofs.plain.plain_lines.Goals as goal
 
 pub returns-then-is_empty : goal.returns-then-is_empty

@@ -1,5 +1,5 @@
 use Rattle.std.proofs.Common.{◌≡◌, ◌++◌, [], drop, map}
-use Rattle.xcp_framing.specs.Reading.{lines_from}
+use Rattle.xcp_framing.specs.private.LineReading.{lines_from}
 use Rattle.xcp_framing.proofs.plain.plain_lines.Given as goal
 
 abbrev pub invariant-loop-byte : goal.invariant-loop-byte

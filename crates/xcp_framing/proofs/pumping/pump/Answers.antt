@@ -1,9 +1,9 @@
 use Rattle.std.proofs.Common.{ℕ, arith}
-use Rattle.xcp_framing.specs.Refusal.{Refused}
+use Rattle.xcp_framing.specs.ServeRefusal.{Refused}
 use Rattle.xcp_framing.specs.Pump.{DrainAgain}
-use Rattle.xcp_framing.proofs.Answering.{passed_on}
-use Rattle.xcp_framing.proofs.Refusing.{on_refusal_map, refused_more}
-use Rattle.xcp_framing.proofs.Draining.{pumps_kept, pumps_more, pumps_err, again}
+use Rattle.xcp_framing.proofs.ExchangeLemmas.{passed_on}
+use Rattle.xcp_framing.proofs.ServeRefusalLemmas.{on_refusal_map, refused_more}
+use Rattle.xcp_framing.proofs.DrainLemmas.{pumps_kept, pumps_more, pumps_err, again}
 use Rattle.xcp_framing.proofs.pumping.pump.Goals as goal
 
 pub returns-in_err-count-clause-pumps : goal.returns-in_err-count-clause-pumps

@@ -1,8 +1,8 @@
 use Rattle.std.proofs.Common.{ℕ}
 use Rattle.xcp_framing.specs.Serve.{refused_with}
-use Rattle.xcp_framing.proofs.Answering.{passed_on}
-use Rattle.xcp_framing.proofs.Refusing.{on_refusal}
-use Rattle.xcp_framing.proofs.Draining.{drain_refused}
+use Rattle.xcp_framing.proofs.ExchangeLemmas.{passed_on}
+use Rattle.xcp_framing.proofs.ServeRefusalLemmas.{on_refusal}
+use Rattle.xcp_framing.proofs.DrainLemmas.{drain_refused}
 use Rattle.xcp_framing.proofs.pumping.pump_one.Goals as goal
 
 pub returns-in_err-packet-clause-refused : goal.returns-in_err-packet-clause-refused

@@ -1,4 +1,4 @@
-use Rattle.xcp_framing.proofs.WholeLines.{of_lines}
+use Rattle.xcp_framing.proofs.LineReadingLaws.{of_lines}
 use Rattle.xcp_framing.proofs.replaying.replay_on.Goals as goal
 
 pub returns-clause-replayed : goal.returns-clause-replayed

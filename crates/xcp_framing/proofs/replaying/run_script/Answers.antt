@@ -1,9 +1,9 @@
 use Rattle.std.proofs.Common.{rules, Ok, Err, ℕ, sym, ◌∙◌, ◌≡◌, refl}
 use Rattle.std.proofs.lemmas.Result.{err_from_is_err_and}
 use Rattle.xcp_slave.specs.Run.{requests_of}
-use Rattle.xcp_framing.proofs.Bytes.{appends_none, front_all, none_more}
-use Rattle.xcp_framing.proofs.Midway.{at_end, at_limit, fed_error, last_error, midway_init, midway_step}
-use Rattle.xcp_framing.proofs.Shortage.{fed_short, last_short, memory_as, memory_tells}
+use Rattle.xcp_framing.proofs.KnownBytesLemmas.{appends_none, front_all, none_more}
+use Rattle.xcp_framing.proofs.ScriptProgressLemmas.{at_end, at_limit, fed_error, last_error, midway_init, midway_step}
+use Rattle.xcp_framing.proofs.MemoryShortageLemmas.{fed_short, last_short, memory_as, memory_tells}
 use Rattle.xcp_framing.proofs.replaying.run_script.Goals as goal
 
 pub loop-init : goal.loop-init

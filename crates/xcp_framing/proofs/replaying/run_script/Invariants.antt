@@ -1,9 +1,9 @@
 use Rattle.std.proofs.Common.{◌≡◌, ◌≤◌, ◌+◌, ◌*◌, []}
 use Rattle.std.specs.Io.KnownBytes.{Appends}
 use Rattle.xcp_slave.specs.Run.{requests_of}
-use Rattle.xcp_slave.specs.Value.{layout_of}
-use Rattle.xcp_framing.specs.Told.{told}
-use Rattle.xcp_framing.proofs.Midway.{Midway}
+use Rattle.xcp_slave.specs.SlaveValue.{layout_of}
+use Rattle.xcp_framing.specs.AnswerText.{told}
+use Rattle.xcp_framing.proofs.ScriptProgressLemmas.{Midway}
 use Rattle.xcp_framing.proofs.replaying.run_script.Given as goal
 
 abbrev pub invariant-loop : goal.invariant-loop

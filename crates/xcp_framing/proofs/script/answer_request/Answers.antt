@@ -1,4 +1,4 @@
-use Rattle.xcp_framing.proofs.Shortage.{front_taken}
+use Rattle.xcp_framing.proofs.MemoryShortageLemmas.{front_taken}
 use Rattle.xcp_framing.proofs.script.answer_request.Goals as goal
 
 pub returns-then-is_err-clause-memory : goal.returns-then-is_err-clause-memory

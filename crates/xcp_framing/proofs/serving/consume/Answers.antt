@@ -1,8 +1,8 @@
 use Rattle.std.proofs.Common.{◌≡◌, ◌-◌, ◌∙◌, ℕ, List, length, take, drop, ap, arith, length-drop, refl}
 use Rattle.std.proofs.lemmas.List.{take_all}
-use Rattle.xcp_framing.proofs.Answering.{passed_on}
-use Rattle.xcp_framing.proofs.Consuming.{consumes_none, consumes_all, consumes_more, consumes_bad, consumes_part}
-use Rattle.xcp_framing.proofs.Refusing.{on_refusal_map, refused_in_piece}
+use Rattle.xcp_framing.proofs.ExchangeLemmas.{passed_on}
+use Rattle.xcp_framing.proofs.PieceLemmas.{consumes_none, consumes_all, consumes_more, consumes_bad, consumes_part}
+use Rattle.xcp_framing.proofs.ServeRefusalLemmas.{on_refusal_map, refused_in_piece}
 use Rattle.xcp_framing.proofs.serving.consume.Goals as goal
 
 pub loop-length-init : goal.loop-length-init

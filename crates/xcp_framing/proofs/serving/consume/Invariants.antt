@@ -1,7 +1,7 @@
 use Rattle.std.proofs.Common.{◌≡◌, ◌≤◌, ◌+◌, ◌*◌, ◌-◌, length}
-use Rattle.xcp_framing.specs.Gathered.{output}
-use Rattle.xcp_framing.specs.Serve.{most_packets}
-use Rattle.xcp_framing.proofs.Consuming.{Consumes}
+use Rattle.xcp_framing.specs.private.FrameOutput.{output}
+use Rattle.xcp_framing.specs.private.Serve.{most_packets}
+use Rattle.xcp_framing.proofs.PieceLemmas.{Consumes}
 use Rattle.xcp_framing.proofs.serving.consume.Given as goal
 
 abbrev pub invariant-loop-length : goal.invariant-loop-length

@@ -1,10 +1,10 @@
 use Rattle.std.proofs.Common.{◌≡◌, [], ◌∷◌, refl, ◌∙◌, arith, Err}
 use Rattle.xcp_slave.specs.declared.Exchange.{Exchange}
 use Rattle.xcp_slave.specs.declared.Request.TheVariants as requests
-use Rattle.xcp_slave.specs.Told.{answer_in}
+use Rattle.xcp_slave.specs.AnswerInBytes.{answer_in}
 use Rattle.xcp_framing.specs.Serve.{packet_of}
-use Rattle.xcp_framing.specs.Turns.{fine}
-use Rattle.xcp_framing.proofs.Answering.{grows_more, grows_sent, passed_on, drains_one}
+use Rattle.xcp_framing.specs.private.ServeParts.{fine}
+use Rattle.xcp_framing.proofs.ExchangeLemmas.{grows_more, grows_sent, passed_on, drains_one}
 use Rattle.xcp_framing.proofs.serving.drain.Goals as goal
 
 pub returns-in_err-send-clause-drains : goal.returns-in_err-send-clause-drains

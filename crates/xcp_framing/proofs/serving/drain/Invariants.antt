@@ -1,7 +1,7 @@
 use Rattle.std.proofs.Common.{◌≡◌, ◌+◌, All, length}
-use Rattle.xcp_framing.specs.Gathered.{output}
+use Rattle.xcp_framing.specs.private.FrameOutput.{output}
 use Rattle.xcp_framing.specs.Serve.{GavePacket}
-use Rattle.xcp_framing.specs.Turns.{Grows, fine}
+use Rattle.xcp_framing.specs.private.ServeParts.{Grows, fine}
 use Rattle.xcp_framing.proofs.serving.drain.Given as goal
 
 abbrev pub invariant-loop-drain : goal.invariant-loop-drain

@@ -1,12 +1,12 @@
 use Rattle.std.proofs.Common.{◌≡◌, [], ◌∷◌, refl, ap}
 use Rattle.xcp_slave.specs.declared.Exchange.{Exchange}
 use Rattle.xcp_slave.specs.declared.Request.TheVariants as requests
-use Rattle.xcp_framing.specs.Gathered.{output}
-use Rattle.xcp_slave.specs.Told.{answer_in}
+use Rattle.xcp_framing.specs.private.FrameOutput.{output}
+use Rattle.xcp_slave.specs.AnswerInBytes.{answer_in}
 use Rattle.xcp_framing.specs.Serve.{refused_with}
-use Rattle.xcp_framing.specs.Turns.{Grows, fine}
-use Rattle.xcp_framing.proofs.Answering.{grows_more, grows_quiet, grows_sent, grows_refused, passed_on, answers_none, answers_one, no_packet}
-use Rattle.xcp_framing.proofs.Refusing.{on_refusal, on_refusal_all, refused_command, refused_more, asks_drain}
+use Rattle.xcp_framing.specs.private.ServeParts.{Grows, fine}
+use Rattle.xcp_framing.proofs.ExchangeLemmas.{grows_more, grows_quiet, grows_sent, grows_refused, passed_on, answers_none, answers_one, no_packet}
+use Rattle.xcp_framing.proofs.ServeRefusalLemmas.{on_refusal, on_refusal_all, refused_command, refused_more, asks_drain}
 use Rattle.xcp_framing.proofs.serving.exchange.Goals as goal
 use Rattle.xcp_framing.proofs.serving.exchange.Goals.{in-Packet+in_ok-send, in_default}
 

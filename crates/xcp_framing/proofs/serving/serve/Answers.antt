@@ -2,11 +2,11 @@ use Rattle.std.proofs.Common.{inr, ◌≡◌, ◌≤◌, ◌∙◌, [], length, 
 use Rattle.std.proofs.lemmas.Bool.{false≢true}
 use Rattle.xcp_framing.specs.declared.serving.Served.{Served}
 use Rattle.xcp_framing.specs.declared.serving.ServeError.TheVariants as errors
-use Rattle.xcp_framing.specs.Gathered.{Output, output}
-use Rattle.xcp_framing.specs.Turns.{fine}
-use Rattle.xcp_framing.proofs.Answering.{grows_flushed, grows_unflushed, passed_on}
-use Rattle.xcp_framing.proofs.Streaming.{midway_start, midway_more, serves_memory, serves_read, serves_turns, serves_all, serves_truncated, serves_part, ends_for, whole_buffer, nothing_held, reader_goes_on, rises, write_as}
-use Rattle.xcp_framing.proofs.Refusing.{on_refusal_map, refused_midway}
+use Rattle.xcp_framing.specs.private.FrameOutput.{Output, output}
+use Rattle.xcp_framing.specs.private.ServeParts.{fine}
+use Rattle.xcp_framing.proofs.ExchangeLemmas.{grows_flushed, grows_unflushed, passed_on}
+use Rattle.xcp_framing.proofs.StreamLemmas.{midway_start, midway_more, serves_memory, serves_read, serves_turns, serves_all, serves_truncated, serves_part, ends_for, whole_buffer, nothing_held, reader_goes_on, rises, write_as}
+use Rattle.xcp_framing.proofs.ServeRefusalLemmas.{on_refusal_map, refused_midway}
 use Rattle.xcp_framing.proofs.serving.serve.Goals as goal
 
 pub returns-in_default-clause-serves : goal.returns-in_default-clause-serves

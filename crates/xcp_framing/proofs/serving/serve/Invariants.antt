@@ -1,8 +1,8 @@
 use Rattle.std.proofs.Common.{◌≡◌, ◌≤◌, ◌+◌, ◌*◌, []}
 use Rattle.std.specs.Prelude.{vec_len}
-use Rattle.xcp_framing.specs.Gathered.{output}
-use Rattle.xcp_framing.specs.Serve.{most_packets}
-use Rattle.xcp_framing.proofs.Streaming.{Midway}
+use Rattle.xcp_framing.specs.private.FrameOutput.{output}
+use Rattle.xcp_framing.specs.private.Serve.{most_packets}
+use Rattle.xcp_framing.proofs.StreamLemmas.{Midway}
 use Rattle.xcp_framing.proofs.serving.serve.Given as goal
 
 abbrev pub invariant-loop-turn : goal.invariant-loop-turn

@@ -1,5 +1,5 @@
 use Rattle.std.proofs.Common.{Err, ap, refl}
-use Rattle.xcp_framing.proofs.Putting.{by_ok, by_err, ok_kept, err_kept, refused_by}
+use Rattle.xcp_framing.proofs.PutPacketLemmas.{by_ok, by_err, ok_kept, err_kept, refused_by}
 use Rattle.xcp_framing.proofs.serving_by.serve_by.Goals as goal
 
 pub returns-in-Ok-clause-serves : goal.returns-in-Ok-clause-serves

@@ -1,4 +1,4 @@
-use Rattle.xcp_framing.proofs.Wholes.{frames_are_framed}
+use Rattle.xcp_framing.proofs.WholeFrameLaws.{frames_are_framed}
 use Rattle.xcp_framing.proofs.stream.each_stream_has_its_frames.Goals as goal
 
 pub returns : goal.returns

@@ -1,6 +1,6 @@
 use Rattle.std.proofs.Common.{◌≡◌, ◌-◌, ◌+◌, ℕ, ap, sym, ◌∙◌, arith, length, length-drop, take, drop}
 use Rattle.std.proofs.lemmas.List.{take_all}
-use Rattle.xcp_framing.proofs.Wholes.{plain_step, plain_end, no_some}
+use Rattle.xcp_framing.proofs.WholeFrameLaws.{plain_step, plain_end, no_some}
 use Rattle.xcp_framing.proofs.stream.plain_frames.Goals as goal
 
 pub loop-length-preserved : goal.loop-length-preserved

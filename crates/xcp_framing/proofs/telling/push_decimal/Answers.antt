@@ -1,6 +1,6 @@
 use Rattle.std.proofs.Common.{◌++◌, List, ℕ, ap, sym, ◌∙◌}
 use Rattle.std.proofs.lemmas.Fmt.{decimal_digit}
-use Rattle.xcp_framing.proofs.Texts.{pushed_two, pushed_three}
+use Rattle.xcp_framing.proofs.AnswerTextLemmas.{pushed_two, pushed_three}
 use Rattle.xcp_framing.proofs.telling.push_decimal.Goals as goal
 use Rattle.xcp_framing.proofs.telling.push_decimal.Goals.{then-number-ge100, else-number-ge100}
 

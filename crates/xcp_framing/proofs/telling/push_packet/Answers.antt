@@ -1,5 +1,5 @@
 use Rattle.std.proofs.Common.{arith}
-use Rattle.xcp_framing.proofs.Texts.{encode_ended, encode_more, pushed_pair}
+use Rattle.xcp_framing.proofs.AnswerTextLemmas.{encode_ended, encode_more, pushed_pair}
 use Rattle.xcp_framing.proofs.telling.push_packet.Goals as goal
 
 pub loop-byte-preserved : goal.loop-byte-preserved

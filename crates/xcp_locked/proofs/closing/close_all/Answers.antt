@@ -1,6 +1,6 @@
 use Rattle.std.proofs.Common.{◌++◌, map, ap, ◌∙◌}
 use Rattle.std.specs.Vec.Iter.{into_iter_items}
-use Rattle.xcp_locked.proofs.Served.{hung_up_as, map_map}
+use Rattle.xcp_locked.proofs.ServerOutcomeLemmas.{hung_up_as, map_map}
 use Rattle.xcp_locked.proofs.closing.close_all.Goals as goal
 
 pub returns-clause-hung_up : goal.returns-clause-hung_up

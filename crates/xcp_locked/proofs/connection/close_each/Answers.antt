@@ -1,8 +1,8 @@
 use Rattle.std.proofs.Common.{◌∷◌, [], ◌++◌, length, ap, sym, subst, arith}
-use Rattle.xcp_locked.specs.Attending.{AreOfOneOutlet, ClosedAs}
-use Rattle.xcp_locked.specs.Places.{EachFrom}
-use Rattle.xcp_locked.proofs.Attendings.{each_of_one, each_of_others}
-use Rattle.xcp_locked.proofs.Places.{turn, finish, each_more}
+use Rattle.xcp_locked.specs.private.ConnectionOutcome.{AreOfOneOutlet, ClosedAs}
+use Rattle.xcp_locked.specs.PairedLists.{EachFrom}
+use Rattle.xcp_locked.proofs.ConnectionOutcomeLemmas.{each_of_one, each_of_others}
+use Rattle.xcp_locked.proofs.PairedListLemmas.{turn, finish, each_more}
 use Rattle.xcp_locked.proofs.connection.close_each.Goals as goal
 
 pub close-requires : goal.close-requires

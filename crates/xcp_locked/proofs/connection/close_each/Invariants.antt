@@ -1,7 +1,8 @@
 use Rattle.std.specs.Prelude.{◌≡◌, ◌+◌, ◌≤◌, ◌++◌, length, vec_len, vec_capacity}
 use Rattle.std.specs.Vec.Iter.{into_iter_items, into_iter_len}
-use Rattle.xcp_locked.specs.Attending.{AreOfOneOutlet, ClosedAs}
-use Rattle.xcp_locked.specs.Places.{Each, EachFrom}
+use Rattle.xcp_locked.specs.private.ConnectionOutcome.{AreOfOneOutlet, ClosedAs}
+use Rattle.xcp_locked.specs.PairedLists.{EachFrom}
+use Rattle.xcp_locked.specs.private.PairedLists.{Each}
 use Rattle.xcp_locked.proofs.connection.close_each.Given as goal
 
 abbrev pub invariant-loop-one : goal.invariant-loop-one

@@ -1,5 +1,5 @@
 use Rattle.std.proofs.Common.{◌∷◌, [], ◌++◌, length, ap, ◌∙◌, append_assoc, arith}
-use Rattle.xcp_locked.proofs.Places.{turn}
+use Rattle.xcp_locked.proofs.PairedListLemmas.{turn}
 use Rattle.xcp_locked.proofs.dealing.add_rest.Goals as goal
 
 pub loop-one-preserved : goal.loop-one-preserved

@@ -1,8 +1,8 @@
 use Rattle.std.proofs.Common.{◌∷◌, [], ◌++◌, length, map, ap, sym, subst, arith}
-use Rattle.xcp_locked.specs.Places.{EachFrom}
-use Rattle.xcp_locked.specs.Serving.{IsConnectionOf}
-use Rattle.xcp_locked.proofs.Places.{turn, finish, each_more, dealt_more}
-use Rattle.xcp_locked.proofs.Served.{at_any_place}
+use Rattle.xcp_locked.specs.PairedLists.{EachFrom}
+use Rattle.xcp_locked.specs.private.ServerOutcome.{IsConnectionOf}
+use Rattle.xcp_locked.proofs.PairedListLemmas.{turn, finish, each_more, dealt_more}
+use Rattle.xcp_locked.proofs.ServerOutcomeLemmas.{at_any_place}
 use Rattle.xcp_locked.proofs.dealing.connect.Goals as goal
 
 pub loop-end-preserved : goal.loop-end-preserved

@@ -1,7 +1,7 @@
 use Rattle.std.specs.Prelude.{◌≡◌, ◌+◌, ◌≤◌, ◌++◌, map, length, vec_len, vec_capacity}
 use Rattle.std.specs.Vec.Iter.{into_iter_items, into_iter_len}
-use Rattle.xcp_locked.specs.Places.{EachFrom}
-use Rattle.xcp_locked.specs.Serving.{IsConnectionOf}
+use Rattle.xcp_locked.specs.PairedLists.{EachFrom}
+use Rattle.xcp_locked.specs.private.ServerOutcome.{IsConnectionOf}
 use Rattle.xcp_locked.proofs.dealing.connect.Given as goal
 
 abbrev pub invariant-loop-end : goal.invariant-loop-end

@@ -1,7 +1,7 @@
 use Rattle.std.proofs.Common.{rules, ◌≡◌, ◌++◌, length, map, vec_len, ap, ◌∙◌, arith}
 use Rattle.std.specs.Vec.Iter.{into_iter_items}
-use Rattle.xcp_locked.proofs.Places.{in_three_turns}
-use Rattle.xcp_locked.proofs.Served.{left_behind, length_map}
+use Rattle.xcp_locked.proofs.PairedListLemmas.{in_three_turns}
+use Rattle.xcp_locked.proofs.ServerOutcomeLemmas.{left_behind, length_map}
 use Rattle.xcp_locked.proofs.dealing.deal.Goals as goal
 
 pub next_callers-requires : goal.next_callers-requires

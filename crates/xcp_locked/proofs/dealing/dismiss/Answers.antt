@@ -1,5 +1,5 @@
 use Rattle.std.proofs.Common.{length, ap, ◌∙◌, arith}
-use Rattle.xcp_locked.proofs.Places.{turn, map_behind}
+use Rattle.xcp_locked.proofs.PairedListLemmas.{turn, map_behind}
 use Rattle.xcp_locked.proofs.dealing.dismiss.Goals as goal
 
 pub loop-worker-preserved : goal.loop-worker-preserved

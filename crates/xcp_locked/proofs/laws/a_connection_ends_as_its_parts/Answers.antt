@@ -1,4 +1,4 @@
-use Rattle.xcp_locked.proofs.ConnectionEnds.{ends_well, fault_is_a_parts, reading_first}
+use Rattle.xcp_locked.proofs.ConnectionEndLaws.{ends_well, fault_is_a_parts, reading_first}
 use Rattle.xcp_locked.proofs.laws.a_connection_ends_as_its_parts.Goals as goal
 
 pub returns-clause-well : goal.returns-clause-well

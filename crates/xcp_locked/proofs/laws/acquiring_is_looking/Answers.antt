@@ -1,4 +1,4 @@
-use Rattle.xcp_locked.proofs.Taking.{acquire_looks, reads_look_at_nothing}
+use Rattle.xcp_locked.proofs.TaskImageLaws.{acquire_looks, reads_look_at_nothing}
 use Rattle.xcp_locked.proofs.laws.acquiring_is_looking.Goals as goal
 
 pub returns-clause-acquire : goal.returns-clause-acquire

@@ -1,6 +1,6 @@
 use Rattle.std.proofs.Common.{refl}
-use Rattle.xcp_locked.proofs.Publications.{published_same, published_other}
-use Rattle.xcp_locked.proofs.PublishedLaws.{published_once, published_end}
+use Rattle.xcp_locked.proofs.PublicationLemmas.{published_same, published_other}
+use Rattle.xcp_locked.proofs.PublicationLaws.{published_once, published_end}
 use Rattle.xcp_locked.proofs.laws.publications_follow_the_run.Goals as goal
 
 pub returns-clause-single : goal.returns-clause-single

@@ -1,4 +1,4 @@
-use Rattle.xcp_locked.proofs.SettlingLaws.{each_settled, all_settled, rise_settled}
+use Rattle.xcp_locked.proofs.SettledReceiptLaws.{each_settled, all_settled, rise_settled}
 use Rattle.xcp_locked.proofs.laws.receipts_are_entries.Goals as goal
 
 pub returns-clause-each : goal.returns-clause-each

@@ -1,8 +1,8 @@
 use Rattle.std.proofs.Common.{◌≢◌, ℕ, List, slice_index, sym, subst}
-use Rattle.xcp_slave.specs.Steady.{IsNoWrite}
+use Rattle.xcp_slave.specs.MemoryEffects.{IsNoWrite}
 use Rattle.xcp_slave.specs.declared.Request.TheVariants as requests
-use Rattle.xcp_locked.specs.Publishing.{KeepsImage}
-use Rattle.xcp_locked.proofs.KeptImages.{reading_keeps}
+use Rattle.xcp_locked.specs.private.PublishingCalls.{KeepsImage}
+use Rattle.xcp_locked.proofs.KeptImageLemmas.{reading_keeps}
 use Rattle.xcp_locked.proofs.locked.keeps_image.Goals as goal
 
 pub returns-in-Command : goal.returns-in-Command

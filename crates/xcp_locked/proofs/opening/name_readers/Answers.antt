@@ -1,8 +1,8 @@
 use Rattle.std.proofs.Common.{arith, rules, subst, ◌≡◌, [], length}
 use Rattle.std.specs.List.{AllByRecursion}
 use Rattle.xcp_bank.specs.BankId.{no_bank}
-use Rattle.xcp_bank.specs.Ends.{new_reader}
-use Rattle.xcp_locked.proofs.Turns.{all_left, same_map}
+use Rattle.xcp_bank.specs.BankEnds.{new_reader}
+use Rattle.xcp_locked.proofs.HandOverLemmas.{all_left, same_map}
 use Rattle.xcp_locked.proofs.opening.name_readers.Goals as goal
 
 pub map-requires : goal.map-requires

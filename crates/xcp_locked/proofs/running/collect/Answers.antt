@@ -1,7 +1,7 @@
 use Rattle.std.proofs.Common.{length, ap, sym, ◌∙◌, arith}
-use Rattle.xcp_locked.specs.Running.{or_else}
-use Rattle.xcp_locked.proofs.Places.{turn, map_more}
-use Rattle.xcp_locked.proofs.Runs.{first_fault-more, or_else_stays}
+use Rattle.xcp_locked.specs.TaskOutcome.{or_else}
+use Rattle.xcp_locked.proofs.PairedListLemmas.{turn, map_more}
+use Rattle.xcp_locked.proofs.TaskOutcomeLemmas.{first_fault-more, or_else_stays}
 use Rattle.xcp_locked.proofs.running.collect.Goals as goal
 
 pub loop-one-preserved-in-None-fault : goal.loop-one-preserved-in-None-fault

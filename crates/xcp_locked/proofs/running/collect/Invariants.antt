@@ -1,6 +1,6 @@
 use Rattle.std.specs.Prelude.{◌≡◌, ◌+◌, ◌≤◌, ◌++◌, map, length, vec_len, vec_capacity}
 use Rattle.std.specs.Vec.Iter.{into_iter_items, into_iter_len}
-use Rattle.xcp_locked.specs.Running.{first_fault}
+use Rattle.xcp_locked.specs.TaskOutcome.{first_fault}
 use Rattle.xcp_locked.proofs.running.collect.Given as goal
 
 abbrev pub invariant-loop-one : goal.invariant-loop-one

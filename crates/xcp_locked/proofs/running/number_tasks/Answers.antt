@@ -1,7 +1,7 @@
 use Rattle.std.proofs.Common.{◌∷◌, [], ◌++◌, length, length-append, ap, refl, subst, sym, arith}
-use Rattle.xcp_locked.specs.Places.{EachFrom}
-use Rattle.xcp_locked.specs.Running.{IsTaskOf}
-use Rattle.xcp_locked.proofs.Places.{turn, each_more}
+use Rattle.xcp_locked.specs.PairedLists.{EachFrom}
+use Rattle.xcp_locked.specs.private.TaskOutcome.{IsTaskOf}
+use Rattle.xcp_locked.proofs.PairedListLemmas.{turn, each_more}
 use Rattle.xcp_locked.proofs.running.number_tasks.Goals as goal
 
 pub loop-worker-preserved : goal.loop-worker-preserved

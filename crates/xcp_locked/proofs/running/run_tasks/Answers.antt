@@ -1,8 +1,9 @@
 use Rattle.std.proofs.Common.{rules, ◌≡◌, length, vec_len, arith}
-use Rattle.xcp_locked.specs.Running.{IsTaskOf, WorkedAs}
+use Rattle.xcp_locked.specs.TaskOutcome.{WorkedAs}
+use Rattle.xcp_locked.specs.private.TaskOutcome.{IsTaskOf}
 use Rattle.xcp_locked.specs.Tasks.{Worked}
-use Rattle.xcp_locked.proofs.Places.{each_of, each_through, each_length}
-use Rattle.xcp_locked.proofs.Runs.{worked_as}
+use Rattle.xcp_locked.proofs.PairedListLemmas.{each_of, each_through, each_length}
+use Rattle.xcp_locked.proofs.TaskOutcomeLemmas.{worked_as}
 use Rattle.xcp_locked.proofs.running.run_tasks.Goals as goal
 
 pub collect-requires : goal.collect-requires

@@ -1,10 +1,10 @@
 use denote.Param.Send.{sendable}
 use Rattle.std.proofs.Crossing.{crosses}
-use Rattle.xcp_locked.proofs.Crossing.{heard_crosses, hearing_crosses, pumped_crosses, pumping_crosses, sending_crosses, wrote_crosses}
-use Rattle.xcp_locked.specs.Serving.{CameOf}
+use Rattle.xcp_locked.proofs.ThreadCrossingLemmas.{heard_crosses, hearing_crosses, pumped_crosses, pumping_crosses, sending_crosses, wrote_crosses}
+use Rattle.xcp_locked.specs.ServerOutcome.{CameOf}
 use Rattle.xcp_locked.specs.Tasks.{Worked}
-use Rattle.xcp_locked.proofs.Places.{each_of}
-use Rattle.xcp_locked.proofs.Plans.{if_ok}
+use Rattle.xcp_locked.proofs.PairedListLemmas.{each_of}
+use Rattle.xcp_locked.proofs.TaskPlanLemmas.{if_ok}
 use Rattle.xcp_locked.proofs.server.run_all.Goals as goal
 
 pub run_crews-requires-send-X : goal.run_crews-requires-send-X

@@ -1,16 +1,16 @@
 use Rattle.std.proofs.Common.{rules, ◌≡◌, length, map, vec_len, ap, refl, sym, ◌∙◌, arith}
 use Rattle.std.specs.Vec.Iter.{into_iter_items}
-use Rattle.xcp_bank.specs.Ends.{six_readers}
-use Rattle.xcp_slave.specs.Value.{opening}
-use Rattle.xcp_locked.specs.Attending.{ClosedAs}
+use Rattle.xcp_bank.specs.BankEnds.{six_readers}
+use Rattle.xcp_slave.specs.SlaveValue.{opening}
+use Rattle.xcp_locked.specs.private.ConnectionOutcome.{ClosedAs}
 use Rattle.xcp_locked.specs.Caller.{callers_of}
-use Rattle.xcp_locked.specs.Dealing.{Dealt}
-use Rattle.xcp_locked.specs.Published.{image_of}
-use Rattle.xcp_locked.specs.Running.{DoneAs}
-use Rattle.xcp_locked.specs.Serving.{PartedAs}
-use Rattle.xcp_locked.proofs.Commands.{all_count, ends_session}
-use Rattle.xcp_locked.proofs.Places.{each_length}
-use Rattle.xcp_locked.proofs.Served.{all_come_back, all_served, all_there, all_worked, as_many_connections, as_many_pumps, as_many_readers, as_many_tasks, as_many_tools, back_in_order, dealt_as, length-callers_of, one_outlet_each, room_for_fewer}
+use Rattle.xcp_locked.specs.private.DealtCallers.{Dealt}
+use Rattle.xcp_locked.specs.Publications.{image_of}
+use Rattle.xcp_locked.specs.private.TaskOutcome.{DoneAs}
+use Rattle.xcp_locked.specs.ServerOutcome.{PartedAs}
+use Rattle.xcp_locked.proofs.CommandCountLemmas.{all_count, ends_session}
+use Rattle.xcp_locked.proofs.PairedListLemmas.{each_length}
+use Rattle.xcp_locked.proofs.ServerOutcomeLemmas.{all_come_back, all_served, all_there, all_worked, as_many_connections, as_many_pumps, as_many_readers, as_many_tasks, as_many_tools, back_in_order, dealt_as, length-callers_of, one_outlet_each, room_for_fewer}
 use Rattle.xcp_locked.proofs.server.run_server.Goals as goal
 
 pub deal-requires-clause-enough : goal.deal-requires-clause-enough

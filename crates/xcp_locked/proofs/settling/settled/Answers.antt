@@ -1,6 +1,6 @@
 use Rattle.std.proofs.Common.{◌∙◌, sym, refl, arith}
 use Rattle.std.proofs.lemmas.Option.{slice_get_read, slice_get_past}
-use Rattle.xcp_locked.proofs.Tallies.{wrong, too_many, none≢some, some_same}
+use Rattle.xcp_locked.proofs.TallyLemmas.{wrong, too_many, none≢some, some_same}
 use Rattle.xcp_locked.proofs.settling.settled.Goals as goal
 use Rattle.xcp_locked.proofs.settling.settled.Goals.{then-next-receipts-via-then-next-receipts, then-next-receipts-via-else-next-receipts+then-not-is_receipt}
 

@@ -1,5 +1,5 @@
 use Rattle.std.proofs.Common.{◌≡◌, ◌≤◌, ◌+◌, length}
-use Rattle.xcp_locked.proofs.Tallies.{Agrees}
+use Rattle.xcp_locked.proofs.TallyLemmas.{Agrees}
 use Rattle.xcp_locked.proofs.settling.settled.Given as goal
 
 abbrev pub invariant-loop-at : goal.invariant-loop-at

@@ -1,8 +1,9 @@
 use Rattle.std.proofs.Common.{rules, ◌≡◌, ℕ, ◌+◌, List, [], ◌∷◌, Bool, true, false, true≢false, sym, subst}
-use Rattle.xcp_locked.specs.Tasks.{Duty, Grew, Adds, closing_of, duty, event_of}
+use Rattle.xcp_locked.specs.Tasks.{Duty, Grew, closing_of, duty, event_of}
+use Rattle.xcp_locked.specs.private.Tasks.{Adds}
 use Rattle.xcp_locked.specs.declared.receipt.Receipt.{Receipt}
-use Rattle.xcp_locked.proofs.Plans.{nothing_done, event_done, all_done}
-use Rattle.xcp_locked.proofs.Taking.{took_it, took_nothing}
+use Rattle.xcp_locked.proofs.TaskPlanLemmas.{nothing_done, event_done, all_done}
+use Rattle.xcp_locked.proofs.TaskImageLaws.{took_it, took_nothing}
 use Rattle.xcp_locked.proofs.tasks.cycle.Goals as goal
 
 pub returns-then-not-before-clause-grew : goal.returns-then-not-before-clause-grew

@@ -1,10 +1,10 @@
 use Rattle.std.proofs.Common.{rules, ◌≡◌, ◌≤◌, ℕ, ◌+◌, Bool, true, false, refl, subst}
 use Rattle.std.specs.Prelude.{is_none}
 use Rattle.xcp_locked.specs.Tasks.{Duty, Grew, duty}
-use Rattle.xcp_locked.proofs.Plans.{duty_same, same_after, starts, stopped}
-use Rattle.xcp_locked.proofs.Runs.{none_left}
-use Rattle.xcp_locked.proofs.Taking.{took_less, took_more, took_nothing}
-use Rattle.xcp_locked.specs.Taking.{Took}
+use Rattle.xcp_locked.proofs.TaskPlanLemmas.{duty_same, same_after, starts, stopped}
+use Rattle.xcp_locked.proofs.TaskOutcomeLemmas.{none_left}
+use Rattle.xcp_locked.proofs.TaskImageLaws.{took_less, took_more, took_nothing}
+use Rattle.xcp_locked.specs.TaskImages.{Took}
 use Rattle.xcp_locked.proofs.tasks.run_cycles.Goals as goal
 
 pub returns-in-Some-clause-grew : goal.returns-in-Some-clause-grew

@@ -1,5 +1,5 @@
 use Rattle.std.proofs.Common.{true}
-use Rattle.xcp_locked.specs.Taking.{Took}
+use Rattle.xcp_locked.specs.TaskImages.{Took}
 use Rattle.xcp_locked.specs.Tasks.{Grew, Same, duty}
 use Rattle.xcp_locked.proofs.tasks.run_cycles.Given as goal
 

@@ -1,5 +1,5 @@
 use Rattle.std.proofs.Common.{rules, ◌≡◌, length, arith}
-use Rattle.xcp_locked.proofs.Taking.{took_image}
+use Rattle.xcp_locked.proofs.TaskImageLaws.{took_image}
 use Rattle.xcp_locked.proofs.tasks.take_image.Goals as goal
 
 pub returns : goal.returns

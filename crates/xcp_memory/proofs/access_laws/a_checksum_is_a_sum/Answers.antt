@@ -1,4 +1,4 @@
-use Rattle.xcp_memory.proofs.Summing.{checksum-sums, checksum-bytes, number-at, length-numbers}
+use Rattle.xcp_memory.proofs.ChecksumLaws.{checksum-sums, checksum-bytes, number-at, length-numbers}
 use Rattle.xcp_memory.proofs.access_laws.a_checksum_is_a_sum.Goals as goal
 
 pub returns-clause-read : goal.returns-clause-read

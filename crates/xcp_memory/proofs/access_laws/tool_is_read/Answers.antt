@@ -1,4 +1,4 @@
-use Rattle.xcp_memory.proofs.Reading as reading
+use Rattle.xcp_memory.proofs.ReadLaws as reading
 use Rattle.xcp_memory.proofs.access_laws.tool_is_read.Goals as goal
 
 pub returns : goal.returns

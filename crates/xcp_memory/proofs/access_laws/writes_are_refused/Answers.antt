@@ -1,4 +1,4 @@
-use Rattle.xcp_memory.proofs.Denying.{outside_is_denied, protected_is_refused}
+use Rattle.xcp_memory.proofs.WriteRefusalLaws.{outside_is_denied, protected_is_refused}
 use Rattle.xcp_memory.proofs.access_laws.writes_are_refused.Goals as goal
 
 pub returns-clause-outside : goal.returns-clause-outside

@@ -1,6 +1,6 @@
 use Rattle.std.proofs.Common.{◌≡◌, length, map, take}
 use Rattle.std.specs.List.{enumerate_from}
-use Rattle.xcp_memory.specs.Parts.{placed_segment}
+use Rattle.xcp_memory.specs.LayoutParts.{placed_segment}
 use Rattle.xcp_memory.proofs.areas.areas_of.Given as goal
 
 abbrev pub invariant-loop-i : goal.invariant-loop-i

@@ -4,8 +4,8 @@ use Rattle.std.proofs.lemmas.Iterator.Consumers.{YieldsList-turn, YieldsList-so_
 use Rattle.std.proofs.lemmas.Result.{err_from_is_err_and}
 use Rattle.std.proofs.lemmas.Grind.{common_steps}
 use Rattle.std.proofs.lemmas.List.{length-map}
-use Rattle.xcp_memory.specs.Parts.{event_of_part}
-use Rattle.xcp_memory.proofs.LimitLemmas.{IsNext, event_kept, event_broken}
+use Rattle.xcp_memory.specs.LayoutParts.{event_of_part}
+use Rattle.xcp_memory.proofs.BrokenLimitLemmas.{IsNext, event_kept, event_broken}
 use Rattle.xcp_memory.proofs.event_channel.read_events.Goals as goal
 
 pub returns-in_err-event-clause-refused : goal.returns-in_err-event-clause-refused

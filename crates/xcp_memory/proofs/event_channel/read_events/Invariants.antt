@@ -1,6 +1,6 @@
 use Rattle.std.proofs.Common.{◌≡◌, map, None}
 use Rattle.std.specs.List.{flat_map, enumerate_from}
-use Rattle.xcp_memory.specs.Parts.{event_of_part}
+use Rattle.xcp_memory.specs.LayoutParts.{event_of_part}
 use Rattle.xcp_packet.specs.Rows.{first_holding}
 use Rattle.xcp_memory.specs.Limits.{event_limits}
 use Rattle.xcp_memory.proofs.event_channel.read_events.Given as goal

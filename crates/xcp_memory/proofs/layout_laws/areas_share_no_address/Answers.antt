@@ -1,4 +1,4 @@
-use Rattle.xcp_memory.proofs.AreaLemmas.{one_area}
+use Rattle.xcp_memory.proofs.AreaLaws.{one_area}
 use Rattle.xcp_memory.proofs.layout_laws.areas_share_no_address.Goals as goal
 
 pub returns : goal.returns

@@ -1,4 +1,4 @@
-use Rattle.xcp_memory.proofs.AreaLemmas.{inside_lies, inside_computes}
+use Rattle.xcp_memory.proofs.AreaLaws.{inside_lies, inside_computes}
 use Rattle.xcp_memory.proofs.layout_laws.ranges_are_decided.Goals as goal
 
 pub returns : goal.returns

@@ -4,8 +4,8 @@ use Rattle.std.proofs.lemmas.Iterator.Consumers.{YieldsList-turn, YieldsList-so_
 use Rattle.std.proofs.lemmas.Result.{err_from_is_err_and}
 use Rattle.std.proofs.lemmas.Grind.{common_steps}
 use Rattle.std.proofs.lemmas.List.{length-map}
-use Rattle.xcp_memory.specs.Parts.{segment_of_part}
-use Rattle.xcp_memory.proofs.LimitLemmas.{IsNext, segment_kept, segment_broken}
+use Rattle.xcp_memory.specs.LayoutParts.{segment_of_part}
+use Rattle.xcp_memory.proofs.BrokenLimitLemmas.{IsNext, segment_kept, segment_broken}
 use Rattle.xcp_memory.proofs.segment.read_segments.Goals as goal
 
 pub returns-in_err-segment-clause-refused : goal.returns-in_err-segment-clause-refused

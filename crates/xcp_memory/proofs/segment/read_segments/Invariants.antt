@@ -1,6 +1,6 @@
 use Rattle.std.proofs.Common.{◌≡◌, ◌≤◌, map, sum_by, None}
 use Rattle.std.specs.List.{flat_map, enumerate_from}
-use Rattle.xcp_memory.specs.Parts.{segment_of_part, size}
+use Rattle.xcp_memory.specs.LayoutParts.{segment_of_part, size}
 use Rattle.xcp_packet.specs.Rows.{first_holding}
 use Rattle.xcp_memory.specs.Limits.{limits_in}
 use Rattle.xcp_memory.proofs.segment.read_segments.Given as goal

@@ -1,6 +1,6 @@
 use Rattle.std.proofs.Common.{rules, [], false}
-use Rattle.xcp_outlet.specs.Known.{half}
-use Rattle.xcp_outlet.proofs.Routing.{begins, cut_replies, cut_data}
+use Rattle.xcp_outlet.specs.PassKnowledge.{half}
+use Rattle.xcp_outlet.proofs.ChannelRuleLemmas.{begins, cut_replies, cut_data}
 use Rattle.xcp_outlet.proofs.opening.outlet.Goals as goal
 
 pub bounded_with-requires-clause-rule : goal.bounded_with-requires-clause-rule

@@ -1,7 +1,8 @@
 use Rattle.std.proofs.Common.{◌≡◌, List, [], map, Option, Result, Ok, Err, IfOk, ◌∙◌, ap, sym, subst, string_bytes}
 use Rattle.std.proofs.lemmas.Result.{IfErr-weaker}
 use Rattle.clap.specs.Words.{App, Row, Text, fault_of, is_simple, is_simple_and_free, subcommand_of, subcommand_rows_of, takes}
-use Rattle.xcp_program.specs.CommandLine.{AsksSomething, IsMistake, program}
+use Rattle.xcp_program.specs.CommandLine.{IsMistake, program}
+use Rattle.xcp_program.specs.private.CommandLine.{AsksSomething}
 use Rattle.xcp_program.specs.declared.purpose.Options.{Options}
 use Rattle.xcp_program.specs.declared.purpose.OptionsFault.{OptionsFault}
 use Rattle.xcp_program.proofs.NoFaultLemmas.{words_ask}

@@ -1,10 +1,10 @@
 use Rattle.std.proofs.Common.{◌≡◌, ℕ, Result, Err, inr, ap, ◌∙◌, subst}
 use Rattle.xcp_memory.specs.Layout.{LayoutValue}
-use Rattle.xcp_slave.specs.Value.{SlaveValue, layout_of, opening}
+use Rattle.xcp_slave.specs.SlaveValue.{SlaveValue, layout_of, opening}
 use Rattle.xcp_slave.specs.Run.{Run, requests_of}
 use Rattle.xcp_framing.specs.Desk.{DeskValue}
 use Rattle.xcp_framing.specs.Replay.{EndsShort, OfLines, Replayed, Tells, asked}
-use Rattle.xcp_framing.specs.Told.{told}
+use Rattle.xcp_framing.specs.AnswerText.{told}
 use Rattle.xcp_framing.specs.declared.ReplayError.{ReplayError}
 use Rattle.xcp_framing.specs.declared.ReplayError.TheVariants as errors
 use Rattle.xcp_program.proofs.replaying.answer_script.Goals as goal

@@ -1,4 +1,4 @@
-use Rattle.xcp_slave.proofs.AcceptLemmas.{upload-text-reads, upload-reads, short-upload-reads, checksum-sums}
+use Rattle.xcp_slave.proofs.AcceptedCommandLaws.{upload-text-reads, upload-reads, short-upload-reads, checksum-sums}
 use Rattle.xcp_slave.proofs.accepting.a_tool_is_told_its_bytes.Goals as goal
 
 pub returns-clause-upload : goal.returns-clause-upload

@@ -1,4 +1,4 @@
-use Rattle.xcp_slave.proofs.AcceptLemmas.{id-mta, event-mta, upload-mta, upload-text, short-upload-mta, checksum-mta, set-mta, connect-mta, disconnect-mta, hangup-mta}
+use Rattle.xcp_slave.proofs.AcceptedCommandLaws.{id-mta, event-mta, upload-mta, upload-text, short-upload-mta, checksum-mta, set-mta, connect-mta, disconnect-mta, hangup-mta}
 use Rattle.xcp_slave.proofs.MemoryLaws.{download-mta, short-mta, max-mta, block-mta, bits-mta}
 use Rattle.xcp_slave.proofs.accepting.transfers_move_the_mta.Goals as goal
 

@@ -1,4 +1,4 @@
-use Rattle.xcp_slave.proofs.PartLaws.{id-alone, id-none, event-alone, bits-alone, mta-kept, session-kept, lists-kept, store-kept}
+use Rattle.xcp_slave.proofs.UnaffectedPartLaws.{id-alone, id-none, event-alone, bits-alone, mta-kept, session-kept, lists-kept, store-kept}
 use Rattle.xcp_slave.proofs.beside.requests_beside_change_their_own.Goals as goal
 
 pub returns-clause-id : goal.returns-clause-id

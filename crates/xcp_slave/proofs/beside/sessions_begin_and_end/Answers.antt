@@ -1,4 +1,4 @@
-use Rattle.xcp_slave.proofs.PartLaws.{connect-alone, disconnect-alone, hangup-alone}
+use Rattle.xcp_slave.proofs.UnaffectedPartLaws.{connect-alone, disconnect-alone, hangup-alone}
 use Rattle.xcp_slave.proofs.beside.sessions_begin_and_end.Goals as goal
 
 pub returns-clause-connect : goal.returns-clause-connect

@@ -1,4 +1,4 @@
-use Rattle.xcp_slave.proofs.GatherLaws.{block-gathered, block-keeps, block-written, block-all, block-behind}
+use Rattle.xcp_slave.proofs.BlockDownloadLaws.{block-gathered, block-keeps, block-written, block-all, block-behind}
 use Rattle.xcp_slave.proofs.blocks.a_block_is_written_at_its_end.Goals as goal
 
 pub returns-clause-gathered : goal.returns-clause-gathered

@@ -1,4 +1,4 @@
-use Rattle.xcp_slave.proofs.LengthLaws.{answers-length}
+use Rattle.xcp_slave.proofs.PacketLengthLaws.{answers-length}
 use Rattle.xcp_slave.proofs.law.no_reply_is_longer_than_max_cto.Goals as goal
 
 pub returns : goal.returns

@@ -1,4 +1,4 @@
-use Rattle.xcp_slave.proofs.QueueLaws.{event-whole, event-none, event-room, event-overrun}
+use Rattle.xcp_slave.proofs.PacketQueueLaws.{event-whole, event-none, event-room, event-overrun}
 use Rattle.xcp_slave.proofs.queue.an_event_waits_whole.Goals as goal
 
 pub returns-clause-all : goal.returns-clause-all

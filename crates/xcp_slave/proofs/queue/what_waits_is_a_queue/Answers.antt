@@ -1,4 +1,4 @@
-use Rattle.xcp_slave.proofs.QueueLaws.{step-queues, run-puts-in, run-queues, first-drained}
+use Rattle.xcp_slave.proofs.PacketQueueLaws.{step-queues, run-puts-in, run-queues, first-drained}
 use Rattle.xcp_slave.proofs.queue.what_waits_is_a_queue.Goals as goal
 
 pub returns-clause-step : goal.returns-clause-step

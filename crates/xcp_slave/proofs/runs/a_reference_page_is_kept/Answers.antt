@@ -1,4 +1,4 @@
-use Rattle.xcp_slave.proofs.KeepLaws.{reference-step, reference-run}
+use Rattle.xcp_slave.proofs.RunMemoryLaws.{reference-step, reference-run}
 use Rattle.xcp_slave.proofs.runs.a_reference_page_is_kept.Goals as goal
 
 pub returns-clause-step : goal.returns-clause-step

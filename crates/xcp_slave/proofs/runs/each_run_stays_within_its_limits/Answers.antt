@@ -1,4 +1,4 @@
-use Rattle.xcp_slave.proofs.SlaveKept.{opening-slave, answers-kept, run-slave}
+use Rattle.xcp_slave.proofs.SlaveInvariantLaws.{opening-slave, answers-kept, run-slave}
 use Rattle.xcp_slave.proofs.runs.each_run_stays_within_its_limits.Goals as goal
 
 pub returns-clause-opening : goal.returns-clause-opening

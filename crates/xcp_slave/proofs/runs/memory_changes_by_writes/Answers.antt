@@ -1,5 +1,5 @@
 use Rattle.xcp_slave.proofs.WriteLaws.{step-writes}
-use Rattle.xcp_slave.proofs.KeepLaws.{run-puts, last-stands}
+use Rattle.xcp_slave.proofs.RunMemoryLaws.{run-puts, last-stands}
 use Rattle.xcp_slave.proofs.MemoryLaws.{reads-run}
 use Rattle.xcp_slave.proofs.runs.memory_changes_by_writes.Goals as goal
 

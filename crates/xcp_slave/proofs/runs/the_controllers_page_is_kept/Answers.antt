@@ -1,4 +1,4 @@
-use Rattle.xcp_slave.proofs.KeepLaws.{ecu-run, others-run}
+use Rattle.xcp_slave.proofs.RunMemoryLaws.{ecu-run, others-run}
 use Rattle.xcp_slave.proofs.runs.the_controllers_page_is_kept.Goals as goal
 
 pub returns-clause-controller : goal.returns-clause-controller

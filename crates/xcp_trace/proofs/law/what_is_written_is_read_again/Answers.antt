@@ -1,5 +1,5 @@
-use Rattle.xcp_trace.proofs.Joined.{strings_again}
-use Rattle.xcp_trace.proofs.Spelled.{entry_again, exchange_again}
+use Rattle.xcp_trace.proofs.TapeLaws.{strings_again}
+use Rattle.xcp_trace.proofs.SpellingLaws.{entry_again, exchange_again}
 use Rattle.xcp_trace.proofs.law.what_is_written_is_read_again.Goals as goal
 
 pub returns-clause-strings : goal.returns-clause-strings

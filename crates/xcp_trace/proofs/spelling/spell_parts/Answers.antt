@@ -1,7 +1,7 @@
 use Rattle.std.proofs.Common.{◌≡◌, ◌≤◌, length}
 use Rattle.xcp_slave.specs.declared.Exchange.{Exchange}
-use Rattle.xcp_trace.specs.Spelling.{answer_bytes, request_bytes, request_tag}
-use Rattle.xcp_trace.proofs.Spelled.{fits, string_is}
+use Rattle.xcp_trace.specs.ExchangeSpelling.{answer_bytes, request_bytes, request_tag}
+use Rattle.xcp_trace.proofs.SpellingLaws.{fits, string_is}
 use Rattle.xcp_trace.proofs.spelling.spell_parts.Goals as goal
 
 pub returns-clause-string : goal.returns-clause-string

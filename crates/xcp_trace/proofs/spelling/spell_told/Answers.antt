@@ -1,4 +1,4 @@
-use Rattle.xcp_slave.specs.Told.{answer_in}
+use Rattle.xcp_slave.specs.AnswerInBytes.{answer_in}
 use Rattle.xcp_trace.proofs.spelling.spell_told.Goals as goal
 
 pub returns-clause-string : goal.returns-clause-string

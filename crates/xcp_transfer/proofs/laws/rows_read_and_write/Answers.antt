@@ -1,4 +1,4 @@
-use Rattle.xcp_transfer.proofs.Transfers.{rows_read, rows_write}
+use Rattle.xcp_transfer.proofs.MtaAccessLaws.{rows_read, rows_write}
 use Rattle.xcp_transfer.proofs.laws.rows_read_and_write.Goals as goal
 
 pub returns-clause-read : goal.returns-clause-read

@@ -1,7 +1,7 @@
 use Rattle.std.proofs.Common.{◌≡◌, ◌<◌, length, Some, arith, sym, ap, ◌∙◌}
 use Rattle.pin_core.specs.State.{Reader, PinState, newcomer, reader}
 use Rattle.pin_core.specs.contracts.pins.Core.{the_view}
-use Rattle.pin_core.proofs.Lists.{there}
+use Rattle.pin_core.proofs.ListLemmas.{there}
 use Rattle.pin_core.proofs.pins.Core.held_by.Goals as goal
 
 pub returns-in-Some-clause-buffer : goal.returns-in-Some-clause-buffer

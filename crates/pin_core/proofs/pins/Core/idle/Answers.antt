@@ -1,8 +1,8 @@
 use Rattle.std.proofs.Common.{◌≡◌, ℕ, arith, subst}
 use Rattle.pin_core.specs.State.{PinState, width}
-use Rattle.pin_core.specs.Lawful.{IsIdle}
+use Rattle.pin_core.specs.StateInvariant.{IsIdle}
 use Rattle.pin_core.specs.contracts.pins.Core.{the_view}
-use Rattle.pin_core.proofs.Idle.{some_idle}
+use Rattle.pin_core.proofs.IdleBufferLaws.{some_idle}
 use mathlib.Core.Logic.{dite}
 use native.Mathlib.Decide.{dec_le}
 use Rattle.pin_core.proofs.pins.Core.idle.Goals as goal

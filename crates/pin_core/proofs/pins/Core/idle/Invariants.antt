@@ -1,5 +1,5 @@
 use Rattle.std.proofs.Common.{ℕ, ◌<◌}
-use Rattle.pin_core.specs.Lawful.{IsIdle}
+use Rattle.pin_core.specs.StateInvariant.{IsIdle}
 use Rattle.pin_core.proofs.pins.Core.idle.Given as goal
 
 -- no buffer so far is idle

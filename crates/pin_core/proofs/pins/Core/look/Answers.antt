@@ -2,10 +2,10 @@ use Rattle.std.proofs.Common.{◌≡◌, ◌<◌, length, set, sym, ◌∙◌, a
 use Rattle.std.proofs.lemmas.Grind.{common_steps}
 use Rattle.pin_core.specs.State.{Reader, PinState, newcomer, width}
 use Rattle.pin_core.specs.Effects.{CanLook, after_look}
-use Rattle.pin_core.specs.Lawful.{Lawful}
+use Rattle.pin_core.specs.StateInvariant.{Lawful}
 use Rattle.pin_core.specs.contracts.pins.Core.{the_view}
-use Rattle.pin_core.proofs.Lists.{there}
-use Rattle.pin_core.proofs.ReaderSteps.{look_keeps}
+use Rattle.pin_core.proofs.ListLemmas.{there}
+use Rattle.pin_core.proofs.ReaderStepLemmas.{look_keeps}
 use Rattle.pin_core.proofs.pins.Core.look.Goals as goal
 
 pub invariant_of-self : goal.invariant_of-self

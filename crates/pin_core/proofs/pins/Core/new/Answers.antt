@@ -1,9 +1,9 @@
 use Rattle.std.proofs.Common.{◌≡◌, ◌≤◌, [], ◌∷◌, length, replicate, arith, sym, subst, None}
 use Rattle.std.proofs.lemmas.Grind.{common_steps}
 use Rattle.pin_core.specs.State.{PinState, opening, width}
-use Rattle.pin_core.specs.Fields.{state_of}
-use Rattle.pin_core.specs.Lawful.{Lawful}
-use Rattle.pin_core.proofs.Start.{opening_lawful}
+use Rattle.pin_core.specs.CoreFields.{state_of}
+use Rattle.pin_core.specs.StateInvariant.{Lawful}
+use Rattle.pin_core.proofs.OpeningLaws.{opening_lawful}
 use Rattle.pin_core.proofs.pins.Core.new.Goals as goal
 
 built : (c : goal.After-six_readers) → opening c.args.first.now ≡ state_of 0 0 c.in_ok-buffers.buffers.items (replicate 8 0) c.six_readers.result (replicate 8 0) None None 0 c.push.new.self.items

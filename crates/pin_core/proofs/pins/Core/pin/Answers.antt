@@ -2,10 +2,10 @@ use Rattle.std.proofs.Common.{◌≡◌, ◌<◌, ◌+◌, length, set, false, N
 use Rattle.std.proofs.lemmas.Grind.{common_steps}
 use Rattle.pin_core.specs.State.{Reader, PinState, newcomer, reader, width}
 use Rattle.pin_core.specs.Effects.{CanPin, after_pin}
-use Rattle.pin_core.specs.Lawful.{Lawful}
+use Rattle.pin_core.specs.StateInvariant.{Lawful}
 use Rattle.pin_core.specs.contracts.pins.Core.{the_view}
-use Rattle.pin_core.proofs.Lists.{there}
-use Rattle.pin_core.proofs.ReaderSteps.{pin_keeps}
+use Rattle.pin_core.proofs.ListLemmas.{there}
+use Rattle.pin_core.proofs.ReaderStepLemmas.{pin_keeps}
 use Rattle.pin_core.proofs.pins.Core.pin.Goals as goal
 
 pub invariant_of-self : goal.invariant_of-self

@@ -1,13 +1,13 @@
 use Rattle.std.proofs.Common.{◌≡◌, ℕ, ◌<◌, List, ◌∷◌, ◌++◌, [], length, set, arith, sym, refl, ap, ◌∙◌, subst, None}
 use Rattle.std.proofs.lemmas.Grind.{common_steps}
 use Rattle.pin_core.specs.State.{PinState, words_of, width}
-use Rattle.pin_core.specs.Fields.{state_of}
+use Rattle.pin_core.specs.CoreFields.{state_of}
 use Rattle.pin_core.specs.Effects.{CanPublish, after_publish}
-use Rattle.pin_core.specs.Lawful.{Lawful}
+use Rattle.pin_core.specs.StateInvariant.{Lawful}
 use Rattle.pin_core.specs.contracts.pins.Core.{the_view}
-use Rattle.pin_core.proofs.Lists.{there}
-use Rattle.pin_core.proofs.Fronts.{length_front}
-use Rattle.pin_core.proofs.WriterSteps.{publish_keeps, built_whole}
+use Rattle.pin_core.proofs.ListLemmas.{there}
+use Rattle.pin_core.proofs.WrittenPrefixLemmas.{length_front}
+use Rattle.pin_core.proofs.WriterStepLemmas.{publish_keeps, built_whole}
 use Rattle.pin_core.proofs.pins.Core.publish.Goals as goal
 
 -- the condition of the event, and the state behind it

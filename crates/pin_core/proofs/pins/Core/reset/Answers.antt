@@ -1,9 +1,9 @@
 use Rattle.std.proofs.Common.{◌≡◌, Some, [], set, rules, arith, subst}
 use Rattle.pin_core.specs.State.{PinState, width}
 use Rattle.pin_core.specs.Effects.{CanReset, after_reset}
-use Rattle.pin_core.specs.Lawful.{Lawful}
+use Rattle.pin_core.specs.StateInvariant.{Lawful}
 use Rattle.pin_core.specs.contracts.pins.Core.{the_view}
-use Rattle.pin_core.proofs.WriterSteps.{reset_keeps}
+use Rattle.pin_core.proofs.WriterStepLemmas.{reset_keeps}
 use Rattle.pin_core.proofs.pins.Core.reset.Goals as goal
 
 pub invariant_of-self : goal.invariant_of-self

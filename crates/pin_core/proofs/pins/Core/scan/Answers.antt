@@ -2,9 +2,9 @@ use Rattle.std.proofs.Common.{◌≡◌, arith, rules, subst}
 use Rattle.std.proofs.lemmas.Grind.{common_steps}
 use Rattle.pin_core.specs.State.{PinState, width}
 use Rattle.pin_core.specs.Effects.{CanScan, after_scan}
-use Rattle.pin_core.specs.Lawful.{Lawful}
+use Rattle.pin_core.specs.StateInvariant.{Lawful}
 use Rattle.pin_core.specs.contracts.pins.Core.{the_view}
-use Rattle.pin_core.proofs.WriterSteps.{scan_keeps}
+use Rattle.pin_core.proofs.WriterStepLemmas.{scan_keeps}
 use Rattle.pin_core.proofs.pins.Core.scan.Goals as goal
 
 pub invariant_of-self : goal.invariant_of-self

@@ -1,12 +1,12 @@
 use Rattle.std.proofs.Common.{◌≡◌, ℕ, ◌<◌, ◌+◌, ◌∷◌, ◌++◌, [], length, set, arith, sym, refl, ap, ◌∙◌, subst}
 use Rattle.pin_core.specs.State.{PinState, words_of, width}
-use Rattle.pin_core.specs.Fields.{front_of, state_of}
+use Rattle.pin_core.specs.CoreFields.{front_of, state_of}
 use Rattle.pin_core.specs.Effects.{CanWrite, after_write}
-use Rattle.pin_core.specs.Lawful.{Lawful}
+use Rattle.pin_core.specs.StateInvariant.{Lawful}
 use Rattle.pin_core.specs.contracts.pins.Core.{the_view}
-use Rattle.pin_core.proofs.Lists.{there}
-use Rattle.pin_core.proofs.Fronts.{length_front, front_more}
-use Rattle.pin_core.proofs.WriterSteps.{write_keeps}
+use Rattle.pin_core.proofs.ListLemmas.{there}
+use Rattle.pin_core.proofs.WrittenPrefixLemmas.{length_front, front_more}
+use Rattle.pin_core.proofs.WriterStepLemmas.{write_keeps}
 use Rattle.pin_core.proofs.pins.Core.write.Goals as goal
 
 -- the condition of the event, and the state behind it

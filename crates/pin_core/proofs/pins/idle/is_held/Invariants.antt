@@ -1,5 +1,5 @@
 use Rattle.std.proofs.Common.{◌≡◌, take}
-use Rattle.pin_core.specs.Lawful.{holders}
+use Rattle.pin_core.specs.StateInvariant.{holders}
 use Rattle.pin_core.proofs.pins.idle.is_held.Given as goal
 
 -- no reader so far holds the buffer

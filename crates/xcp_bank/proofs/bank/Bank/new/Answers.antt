@@ -1,8 +1,8 @@
 use Rattle.std.proofs.Common.{◌≡◌, ap, ◌∙◌, sym, arith}
 use Rattle.std.specs.Arc.{arc_value}
 use Rattle.xcp_bank.specs.BankId.{BankId, bank_of}
-use Rattle.xcp_bank.specs.Ends.{WriterEnd, six_readers, new_writer}
-use Rattle.xcp_bank.proofs.Opening.{opening_banked}
+use Rattle.xcp_bank.specs.BankEnds.{WriterEnd, six_readers, new_writer}
+use Rattle.xcp_bank.proofs.OpeningTableLemmas.{opening_banked}
 use Rattle.xcp_bank.proofs.bank.Bank.new.Goals as goal
 
 pub open-requires : goal.open-requires

@@ -1,11 +1,11 @@
 use Rattle.std.proofs.Common.{◌≡◌, ℕ, sym, ap, ◌∙◌, subst, Some}
 use Rattle.std.specs.Arc.{arc_value}
-use Rattle.xcp_bank.specs.Known.{Reading}
-use Rattle.xcp_bank.specs.Seats.{IsReaderSeat, Acquired}
-use Rattle.xcp_bank.specs.Ends.{ReaderEnd, reader_end}
-use Rattle.xcp_bank.specs.Fields.{reader_in, shown_reader}
-use Rattle.xcp_bank.proofs.Kept.{sits_at, sits_here}
-use Rattle.xcp_bank.proofs.EndLemmas.{shown_is, acquired_kept, AcquiredEnd, acquired_end}
+use Rattle.xcp_bank.specs.SeatKnowledge.{Reading}
+use Rattle.xcp_bank.specs.private.SeatSteps.{IsReaderSeat, Acquired}
+use Rattle.xcp_bank.specs.BankEnds.{ReaderEnd, reader_end}
+use Rattle.xcp_bank.specs.EndFields.{reader_in, shown_reader}
+use Rattle.xcp_bank.proofs.EndFieldLemmas.{sits_at, sits_here}
+use Rattle.xcp_bank.proofs.ReaderEndLemmas.{shown_is, acquired_kept, AcquiredEnd, acquired_end}
 use Rattle.xcp_bank.proofs.reader.Reader.acquire.Goals as goal
 
 -- what the reader knows then

@@ -1,10 +1,10 @@
 use Rattle.std.proofs.Common.{ℕ, sym, ◌∙◌, subst, Option}
 use Rattle.std.specs.Arc.{arc_value}
-use Rattle.xcp_bank.specs.Known.{Reading}
-use Rattle.xcp_bank.specs.Ends.{ReaderEnd, reader_end, LeavesBy, GivesBack}
-use Rattle.xcp_bank.specs.Fields.{reader_in}
-use Rattle.xcp_bank.proofs.Kept.{sits_at}
-use Rattle.xcp_bank.proofs.EndLemmas.{holding, shown_is, left_end}
+use Rattle.xcp_bank.specs.SeatKnowledge.{Reading}
+use Rattle.xcp_bank.specs.BankEnds.{ReaderEnd, reader_end, LeavesBy, GivesBack}
+use Rattle.xcp_bank.specs.EndFields.{reader_in}
+use Rattle.xcp_bank.proofs.EndFieldLemmas.{sits_at}
+use Rattle.xcp_bank.proofs.ReaderEndLemmas.{holding, shown_is, left_end}
 use Rattle.xcp_bank.proofs.reader.Reader.leave.Goals as goal
 
 pub unpin_for_good-requires-clause-seat : goal.unpin_for_good-requires-clause-seat

@@ -1,9 +1,9 @@
 use Rattle.std.proofs.Common.{refl, None}
 use Rattle.std.proofs.lemmas.Option.{none-some}
 use Rattle.std.specs.Arc.{arc_value}
-use Rattle.xcp_bank.specs.Known.{starting}
-use Rattle.xcp_bank.proofs.Kept.{kept_by}
-use Rattle.xcp_bank.proofs.EndLemmas.{follows_starting}
+use Rattle.xcp_bank.specs.SeatKnowledge.{starting}
+use Rattle.xcp_bank.proofs.EndFieldLemmas.{kept_by}
+use Rattle.xcp_bank.proofs.ReaderEndLemmas.{follows_starting}
 use Rattle.xcp_bank.proofs.reader.Reader.new.Goals as goal
 
 pub invariant_of-result : goal.invariant_of-result

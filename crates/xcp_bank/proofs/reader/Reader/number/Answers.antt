@@ -1,13 +1,13 @@
 use Rattle.std.proofs.Common.{◌≡◌, ℕ, ◌%◌, sym, refl, ap, ◌∙◌, subst, Some, arith}
 use Rattle.std.proofs.lemmas.Option.{same_Some}
 use Rattle.std.specs.Arc.{arc_value}
-use Rattle.xcp_bank.specs.Known.{Reading}
-use Rattle.xcp_bank.specs.Seats.{IsReaderSeat, HasRead}
-use Rattle.xcp_bank.specs.Ends.{ReaderEnd, reader_end}
-use Rattle.xcp_bank.specs.Fields.{reader_in, shown_reader}
-use Rattle.xcp_bank.proofs.Seating.{read_none, read_more}
-use Rattle.xcp_bank.proofs.Kept.{sits_at}
-use Rattle.xcp_bank.proofs.EndLemmas.{holding, reads_kept, ReadEnd, read_end, shown_is}
+use Rattle.xcp_bank.specs.SeatKnowledge.{Reading}
+use Rattle.xcp_bank.specs.private.SeatSteps.{IsReaderSeat, HasRead}
+use Rattle.xcp_bank.specs.BankEnds.{ReaderEnd, reader_end}
+use Rattle.xcp_bank.specs.EndFields.{reader_in, shown_reader}
+use Rattle.xcp_bank.proofs.ReaderSeatLemmas.{read_none, read_more}
+use Rattle.xcp_bank.proofs.EndFieldLemmas.{sits_at}
+use Rattle.xcp_bank.proofs.ReaderEndLemmas.{holding, reads_kept, ReadEnd, read_end, shown_is}
 use Rattle.xcp_bank.proofs.reader.Reader.number.Goals as goal
 
 pub read_word-requires-clause-seat : goal.read_word-requires-clause-seat

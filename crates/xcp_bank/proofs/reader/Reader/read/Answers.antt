@@ -1,10 +1,10 @@
 use Rattle.std.proofs.Common.{ℕ, ◌/◌, ◌<◌, List, length, take, drop, sym, ap, ◌∙◌, subst, Some, arith}
 use Rattle.std.specs.Arc.{arc_value}
-use Rattle.xcp_bank.specs.Known.{Reading}
-use Rattle.xcp_bank.specs.Ends.{ReaderEnd, reader_end, image_held, words_in}
-use Rattle.xcp_bank.specs.Fields.{reader_in, shown_reader}
-use Rattle.xcp_bank.proofs.Kept.{sits_at}
-use Rattle.xcp_bank.proofs.EndLemmas.{holding, reads_kept, ReadEnd, read_end, shown_is, image_held_is}
+use Rattle.xcp_bank.specs.SeatKnowledge.{Reading}
+use Rattle.xcp_bank.specs.BankEnds.{ReaderEnd, reader_end, image_held, words_in}
+use Rattle.xcp_bank.specs.EndFields.{reader_in, shown_reader}
+use Rattle.xcp_bank.proofs.EndFieldLemmas.{sits_at}
+use Rattle.xcp_bank.proofs.ReaderEndLemmas.{holding, reads_kept, ReadEnd, read_end, shown_is, image_held_is}
 use Rattle.xcp_bank.proofs.reader.Reader.read.Goals as goal
 
 pub read_at-requires-clause-seat : goal.read_at-requires-clause-seat

@@ -1,13 +1,13 @@
 use Rattle.std.proofs.Common.{◌≡◌, ℕ, sym, ap, ◌∙◌, subst, Some}
 use Rattle.std.specs.Arc.{arc_value}
 use Rattle.xcp_bank.specs.BankId.{BankId}
-use Rattle.xcp_bank.specs.Known.{Reading}
-use Rattle.xcp_bank.specs.Cuts.{told, told_again}
-use Rattle.xcp_bank.specs.Seats.{IsReaderSeat}
-use Rattle.xcp_bank.specs.Ends.{ReaderEnd, WriterEnd, reader_end, writer_end}
-use Rattle.xcp_bank.specs.Fields.{reader_in, shown_reader}
-use Rattle.xcp_bank.proofs.Kept.{sits_at, sits_here, kept_by}
-use Rattle.xcp_bank.proofs.EndLemmas.{shown_is, follows_told, ToldEnd, told_end}
+use Rattle.xcp_bank.specs.SeatKnowledge.{Reading}
+use Rattle.xcp_bank.specs.private.SeatSplits.{told, told_again}
+use Rattle.xcp_bank.specs.private.SeatSteps.{IsReaderSeat}
+use Rattle.xcp_bank.specs.BankEnds.{ReaderEnd, WriterEnd, reader_end, writer_end}
+use Rattle.xcp_bank.specs.EndFields.{reader_in, shown_reader}
+use Rattle.xcp_bank.proofs.EndFieldLemmas.{sits_at, sits_here, kept_by}
+use Rattle.xcp_bank.proofs.ReaderEndLemmas.{shown_is, follows_told, ToldEnd, told_end}
 use Rattle.xcp_bank.proofs.reader.Reader.tell.Goals as goal
 
 -- what the reader knows then

@@ -1,7 +1,7 @@
 use Rattle.std.proofs.Common.{ℕ, List, [], arith, ap, ◌∙◌}
-use Rattle.xcp_bank.specs.ReaderSteps.{Seat}
-use Rattle.xcp_bank.specs.Cuts.{without_first, only_first}
-use Rattle.xcp_bank.proofs.Cutting.{cut_allowed}
+use Rattle.xcp_bank.specs.private.ReaderSteps.{Seat}
+use Rattle.xcp_bank.specs.private.SeatSplits.{without_first, only_first}
+use Rattle.xcp_bank.proofs.SeatSplitLemmas.{cut_allowed}
 use Rattle.xcp_bank.proofs.table.cuts.cut.Goals as goal
 
 pub split_seat-requires : goal.split_seat-requires

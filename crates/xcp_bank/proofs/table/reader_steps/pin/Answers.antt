@@ -1,10 +1,10 @@
 use Rattle.std.proofs.Common.{arith, ap}
 use mathlib.Core.Option.{none}
 use Rattle.atomic_table.specs.Table.{step}
-use Rattle.xcp_bank.specs.ReaderSteps.{Seat, Pinned}
-use Rattle.xcp_bank.specs.Seats.{ReaderMoves}
-use Rattle.xcp_bank.proofs.ReaderLemmas.{pin_allowed}
-use Rattle.xcp_bank.proofs.Seating.{after_step, below_the_buffers}
+use Rattle.xcp_bank.specs.private.ReaderSteps.{Seat, Pinned}
+use Rattle.xcp_bank.specs.private.SeatSteps.{ReaderMoves}
+use Rattle.xcp_bank.proofs.ReaderRuleLemmas.{pin_allowed}
+use Rattle.xcp_bank.proofs.ReaderSeatLemmas.{after_step, below_the_buffers}
 use Rattle.xcp_bank.proofs.table.reader_steps.pin.Goals as goal
 
 pub fetch_add-requires : goal.fetch_add-requires

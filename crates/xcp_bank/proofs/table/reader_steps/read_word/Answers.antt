@@ -1,9 +1,9 @@
 use Rattle.std.proofs.Common.{◌≡◌, ℕ, ◌+◌, ◌*◌, arith, ap, ◌∙◌}
 use mathlib.Core.Option.{none}
 use Rattle.atomic_table.specs.Table.{step}
-use Rattle.xcp_bank.specs.ReaderSteps.{Seat, ReadAt, reading_after_read}
-use Rattle.xcp_bank.proofs.ReaderLemmas.{read_allowed}
-use Rattle.xcp_bank.proofs.Seating.{after_step}
+use Rattle.xcp_bank.specs.private.ReaderSteps.{Seat, ReadAt, reading_after_read}
+use Rattle.xcp_bank.proofs.ReaderRuleLemmas.{read_allowed}
+use Rattle.xcp_bank.proofs.ReaderSeatLemmas.{after_step}
 use Rattle.xcp_bank.proofs.table.reader_steps.read_word.Goals as goal
 
 abbrev place : ℕ → ℕ → ℕ

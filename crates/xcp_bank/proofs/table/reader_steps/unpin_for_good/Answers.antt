@@ -1,9 +1,9 @@
 use Rattle.std.proofs.Common.{◌+◌, true, arith, ap, inr, refl}
 use mathlib.Core.Option.{none}
 use Rattle.atomic_table.specs.Table.{step}
-use Rattle.xcp_bank.specs.ReaderSteps.{Seat, Unpinned}
-use Rattle.xcp_bank.proofs.ReaderLemmas.{unpin_allowed}
-use Rattle.xcp_bank.proofs.Seating.{after_step}
+use Rattle.xcp_bank.specs.private.ReaderSteps.{Seat, Unpinned}
+use Rattle.xcp_bank.proofs.ReaderRuleLemmas.{unpin_allowed}
+use Rattle.xcp_bank.proofs.ReaderSeatLemmas.{after_step}
 use Rattle.xcp_bank.proofs.table.reader_steps.unpin_for_good.Goals as goal
 
 pub fetch_add-requires : goal.fetch_add-requires

@@ -1,12 +1,12 @@
 use Rattle.std.proofs.Common.{◌≡◌, ℕ, ◌+◌, ◌-◌, arith, ap, sym, subst}
 use mathlib.Core.Option.{none}
 use Rattle.atomic_table.specs.Table.{step, Allows}
-use Rattle.xcp_bank.specs.Rule.{Banked}
-use Rattle.xcp_bank.specs.ReaderSteps.{Seat}
-use Rattle.xcp_bank.specs.WriterSteps.{writer_plays, Scanned}
-use Rattle.xcp_bank.specs.Seats.{WriterMoves}
-use Rattle.xcp_bank.proofs.WriterLemmas.{scan_allowed}
-use Rattle.xcp_bank.proofs.Desking.{desk_step}
+use Rattle.xcp_bank.specs.TableRule.{Banked}
+use Rattle.xcp_bank.specs.private.ReaderSteps.{Seat}
+use Rattle.xcp_bank.specs.private.WriterSteps.{writer_plays, Scanned}
+use Rattle.xcp_bank.specs.private.SeatSteps.{WriterMoves}
+use Rattle.xcp_bank.proofs.WriterRuleLemmas.{scan_allowed}
+use Rattle.xcp_bank.proofs.WriterSeatLemmas.{desk_step}
 use Rattle.xcp_bank.proofs.table.writer_steps.scan.Goals as goal
 
 back : (b : ℕ) → 1 + b - 1 ≡ b

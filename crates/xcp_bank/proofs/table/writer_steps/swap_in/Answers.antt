@@ -1,13 +1,13 @@
 use Rattle.std.proofs.Common.{◌≡◌, ℕ, ◌*◌, ◌/◌, arith, ap, ◌∙◌, sym, subst}
 use mathlib.Core.Option.{none}
 use Rattle.atomic_table.specs.Table.{step, Allows}
-use Rattle.pin_core.specs.Head.{head_of}
-use Rattle.xcp_bank.specs.Rule.{Banked}
-use Rattle.xcp_bank.specs.ReaderSteps.{Seat}
-use Rattle.xcp_bank.specs.WriterSteps.{writer_plays, Published}
-use Rattle.xcp_bank.specs.Seats.{WriterMoves}
-use Rattle.xcp_bank.proofs.WriterLemmas.{publish_allowed}
-use Rattle.xcp_bank.proofs.Desking.{desk_step}
+use Rattle.pin_core.specs.CurrentWord.{head_of}
+use Rattle.xcp_bank.specs.TableRule.{Banked}
+use Rattle.xcp_bank.specs.private.ReaderSteps.{Seat}
+use Rattle.xcp_bank.specs.private.WriterSteps.{writer_plays, Published}
+use Rattle.xcp_bank.specs.private.SeatSteps.{WriterMoves}
+use Rattle.xcp_bank.proofs.WriterRuleLemmas.{publish_allowed}
+use Rattle.xcp_bank.proofs.WriterSeatLemmas.{desk_step}
 use Rattle.xcp_bank.proofs.table.writer_steps.swap_in.Goals as goal
 
 back : (b : ℕ) → (b * 4294967296) / 4294967296 ≡ b

@@ -1,12 +1,12 @@
 use Rattle.std.proofs.Common.{◌≡◌, sym, ap, subst}
 use Rattle.std.specs.Arc.{arc_value}
-use Rattle.xcp_bank.specs.Known.{Writing}
-use Rattle.xcp_bank.specs.Seats.{IsWriterSeat, Counted}
-use Rattle.xcp_bank.specs.Ends.{WriterEnd, writer_end, HeldDoes}
-use Rattle.xcp_bank.specs.Fields.{writer_in, shown_writer}
-use Rattle.xcp_bank.proofs.Kept.{desks_at, writer_kept_by}
+use Rattle.xcp_bank.specs.SeatKnowledge.{Writing}
+use Rattle.xcp_bank.specs.private.SeatSteps.{IsWriterSeat, Counted}
+use Rattle.xcp_bank.specs.BankEnds.{WriterEnd, writer_end, HeldDoes}
+use Rattle.xcp_bank.specs.EndFields.{writer_in, shown_writer}
+use Rattle.xcp_bank.proofs.EndFieldLemmas.{desks_at, writer_kept_by}
 use Rattle.xcp_bank.proofs.WriterEndLemmas.{writer_shown}
-use Rattle.xcp_bank.proofs.Counting.{rests_still, counted_still, held_few, held_end}
+use Rattle.xcp_bank.proofs.ScanCountLemmas.{rests_still, counted_still, held_few, held_end}
 use Rattle.xcp_bank.proofs.writer.Writer.held.Goals as goal
 
 -- what the writer knows then

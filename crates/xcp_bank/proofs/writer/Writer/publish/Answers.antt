@@ -1,10 +1,10 @@
 use Rattle.std.proofs.Common.{◌≡◌, ◌+◌, ◌%◌, sym, subst}
 use Rattle.std.specs.Arc.{arc_value}
-use Rattle.xcp_bank.specs.Known.{Writing}
-use Rattle.xcp_bank.specs.Seats.{IsWriterSeat, Rests, Publishes}
-use Rattle.xcp_bank.specs.Ends.{WriterEnd, writer_end}
-use Rattle.xcp_bank.specs.Fields.{writer_in, shown_writer}
-use Rattle.xcp_bank.proofs.Kept.{desks_at, writer_kept_by}
+use Rattle.xcp_bank.specs.SeatKnowledge.{Writing}
+use Rattle.xcp_bank.specs.private.SeatSteps.{IsWriterSeat, Rests, Publishes}
+use Rattle.xcp_bank.specs.BankEnds.{WriterEnd, writer_end}
+use Rattle.xcp_bank.specs.EndFields.{writer_in, shown_writer}
+use Rattle.xcp_bank.proofs.EndFieldLemmas.{desks_at, writer_kept_by}
 use Rattle.xcp_bank.proofs.WriterEndLemmas.{writer_shown, PublishedEnd, published_end, counted_more}
 use Rattle.xcp_bank.proofs.writer.Writer.publish.Goals as goal
 

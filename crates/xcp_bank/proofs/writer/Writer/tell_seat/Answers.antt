@@ -1,12 +1,12 @@
 use Rattle.std.proofs.Common.{◌≡◌, ℕ, sym, ap, ◌∙◌}
 use Rattle.atomic_table.specs.Seated.{TableId}
 use Rattle.std.specs.Arc.{arc_value}
-use Rattle.xcp_bank.specs.Known.{Reading, Writing}
-use Rattle.xcp_bank.specs.Cuts.{told, told_again}
-use Rattle.xcp_bank.specs.Seats.{IsWriterSeat, IsReaderSeat}
-use Rattle.xcp_bank.specs.Ends.{WriterEnd, writer_end}
-use Rattle.xcp_bank.specs.Fields.{writer_in}
-use Rattle.xcp_bank.proofs.Kept.{sits_at, desks_at, writer_kept_by}
+use Rattle.xcp_bank.specs.SeatKnowledge.{Reading, Writing}
+use Rattle.xcp_bank.specs.private.SeatSplits.{told, told_again}
+use Rattle.xcp_bank.specs.private.SeatSteps.{IsWriterSeat, IsReaderSeat}
+use Rattle.xcp_bank.specs.BankEnds.{WriterEnd, writer_end}
+use Rattle.xcp_bank.specs.EndFields.{writer_in}
+use Rattle.xcp_bank.proofs.EndFieldLemmas.{sits_at, desks_at, writer_kept_by}
 use Rattle.xcp_bank.proofs.WriterEndLemmas.{writer_shown}
 use Rattle.xcp_bank.proofs.writer.Writer.tell_seat.Goals as goal
 

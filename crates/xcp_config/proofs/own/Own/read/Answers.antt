@@ -4,11 +4,11 @@ use Rattle.toml.specs.View.{view}
 use Rattle.xcp_memory.specs.declared.Key.TheVariants as key
 use Rattle.xcp_config.specs.Check.{Check}
 use Rattle.xcp_memory.specs.Limits.{id_limit, max_cto_limit, max_dto_limit}
-use Rattle.xcp_config.specs.Values.{byte_orders, checksums}
-use Rattle.xcp_config.specs.Layout.{byte_order_of, checksum_of}
-use Rattle.xcp_config.specs.Table.{text_checks, name_checks, integer_checks, own_checks}
+use Rattle.xcp_config.specs.TomlValues.{byte_orders, checksums}
+use Rattle.xcp_config.specs.TableLayout.{byte_order_of, checksum_of}
+use Rattle.xcp_config.specs.TableChecks.{text_checks, name_checks, integer_checks, own_checks}
 use Rattle.std.proofs.lemmas.Result.{err_from_is_err_and}
-use Rattle.xcp_packet.proofs.TestLemmas.{behind_4, holding_1_of_5, holding_2_of_5, holding_3_of_5, holding_4_of_5}
+use Rattle.xcp_packet.proofs.RowTestLemmas.{behind_4, holding_1_of_5, holding_2_of_5, holding_3_of_5, holding_4_of_5}
 use Rattle.xcp_config.proofs.CheckLemmas.{or_so}
 use Rattle.xcp_config.proofs.own.Own.read.Goals as goal
 

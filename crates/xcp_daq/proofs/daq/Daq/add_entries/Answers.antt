@@ -1,12 +1,12 @@
 use Rattle.std.proofs.Common.{◌<◌, ◌++◌, length, get_or, ap, sym, ◌∙◌, arith, [], List, slice_set, subst, Some, None}
 use Rattle.std.specs.Prelude.{replicate}
-use Rattle.xcp_daq.specs.Daq.{DaqValue, DaqList}
-use Rattle.xcp_daq.specs.Lawful.{IsDaq}
+use Rattle.xcp_daq.specs.DaqLists.{DaqValue, DaqList}
+use Rattle.xcp_daq.specs.DaqInvariant.{IsDaq}
 use Rattle.std.proofs.lemmas.List.{length-set}
 use Rattle.xcp_daq.specs.declared.allocation.Allocation.TheVariants.{AllocOdtEntry}
 use Rattle.xcp_daq.specs.Allocating.{alloc_odt_entry_after}
-use Rattle.xcp_daq.proofs.ListLemmas.{count_of, odts_set, all_entries_are, odts_at_is}
-use Rattle.xcp_daq.proofs.LawfulLemmas.{lawful_more_entries, lawful_last}
+use Rattle.xcp_daq.proofs.DaqListLemmas.{count_of, odts_set, all_entries_are, odts_at_is}
+use Rattle.xcp_daq.proofs.DaqInvariantLemmas.{lawful_more_entries, lawful_last}
 use Rattle.xcp_daq.proofs.daq.Daq.add_entries.Goals as goal
 
 pub add_entries-requires-clause-list : goal.add_entries-requires-clause-list

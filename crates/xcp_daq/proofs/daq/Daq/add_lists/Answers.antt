@@ -1,14 +1,14 @@
 use Rattle.std.proofs.Common.{◌≡◌, length, ap, sym, ◌∙◌, arith, [], List, subst, Some}
 use Rattle.std.specs.Prelude.{Option, replicate}
 use Rattle.xcp_daq.specs.declared.element.Element.{Element}
-use Rattle.xcp_daq.specs.Daq.{DaqValue, DaqList}
-use Rattle.xcp_daq.specs.Lawful.{IsDaq}
+use Rattle.xcp_daq.specs.DaqLists.{DaqValue, DaqList}
+use Rattle.xcp_daq.specs.DaqInvariant.{IsDaq}
 use Rattle.std.proofs.Common.{length-append}
 use Rattle.std.proofs.lemmas.List.{length-replicate}
 use Rattle.xcp_daq.specs.declared.allocation.Allocation.TheVariants.{AllocDaq}
 use Rattle.xcp_daq.specs.Allocating.{alloc_daq_after}
-use Rattle.xcp_daq.proofs.ListLemmas.{count_of, lists_added}
-use Rattle.xcp_daq.proofs.LawfulLemmas.{lawful_added, lawful_last}
+use Rattle.xcp_daq.proofs.DaqListLemmas.{count_of, lists_added}
+use Rattle.xcp_daq.proofs.DaqInvariantLemmas.{lawful_added, lawful_last}
 use Rattle.xcp_daq.proofs.daq.Daq.add_lists.Goals as goal
 
 pub put_in-requires : goal.put_in-requires

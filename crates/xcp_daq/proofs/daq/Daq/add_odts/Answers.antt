@@ -1,12 +1,12 @@
 use Rattle.std.proofs.Common.{◌<◌, ◌++◌, length, ap, sym, ◌∙◌, arith, [], List, subst, Some}
 use Rattle.std.specs.Prelude.{replicate}
-use Rattle.xcp_daq.specs.Daq.{DaqValue, DaqList}
-use Rattle.xcp_daq.specs.Lawful.{IsDaq}
+use Rattle.xcp_daq.specs.DaqLists.{DaqValue, DaqList}
+use Rattle.xcp_daq.specs.DaqInvariant.{IsDaq}
 use Rattle.std.proofs.lemmas.List.{length-set}
 use Rattle.xcp_daq.specs.declared.allocation.Allocation.TheVariants.{AllocOdt}
 use Rattle.xcp_daq.specs.Allocating.{alloc_odt_after}
-use Rattle.xcp_daq.proofs.ListLemmas.{count_of, odts_set, all_odts_are}
-use Rattle.xcp_daq.proofs.LawfulLemmas.{lawful_more_odts, lawful_last, stands_still}
+use Rattle.xcp_daq.proofs.DaqListLemmas.{count_of, odts_set, all_odts_are}
+use Rattle.xcp_daq.proofs.DaqInvariantLemmas.{lawful_more_odts, lawful_last, stands_still}
 use Rattle.xcp_daq.proofs.daq.Daq.add_odts.Goals as goal
 
 pub add_odts-requires-clause-list : goal.add_odts-requires-clause-list

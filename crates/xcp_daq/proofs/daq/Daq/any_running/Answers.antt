@@ -1,7 +1,7 @@
 use Rattle.std.proofs.Common.{◌∙◌, ap}
 use Rattle.std.specs.List.{list_any}
 use Rattle.xcp_daq.specs.declared.mode.Mode.{Mode}
-use Rattle.xcp_daq.proofs.ListLemmas.{any_running_is}
+use Rattle.xcp_daq.proofs.DaqListLemmas.{any_running_is}
 use Rattle.xcp_daq.proofs.daq.Daq.any_running.Goals as goal
 
 pub returns : goal.returns

@@ -1,4 +1,4 @@
-use Rattle.xcp_daq.proofs.LawfulLemmas.{pointer_in}
+use Rattle.xcp_daq.proofs.DaqInvariantLemmas.{pointer_in}
 use Rattle.xcp_daq.proofs.daq.Daq.behind.Goals as goal
 
 pub entries_of-requires-clause-list : goal.entries_of-requires-clause-list

@@ -1,6 +1,6 @@
 use Rattle.std.proofs.Common.{arith}
-use Rattle.xcp_daq.specs.Daq.{no_list, list_at}
-use Rattle.xcp_daq.proofs.LawfulLemmas.{lawful_bound}
+use Rattle.xcp_daq.specs.DaqLists.{no_list, list_at}
+use Rattle.xcp_daq.proofs.DaqInvariantLemmas.{lawful_bound}
 use Rattle.xcp_daq.proofs.daq.Daq.bind.Goals as goal
 
 pub set_mode-requires-clause-lawful : goal.set_mode-requires-clause-lawful

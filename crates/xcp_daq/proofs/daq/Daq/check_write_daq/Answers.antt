@@ -1,7 +1,7 @@
 use Rattle.std.proofs.Common.{sym, ◌∙◌, ap}
-use Rattle.xcp_daq.specs.Daq.{DaqValue}
+use Rattle.xcp_daq.specs.DaqLists.{DaqValue}
 use Rattle.xcp_daq.specs.Configuring.{element_rows}
-use Rattle.xcp_daq.proofs.LawfulLemmas.{pointer_allowed}
+use Rattle.xcp_daq.proofs.DaqInvariantLemmas.{pointer_allowed}
 use Rattle.xcp_daq.proofs.daq.Daq.check_write_daq.Goals as goal
 
 pub returns-clause-ok : goal.returns-clause-ok

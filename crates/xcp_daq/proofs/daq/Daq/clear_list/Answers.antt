@@ -1,6 +1,6 @@
 use Rattle.std.specs.Prelude.{false}
-use Rattle.xcp_daq.specs.Daq.{no_list, list_at}
-use Rattle.xcp_daq.proofs.LawfulLemmas.{lawful_stopped, cleared_twice}
+use Rattle.xcp_daq.specs.DaqLists.{no_list, list_at}
+use Rattle.xcp_daq.proofs.DaqInvariantLemmas.{lawful_stopped, cleared_twice}
 use Rattle.xcp_daq.proofs.daq.Daq.clear_list.Goals as goal
 
 pub set_mode-requires-clause-lawful : goal.set_mode-requires-clause-lawful

@@ -1,14 +1,15 @@
 use Rattle.std.proofs.Common.{◌≡◌, ◌<◌, ◌≤◌, length, get_or, ap, sym, ◌∙◌, arith, List, subst, map, refl}
 use Rattle.xcp_daq.specs.declared.mode.Mode.{Mode}
-use Rattle.xcp_daq.specs.Daq.{DaqValue, DaqList, no_list, list_at}
-use Rattle.xcp_daq.specs.Lawful.{IsDaq}
+use Rattle.xcp_daq.specs.DaqLists.{DaqValue, DaqList, no_list, list_at}
+use Rattle.xcp_daq.specs.DaqInvariant.{IsDaq}
 use Rattle.std.proofs.Common.{length}
 use Rattle.std.proofs.lemmas.List.{length-map}
-use Rattle.xcp_daq.specs.Pools.{counted_mode, lists_of}
+use Rattle.xcp_daq.specs.Pools.{lists_of}
+use Rattle.xcp_daq.specs.private.Pools.{counted_mode}
 use Rattle.xcp_daq.specs.Sample.{counted, after_event}
-use Rattle.xcp_daq.proofs.Changing.{refilled}
-use Rattle.xcp_daq.proofs.ListLemmas.{lists-map, counted_of}
-use Rattle.xcp_daq.proofs.LawfulLemmas.{mode_lawful, lawful_map, lawful_counted, counted_odts}
+use Rattle.xcp_daq.proofs.ListLoopLemmas.{refilled}
+use Rattle.xcp_daq.proofs.DaqListLemmas.{lists-map, counted_of}
+use Rattle.xcp_daq.proofs.DaqInvariantLemmas.{mode_lawful, lawful_map, lawful_counted, counted_odts}
 use Rattle.xcp_daq.proofs.daq.Daq.count_event.Goals as goal
 
 pub count_each-requires : goal.count_each-requires

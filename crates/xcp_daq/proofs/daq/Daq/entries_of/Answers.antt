@@ -2,7 +2,7 @@ use Rattle.std.proofs.Common.{length, get_or, ap, sym, ◌∙◌, arith, []}
 use Rattle.std.proofs.Common.{List}
 use Rattle.std.specs.Prelude.{Option}
 use Rattle.xcp_daq.specs.declared.element.Element.{Element}
-use Rattle.xcp_daq.proofs.ListLemmas.{count_of, odts_at_is}
+use Rattle.xcp_daq.proofs.DaqListLemmas.{count_of, odts_at_is}
 use Rattle.xcp_daq.proofs.daq.Daq.entries_of.Goals as goal
 
 pub entries_of-requires : goal.entries_of-requires

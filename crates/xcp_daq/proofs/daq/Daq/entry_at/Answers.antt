@@ -3,8 +3,8 @@ use Rattle.std.specs.Prelude.{Option}
 use Rattle.xcp_daq.specs.declared.element.Element.{Element}
 use Rattle.xcp_daq.specs.declared.pointer.Pointer.{Pointer}
 use Rattle.xcp_daq.specs.Configuring.{entry_by}
-use Rattle.xcp_daq.proofs.ListLemmas.{count_of, odts_at_is}
-use Rattle.xcp_daq.proofs.LawfulLemmas.{pointer_in}
+use Rattle.xcp_daq.proofs.DaqListLemmas.{count_of, odts_at_is}
+use Rattle.xcp_daq.proofs.DaqInvariantLemmas.{pointer_in}
 use Rattle.xcp_daq.proofs.daq.Daq.entry_at.Goals as goal
 
 pub entry-requires-clause-list : goal.entry-requires-clause-list

@@ -1,5 +1,5 @@
 use Rattle.std.proofs.Common.{length, ap, sym, ◌∙◌}
-use Rattle.xcp_daq.proofs.ListLemmas.{all_entries_are}
+use Rattle.xcp_daq.proofs.DaqListLemmas.{all_entries_are}
 use Rattle.xcp_daq.proofs.daq.Daq.entry_count.Goals as goal
 
 pub returns-clause-value : goal.returns-clause-value

@@ -1,5 +1,5 @@
 use Rattle.std.proofs.Common.{sym, ◌∙◌, arith}
-use Rattle.xcp_daq.proofs.ListLemmas.{count_of, first_pid_is}
+use Rattle.xcp_daq.proofs.DaqListLemmas.{count_of, first_pid_is}
 use Rattle.xcp_daq.proofs.daq.Daq.first_pid.Goals as goal
 
 pub first_pid-requires : goal.first_pid-requires

@@ -1,6 +1,6 @@
 use Rattle.std.proofs.Common.{ap, sym, ◌∙◌, arith}
-use Rattle.xcp_daq.specs.Daq.{any_large}
-use Rattle.xcp_daq.proofs.ListLemmas.{count_of, odts_at_is}
+use Rattle.xcp_daq.specs.DaqLists.{any_large}
+use Rattle.xcp_daq.proofs.DaqListLemmas.{count_of, odts_at_is}
 use Rattle.xcp_daq.proofs.daq.Daq.has_large.Goals as goal
 
 pub has_large-requires : goal.has_large-requires

@@ -1,5 +1,5 @@
 use Rattle.std.proofs.Common.{◌∙◌, sym}
-use Rattle.xcp_daq.proofs.ListLemmas.{count_of}
+use Rattle.xcp_daq.proofs.DaqListLemmas.{count_of}
 use Rattle.xcp_daq.proofs.daq.Daq.list_count.Goals as goal
 
 pub returns-clause-value : goal.returns-clause-value

@@ -1,8 +1,8 @@
 use Rattle.std.proofs.Common.{length, get_or, ap, ◌∙◌, arith, List}
-use Rattle.xcp_daq.specs.Daq.{list_at}
+use Rattle.xcp_daq.specs.DaqLists.{list_at}
 use Rattle.xcp_daq.specs.declared.mode.Mode.{Mode}
 use Rattle.xcp_daq.specs.Pools.{list_of}
-use Rattle.xcp_daq.proofs.ListLemmas.{count_of, mode_is}
+use Rattle.xcp_daq.proofs.DaqListLemmas.{count_of, mode_is}
 use Rattle.xcp_daq.proofs.daq.Daq.mode.Goals as goal
 
 pub bounds-deref-i : goal.bounds-deref-i

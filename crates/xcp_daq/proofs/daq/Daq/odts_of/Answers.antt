@@ -1,5 +1,5 @@
 use Rattle.std.proofs.Common.{length, ap, sym, ◌∙◌, arith}
-use Rattle.xcp_daq.proofs.ListLemmas.{count_of, odts_at_is}
+use Rattle.xcp_daq.proofs.DaqListLemmas.{count_of, odts_at_is}
 use Rattle.xcp_daq.proofs.daq.Daq.odts_of.Goals as goal
 
 pub odts_of-requires : goal.odts_of-requires

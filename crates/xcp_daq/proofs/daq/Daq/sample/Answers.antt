@@ -1,7 +1,7 @@
 use Rattle.std.proofs.Common.{subst, All, ap}
-use Rattle.xcp_daq.specs.Lawful.{IsEntry}
+use Rattle.xcp_daq.specs.DaqInvariant.{IsEntry}
 use Rattle.xcp_daq.specs.Pools.{joined}
-use Rattle.xcp_daq.proofs.ListLemmas.{odts-of}
+use Rattle.xcp_daq.proofs.DaqListLemmas.{odts-of}
 use Rattle.xcp_daq.proofs.daq.Daq.sample.Goals as goal
 
 pub sample_due-requires-clause-written : goal.sample_due-requires-clause-written

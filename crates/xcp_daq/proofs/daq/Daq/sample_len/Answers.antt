@@ -4,11 +4,11 @@ use Rattle.xcp_daq.specs.declared.mode.Mode.{Mode}
 use Rattle.xcp_daq.specs.declared.pointer.Pointer.{Pointer}
 use Rattle.xcp_daq.specs.declared.allocation.Allocation.{Allocation}
 use Rattle.xcp_daq.specs.declared.element.Element.{Element}
-use Rattle.xcp_daq.specs.Lawful.{IsEntry, IsDaq}
+use Rattle.xcp_daq.specs.DaqInvariant.{IsEntry, IsDaq}
 use Rattle.xcp_daq.specs.Pools.{joined}
 use Rattle.xcp_daq.specs.Sample.{sampled}
-use Rattle.xcp_daq.proofs.BoundLemmas.{bounded}
-use Rattle.xcp_daq.proofs.ListLemmas.{daq_of, odts-of}
+use Rattle.xcp_daq.proofs.SampleBoundLaws.{bounded}
+use Rattle.xcp_daq.proofs.DaqListLemmas.{daq_of, odts-of}
 use Rattle.xcp_daq.proofs.daq.Daq.sample_len.Goals as goal
 
 -- the modes that are lent are the lists' own

@@ -1,6 +1,6 @@
 use Rattle.std.proofs.Common.{◌≡◌, take, false, ◌&&◌}
 use Rattle.std.specs.List.{list_any}
-use Rattle.xcp_daq.specs.Daq.{DaqList, any_large}
+use Rattle.xcp_daq.specs.DaqLists.{DaqList, any_large}
 use Rattle.xcp_daq.proofs.daq.Daq.selects_large.Given as goal
 
 abbrev pub invariant-loop-i : goal.invariant-loop-i

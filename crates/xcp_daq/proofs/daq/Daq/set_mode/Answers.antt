@@ -1,11 +1,11 @@
 use Rattle.std.proofs.Common.{◌<◌, length, ap, sym, ◌∙◌, arith, List, subst}
-use Rattle.xcp_daq.specs.Daq.{DaqValue, DaqList, list_at, with_list}
-use Rattle.xcp_daq.specs.Lawful.{IsDaq}
+use Rattle.xcp_daq.specs.DaqLists.{DaqValue, DaqList, list_at, with_list}
+use Rattle.xcp_daq.specs.DaqInvariant.{IsDaq}
 use Rattle.std.proofs.lemmas.List.{length-set}
 use Rattle.std.proofs.Common.{refl}
 use Rattle.xcp_daq.specs.Pools.{list_of}
-use Rattle.xcp_daq.proofs.ListLemmas.{count_of, modes_set}
-use Rattle.xcp_daq.proofs.LawfulLemmas.{lawful_mode}
+use Rattle.xcp_daq.proofs.DaqListLemmas.{count_of, modes_set}
+use Rattle.xcp_daq.proofs.DaqInvariantLemmas.{lawful_mode}
 use Rattle.xcp_daq.proofs.daq.Daq.set_mode.Goals as goal
 
 pub put-requires : goal.put-requires

@@ -1,10 +1,10 @@
 use Rattle.std.proofs.Common.{sym, ◌∙◌, subst}
 use Rattle.std.specs.Prelude.{true}
 use Rattle.xcp_daq.specs.declared.mode.Mode.{Mode}
-use Rattle.xcp_daq.specs.Daq.{no_list, list_at}
-use Rattle.xcp_daq.specs.Lawful.{IsList}
+use Rattle.xcp_daq.specs.DaqLists.{no_list, list_at}
+use Rattle.xcp_daq.specs.DaqInvariant.{IsList}
 use Rattle.xcp_daq.specs.Pools.{list_of}
-use Rattle.xcp_daq.proofs.LawfulLemmas.{lawful_stopped, lawful_started, lawful_selected}
+use Rattle.xcp_daq.proofs.DaqInvariantLemmas.{lawful_stopped, lawful_started, lawful_selected}
 use Rattle.xcp_daq.proofs.daq.Daq.switch_list.Goals as goal
 use Rattle.xcp_daq.proofs.daq.Daq.switch_list.Goals.{in-0, in-1, in_default}
 

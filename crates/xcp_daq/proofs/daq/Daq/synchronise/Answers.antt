@@ -1,14 +1,15 @@
 use Rattle.std.proofs.Common.{◌≡◌, length, ap, sym, ◌∙◌, List, subst, map, refl}
 use Rattle.std.specs.Prelude.{false}
 use Rattle.xcp_daq.specs.declared.mode.Mode.{Mode}
-use Rattle.xcp_daq.specs.Daq.{DaqValue, DaqList, no_list, list_at}
-use Rattle.xcp_daq.specs.Lawful.{IsDaq}
+use Rattle.xcp_daq.specs.DaqLists.{DaqValue, DaqList, no_list, list_at}
+use Rattle.xcp_daq.specs.DaqInvariant.{IsDaq}
 use Rattle.std.proofs.lemmas.List.{length-map}
-use Rattle.xcp_daq.specs.Pools.{synchronised_mode, lists_of}
+use Rattle.xcp_daq.specs.Pools.{lists_of}
+use Rattle.xcp_daq.specs.private.Pools.{synchronised_mode}
 use Rattle.xcp_daq.specs.Starting.{synchronised, start_stop_synch_after}
-use Rattle.xcp_daq.proofs.Changing.{refilled}
-use Rattle.xcp_daq.proofs.ListLemmas.{lists-map, synchronised_of}
-use Rattle.xcp_daq.proofs.LawfulLemmas.{lawful_map, lawful_synchronised, synchronised_odts}
+use Rattle.xcp_daq.proofs.ListLoopLemmas.{refilled}
+use Rattle.xcp_daq.proofs.DaqListLemmas.{lists-map, synchronised_of}
+use Rattle.xcp_daq.proofs.DaqInvariantLemmas.{lawful_map, lawful_synchronised, synchronised_odts}
 use Rattle.xcp_daq.proofs.daq.Daq.synchronise.Goals as goal
 
 pub returns : goal.returns

@@ -1,9 +1,9 @@
 use Rattle.std.proofs.Common.{◌<◌, length, ap, sym, ◌∙◌, arith, List, subst, None, map}
-use Rattle.xcp_daq.specs.Daq.{DaqValue, DaqList, list_at, with_list}
-use Rattle.xcp_daq.specs.Lawful.{IsDaq}
+use Rattle.xcp_daq.specs.DaqLists.{DaqValue, DaqList, list_at, with_list}
+use Rattle.xcp_daq.specs.DaqInvariant.{IsDaq}
 use Rattle.std.proofs.lemmas.List.{length-set}
-use Rattle.xcp_daq.proofs.ListLemmas.{count_of, odts_set}
-use Rattle.xcp_daq.proofs.LawfulLemmas.{lawful_bare}
+use Rattle.xcp_daq.proofs.DaqListLemmas.{count_of, odts_set}
+use Rattle.xcp_daq.proofs.DaqInvariantLemmas.{lawful_bare}
 use Rattle.xcp_daq.proofs.daq.Daq.unwrite.Goals as goal
 
 pub unwrite-requires : goal.unwrite-requires

@@ -2,11 +2,11 @@ use Rattle.std.proofs.Common.{◌<◌, length, get_or, ap, sym, ◌∙◌, arith
 use Rattle.std.specs.Prelude.{Option}
 use Rattle.xcp_daq.specs.declared.element.Element.{Element}
 use Rattle.xcp_daq.specs.declared.pointer.Pointer.{Pointer}
-use Rattle.xcp_daq.specs.Daq.{DaqValue, DaqList, odt_at, with_odt}
-use Rattle.xcp_daq.specs.Lawful.{IsDaq}
+use Rattle.xcp_daq.specs.DaqLists.{DaqValue, DaqList, odt_at, with_odt}
+use Rattle.xcp_daq.specs.DaqInvariant.{IsDaq}
 use Rattle.std.proofs.lemmas.List.{length-set}
-use Rattle.xcp_daq.proofs.ListLemmas.{count_of, odts_at_is, odts_set}
-use Rattle.xcp_daq.proofs.LawfulLemmas.{pointer_in, lawful_entry, lawful_pointer, grows_entry}
+use Rattle.xcp_daq.proofs.DaqListLemmas.{count_of, odts_at_is, odts_set}
+use Rattle.xcp_daq.proofs.DaqInvariantLemmas.{pointer_in, lawful_entry, lawful_pointer, grows_entry}
 use Rattle.xcp_daq.proofs.daq.Daq.write_entry.Goals as goal
 
 pub write-requires-clause-list : goal.write-requires-clause-list

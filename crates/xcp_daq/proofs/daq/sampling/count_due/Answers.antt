@@ -4,8 +4,8 @@ use Rattle.std.proofs.lemmas.List.{take_all}
 use Rattle.std.proofs.lemmas.List.FromFn.{length-enumerate_from}
 use Rattle.xcp_daq.specs.Pools.{lists_of}
 use Rattle.xcp_daq.specs.Sample.{list_packets}
-use Rattle.xcp_daq.proofs.ListLemmas.{daq_of, length-lists}
-use Rattle.xcp_daq.proofs.DueLemmas.{count_more, count_most}
+use Rattle.xcp_daq.proofs.DaqListLemmas.{daq_of, length-lists}
+use Rattle.xcp_daq.proofs.DueListLemmas.{count_more, count_most}
 use Rattle.xcp_daq.proofs.daq.sampling.count_due.Goals as goal
 
 pub overflow_add-n : goal.overflow_add-n

@@ -1,6 +1,6 @@
 use Rattle.std.proofs.Common.{ap, sym, ◌∙◌, length, take, get_or, []}
 use Rattle.xcp_daq.specs.Pools.{joined}
-use Rattle.xcp_daq.proofs.DueLemmas.{due_packets}
+use Rattle.xcp_daq.proofs.DueListLemmas.{due_packets}
 use Rattle.xcp_daq.proofs.SampleLemmas.{same_packets}
 use Rattle.xcp_daq.proofs.daq.sampling.count_list.Goals as goal
 

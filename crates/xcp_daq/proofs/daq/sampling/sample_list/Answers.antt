@@ -1,6 +1,6 @@
 use Rattle.std.proofs.Common.{ap, sym, ◌∙◌, arith, ◌++◌, List, ℕ}
 use Rattle.arrayvec.specs.ArrayVec.{ArrayVec}
-use Rattle.xcp_daq.proofs.DueLemmas.{due_fits, due_packets, joined_more}
+use Rattle.xcp_daq.proofs.DueListLemmas.{due_fits, due_packets, joined_more}
 use Rattle.xcp_daq.proofs.daq.sampling.sample_list.Goals as goal
 
 pub sample-requires-clause-fits : goal.sample-requires-clause-fits

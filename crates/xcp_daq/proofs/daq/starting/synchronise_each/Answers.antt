@@ -1,5 +1,5 @@
-use Rattle.xcp_daq.specs.Pools.{synchronised_mode}
-use Rattle.xcp_daq.proofs.Changing.{changed_more}
+use Rattle.xcp_daq.specs.private.Pools.{synchronised_mode}
+use Rattle.xcp_daq.proofs.ListLoopLemmas.{changed_more}
 use Rattle.xcp_daq.proofs.daq.starting.synchronise_each.Goals as goal
 
 pub loop-state-preserved : goal.loop-state-preserved

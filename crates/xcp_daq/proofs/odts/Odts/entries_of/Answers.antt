@@ -1,5 +1,5 @@
 use Rattle.std.proofs.Common.{◌<◌, length, arith, ◌∙◌, sym, ap, get_or}
-use Rattle.xcp_daq.proofs.PartsLemmas.{end-le-total}
+use Rattle.xcp_daq.proofs.PoolPartLemmas.{end-le-total}
 use Rattle.xcp_daq.proofs.OdtLemmas.{entry_count, odt_in, list_in}
 use Rattle.xcp_daq.proofs.odts.Odts.entries_of.Goals as goal
 

@@ -1,7 +1,7 @@
 use Rattle.std.proofs.Common.{◌≤◌, ◌+◌, ◌-◌, ◌++◌, length, take, drop, arith, ◌∙◌, ap, None, List, refl}
 use Rattle.std.specs.Prelude.{replicate, Option}
 use Rattle.xcp_daq.specs.declared.element.Element.{Element}
-use Rattle.xcp_daq.proofs.Changing.{refilled}
+use Rattle.xcp_daq.proofs.ListLoopLemmas.{refilled}
 use Rattle.xcp_daq.proofs.OdtLemmas.{list_in, unwritten, unwritten-fit, totals_order}
 use Rattle.xcp_daq.proofs.odts.Odts.unwrite.Goals as goal
 

@@ -1,6 +1,6 @@
 use Rattle.std.proofs.Common.{◌+◌, arith, ◌∙◌, sym, ap}
-use Rattle.xcp_daq.specs.Daq.{odt_size}
-use Rattle.xcp_daq.proofs.PartsLemmas.{total-more, total-take}
+use Rattle.xcp_daq.specs.DaqLists.{odt_size}
+use Rattle.xcp_daq.proofs.PoolPartLemmas.{total-more, total-take}
 use Rattle.xcp_daq.proofs.OdtLemmas.{small_step}
 use Rattle.xcp_daq.proofs.odts.reading.any_large.Goals as goal
 

@@ -1,5 +1,5 @@
 use Rattle.std.proofs.Common.{◌≡◌, ◌≤◌, ◌*◌, take}
-use Rattle.xcp_daq.specs.Daq.{odt_size}
+use Rattle.xcp_daq.specs.DaqLists.{odt_size}
 use Rattle.xcp_daq.proofs.odts.reading.size_of_odt.Given as goal
 
 abbrev pub invariant-loop-entry : goal.invariant-loop-entry

@@ -1,6 +1,6 @@
 use Rattle.std.proofs.Common.{◌+◌, arith, ap, length}
 use Rattle.xcp_daq.specs.Sample.{odt_bytes, packet_of}
-use Rattle.xcp_daq.proofs.PartsLemmas.{total-more, total-take}
+use Rattle.xcp_daq.proofs.PoolPartLemmas.{total-more, total-take}
 use Rattle.xcp_daq.proofs.SampleLemmas.{one_packet, count_step}
 use Rattle.xcp_daq.proofs.odts.sampling.count_packets.Goals as goal
 

@@ -2,10 +2,10 @@ use Rattle.std.proofs.Common.{◌≤◌, ◌+◌, ◌++◌, arith, ◌∙◌, sy
 use Rattle.std.specs.Prelude.{Option}
 use Rattle.std.proofs.lemmas.List.Elements.{All-get_or}
 use Rattle.xcp_daq.specs.declared.element.Element.{Element}
-use Rattle.xcp_daq.specs.Daq.{odt_size}
+use Rattle.xcp_daq.specs.DaqLists.{odt_size}
 use Rattle.xcp_daq.specs.Pools.{parts}
 use Rattle.xcp_daq.specs.Sample.{packet_of, odt_bytes}
-use Rattle.xcp_daq.proofs.PartsLemmas.{total-more, total-take, length-parts}
+use Rattle.xcp_daq.proofs.PoolPartLemmas.{total-more, total-take, length-parts}
 use Rattle.xcp_daq.proofs.OdtLemmas.{part_is}
 use Rattle.xcp_daq.proofs.SampleLemmas.{packets_step}
 use Rattle.xcp_daq.proofs.odts.sampling.sample_odts.Goals as goal

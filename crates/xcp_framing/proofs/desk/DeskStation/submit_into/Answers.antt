@@ -1,8 +1,8 @@
 use Rattle.std.proofs.Common.{ap, ◌∙◌, refl}
-use Rattle.xcp_slave.proofs.LayoutLaws.{answers-layout}
+use Rattle.xcp_slave.proofs.LayoutKeptLemmas.{answers-layout}
 use Rattle.xcp_slave.proofs.RunLaws.{run-extended}
-use Rattle.xcp_slave.specs.Told.{answer_in}
-use Rattle.xcp_slave.specs.Value.{layout_of}
+use Rattle.xcp_slave.specs.AnswerInBytes.{answer_in}
+use Rattle.xcp_slave.specs.SlaveValue.{layout_of}
 use Rattle.xcp_framing.specs.Desk.{DeskValue}
 use Rattle.xcp_framing.proofs.desk.DeskStation.submit_into.Goals as goal
 

@@ -1,6 +1,6 @@
 use Rattle.std.proofs.Common.{◌≡◌, ◌≤◌, ◌-◌, ◌∙◌, arith, length, length-drop, length-take, drop, take}
 use Rattle.std.proofs.lemmas.List.{take_all}
-use Rattle.xcp_framing.proofs.Gathering.{feeds_more}
+use Rattle.xcp_framing.proofs.PartialFrameLemmas.{feeds_more}
 use Rattle.xcp_framing.proofs.framer.Framer.feed_into.Goals as goal
 
 pub loop-cut-smaller : goal.loop-cut-smaller

@@ -1,7 +1,7 @@
 use Rattle.std.proofs.Common.{◌≡◌, ◌<◌, ◌-◌, ℕ, length}
 use Rattle.xcp_framing.specs.declared.framer.Brought.TheVariants.{Packet, More, BadLength}
 use Rattle.xcp_framing.specs.Wire.{IsBadLength, len_of}
-use Rattle.xcp_framing.specs.Feeding.{Feeds, got_in, packets_given}
+use Rattle.xcp_framing.specs.FramerInput.{Feeds, got_in, packets_given}
 use Rattle.xcp_framing.proofs.framer.Framer.feed_into.Given as goal
 
 abbrev pub invariant-loop-cut : goal.invariant-loop-cut

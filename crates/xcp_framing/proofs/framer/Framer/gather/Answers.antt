@@ -1,8 +1,8 @@
 use Rattle.std.proofs.Common.{◌≡◌, [], ◌++◌, take, arith}
 use Rattle.std.proofs.lemmas.Grind.{common_steps}
-use Rattle.xcp_framing.proofs.Answering.{cons≢nil}
-use Rattle.xcp_framing.proofs.Cuts.{rest_unfinished, unfinished_nil}
-use Rattle.xcp_framing.proofs.Gathering.{feeds_once, moves_on, packet_moves_on}
+use Rattle.xcp_framing.proofs.ExchangeLemmas.{cons≢nil}
+use Rattle.xcp_framing.proofs.FrameCutLaws.{rest_unfinished, unfinished_nil}
+use Rattle.xcp_framing.proofs.PartialFrameLemmas.{feeds_once, moves_on, packet_moves_on}
 use Rattle.xcp_framing.proofs.framer.Framer.gather.Goals as goal
 
 pub invariant_of-self : goal.invariant_of-self

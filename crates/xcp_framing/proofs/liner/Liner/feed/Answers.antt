@@ -1,5 +1,5 @@
 use Rattle.std.proofs.Common.{◌∷◌, ◌+◌, take, drop}
-use Rattle.xcp_framing.proofs.Ends.{began_before, lies_in_piece}
+use Rattle.xcp_framing.proofs.LineFeedLemmas.{began_before, lies_in_piece}
 use Rattle.xcp_framing.proofs.liner.Liner.feed.Goals as goal
 
 pub returns-then-not-keep-2 : goal.returns-then-not-keep-2

@@ -3,11 +3,11 @@ use Rattle.std.proofs.lemmas.List.{take_all}
 use Rattle.std.proofs.lemmas.Result.{err_from_is_err_and}
 use Rattle.xcp_slave.specs.declared.Request.{Request}
 use Rattle.xcp_slave.specs.Run.{requests_of}
-use Rattle.xcp_framing.specs.Front.{IsFront}
-use Rattle.xcp_framing.specs.Reading.{asked_before, faulty_from, lines_from}
-use Rattle.xcp_framing.proofs.Ends.{asked_more, fault_more, line_cut, none_ends}
-use Rattle.xcp_framing.proofs.LongLines.{faulty_stops, stopped, too_long_stops}
-use Rattle.xcp_framing.proofs.Shortage.{short_since}
+use Rattle.xcp_framing.specs.Prefix.{IsFront}
+use Rattle.xcp_framing.specs.private.LineReading.{asked_before, faulty_from, lines_from}
+use Rattle.xcp_framing.proofs.LineFeedLemmas.{asked_more, fault_more, line_cut, none_ends}
+use Rattle.xcp_framing.proofs.LongLineLemmas.{faulty_stops, stopped, too_long_stops}
+use Rattle.xcp_framing.proofs.MemoryShortageLemmas.{short_since}
 use Rattle.xcp_framing.proofs.script.Pending.feed.Goals as goal
 
 pub returns-in_err-answer_line-in-Line-clause-faulty : goal.returns-in_err-answer_line-in-Line-clause-faulty

@@ -1,9 +1,9 @@
 use Rattle.std.proofs.Common.{◌≡◌, ◌≤◌, ◌+◌, ◌++◌, ℕ, List, length}
-use Rattle.xcp_framing.specs.Front.{IsFront}
-use Rattle.xcp_framing.specs.Reading.{asked_before, faulty_from, lines_from}
+use Rattle.xcp_framing.specs.Prefix.{IsFront}
+use Rattle.xcp_framing.specs.private.LineReading.{asked_before, faulty_from, lines_from}
 use Rattle.xcp_slave.specs.Run.{requests_of}
-use Rattle.xcp_slave.specs.Value.{layout_of}
-use Rattle.xcp_framing.specs.Told.{told}
+use Rattle.xcp_slave.specs.SlaveValue.{layout_of}
+use Rattle.xcp_framing.specs.AnswerText.{told}
 use Rattle.xcp_framing.proofs.script.Pending.feed.Given as goal
 
 abbrev pub invariant-loop-end : goal.invariant-loop-end

@@ -1,5 +1,5 @@
 use Rattle.std.proofs.Common.{[]}
-use Rattle.xcp_framing.proofs.LongLines.{last_is_one}
+use Rattle.xcp_framing.proofs.LongLineLemmas.{last_is_one}
 use Rattle.xcp_framing.proofs.script.Pending.finish.Goals as goal
 
 pub returns-clause-memory : goal.returns-clause-memory

@@ -2,7 +2,7 @@ use Rattle.std.proofs.Common.{◌≡◌, ◌-◌, ◌≤◌, length, take, drop,
 use Rattle.std.proofs.Math.Seq.{take-add}
 use Rattle.std.proofs.lemmas.List.{take_all}
 use Rattle.std.proofs.lemmas.Bool.Decides.{nat_tests}
-use Rattle.xcp_framing.proofs.Bytes.{appends_more, front_kept, keeps_none}
+use Rattle.xcp_framing.proofs.KnownBytesLemmas.{appends_more, front_kept, keeps_none}
 use Rattle.xcp_framing.proofs.watched.Watched.write_all.Goals as goal
 
 pub loop-written-preserved : goal.loop-written-preserved

@@ -1,5 +1,5 @@
 use Rattle.std.proofs.Common.{rules, refl}
-use Rattle.xcp_locked.proofs.Attendings.{serves_by_none}
+use Rattle.xcp_locked.proofs.ConnectionOutcomeLemmas.{serves_by_none}
 use Rattle.xcp_locked.proofs.hearing.HearingWorkHeard.leave.Goals as goal
 
 pub returns : goal.returns

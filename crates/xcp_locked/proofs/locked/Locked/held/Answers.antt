@@ -1,5 +1,5 @@
 use Rattle.std.proofs.Common.{◌∙◌, List, ap, ℕ}
-use Rattle.xcp_locked.specs.Locked.{LockedValue}
+use Rattle.xcp_locked.specs.LockedSlave.{LockedValue}
 use Rattle.xcp_locked.proofs.locked.Locked.held.Goals as goal
 
 pub invariant_of-self : goal.invariant_of-self

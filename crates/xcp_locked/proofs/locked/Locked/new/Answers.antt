@@ -1,10 +1,10 @@
 use Rattle.std.proofs.Common.{◌≡◌, ◌∙◌, ap, arith, length, sym}
-use Rattle.xcp_slave.specs.Value.{SlaveValue, layout_of, opening}
-use Rattle.xcp_bank.specs.Ends.{new_writer}
-use Rattle.xcp_locked.specs.Opening.{UnnamedValue}
-use Rattle.xcp_locked.specs.Published.{image_of}
-use Rattle.xcp_locked.proofs.Journals.{run_first}
-use Rattle.xcp_locked.proofs.Publications.{kept_first}
+use Rattle.xcp_slave.specs.SlaveValue.{SlaveValue, layout_of, opening}
+use Rattle.xcp_bank.specs.BankEnds.{new_writer}
+use Rattle.xcp_locked.specs.UnnamedSlave.{UnnamedValue}
+use Rattle.xcp_locked.specs.Publications.{image_of}
+use Rattle.xcp_locked.proofs.JournalLemmas.{run_first}
+use Rattle.xcp_locked.proofs.PublicationLemmas.{kept_first}
 use Rattle.xcp_locked.proofs.locked.Locked.new.Goals as goal
 
 pub invariant_of-locked : goal.invariant_of-locked

@@ -1,5 +1,5 @@
 use Rattle.std.proofs.Common.{◌≡◌}
-use Rattle.xcp_locked.specs.Settling.{AreSettled}
+use Rattle.xcp_locked.specs.SettledReceipts.{AreSettled}
 use Rattle.xcp_locked.proofs.locked.Locked.settle_each.Given as goal
 
 abbrev pub invariant-loop-caller : goal.invariant-loop-caller

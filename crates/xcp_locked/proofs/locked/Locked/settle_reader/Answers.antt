@@ -1,10 +1,10 @@
 use Rattle.std.proofs.Common.{◌≡◌, ℕ, ◌≤◌, length, arith, slice_index_or, sym, ap, ◌∙◌, subst, Some}
-use Rattle.xcp_slave.specs.Value.{opening}
-use Rattle.xcp_bank.specs.Ends.{image_at}
+use Rattle.xcp_slave.specs.SlaveValue.{opening}
+use Rattle.xcp_bank.specs.BankEnds.{image_at}
 use Rattle.xcp_locked.specs.Journal.{exchanges}
-use Rattle.xcp_locked.specs.Published.{Published, publication}
-use Rattle.xcp_locked.proofs.Publications.{exchanges_length}
-use Rattle.xcp_locked.proofs.Settlings.{some_of, member_at, places_length, same_number}
+use Rattle.xcp_locked.specs.Publications.{Published, publication}
+use Rattle.xcp_locked.proofs.PublicationLemmas.{exchanges_length}
+use Rattle.xcp_locked.proofs.SettledReaderLemmas.{some_of, member_at, places_length, same_number}
 use Rattle.xcp_locked.proofs.locked.Locked.settle_reader.Goals as goal
 
 pub index-from-requires : goal.index-from-requires

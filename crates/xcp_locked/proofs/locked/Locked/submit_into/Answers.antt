@@ -1,13 +1,13 @@
 use Rattle.std.proofs.Common.{◌+◌, ◌∙◌, ℕ, ap, arith, length, subst}
 use Rattle.xcp_memory.specs.Layout.{LayoutValue}
 use Rattle.xcp_slave.specs.Run.{Run}
-use Rattle.xcp_slave.specs.Told.{answer_in}
-use Rattle.xcp_slave.specs.Value.{layout_of, opening}
+use Rattle.xcp_slave.specs.AnswerInBytes.{answer_in}
+use Rattle.xcp_slave.specs.SlaveValue.{layout_of, opening}
 use Rattle.xcp_locked.specs.Journal.{exchanges}
-use Rattle.xcp_slave.proofs.LayoutLaws.{answers-layout}
-use Rattle.xcp_locked.specs.Locked.{LockedValue}
-use Rattle.xcp_locked.proofs.Journals.{one_more, run_goes_on}
-use Rattle.xcp_locked.proofs.Publications.{kept_goes_on}
+use Rattle.xcp_slave.proofs.LayoutKeptLemmas.{answers-layout}
+use Rattle.xcp_locked.specs.LockedSlave.{LockedValue}
+use Rattle.xcp_locked.proofs.JournalLemmas.{one_more, run_goes_on}
+use Rattle.xcp_locked.proofs.PublicationLemmas.{kept_goes_on}
 use Rattle.xcp_locked.proofs.locked.Locked.submit_into.Goals as goal
 
 pub invariant_of-self-2 : goal.invariant_of-self-2

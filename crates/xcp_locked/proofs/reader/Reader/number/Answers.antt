@@ -1,5 +1,5 @@
 use Rattle.std.proofs.Common.{◌∙◌, ap}
-use Rattle.xcp_bank.specs.Ends.{ReaderEnd}
+use Rattle.xcp_bank.specs.BankEnds.{ReaderEnd}
 use Rattle.xcp_locked.proofs.reader.Reader.number.Goals as goal
 
 pub returns-clause-number : goal.returns-clause-number

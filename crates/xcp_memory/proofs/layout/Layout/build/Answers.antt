@@ -5,8 +5,8 @@ use Rattle.std.proofs.lemmas.Result.{err_from_is_err_and}
 use Rattle.xcp_memory.specs.Layout.{IsLayout}
 use Rattle.xcp_packet.specs.Rows.{first_holding}
 use Rattle.xcp_memory.specs.Limits.{apart_limits}
-use Rattle.xcp_memory.proofs.LawfulLemmas.{lawful}
-use Rattle.xcp_memory.proofs.BuildLemmas.{fault_of_own, fault_of_segments, fault_of_signals, fault_of_events, fault_of_areas, areas_built, layout_built}
+use Rattle.xcp_memory.proofs.LawfulLayoutLemmas.{lawful}
+use Rattle.xcp_memory.proofs.LimitGroupLemmas.{fault_of_own, fault_of_segments, fault_of_signals, fault_of_events, fault_of_areas, areas_built, layout_built}
 use Rattle.xcp_memory.proofs.layout.Layout.build.Goals as goal
 
 pub returns-in_err-own-clause-refused : goal.returns-in_err-own-clause-refused

@@ -2,7 +2,7 @@ use Rattle.std.proofs.Common.{◌≡◌, subst, arith, slice_index_or as get_or}
 use Rattle.std.proofs.lemmas.Grind.{common_steps}
 use Rattle.xcp_memory.specs.Layout.{IsLayout}
 use Rattle.xcp_memory.specs.Pages.{no_segment}
-use Rattle.xcp_memory.proofs.AreaLemmas.{segment_last}
+use Rattle.xcp_memory.proofs.AreaLaws.{segment_last}
 use Rattle.xcp_memory.proofs.layout.Layout.segment_address.Goals as goal
 
 pub returns-clause-last : goal.returns-clause-last

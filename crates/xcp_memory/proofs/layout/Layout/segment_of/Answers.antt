@@ -1,4 +1,4 @@
-use Rattle.xcp_memory.proofs.AreaLemmas.{located}
+use Rattle.xcp_memory.proofs.AreaLaws.{located}
 use Rattle.xcp_memory.proofs.layout.Layout.segment_of.Goals as goal
 
 pub returns-clause-located : goal.returns-clause-located

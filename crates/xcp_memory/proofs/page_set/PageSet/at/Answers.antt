@@ -1,5 +1,5 @@
 use Rattle.std.proofs.Common.{ap, ◌∙◌, ◌*◌, length, take, drop, arith}
-use Rattle.xcp_memory.proofs.PageStore.{stored_by, stored_room, stored_page}
+use Rattle.xcp_memory.proofs.PageStoreLemmas.{stored_by, stored_room, stored_page}
 use Rattle.xcp_memory.proofs.page_set.PageSet.at.Goals as goal
 
 pub overflow_mul-page : goal.overflow_mul-page

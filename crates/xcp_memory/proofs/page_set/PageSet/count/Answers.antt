@@ -1,4 +1,4 @@
-use Rattle.xcp_memory.proofs.PageStore.{stored_by, stored_count}
+use Rattle.xcp_memory.proofs.PageStoreLemmas.{stored_by, stored_count}
 use Rattle.xcp_memory.proofs.page_set.PageSet.count.Goals as goal
 
 pub returns : goal.returns

@@ -1,5 +1,5 @@
 use Rattle.std.proofs.Common.{[], ap, ◌∙◌, get_or}
-use Rattle.xcp_memory.specs.Copying.{with_content}
+use Rattle.xcp_memory.specs.PageCopy.{with_content}
 use Rattle.xcp_memory.proofs.PageLemmas.{all_over}
 use Rattle.xcp_memory.proofs.page_set.PageSet.fill.Goals as goal
 

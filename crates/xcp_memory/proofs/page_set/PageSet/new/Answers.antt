@@ -1,8 +1,8 @@
 use Rattle.std.proofs.Common.{ap, ◌∙◌, ◌≡◌, length, false}
 use Rattle.std.specs.List.{repeat, each_same}
 use Rattle.xcp_memory.specs.Pages.{SegmentPages}
-use Rattle.xcp_memory.specs.PageStore.{pages_in}
-use Rattle.xcp_memory.proofs.PageStore.{repeated}
+use Rattle.xcp_memory.specs.private.PageStore.{pages_in}
+use Rattle.xcp_memory.proofs.PageStoreLemmas.{repeated}
 use Rattle.xcp_memory.proofs.page_set.PageSet.new.Goals as goal
 
 pub returns : goal.returns

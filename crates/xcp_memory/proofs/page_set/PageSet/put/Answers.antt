@@ -1,8 +1,8 @@
 use Rattle.std.proofs.Common.{ap, ◌∙◌, ◌≡◌, ◌*◌, ◌+◌, ◌≤◌, length, arith}
-use Rattle.xcp_memory.specs.PageStore.{pages_in}
-use Rattle.xcp_memory.specs.Words.{overwritten}
+use Rattle.xcp_memory.specs.private.PageStore.{pages_in}
+use Rattle.xcp_memory.specs.ComputedAccess.{overwritten}
 use Rattle.xcp_memory.proofs.PageLemmas.{length-overwritten, refilled}
-use Rattle.xcp_memory.proofs.PageStore.{stored_by, stored_room, stored_size, stored_put, with_pages}
+use Rattle.xcp_memory.proofs.PageStoreLemmas.{stored_by, stored_room, stored_size, stored_put, with_pages}
 use Rattle.xcp_memory.proofs.page_set.PageSet.put.Goals as goal
 
 pub overflow_mul-page : goal.overflow_mul-page

@@ -1,7 +1,7 @@
 use Rattle.std.proofs.Common.{ap, sym, ◌∙◌}
 use Rattle.std.specs.List.{list_any}
-use Rattle.xcp_memory.specs.Switch.{lacks_page}
-use Rattle.xcp_memory.proofs.Switching.{switch_allowed}
+use Rattle.xcp_memory.specs.PageSwitch.{lacks_page}
+use Rattle.xcp_memory.proofs.PageSwitchLemmas.{switch_allowed}
 use Rattle.xcp_memory.proofs.pages.Pages.check_switch.Goals as goal
 
 pub returns : goal.returns

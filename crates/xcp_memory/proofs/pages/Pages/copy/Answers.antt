@@ -1,8 +1,8 @@
 use Rattle.std.proofs.Common.{ap, ◌∙◌, ◌≡◌, sym, subst, length, List}
 use Rattle.std.proofs.lemmas.List.{length-set}
-use Rattle.xcp_memory.specs.Copying.{copy_refusal, pages_copied}
+use Rattle.xcp_memory.specs.PageCopy.{copy_refusal, pages_copied}
 use Rattle.xcp_memory.specs.Pages.{IsPages, SegmentPages, PagesValue}
-use Rattle.xcp_memory.proofs.Copying.{is_pages-copied}
+use Rattle.xcp_memory.proofs.PageCopyLemmas.{is_pages-copied}
 use Rattle.xcp_memory.proofs.PageLemmas.{refilled}
 use Rattle.xcp_memory.proofs.pages.Pages.copy.Goals as goal
 

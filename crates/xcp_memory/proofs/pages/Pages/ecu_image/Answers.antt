@@ -1,7 +1,7 @@
 use Rattle.std.proofs.Common.{arith, ap, length}
 use Rattle.std.specs.List.{flat_map}
 use Rattle.xcp_memory.specs.Pages.{ecu_page}
-use Rattle.xcp_memory.proofs.Imaging.{length-ecu_pages}
+use Rattle.xcp_memory.proofs.EcuImageLemmas.{length-ecu_pages}
 use Rattle.xcp_memory.proofs.pages.Pages.ecu_image.Goals as goal
 
 pub lay-end-requires-clause-room : goal.lay-end-requires-clause-room

@@ -2,8 +2,8 @@ use Rattle.std.proofs.Common.{ap, ◌∙◌, ◌≡◌, sym, subst, length, map,
 use Rattle.std.proofs.lemmas.List.{length-map}
 use Rattle.xcp_memory.specs.Freeze.{segment_frozen}
 use Rattle.xcp_memory.specs.Pages.{IsPages, SegmentPages, PagesValue}
-use Rattle.xcp_memory.specs.Words.{write_refusal}
-use Rattle.xcp_memory.proofs.Freezing.{is_pages-frozen, same_writable}
+use Rattle.xcp_memory.specs.ComputedAccess.{write_refusal}
+use Rattle.xcp_memory.proofs.FreezeLemmas.{is_pages-frozen, same_writable}
 use Rattle.xcp_memory.proofs.PageLemmas.{refilled}
 use Rattle.xcp_memory.proofs.pages.Pages.freeze.Goals as goal
 

@@ -1,9 +1,9 @@
 use Rattle.std.proofs.Common.{ap, ◌∙◌, ◌≡◌, sym, subst, length, map, List}
 use Rattle.std.proofs.lemmas.List.{length-map}
 use Rattle.xcp_memory.specs.Pages.{IsPages, SegmentPages, PagesValue}
-use Rattle.xcp_memory.specs.Switch.{segment_switched, switch_refusal, is_of_all}
+use Rattle.xcp_memory.specs.PageSwitch.{segment_switched, switch_refusal, is_of_all}
 use Rattle.xcp_memory.proofs.PageLemmas.{refilled}
-use Rattle.xcp_memory.proofs.Switching.{is_pages-switched_all}
+use Rattle.xcp_memory.proofs.PageSwitchLemmas.{is_pages-switched_all}
 use Rattle.xcp_memory.proofs.pages.Pages.give.Goals as goal
 
 pub invariant_of-self : goal.invariant_of-self

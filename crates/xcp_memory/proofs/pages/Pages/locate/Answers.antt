@@ -1,7 +1,7 @@
 use Rattle.std.proofs.Common.{subst, ap, ◌∙◌}
 use Rattle.xcp_memory.specs.Pages.{PagesValue, IsPages}
-use Rattle.xcp_memory.specs.Words.{segment_of}
-use Rattle.xcp_memory.proofs.Places.{locates}
+use Rattle.xcp_memory.specs.ComputedAccess.{segment_of}
+use Rattle.xcp_memory.proofs.RangeLemmas.{locates}
 use Rattle.xcp_memory.proofs.pages.Pages.locate.Goals as goal
 
 pub returns-clause-located : goal.returns-clause-located

@@ -1,7 +1,7 @@
 use Rattle.std.proofs.Common.{Ok}
 use Rattle.std.proofs.lemmas.Result.{err_from_is_err_and}
-use Rattle.xcp_memory.specs.Words.{write_refusal}
-use Rattle.xcp_memory.proofs.Denying.{handed_on, answers_outside, answers_protected}
+use Rattle.xcp_memory.specs.ComputedAccess.{write_refusal}
+use Rattle.xcp_memory.proofs.WriteRefusalLaws.{handed_on, answers_outside, answers_protected}
 use Rattle.xcp_memory.proofs.pages.Pages.may_write.Goals as goal
 
 pub returns-in_err-writable-clause-outside : goal.returns-in_err-writable-clause-outside

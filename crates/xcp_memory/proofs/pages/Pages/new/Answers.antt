@@ -1,5 +1,5 @@
 use Rattle.std.proofs.Common.{arith, ◌∙◌}
-use Rattle.xcp_memory.proofs.Opening.{opened_more, opened_all}
+use Rattle.xcp_memory.proofs.OpeningPageLemmas.{opened_more, opened_all}
 use Rattle.xcp_memory.proofs.pages.Pages.new.Goals as goal
 
 pub loop-i-init : goal.loop-i-init

@@ -1,5 +1,5 @@
 use Rattle.std.proofs.Common.{length, ◌∙◌}
-use Rattle.xcp_memory.proofs.Reading.{controller_reads}
+use Rattle.xcp_memory.proofs.ReadLaws.{controller_reads}
 use Rattle.xcp_memory.proofs.pages.Pages.read_ecu.Goals as goal
 
 pub returns-clause-reads : goal.returns-clause-reads

@@ -1,5 +1,5 @@
 use Rattle.std.proofs.Common.{length, ◌∙◌}
-use Rattle.xcp_memory.proofs.Reading.{tool_reads}
+use Rattle.xcp_memory.proofs.ReadLaws.{tool_reads}
 use Rattle.xcp_memory.proofs.pages.Pages.read_xcp.Goals as goal
 
 pub returns-clause-reads : goal.returns-clause-reads

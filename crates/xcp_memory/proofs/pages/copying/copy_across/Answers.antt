@@ -1,7 +1,7 @@
 use Rattle.std.proofs.Common.{[], get_or, slice_set, ◌<◌, ap, sym, ◌∙◌, length, arith}
-use Rattle.xcp_memory.specs.Copying.{with_content}
+use Rattle.xcp_memory.specs.PageCopy.{with_content}
 use Rattle.xcp_memory.specs.Pages.{SegmentPages, no_pages}
-use Rattle.xcp_memory.proofs.Copying.{changed_behind, changed_before, first_behind, one_before}
+use Rattle.xcp_memory.proofs.PageCopyLemmas.{changed_behind, changed_before, first_behind, one_before}
 use Rattle.xcp_memory.proofs.pages.copying.copy_across.Goals as goal
 
 pub returns-then-source-target : goal.returns-then-source-target

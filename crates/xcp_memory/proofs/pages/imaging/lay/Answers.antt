@@ -1,6 +1,6 @@
 use Rattle.std.proofs.Common.{◌+◌, length, take, ap, sym, ◌∙◌, arith}
 use Rattle.std.proofs.lemmas.List.{length-take-le}
-use Rattle.xcp_memory.proofs.Imaging.{laid_room, laid_more}
+use Rattle.xcp_memory.proofs.EcuImageLemmas.{laid_room, laid_more}
 use Rattle.xcp_memory.proofs.PageLemmas.{length-overwritten}
 use Rattle.xcp_memory.proofs.pages.imaging.lay.Goals as goal
 

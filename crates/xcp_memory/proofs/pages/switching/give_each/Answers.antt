@@ -1,5 +1,5 @@
-use Rattle.xcp_memory.specs.Switch.{segment_switched}
-use Rattle.xcp_memory.proofs.Switching.{mapped_more}
+use Rattle.xcp_memory.specs.PageSwitch.{segment_switched}
+use Rattle.xcp_memory.proofs.PageSwitchLemmas.{mapped_more}
 use Rattle.xcp_memory.proofs.pages.switching.give_each.Goals as goal
 
 pub loop-segment-preserved : goal.loop-segment-preserved

@@ -1,5 +1,5 @@
 use Rattle.std.proofs.Common.{◌≡◌, ◌++◌, map, take, drop}
-use Rattle.xcp_memory.specs.Switch.{segment_switched}
+use Rattle.xcp_memory.specs.PageSwitch.{segment_switched}
 use Rattle.xcp_memory.proofs.pages.switching.give_each.Given as goal
 
 abbrev pub invariant-loop-segment : goal.invariant-loop-segment

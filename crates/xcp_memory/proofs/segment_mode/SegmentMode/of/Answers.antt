@@ -1,6 +1,6 @@
 use Rattle.bitflags.specs.Sets.{known_from}
 use Rattle.xcp_memory.specs.declared.segment_mode.SegmentMode.{SegmentMode}
-use Rattle.xcp_memory.proofs.SegmentModes.{found_mode, no_mode}
+use Rattle.xcp_memory.proofs.SegmentModeLemmas.{found_mode, no_mode}
 use Rattle.xcp_memory.proofs.segment_mode.SegmentMode.of.Goals as goal
 
 pub returns-clause-some : goal.returns-clause-some

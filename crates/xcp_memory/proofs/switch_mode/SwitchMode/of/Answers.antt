@@ -1,7 +1,7 @@
 use Rattle.std.proofs.Common.{inl, inr, sym, ◌∙◌, refl}
 use Rattle.std.proofs.lemmas.Bool.{false≢true}
 use Rattle.bitflags.specs.Sets.{known_from}
-use Rattle.xcp_memory.proofs.Switching.{unknown_bits, known_mode}
+use Rattle.xcp_memory.proofs.PageSwitchLemmas.{unknown_bits, known_mode}
 use Rattle.xcp_memory.proofs.switch_mode.SwitchMode.of.Goals as goal
 use Rattle.xcp_memory.proofs.switch_mode.SwitchMode.of.Goals.{then-contains-via-then-contains, then-contains-via-else-contains+then-contains-2}
 

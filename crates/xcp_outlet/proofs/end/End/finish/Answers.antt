@@ -1,6 +1,6 @@
 use Rattle.std.proofs.Common.{None}
-use Rattle.xcp_outlet.specs.Ends.{end_of}
-use Rattle.xcp_outlet.proofs.Routing.{puts}
+use Rattle.xcp_outlet.specs.private.OutletEnds.{end_of}
+use Rattle.xcp_outlet.proofs.ChannelRuleLemmas.{puts}
 use Rattle.xcp_outlet.proofs.end.End.finish.Goals as goal
 
 pub send_as-requires-clause-rule : goal.send_as-requires-clause-rule

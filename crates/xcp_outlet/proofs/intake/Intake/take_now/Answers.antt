@@ -1,7 +1,7 @@
 use Rattle.std.proofs.Common.{ap}
-use Rattle.xcp_outlet.specs.Known.{Known}
-use Rattle.xcp_outlet.specs.Ends.{taking_of}
-use Rattle.xcp_outlet.proofs.Routing.{takes}
+use Rattle.xcp_outlet.specs.PassKnowledge.{Known}
+use Rattle.xcp_outlet.specs.OutletEnds.{taking_of}
+use Rattle.xcp_outlet.proofs.ChannelRuleLemmas.{takes}
 use Rattle.xcp_outlet.proofs.intake.Intake.take_now.Goals as goal
 
 pub try_recv_as-requires-clause-rule : goal.try_recv_as-requires-clause-rule

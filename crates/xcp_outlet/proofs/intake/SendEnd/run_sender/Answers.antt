@@ -1,6 +1,6 @@
 use Rattle.std.proofs.Common.{rules, ◌≡◌}
-use Rattle.xcp_outlet.specs.Sending.{Progress}
-use Rattle.xcp_outlet.proofs.Sendings.{of_same}
+use Rattle.xcp_outlet.specs.private.Sending.{Progress}
+use Rattle.xcp_outlet.proofs.SendingLemmas.{of_same}
 use Rattle.xcp_outlet.proofs.intake.SendEnd.run_sender.Goals as goal
 
 pub loop-init : goal.loop-init

@@ -1,7 +1,7 @@
 use Rattle.std.proofs.Common.{rules, ◌≡◌, ◌%◌, ◌++◌, true, false, None, Some}
 use Rattle.xcp_framing.specs.Wire.{frame_bytes}
-use Rattle.xcp_outlet.specs.Known.{message}
-use Rattle.xcp_outlet.proofs.Sendings.{for_message, data_ends, replies_end, passed, added}
+use Rattle.xcp_outlet.specs.private.PassKnowledge.{message}
+use Rattle.xcp_outlet.proofs.SendingLemmas.{for_message, data_ends, replies_end, passed, added}
 use Rattle.xcp_outlet.proofs.line.Line.add.Goals as goal
 
 pub returns-then-message : goal.returns-then-message

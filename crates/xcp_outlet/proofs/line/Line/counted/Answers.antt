@@ -1,5 +1,5 @@
 use Rattle.std.proofs.Common.{rules, ◌≡◌, true, false, sym, ◌∙◌}
-use Rattle.xcp_outlet.proofs.Sendings.{all_written, no_replies_end, no_data_end}
+use Rattle.xcp_outlet.proofs.SendingLemmas.{all_written, no_replies_end, no_data_end}
 use Rattle.xcp_outlet.proofs.line.Line.counted.Goals as goal
 
 pub returns-then-not-self : goal.returns-then-not-self

@@ -1,7 +1,7 @@
 use Rattle.std.proofs.Common.{rules, ◌≡◌, ◌+◌, [], false, true≢false}
 use Rattle.std.specs.Io.KnownBytes.{Appends}
-use Rattle.xcp_framing.specs.Front.{AppendsFront}
-use Rattle.xcp_outlet.proofs.Sendings.{broken, flushed, none_in_hand}
+use Rattle.xcp_framing.specs.Prefix.{AppendsFront}
+use Rattle.xcp_outlet.proofs.SendingLemmas.{broken, flushed, none_in_hand}
 use Rattle.xcp_outlet.proofs.line.Line.flush.Goals as goal
 
 pub returns-then-is_err-clause-goes_on : goal.returns-then-is_err-clause-goes_on

@@ -1,9 +1,10 @@
 use Rattle.std.proofs.Common.{ap, ◌∙◌, subst, ◌≡◌, true}
-use Rattle.xcp_outlet.specs.Known.{half, both_of}
-use Rattle.xcp_framing.specs.Front.{IsFront}
-use Rattle.xcp_outlet.specs.Rule.{of}
-use Rattle.xcp_outlet.specs.Ends.{putting_of, taking_of, knows, packets, has_mark, Putting, Taking}
-use Rattle.xcp_outlet.proofs.Routing.{meets, meeting}
+use Rattle.xcp_outlet.specs.PassKnowledge.{half}
+use Rattle.xcp_outlet.specs.private.PassKnowledge.{both_of}
+use Rattle.xcp_framing.specs.Prefix.{IsFront}
+use Rattle.xcp_outlet.specs.ChannelRule.{of}
+use Rattle.xcp_outlet.specs.OutletEnds.{putting_of, taking_of, knows, packets, has_mark, Putting, Taking}
+use Rattle.xcp_outlet.proofs.ChannelRuleLemmas.{meets, meeting}
 use Rattle.xcp_outlet.proofs.took.Took.meet.Goals as goal
 
 pub absorb-requires-clause-rule : goal.absorb-requires-clause-rule

@@ -1,8 +1,8 @@
 use Rattle.std.proofs.Common.{◌<◌, ◌+◌, ◌++◌, [], ◌∷◌, ap, ◌∙◌, length, arith, refl, slice_set}
 use Rattle.std.proofs.lemmas.List.{length-set}
 use Rattle.xcp_memory.proofs.PageLemmas.{refilled}
-use Rattle.xcp_slave.specs.Outbox.{ring, wrapped}
-use Rattle.xcp_slave.proofs.Rings.{pushed, length-ring}
+use Rattle.xcp_slave.specs.private.OutboxRing.{ring, wrapped}
+use Rattle.xcp_slave.proofs.OutboxRingLemmas.{pushed, length-ring}
 use Rattle.xcp_slave.proofs.outbox.Outbox.push.Goals as goal
 
 pub returns : goal.returns

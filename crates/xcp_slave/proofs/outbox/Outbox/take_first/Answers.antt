@@ -1,8 +1,8 @@
 use Rattle.std.proofs.Common.{◌-◌, ◌<◌, ap, sym, ◌∙◌, arith, get_or, length, List, ℕ}
 use Rattle.arrayvec.specs.ArrayVec.{ArrayVec}
 use Rattle.std.proofs.lemmas.List.{get_or_default}
-use Rattle.xcp_slave.specs.Outbox.{ring, first_of, behind_first}
-use Rattle.xcp_slave.proofs.Rings.{taken}
+use Rattle.xcp_slave.specs.private.OutboxRing.{ring, first_of, behind_first}
+use Rattle.xcp_slave.proofs.OutboxRingLemmas.{taken}
 use Rattle.xcp_slave.proofs.outbox.Outbox.take_first.Goals as goal
 
 pub returns-clause-packet : goal.returns-clause-packet

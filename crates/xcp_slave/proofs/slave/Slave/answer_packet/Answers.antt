@@ -1,6 +1,6 @@
 use Rattle.std.proofs.Common.{◌≡◌, ◌∙◌, Bool, sym}
-use Rattle.xcp_slave.specs.Told.{answer_in}
-use Rattle.xcp_slave.proofs.Hearing.{answered, unheeded}
+use Rattle.xcp_slave.specs.AnswerInBytes.{answer_in}
+use Rattle.xcp_slave.proofs.PacketExecutionLemmas.{answered, unheeded}
 use Rattle.xcp_slave.proofs.slave.Slave.answer_packet.Goals as goal
 
 pub returns-then-not-heeds : goal.returns-then-not-heeds

@@ -1,5 +1,5 @@
 use Rattle.std.proofs.Common.{arith}
-use Rattle.xcp_slave.proofs.EventChannels.{event_there}
+use Rattle.xcp_slave.proofs.EventChannelLemmas.{event_there}
 use Rattle.xcp_slave.proofs.slave.Slave.get_daq_event_info.Goals as goal
 
 pub overflow_cast-channel : goal.overflow_cast-channel

@@ -1,7 +1,8 @@
 use Rattle.std.proofs.Common.{ap, arith, ◌∙◌, ◌++◌, ◌∷◌, []}
 use Rattle.xcp_trace.specs.declared.journal.Entry.{Entry}
-use Rattle.xcp_trace.specs.Entries.{IsEntry, JournalValue}
-use Rattle.xcp_trace.proofs.Spelled.{all_more, entry_pushed}
+use Rattle.xcp_trace.specs.EntrySpelling.{JournalValue}
+use Rattle.xcp_trace.specs.private.EntrySpelling.{IsEntry}
+use Rattle.xcp_trace.proofs.SpellingLaws.{all_more, entry_pushed}
 use Rattle.xcp_trace.proofs.journal.Journal.push.Goals as goal
 
 pub invariant_of-self : goal.invariant_of-self

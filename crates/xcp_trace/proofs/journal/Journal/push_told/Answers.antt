@@ -1,8 +1,9 @@
 use Rattle.std.proofs.Common.{ap, arith, ◌∙◌, ◌++◌, ◌∷◌, []}
-use Rattle.xcp_slave.specs.Told.{answer_in}
+use Rattle.xcp_slave.specs.AnswerInBytes.{answer_in}
 use Rattle.xcp_trace.specs.declared.journal.Entry.{Entry}
-use Rattle.xcp_trace.specs.Entries.{IsEntry, JournalValue}
-use Rattle.xcp_trace.proofs.Spelled.{all_more, entry_pushed}
+use Rattle.xcp_trace.specs.EntrySpelling.{JournalValue}
+use Rattle.xcp_trace.specs.private.EntrySpelling.{IsEntry}
+use Rattle.xcp_trace.proofs.SpellingLaws.{all_more, entry_pushed}
 use Rattle.xcp_trace.proofs.journal.Journal.push_told.Goals as goal
 
 pub invariant_of-self : goal.invariant_of-self

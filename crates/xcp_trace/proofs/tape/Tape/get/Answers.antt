@@ -1,5 +1,5 @@
 use Rattle.std.proofs.Common.{◌≡◌, arith}
-use Rattle.xcp_trace.proofs.Cursor.{given_here, past, stands_behind}
+use Rattle.xcp_trace.proofs.CursorLemmas.{given_here, past, stands_behind}
 use Rattle.xcp_trace.proofs.tape.Tape.get.Goals as goal
 
 pub loop-passed-preserved : goal.loop-passed-preserved

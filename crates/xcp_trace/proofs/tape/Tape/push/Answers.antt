@@ -1,6 +1,6 @@
 use Rattle.std.proofs.Common.{ap, ◌∙◌, ◌++◌, ◌∷◌, [], arith}
 use Rattle.xcp_trace.specs.Tape.{TapeValue}
-use Rattle.xcp_trace.proofs.Joined.{one_more, spelt-one_more, count_fits}
+use Rattle.xcp_trace.proofs.TapeLaws.{one_more, spelt-one_more, count_fits}
 use Rattle.xcp_trace.proofs.tape.Tape.push.Goals as goal
 
 pub overflow_add-self : goal.overflow_add-self

@@ -1,7 +1,8 @@
 use Rattle.std.proofs.Common.{ap, ◌∙◌, ◌++◌, ◌∷◌, []}
 use Rattle.xcp_slave.specs.declared.Exchange.{Exchange}
-use Rattle.xcp_trace.specs.Spelling.{IsSpelling, TraceValue}
-use Rattle.xcp_trace.proofs.Spelled.{all_more, exchange_pushed}
+use Rattle.xcp_trace.specs.ExchangeSpelling.{TraceValue}
+use Rattle.xcp_trace.specs.private.ExchangeSpelling.{IsSpelling}
+use Rattle.xcp_trace.proofs.SpellingLaws.{all_more, exchange_pushed}
 use Rattle.xcp_trace.proofs.trace.Trace.push.Goals as goal
 
 pub invariant_of-self : goal.invariant_of-self

@@ -1,8 +1,9 @@
 use Rattle.std.proofs.Common.{ap, ◌∙◌, ◌++◌, ◌∷◌, []}
 use Rattle.xcp_slave.specs.declared.Exchange.{Exchange}
-use Rattle.xcp_slave.specs.Told.{answer_in}
-use Rattle.xcp_trace.specs.Spelling.{IsSpelling, TraceValue}
-use Rattle.xcp_trace.proofs.Spelled.{all_more, exchange_pushed}
+use Rattle.xcp_slave.specs.AnswerInBytes.{answer_in}
+use Rattle.xcp_trace.specs.ExchangeSpelling.{TraceValue}
+use Rattle.xcp_trace.specs.private.ExchangeSpelling.{IsSpelling}
+use Rattle.xcp_trace.proofs.SpellingLaws.{all_more, exchange_pushed}
 use Rattle.xcp_trace.proofs.trace.Trace.push_told.Goals as goal
 
 pub invariant_of-self : goal.invariant_of-self

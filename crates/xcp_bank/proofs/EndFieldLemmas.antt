@@ -1,0 +1,46 @@
+-- The two ends keep what is true of their fields.
+use Rattle.std.proofs.Common.{◌≡◌, ℕ, ◌<◌, ◌%◌, false, List, length, sym, refl, ap, ◌∙◌, subst, Option, Some}
+use Rattle.std.proofs.lemmas.Option.{same_Some}
+use Rattle.atomic_table.specs.Seated.{TableId}
+use Rattle.atomic_table.specs.declared.shared.Seat.{Seat as Token}
+use Rattle.xcp_bank.specs.SeatKnowledge.{Reading, Writing, Known}
+use Rattle.xcp_bank.specs.private.ReaderSteps.{Seat, Follows}
+use Rattle.xcp_bank.specs.private.SeatSteps.{IsReaderSeat, IsWriterSeat, Rests, buffer_held}
+use Rattle.xcp_bank.specs.EndFields.{first_reader, the_writing, reader_in, writer_in}
+use Rattle.xcp_bank.specs.private.EndFields.{ReaderKept, WriterKept}
+
+pub reader_is : (token : Token (Unit {0}) Known) (bank : TableId) (r : ℕ) (y : Reading) → IsReaderSeat token bank r y → reader_in (Some token) ≡ (r, y)
+reader_is token bank r y s = ap (λ (m : Seat). first_reader m.0.readers) s.me
+
+pub kept_by : (token : Token (Unit {0}) Known) (bank : TableId) (r : ℕ) (y : Reading) (held : Option ℕ) → IsReaderSeat token bank r y → Follows 256 r y → y.pins.gone ≡ false → held ≡ buffer_held y → ((b : ℕ) → held ≡ Some b → b < 8) → ReaderKept bank held (Some token)
+kept_by token bank r y held s follows here is low =
+    let e = sym (reader_is token bank r y s) in
+    record {
+      token = token;
+      is = refl;
+      sits = subst (λ (z : ℕ × Reading). IsReaderSeat token bank z.0 z.1) e s;
+      follows = subst (λ (z : ℕ × Reading). Follows 256 z.0 z.1) e follows;
+      here = subst (λ (z : ℕ × Reading). z.1.pins.gone ≡ false) e here;
+      held_is = subst (λ (z : ℕ × Reading). held ≡ buffer_held z.1) e is;
+      low = low;
+    }
+
+-- the token that stands in the field
+pub sits_here : (bank : TableId) (held : Option ℕ) (seat : Option (Token (Unit {0}) Known)) (k : ReaderKept bank held seat) (token : Token (Unit {0}) Known) → seat ≡ Some token → IsReaderSeat token bank (reader_in seat).0 (reader_in seat).1
+sits_here bank held seat k token is = subst (λ (z : Token (Unit {0}) Known). IsReaderSeat z bank (reader_in seat).0 (reader_in seat).1) (same_Some k.token token (sym k.is ∙ is)) k.sits
+
+pub writer_is : (token : Token (Unit {0}) Known) (bank : TableId) (w : Writing) → IsWriterSeat token bank w → writer_in token ≡ w
+writer_is token bank w d = ap (λ (m : Seat). the_writing m.0.writer) d.me
+
+pub writer_kept_by : (token : Token (Unit {0}) Known) (bank : TableId) (w : Writing) (current : ℕ) (started : List ℕ) (count : ℕ) → IsWriterSeat token bank w → Rests current started w → count ≡ length w.pins.publications % 18446744073709551616 → WriterKept bank current started count token
+writer_kept_by token bank w current started count d r n =
+    let e = sym (writer_is token bank w d) in
+    record { desks = subst (IsWriterSeat token bank) e d; rests = subst (Rests current started) e r; counted = subst (λ (z : Writing). count ≡ length z.pins.publications % 18446744073709551616) e n }
+
+-- another name of the same bank
+
+pub sits_at : {bank bank' : TableId} (token : Token (Unit {0}) Known) (r : ℕ) (x : Reading) → bank ≡ bank' → IsReaderSeat token bank r x → IsReaderSeat token bank' r x
+sits_at token r x e = subst (λ (z : TableId). IsReaderSeat token z r x) e
+
+pub desks_at : {bank bank' : TableId} (token : Token (Unit {0}) Known) (w : Writing) → bank ≡ bank' → IsWriterSeat token bank w → IsWriterSeat token bank' w
+desks_at token w e = subst (λ (z : TableId). IsWriterSeat token z w) e

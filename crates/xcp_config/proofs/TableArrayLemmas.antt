@@ -1,0 +1,37 @@
+-- Arrays of tables.
+use Rattle.std.proofs.Common.{◌≡◌, ℕ, ◌+◌, ◌<◌, drop, get_or, true, List, [], ◌∷◌, ◌&&◌, length, map, Option, Some, refl, ap, nat_le, is_some}
+use Rattle.std.specs.Option.{option_and_then}
+use Rattle.std.specs.List.{list_all}
+use Rattle.toml.specs.Data.{Data, as_array}
+use Rattle.toml.specs.View.{items_of, view}
+use Rattle.toml.specs.declared.value.Value.{Value}
+use Rattle.xcp_memory.specs.declared.Key.{Key}
+use Rattle.xcp_config.specs.declared.config_error.ConfigError.TheVariants.{Kind, Range, TooMany}
+use Rattle.xcp_packet.specs.Rows.{first_holding, must}
+use Rattle.xcp_config.specs.TomlValues.{list_of, members_of, is_table}
+use Rattle.xcp_memory.specs.Limits.{count_limits}
+use Rattle.xcp_config.specs.TableChecks.{array_checks}
+use Rattle.xcp_config.proofs.CheckLemmas.{drop_here}
+
+-- a list, as items and back
+pub list_of_items : (ds : List Data) → list_of (items_of ds) ≡ ds
+list_of_items [] = refl
+list_of_items (d ∷ ds) = ap (λ es. d ∷ es) (list_of_items ds)
+
+-- whether values are all tables, from one of them on
+pub tables_here : (xs : List Value) (i : ℕ) (x : Value) → i < length xs → x ≡ get_or xs i x → list_all is_table (map view (drop i xs)) ≡ (is_table (view x) && list_all is_table (map view (drop (i + 1) xs)))
+tables_here xs i x h e = ap (λ ys. list_all is_table (map view ys)) (drop_here xs i x h e)
+
+-- a value is an array with these members
+pub record HasMembers (v : Option Data) (ds : List Data) : Type 0 where
+  pub there : is_some v ≡ true
+  pub array : is_some (option_and_then as_array v) ≡ true
+  pub members : members_of v ≡ ds
+
+pub has_members : (v : Option Data) (d : Data) (ds : List Data) → v ≡ Some d → as_array d ≡ Some (items_of ds) → HasMembers v ds
+has_members v d ds e f = rw e (record { there = refl; array = rw f refl; members = rw f (list_of_items ds) })
+
+-- the checks of an array with these members
+pub counted : (k : Key) (most : ℕ) (v : Option Data) (ds : List Data) → HasMembers v ds → first_holding (array_checks k (count_limits most k) v) ≡ first_holding (must (list_all is_table ds) (Kind k) ∷ must (nat_le 1 (length ds)) (Range k) ∷ must (nat_le (length ds) most) (TooMany k) ∷ [])
+unfolding array_checks
+counted k most v ds h = rw (h.there, h.array, h.members) refl

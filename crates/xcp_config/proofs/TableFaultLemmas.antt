@@ -1,0 +1,119 @@
+-- No check of a table tells that the text is no document, or that memory is wanting.
+use Rattle.std.proofs.Common.{◌≡◌, ◌≢◌, ℕ, Bool, true, false, ◌&&◌, List, [], ◌∷◌, ◌++◌, map, ◌+◌, codes, Option, Some, refl, sym, if◌then◌else◌}
+use Rattle.std.specs.List.{list_all, flat_map, enumerate_from}
+use Rattle.toml.specs.Data.{Data, get}
+use Rattle.xcp_memory.specs.declared.Key.{Key}
+use Rattle.xcp_memory.specs.declared.Key.TheVariants as key
+use Rattle.xcp_memory.specs.declared.LayoutFault.{LayoutFault}
+use Rattle.xcp_memory.specs.declared.LayoutFault.TheVariants as limit
+use Rattle.xcp_memory.specs.LayoutParts.{areas}
+use Rattle.xcp_memory.specs.Limits.{Limit, count_limits, segment_counts, event_counts, apart_limits}
+use Rattle.xcp_config.specs.declared.config_error.ConfigError.{ConfigError}
+use Rattle.xcp_config.specs.declared.config_error.ConfigError.TheVariants.{Text, Missing, Kind, Range, Overlap, TooMany, Memory}
+use Rattle.xcp_packet.specs.Rows.{first_holding}
+use Rattle.xcp_config.specs.Check.{Check}
+use Rattle.xcp_config.specs.FaultNumbers.{error_of}
+use Rattle.xcp_config.specs.TableLayout.{layout_in, segments_of, events_of}
+use Rattle.xcp_config.specs.TableChecks.{text_checks, name_checks, integer_checks, data_checks, array_checks, table_checks, own_checks, segment_checks, checks_in, segments_checks, place_checks, signals_checks, event_checks, events_checks, limit_check, limit_checks, checks, first_fault}
+
+-- a fault of a table
+abbrev of_table : ConfigError → Bool
+of_table Text = false
+of_table (Missing k) = true
+of_table (Kind k) = true
+of_table (Range k) = true
+of_table (Overlap a b) = true
+of_table (TooMany k) = true
+of_table Memory = false
+
+-- checks whose faults are all of a table
+abbrev all_of_table : List Check → Bool
+all_of_table cs = list_all (λ (c : Check). of_table c.1) cs
+
+both : (xs ys : List Check) → all_of_table xs ≡ true → all_of_table ys ≡ true → all_of_table (xs ++ ys) ≡ true
+both [] ys h i = i
+both (x ∷ xs) ys h i =
+    elim (of_table x.1) as (λ b. (b && all_of_table xs) ≡ true → (b && all_of_table (xs ++ ys)) ≡ true) [
+      | true ↦ λ k. both xs ys k i
+      | false ↦ λ k. cc
+    ] h
+
+here : (a b : Bool) → (a && b) ≡ true → a ≡ true
+here true b h = refl
+here false b h = cc
+
+behind : (a b : Bool) → (a && b) ≡ true → b ≡ true
+behind true b h = h
+behind false b h = cc
+
+each : {A : Type 0} (f : A → List Check) → ((x : A) → all_of_table (f x) ≡ true) → (xs : List A) → all_of_table (flat_map f xs) ≡ true
+each f h [] = refl
+each f h (x ∷ xs) = both (f x) (flat_map f xs) (h x) (each f h xs)
+
+first_told : (cs : List Check) (e : ConfigError) → all_of_table cs ≡ true → first_holding cs ≡ Some e → of_table e ≡ true
+first_told [] e h k = cc
+first_told (c ∷ cs) e h k =
+    elim c.0 as (λ b. (if b then Some c.1 else first_holding cs) ≡ Some e → of_table e ≡ true) [
+      | true ↦ λ m. let same : c.1 ≡ e = cc in rw (sym same) (here (of_table c.1) (all_of_table cs) h)
+      | false ↦ λ m. first_told cs e (behind (of_table c.1) (all_of_table cs) h) m
+    ] k
+
+array_told : (k : Key) (n : ℕ) (v : Option Data) → all_of_table (array_checks k (count_limits n k) v) ≡ true
+unfolding array_checks
+array_told k n v = refl
+
+own_told : (t : Data) → all_of_table (own_checks t) ≡ true
+unfolding own_checks text_checks name_checks integer_checks
+own_told t = refl
+
+segment_told : (ss : List Data) (p : ℕ × Data) → all_of_table (checks_in ss p) ≡ true
+unfolding segment_checks integer_checks data_checks
+segment_told ss p = refl
+
+segments_told : (t : Data) → all_of_table (segments_checks t) ≡ true
+unfolding segments_checks
+segments_told t =
+    let ss = segments_of t in
+    both (array_checks key.Segment segment_counts (get (codes "segment") t)) (flat_map (checks_in ss) (enumerate_from 0 ss)) (array_told key.Segment 4 (get (codes "segment") t)) (each (checks_in ss) (segment_told ss) (enumerate_from 0 ss))
+
+signals_told : (t : Data) → all_of_table (signals_checks t) ≡ true
+unfolding signals_checks table_checks place_checks integer_checks
+signals_told t = refl
+
+event_told : (p : ℕ × Data) → all_of_table (event_checks p) ≡ true
+unfolding event_checks text_checks integer_checks
+event_told p = refl
+
+events_told : (t : Data) → all_of_table (events_checks t) ≡ true
+unfolding events_checks
+events_told t =
+    let es = events_of t in
+    both (array_checks key.Event event_counts (get (codes "event") t)) (flat_map event_checks (enumerate_from 0 es)) (array_told key.Event 8 (get (codes "event") t)) (each event_checks event_told (enumerate_from 0 es))
+
+limit_told : (f : LayoutFault) → of_table (error_of f) ≡ true
+limit_told (limit.Range k) = refl
+limit_told (limit.Overlap a b) = refl
+limit_told (limit.TooMany k) = refl
+
+limits_told : (ls : List Limit) → all_of_table (map limit_check ls) ≡ true
+limits_told [] = refl
+limits_told (l ∷ ls) = rw (limit_told l.1) (limits_told ls)
+
+overlaps_told : (t : Data) → all_of_table (limit_checks t) ≡ true
+unfolding limit_checks
+overlaps_told t = limits_told (apart_limits (areas (layout_in t)))
+
+told : (t : Data) → all_of_table (checks t) ≡ true
+unfolding checks
+told t =
+    both (own_checks t ++ segments_checks t ++ signals_checks t ++ events_checks t) (limit_checks t)
+    (both (own_checks t ++ segments_checks t ++ signals_checks t) (events_checks t)
+    (both (own_checks t ++ segments_checks t) (signals_checks t)
+    (both (own_checks t) (segments_checks t) (own_told t) (segments_told t))
+    (signals_told t))
+    (events_told t))
+    (overlaps_told t)
+
+-- no table is refused as no document
+pub not_text : (t : Data) → first_fault t ≢ Some Text
+not_text t h = let bad : false ≡ true = first_told (checks t) Text (told t) h in cc

@@ -1,0 +1,141 @@
+-- The layout of a table: the checks of a configuration's table, in the order in which they are made. A key that isn't named here
+-- is ignored.
+use Rattle.std.specs.Prelude.{ℕ, ℤ, ◌+◌, List, [], ◌∷◌, ◌++◌, length, map, sum_by, take, codes, Option, is_some}
+use Rattle.std.specs.Option.{option_and_then}
+use Rattle.std.specs.List.{flat_map, enumerate_from}
+use Rattle.toml.specs.Data.{Data, get, as_integer, as_str, as_table}
+use Rattle.xcp_memory.specs.declared.Key.{Key}
+use Rattle.xcp_memory.specs.declared.Key.TheVariants as key
+use Rattle.xcp_memory.specs.LayoutParts.{number, areas}
+use Rattle.xcp_memory.specs.Limits.{Limit, id_limit, max_cto_limit, max_dto_limit, segment_counts, address_limit, data_limit, total_limit, end_limit, pages_limit, signals_address_limit, signals_length_limit, event_counts, name_limit, cycle_limit, unit_limit, priority_limit, apart_limits}
+use Rattle.xcp_config.specs.declared.config_error.ConfigError.{ConfigError}
+use Rattle.xcp_config.specs.declared.config_error.ConfigError.TheVariants.{Missing, Kind, Range}
+use Rattle.xcp_config.specs.FaultNumbers.{error_of}
+use Rattle.xcp_packet.specs.Rows.{first_holding, must}
+use Rattle.xcp_config.specs.Check.{Check}
+use Rattle.xcp_config.specs.TomlValues.{text_of, integer_of, bytes_of, members_of, is_array_of_tables, named, byte_orders, checksums}
+use Rattle.xcp_config.specs.TableLayout.{layout_in, byte_order_of, checksum_of, segments_of, signals_of, events_of, address_of, size_of, pages_of, length_of, setting}
+
+-- the check that a limit of a layout makes
+abbrev pub limit_check : Limit → Check
+limit_check l = (l.0, error_of l.1)
+
+-- a text that keeps a limit
+unfoldable pub text_checks : Key → (List ℕ → Limit) → Option Data → List Check
+text_checks k limit v =
+    must (is_some v) (Missing k)
+    ∷ must (is_some (option_and_then as_str v)) (Kind k)
+    ∷ limit_check (limit (text_of v))
+    ∷ []
+
+-- a text that is one of some names
+unfoldable pub name_checks : {A : Type 0} → Key → List (List ℕ × A) → Option Data → List Check
+name_checks k names v =
+    must (is_some v) (Missing k)
+    ∷ must (is_some (option_and_then as_str v)) (Kind k)
+    ∷ must (is_some (named names (text_of v))) (Range k)
+    ∷ []
+
+-- an integer that keeps a limit
+unfoldable pub integer_checks : Key → (ℤ → Limit) → Option Data → List Check
+integer_checks k limit v =
+    must (is_some v) (Missing k)
+    ∷ must (is_some (option_and_then as_integer v)) (Kind k)
+    ∷ limit_check (limit (integer_of v))
+    ∷ []
+
+-- a text of hex digits that writes as many bytes as keep a limit
+unfoldable pub data_checks : Key → (ℕ → Limit) → Option Data → List Check
+data_checks k limit v =
+    must (is_some v) (Missing k)
+    ∷ must (is_some (option_and_then as_str v)) (Kind k)
+    ∷ limit_check (limit (length (bytes_of v)))
+    ∷ []
+
+-- an array of tables, as many as keep their limits
+unfoldable pub array_checks : Key → (ℕ → List Limit) → Option Data → List Check
+array_checks k limits v =
+    must (is_some v) (Missing k)
+    ∷ must (is_array_of_tables v) (Kind k)
+    ∷ map limit_check (limits (length (members_of v)))
+
+-- a table is there
+unfoldable pub table_checks : Key → Option Data → List Check
+table_checks k v =
+    must (is_some v) (Missing k)
+    ∷ must (is_some (option_and_then as_table v)) (Kind k)
+    ∷ []
+
+-- the values of the slave itself
+unfoldable pub own_checks : Data → List Check
+own_checks t =
+    text_checks key.Id id_limit (get (codes "id") t)
+    ++ integer_checks key.MaxCto max_cto_limit (get (codes "max_cto") t)
+    ++ integer_checks key.MaxDto max_dto_limit (get (codes "max_dto") t)
+    ++ name_checks key.ByteOrder byte_orders (byte_order_of t)
+    ++ name_checks key.Checksum checksums (checksum_of t)
+
+-- how many bytes there are in all with those of segment i, and where the last one of these lies
+abbrev pub size_checks : ℕ → ℕ → ℤ → ℕ → List Check
+size_checks i total address size =
+    limit_check (total_limit i total)
+    ∷ limit_check (end_limit (key.Address i) address size)
+    ∷ []
+
+-- segment i, with which there are so many bytes in all
+unfoldable pub segment_checks : ℕ → ℕ → Data → List Check
+segment_checks i total s =
+    integer_checks (key.Address i) (address_limit i) (get (codes "address") s)
+    ++ data_checks (key.Data i) (data_limit i) (get (codes "data") s)
+    ++ size_checks i total (address_of s) (size_of s)
+    ++ integer_checks (key.Pages i) (pages_limit i) (pages_of s)
+
+-- segment i of these, by the bytes up to its own
+abbrev pub checks_in : List Data → ℕ × Data → List Check
+checks_in ss (i, s) = segment_checks i (sum_by size_of (take (i + 1) ss)) s
+
+unfoldable pub segments_checks : Data → List Check
+segments_checks t =
+    array_checks key.Segment segment_counts (get (codes "segment") t)
+    ++ flat_map (checks_in (segments_of t)) (enumerate_from 0 (segments_of t))
+
+-- where the signals end
+abbrev pub end_checks : ℤ → ℤ → List Check
+end_checks address n = limit_check (end_limit key.SignalsAddress address (number n)) ∷ []
+
+-- the keys of the table `signals`
+unfoldable pub place_checks : Data → List Check
+place_checks s =
+    integer_checks key.SignalsAddress signals_address_limit (get (codes "address") s)
+    ++ integer_checks key.SignalsLength signals_length_limit (get (codes "length") s)
+    ++ end_checks (address_of s) (length_of s)
+
+unfoldable pub signals_checks : Data → List Check
+signals_checks t =
+    table_checks key.Signals (get (codes "signals") t)
+    ++ place_checks (signals_of t)
+
+-- event channel i
+unfoldable pub event_checks : ℕ × Data → List Check
+event_checks (i, e) =
+    text_checks (key.Name i) (name_limit i) (get (codes "name") e)
+    ++ integer_checks (key.Cycle i) (cycle_limit i) (setting (codes "cycle") e)
+    ++ integer_checks (key.Unit i) (unit_limit i) (setting (codes "unit") e)
+    ++ integer_checks (key.Priority i) (priority_limit i) (setting (codes "priority") e)
+
+unfoldable pub events_checks : Data → List Check
+events_checks t =
+    array_checks key.Event event_counts (get (codes "event") t)
+    ++ flat_map event_checks (enumerate_from 0 (events_of t))
+
+-- no two areas share an address: each with those behind it, the segments first and then the signals
+unfoldable pub limit_checks : Data → List Check
+limit_checks t = map limit_check (apart_limits (areas (layout_in t)))
+
+-- all checks of a table, in their order
+unfoldable pub checks : Data → List Check
+checks t = own_checks t ++ segments_checks t ++ signals_checks t ++ events_checks t ++ limit_checks t
+
+-- the fault of the first check of a table that fails
+abbrev pub first_fault : Data → Option ConfigError
+first_fault t = first_holding (checks t)

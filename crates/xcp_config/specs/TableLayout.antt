@@ -1,0 +1,82 @@
+-- The layout that the table of a configuration has.
+use Rattle.std.specs.Prelude.{ℕ, ℤ, pos, List, map, length, codes, Option, unwrap_or}
+use Rattle.toml.specs.Data.{Data, integer, string, table, no_members, get}
+use Rattle.xcp_packet.specs.declared.Order.{Order}
+use Rattle.xcp_packet.specs.declared.Order.TheVariants.{Intel}
+use Rattle.xcp_memory.specs.declared.ChecksumKind.{ChecksumKind}
+use Rattle.xcp_memory.specs.declared.ChecksumKind.TheVariants.{Add14}
+use Rattle.xcp_memory.specs.LayoutParts.{number}
+use Rattle.xcp_memory.specs.Layout.{LayoutValue, SegmentValue, EventValue}
+use Rattle.xcp_config.specs.TomlValues.{optional, text_of, integer_of, bytes_of, members_of, named, byte_orders, checksums}
+
+-- the byte order, `intel` where none is given
+abbrev pub byte_order_of : Data → Option Data
+byte_order_of t = optional (string (codes "intel")) (get (codes "byte_order") t)
+
+abbrev pub order_in : Data → Order
+order_in t = unwrap_or (named byte_orders (text_of (byte_order_of t))) Intel
+
+-- the type of checksums, ADD_14 where none is given
+abbrev pub checksum_of : Data → Option Data
+checksum_of t = optional (string (codes "ADD_14")) (get (codes "checksum") t)
+
+abbrev pub checksum_in : Data → ChecksumKind
+checksum_in t = unwrap_or (named checksums (text_of (checksum_of t))) Add14
+
+-- the tables of the array `segment`, and of the array `event`
+abbrev pub segments_of : Data → List Data
+segments_of t = members_of (get (codes "segment") t)
+
+abbrev pub events_of : Data → List Data
+events_of t = members_of (get (codes "event") t)
+
+-- the table `signals`
+abbrev pub signals_of : Data → Data
+signals_of t = unwrap_or (get (codes "signals") t) (table no_members)
+
+-- a segment's first address, its bytes, and how many there are
+abbrev pub address_of : Data → ℤ
+address_of s = integer_of (get (codes "address") s)
+
+abbrev pub data_of : Data → List ℕ
+data_of s = bytes_of (get (codes "data") s)
+
+abbrev pub size_of : Data → ℕ
+size_of s = length (data_of s)
+
+-- how many pages a segment has, 2 where no number is given
+abbrev pub pages_of : Data → Option Data
+pages_of s = optional (integer (pos 2)) (get (codes "pages") s)
+
+-- how many bytes of signals there are
+abbrev pub length_of : Data → ℤ
+length_of s = integer_of (get (codes "length") s)
+
+-- a number of an event channel, 0 where none is given
+abbrev pub setting : List ℕ → Data → Option Data
+setting name e = optional (integer (pos 0)) (get name e)
+
+abbrev pub segment_in : Data → SegmentValue
+segment_in s = record { address = number (address_of s); bytes = data_of s; pages = number (integer_of (pages_of s)) }
+
+abbrev pub event_in : Data → EventValue
+event_in e = record {
+  name = text_of (get (codes "name") e);
+  cycle = number (integer_of (setting (codes "cycle") e));
+  unit = number (integer_of (setting (codes "unit") e));
+  priority = number (integer_of (setting (codes "priority") e));
+}
+
+-- the layout, where no check of the table fails
+abbrev pub layout_in : Data → LayoutValue
+layout_in t = record {
+  id = text_of (get (codes "id") t);
+  max_cto = number (integer_of (get (codes "max_cto") t));
+  max_dto = number (integer_of (get (codes "max_dto") t));
+  checksum = checksum_in t;
+  order = order_in t;
+  segments = map segment_in (segments_of t);
+  signals_address = number (address_of (signals_of t));
+  signals_length = number (length_of (signals_of t));
+  events = map event_in (events_of t);
+}

@@ -1,0 +1,67 @@
+-- How many packets an event gives, and how long they are.
+use Rattle.std.proofs.Common.{◌≡◌, ℕ, zero, suc, ◌+◌, ◌<◌, ◌≤◌, Bool, true, false, List, [], ◌∷◌, length, get_or, Option, refl, arith, length-append, All}
+use Rattle.std.specs.Prelude.{◌==◌, if◌then◌else◌}
+use Rattle.std.specs.List.{flat_map, enumerate_from}
+use Rattle.std.proofs.lemmas.List.Elements.{All-append}
+use Rattle.arrayvec.specs.ArrayVec.{ArrayVec}
+use Rattle.xcp_memory.specs.Pages.{PagesValue}
+use Rattle.xcp_daq.specs.declared.element.Element.{Element}
+use Rattle.xcp_daq.specs.DaqLists.{DaqValue, DaqList, all_odts, odt_size, first_pid}
+use Rattle.xcp_daq.specs.DaqInvariant.{IsList, IsDaq}
+use Rattle.xcp_daq.specs.Sample.{due, odt_bytes, packet_of, odt_packets, packets_from, list_packets, sampled}
+use Rattle.xcp_daq.proofs.DueListLemmas.{first_true}
+use Rattle.xcp_daq.proofs.SampleLemmas.{one_packet, short_odt}
+
+-- a data packet has 1 to 255 bytes
+abbrev IsPacket : ArrayVec ℕ → Type 0
+IsPacket p = (1 ≤ length p.items) × (length p.items ≤ 255)
+
+-- a fact of one element
+all_one : (p : ArrayVec ℕ) → IsPacket p → All IsPacket (p ∷ [])
+all_one p h zero d below = h
+all_one p h (suc k) d below = absurd (omega arith)
+
+short_packet : (pid : ℕ) (bytes : List ℕ) → length bytes ≤ 254 → All IsPacket (packet_of pid bytes)
+short_packet pid [] h = λ k d below. absurd (omega arith)
+short_packet pid (b ∷ bytes) h = all_one (record { items = pid ∷ b ∷ bytes }) (omega arith, omega arith)
+
+few_from : (pages : PagesValue) (first : ℕ) (odts : List (List (Option Element))) → length (packets_from pages first odts) ≤ length odts
+few_from pages first [] = omega arith
+few_from pages first (o ∷ odts) = omega (arith, length-append (odt_packets pages (first, o)) (packets_from pages (first + 1) odts), one_packet first (odt_bytes pages o), few_from pages (first + 1) odts)
+
+tail_all : (P : List (Option Element) → Type 0) (o : List (Option Element)) (odts : List (List (Option Element))) → All P (o ∷ odts) → P o × All P odts
+tail_all P o odts h = (h zero [] (omega arith), λ k d below. h (suc k) d (omega arith))
+
+short_from : (pages : PagesValue) (first : ℕ) (odts : List (List (Option Element))) → All (λ odt. odt_size odt ≤ 254) odts → All IsPacket (packets_from pages first odts)
+short_from pages first [] h = λ k d below. absurd (omega arith)
+short_from pages first (o ∷ odts) h =
+    let both = tail_all (λ odt. odt_size odt ≤ 254) o odts h in
+    let small = both.0 in
+    All-append IsPacket (odt_packets pages (first, o)) (packets_from pages (first + 1) odts) (short_packet first (odt_bytes pages o) (omega (arith, short_odt pages o))) (short_from pages (first + 1) odts both.1)
+
+few_by : (b : Bool) (packets : List (ArrayVec ℕ)) (n : ℕ) → length packets ≤ n → length (if b then packets else []) ≤ n
+few_by true packets n h = h
+few_by false packets n h = omega arith
+
+all_by : (b : Bool) (packets : List (ArrayVec ℕ)) → (b ≡ true → All IsPacket packets) → All IsPacket (if b then packets else [])
+all_by true packets h = h refl
+all_by false packets h = λ k d below. absurd (omega arith)
+
+-- no more packets than ODTs
+few_packets : (channel : ℕ) (pages : PagesValue) (v : DaqValue) (i : ℕ) (lists : List DaqList) → length (flat_map (list_packets channel pages v) (enumerate_from i lists)) ≤ length (all_odts lists)
+few_packets channel pages v i [] = omega arith
+few_packets channel pages v i (l ∷ lists) =
+    let here : List (ArrayVec ℕ) = packets_from pages (first_pid i v) l.odts in
+    omega (arith, length-append (list_packets channel pages v (i, l)) (flat_map (list_packets channel pages v) (enumerate_from (i + 1) lists)), length-append l.odts (all_odts lists), few_by (due channel l) here (length l.odts) (few_from pages (first_pid i v) l.odts), few_packets channel pages v (i + 1) lists)
+
+-- each within its bounds
+short_packets : (channel : ℕ) (pages : PagesValue) (v : DaqValue) (i : ℕ) (lists : List DaqList) → ((k : ℕ) (d : DaqList) → k < length lists → IsList (get_or lists k d)) → All IsPacket (flat_map (list_packets channel pages v) (enumerate_from i lists))
+short_packets channel pages v i [] h = λ k d below. absurd (omega arith)
+short_packets channel pages v i (l ∷ lists) h =
+    let lawful : IsList l = h zero l (omega arith) in
+    All-append IsPacket (list_packets channel pages v (i, l)) (flat_map (list_packets channel pages v) (enumerate_from (i + 1) lists))
+    (all_by (due channel l) (packets_from pages (first_pid i v) l.odts) (λ e. short_from pages (first_pid i v) l.odts (lawful.fits (first_true l.running (l.event == channel) (l.since == 0) e))))
+    (short_packets channel pages v (i + 1) lists (λ k d below. h (suc k) d (omega arith)))
+
+pub bounded : (channel : ℕ) (pages : PagesValue) (v : DaqValue) → IsDaq v → (length (sampled channel pages v) ≤ 64) × All IsPacket (sampled channel pages v)
+bounded channel pages v h = (omega (arith, h.odts, few_packets channel pages v 0 v.lists), short_packets channel pages v 0 v.lists h.each)

@@ -1,0 +1,41 @@
+-- What the commands that only ask are told.
+-- (ASAM MCD-1 XCP, protocol layer, description of commands: GET_DAQ_LIST_MODE, GET_DAQ_PROCESSOR_INFO,
+-- GET_DAQ_RESOLUTION_INFO, GET_DAQ_EVENT_INFO.)
+use Rattle.std.specs.Prelude.{ℕ, ◌+◌, nat_le, [], ◌∷◌, length, Option, if◌then◌else◌, slice_index_or as get_or}
+use Rattle.xcp_packet.specs.declared.Code.{Code}
+use Rattle.xcp_packet.specs.declared.Code.TheVariants.{OutOfRange}
+use Rattle.xcp_memory.specs.Layout.{LayoutValue, EventValue, no_event}
+use Rattle.xcp_packet.specs.Rows.{first_holding}
+use Rattle.xcp_daq.specs.declared.reports.ListMode.{ListMode}
+use Rattle.xcp_daq.specs.declared.reports.ProcessorInfo.{ProcessorInfo}
+use Rattle.xcp_daq.specs.declared.reports.EventInfo.{EventInfo}
+use Rattle.xcp_daq.specs.DaqLists.{DaqValue, DaqList, list_at, lacks_list}
+
+-- when GET_DAQ_LIST_MODE is refused
+abbrev pub daq_list_mode_refusal : ℕ → DaqValue → Option Code
+daq_list_mode_refusal list v = first_holding ((lacks_list v list, OutOfRange) ∷ [])
+
+-- the mode of a list; bit 0: selected; bit 6: running
+abbrev pub mode_bits : DaqList → ℕ
+mode_bits l = (if l.selected then 0x01 else 0) + (if l.running then 0x40 else 0)
+
+-- what GET_DAQ_LIST_MODE is told
+abbrev pub daq_list_mode_reply : ℕ → DaqValue → ListMode
+daq_list_mode_reply list v =
+    record { mode = mode_bits (list_at v list); event = (list_at v list).event; prescaler = (list_at v list).prescaler; priority = (list_at v list).priority }
+
+-- GET_DAQ_PROCESSOR_INFO: how many lists and how many event channels there are
+abbrev pub processor_info_reply : LayoutValue → DaqValue → ProcessorInfo
+processor_info_reply layout v = record { lists = length v.lists; events = length layout.events }
+
+-- when GET_DAQ_EVENT_INFO is refused
+abbrev pub event_info_refusal : LayoutValue → ℕ → Option Code
+event_info_refusal layout channel = first_holding ((nat_le (length layout.events) channel, OutOfRange) ∷ [])
+
+-- what is told of an event channel
+abbrev pub told_event : EventValue → EventInfo
+told_event e = record { name_length = length e.name; cycle = e.cycle; unit = e.unit; priority = e.priority }
+
+-- what GET_DAQ_EVENT_INFO is told
+abbrev pub event_info_reply : LayoutValue → ℕ → EventInfo
+event_info_reply layout channel = told_event (get_or layout.events channel no_event)

@@ -1,0 +1,288 @@
+-- Exchanges that come one after another, and what is written of them.
+use Rattle.std.proofs.Common.{◌≡◌, ◌≤◌, ◌+◌, ℕ, List, [], ◌∷◌, ◌++◌, All, OnOk, length, Result, Ok, Err, IfErr, IsErrAnd, refl, sym, ap, ◌∙◌, arith, append_assoc, length-append}
+use Rattle.std.proofs.lemmas.List.{append-nil}
+use Rattle.std.proofs.lemmas.Grind.{flat_map-append}
+use Rattle.std.proofs.lemmas.List.Elements.{All-append}
+use Rattle.arrayvec.specs.ArrayVec.{ArrayVec}
+use Rattle.xcp_slave.specs.declared.Exchange.{Exchange}
+use Rattle.xcp_slave.specs.declared.told.Told.{Told}
+use Rattle.xcp_slave.specs.declared.told.Told.TheVariants as tolds
+use Rattle.xcp_slave.specs.AnswerInBytes.{answer_in}
+use Rattle.xcp_slave.specs.declared.Request.TheVariants as requests
+use Rattle.xcp_framing.specs.declared.serving.ServeError.{ServeError}
+use Rattle.xcp_framing.specs.declared.serving.ServeError.TheVariants as errors
+use Rattle.xcp_framing.specs.declared.station.StationError.{StationError}
+use Rattle.xcp_framing.specs.declared.station.StationError.TheVariants as refusals
+use Rattle.std.specs.Io.KnownBytes.{Appends}
+use Rattle.xcp_framing.specs.private.FrameOutput.{Output, Sends}
+use Rattle.xcp_framing.specs.Wire.{wire_from, frame_bytes}
+use Rattle.xcp_framing.specs.Serve.{packet_of, packets_of, GavePacket, AnswersAll, AnswersStart, AnswersPart, AnswersSoFar, most_drains, refused_with}
+use Rattle.xcp_framing.specs.ServeParts.{IsInterruption}
+use Rattle.xcp_framing.specs.private.ServeParts.{Grows, DrainsSoFar, EndsPiece, fine}
+use Rattle.xcp_framing.specs.Prefix.{AppendsFront}
+use Rattle.xcp_framing.proofs.FrameOutputLemmas.{gathers_none, sends_flushed, sends_more, sends_none, sends_unflushed}
+
+-- frames behind frames
+pub wire_from-append : (k : ℕ) (ps qs : List (List ℕ)) → wire_from k (ps ++ qs) ≡ wire_from k ps ++ wire_from (k + length ps) qs
+wire_from-append k [] qs = ap (λ (n : ℕ). wire_from n qs) (omega arith)
+wire_from-append k (p ∷ ps) qs =
+    ap (λ (t : List ℕ). frame_bytes k p ++ t) (wire_from-append (k + 1) ps qs)
+    ∙ sym (append_assoc (frame_bytes k p) (wire_from (k + 1) ps) (wire_from ((k + 1) + length ps) qs))
+    ∙ ap (λ (n : ℕ). (frame_bytes k p ++ wire_from (k + 1) ps) ++ wire_from n qs) (omega arith)
+
+pub packets_of-append : (xs ys : List Exchange) → packets_of (xs ++ ys) ≡ packets_of xs ++ packets_of ys
+packets_of-append xs ys = flat_map-append (λ (x : Exchange). packet_of x.answer) xs ys
+
+pub on_ok : {A P Q : Type 0} (r : Result A ServeError) → OnOk r P → (P → Q) → OnOk r Q
+on_ok (Ok v) h f = f h
+on_ok (Err e) h f = tt
+
+pub on_any : {A P : Type 0} (r : Result A ServeError) → P → OnOk r P
+on_any (Ok v) h = h
+on_any (Err e) h = tt
+
+pub cons≢nil : {A : Type 0} {x : A} {xs : List A} → ◌≡◌ {A = List A} (x ∷ xs) [] → ⊥
+cons≢nil h = cc
+
+-- what isn't told as a packet has none
+pub no_packet : (t : Told) (packet : ArrayVec ℕ) → (t ≡ tolds.Packet → ⊥) → packet_of (answer_in t packet) ≡ []
+no_packet tolds.Packet packet h = absurd (h refl)
+no_packet tolds.Silent packet h = refl
+no_packet (tolds.Sampled n) packet h = refl
+no_packet tolds.Overrun packet h = refl
+no_packet tolds.NoChannel packet h = refl
+no_packet tolds.BadSignals packet h = refl
+no_packet tolds.Nothing packet h = refl
+no_packet (tolds.Stored n) packet h = refl
+no_packet tolds.NoStore packet h = refl
+no_packet tolds.Later packet h = refl
+
+-- no exchange yet
+pub grows_none : (Fact : List Exchange → Type 0) (old : List Exchange) (a : Output) (from : ℕ) → Fact [] → Grows fine Fact old old a a from from
+grows_none Fact old a from h = record {
+  exchanges = [];
+  grown = sym (append-nil old);
+  fact = h;
+  sends = gathers_none a;
+  counts = omega arith;
+}
+
+-- exchanges behind exchanges
+pub grows_more : {A : Type 0} (r : Result A ServeError) {F G H : List Exchange → Type 0} {old mid new : List Exchange} {a b c : Output} {from at to : ℕ}
+    → Grows fine F old mid a b from at → Grows r G mid new b c at to → ((xs ys : List Exchange) → F xs → G ys → H (xs ++ ys)) → Grows r H old new a c from to
+grows_more r {old = old} {a = a} {b = b} {c = c} {from = from} {at = at} {to = to} x y join =
+    let xs = x.exchanges in
+    let ys = y.exchanges in
+    let counted : at ≡ from + length (packets_of xs) = x.counts in
+    let text : wire_from from (packets_of (xs ++ ys)) ≡ wire_from from (packets_of xs) ++ wire_from at (packets_of ys) =
+    ap (wire_from from) (packets_of-append xs ys) ∙ wire_from-append from (packets_of xs) (packets_of ys) ∙ ap (λ (n : ℕ). wire_from from (packets_of xs) ++ wire_from n (packets_of ys)) (sym counted) in
+    record {
+      exchanges = xs ++ ys;
+      grown = y.grown ∙ ap (λ (z : List Exchange). z ++ ys) x.grown ∙ append_assoc old xs ys;
+      fact = join xs ys x.fact y.fact;
+      sends = rw text (sends_more r a b c (wire_from from (packets_of xs)) (wire_from at (packets_of ys)) x.sends y.sends);
+      counts = on_ok r y.counts (λ (h : to ≡ at + length (packets_of ys)). omega (arith, h, counted, ap (λ (ps : List (List ℕ)). length ps) (packets_of-append xs ys), length-append (packets_of xs) (packets_of ys)));
+    }
+
+-- one exchange with no packet
+pub grows_quiet : {old new : List Exchange} (x : Exchange) (a : Output) (from : ℕ) → new ≡ old ++ x ∷ [] → packet_of x.answer ≡ [] → Grows fine (λ xs. xs ≡ x ∷ []) old new a a from from
+grows_quiet x a from h e =
+    let none : packets_of (x ∷ []) ≡ [] = rw e refl in
+    record {
+      exchanges = x ∷ [];
+      grown = h;
+      fact = refl;
+      sends = rw none (gathers_none a);
+      counts = rw none (omega arith);
+    }
+
+-- one exchange, and its packet sent
+pub grows_sent : {A : Type 0} (r : Result A ServeError) {old new : List Exchange} (x : Exchange) (p : List ℕ) {a b : Output} {from to : ℕ}
+    → new ≡ old ++ x ∷ [] → packet_of x.answer ≡ p ∷ [] → Sends r a b (wire_from from (p ∷ [])) → OnOk r (to ≡ from + 1) → Grows r (λ xs. xs ≡ x ∷ []) old new a b from to
+grows_sent r x p {from = from} {to = to} h e w k =
+    let one : packets_of (x ∷ []) ≡ p ∷ [] = rw e refl in
+    record {
+      exchanges = x ∷ [];
+      grown = h;
+      fact = refl;
+      sends = rw one w;
+      counts = on_ok r k (λ (j : to ≡ from + 1). rw one j);
+    }
+
+-- a request that the station refused
+pub grows_refused : {A : Type 0} (r : Result A ServeError) {Fact : List Exchange → Type 0} {old new : List Exchange} (a : Output) {from : ℕ} → Fact [] → new ≡ old → Grows r Fact old new a a from from
+grows_refused r {old = old} a {from} f h = record {
+  exchanges = [];
+  grown = h ∙ sym (append-nil old);
+  fact = f;
+  sends = sends_none r a;
+  counts = on_any r (omega arith);
+}
+
+-- what `?` passes on
+pub passed_on : {A : Type 0} (r : Result A ServeError) (e : ServeError) → IsErrAnd r (λ x. x ≡ e) → r ≡ Err e
+passed_on (Ok v) e h = absurd h
+passed_on (Err x) e h = ap Err h
+
+-- one more Drain that gave a packet
+pub drains_one : (k : ℕ) (x : Exchange) (p : List ℕ) → x.request ≡ requests.Drain → packet_of x.answer ≡ p ∷ []
+    → (xs ys : List Exchange) → All GavePacket xs × (length xs ≡ k) → ys ≡ x ∷ [] → All GavePacket (xs ++ ys) × (length (xs ++ ys) ≡ k + 1)
+drains_one k x p q a xs ys h e =
+    let one : GavePacket x = record { drain = q; gave = λ n. absurd (cons≢nil (sym a ∙ n)) } in
+    let all : All GavePacket (x ∷ []) = λ i d b. let first : i ≡ 0 = omega (arith, b) in rw first one in
+    (rw e (All-append GavePacket xs (x ∷ []) h.0 all), omega (arith, h.1, length-append xs ys, ap (λ (zs : List Exchange). length zs) e))
+
+-- before the first packet's command
+pub part_none : (packets : List (List ℕ)) → AnswersPart packets []
+part_none packets = record {
+  done = [];
+  next = packets;
+  full = [];
+  cut = [];
+  packets_are = refl;
+  joined = refl;
+  answered = refl;
+  begun = tt;
+}
+
+pub answers_none : (e : StationError) (packets : List (List ℕ)) → AnswersSoFar {A = Unit {0}} (Err (refused_with e)) packets []
+answers_none refusals.Memory packets = part_none packets
+answers_none refusals.JournalFull packets = part_none packets
+
+-- a command, and Drains behind it
+pub part_one : (p : List ℕ) (x : Exchange) (ys : List Exchange) → x.request ≡ requests.Command (record { items = p }) → All GavePacket ys × (length ys ≤ most_drains) → AnswersPart (p ∷ []) (x ∷ ys)
+part_one p x ys q d = record {
+  done = [];
+  next = p ∷ [];
+  full = [];
+  cut = x ∷ ys;
+  packets_are = refl;
+  joined = refl;
+  answered = refl;
+  begun = (q, d.0, d.1);
+}
+
+pub answers_one : {A : Type 0} (r : Result A ServeError) (p : List ℕ) (x : Exchange) → x.request ≡ requests.Command (record { items = p }) → IfErr r IsInterruption
+    → (xs ys : List Exchange) → xs ≡ x ∷ [] → DrainsSoFar r ys → AnswersSoFar r (p ∷ []) (xs ++ ys)
+answers_one (Ok v) p x q i xs ys e d = rw e (x ∷ ys, [], sym (append-nil (x ∷ ys)), record { command = x; drains = ys; joined = refl; asked = q; drained = d }, refl)
+answers_one (Err errors.Write) p x q i xs ys e d = rw e (part_one p x ys q d)
+answers_one (Err errors.Memory) p x q i xs ys e d = rw e (part_one p x ys q d)
+answers_one (Err errors.JournalFull) p x q i xs ys e d = rw e (part_one p x ys q d)
+answers_one (Err errors.Read) p x q i xs ys e d = absurd i
+answers_one (Err (errors.BadLength n)) p x q i xs ys e d = absurd i
+answers_one (Err errors.Truncated) p x q i xs ys e d = absurd i
+answers_one (Err errors.TurnsSpent) p x q i xs ys e d = absurd i
+
+-- packets answered, and then more
+pub answers_all_more : (ps qs : List (List ℕ)) (xs ys : List Exchange) → AnswersAll ps xs → AnswersAll qs ys → AnswersAll (ps ++ qs) (xs ++ ys)
+answers_all_more [] qs xs ys h k = rw h k
+answers_all_more (p ∷ ps) qs xs ys h k =
+    let e : xs ++ ys ≡ h.0 ++ (h.1 ++ ys) = ap (λ (z : List Exchange). z ++ ys) h.2 ∙ append_assoc h.0 h.1 ys in
+    (h.0, h.1 ++ ys, e, h.3, answers_all_more ps qs h.1 ys h.4 k)
+
+pub part_more : (ps qs : List (List ℕ)) (xs ys : List Exchange) → AnswersAll ps xs → AnswersPart qs ys → AnswersPart (ps ++ qs) (xs ++ ys)
+part_more ps qs xs ys h k = record {
+  done = ps ++ k.done;
+  next = k.next;
+  full = xs ++ k.full;
+  cut = k.cut;
+  packets_are = ap (λ (z : List (List ℕ)). ps ++ z) k.packets_are ∙ sym (append_assoc ps k.done k.next);
+  joined = ap (λ (z : List Exchange). xs ++ z) k.joined ∙ sym (append_assoc xs k.full k.cut);
+  answered = answers_all_more ps k.done xs k.full h k.answered;
+  begun = k.begun;
+}
+
+-- all packets answered is a part too
+part_all : (packets : List (List ℕ)) (xs : List Exchange) → AnswersAll packets xs → AnswersPart packets xs
+part_all packets xs h = record {
+  done = packets;
+  next = [];
+  full = xs;
+  cut = [];
+  packets_are = sym (append-nil packets);
+  joined = sym (append-nil xs);
+  answered = h;
+  begun = tt;
+}
+
+pub part_of : {A : Type 0} (r : Result A ServeError) (packets : List (List ℕ)) (xs : List Exchange) → AnswersSoFar r packets xs → AnswersPart packets xs
+part_of (Ok v) packets xs h = part_all packets xs h
+part_of (Err errors.Write) packets xs h = h
+part_of (Err errors.Memory) packets xs h = h
+part_of (Err errors.JournalFull) packets xs h = h
+part_of (Err errors.Read) packets xs h = part_all packets xs h
+part_of (Err (errors.BadLength n)) packets xs h = part_all packets xs h
+part_of (Err errors.Truncated) packets xs h = part_all packets xs h
+part_of (Err errors.TurnsSpent) packets xs h = part_all packets xs h
+
+-- what is held is written
+pub grows_flushed : {A : Type 0} (r : Result A ServeError) {Fact : List Exchange → Type 0} {old new : List Exchange} {a b : Output} (c : Output) {from to : ℕ}
+    → Grows r Fact old new a b from to → (r ≡ Err errors.Write → b.held ≡ []) → Appends b.contents c.contents b.held → c.held ≡ [] → Grows r Fact old new a c from to
+grows_flushed r {a = a} {b = b} c x n h e = record {
+  exchanges = x.exchanges;
+  grown = x.grown;
+  fact = x.fact;
+  sends = sends_flushed r a b c _ x.sends n h e;
+  counts = x.counts;
+}
+
+-- of what is held a front is written, and the call ends
+pub grows_unflushed : {A : Type 0} (r : Result A ServeError) {packets : List (List ℕ)} {old new : List Exchange} {a b : Output} (c : Output) {from to : ℕ}
+    → Grows r (AnswersSoFar r packets) old new a b from to → (r ≡ Err errors.Write → b.held ≡ []) → AppendsFront b.contents c.contents b.held
+    → Grows {A = A} (Err errors.Write) (AnswersPart packets) old new a c from to
+grows_unflushed r {packets = packets} {a = a} {b = b} c x n h = record {
+  exchanges = x.exchanges;
+  grown = x.grown;
+  fact = part_of r packets x.exchanges x.fact;
+  sends = sends_unflushed r a b c _ x.sends n h;
+  counts = tt;
+}
+
+-- packets that come later don't matter to what was answered in part
+pub start_before : (ps qs : List (List ℕ)) (xs : List Exchange) → AnswersStart ps xs → AnswersStart (ps ++ qs) xs
+start_before ps qs [] h = tt
+start_before [] qs (x ∷ xs) h = absurd h
+start_before (p ∷ ps) qs (x ∷ xs) h = h
+
+pub part_before : (ps qs : List (List ℕ)) (xs : List Exchange) → AnswersPart ps xs → AnswersPart (ps ++ qs) xs
+part_before ps qs xs k = record {
+  done = k.done;
+  next = k.next ++ qs;
+  full = k.full;
+  cut = k.cut;
+  packets_are = ap (λ (z : List (List ℕ)). z ++ qs) k.packets_are ∙ append_assoc k.done k.next qs;
+  joined = k.joined;
+  answered = k.answered;
+  begun = start_before k.next qs k.cut k.begun;
+}
+
+-- packets answered, and then more or a part of more
+pub answers_more : {A : Type 0} (r : Result A ServeError) (ps qs : List (List ℕ)) (xs ys : List Exchange) → AnswersAll ps xs → AnswersSoFar r qs ys → AnswersSoFar r (ps ++ qs) (xs ++ ys)
+answers_more (Ok v) ps qs xs ys h k = answers_all_more ps qs xs ys h k
+answers_more (Err errors.Write) ps qs xs ys h k = part_more ps qs xs ys h k
+answers_more (Err errors.Memory) ps qs xs ys h k = part_more ps qs xs ys h k
+answers_more (Err errors.JournalFull) ps qs xs ys h k = part_more ps qs xs ys h k
+answers_more (Err errors.Read) ps qs xs ys h k = answers_all_more ps qs xs ys h k
+answers_more (Err (errors.BadLength n)) ps qs xs ys h k = answers_all_more ps qs xs ys h k
+answers_more (Err errors.Truncated) ps qs xs ys h k = answers_all_more ps qs xs ys h k
+answers_more (Err errors.TurnsSpent) ps qs xs ys h k = answers_all_more ps qs xs ys h k
+
+-- an interruption leaves the packets that come later
+pub answers_before : (A : Type 0) (e : ServeError) (ps qs : List (List ℕ)) (xs : List Exchange) → IsInterruption e → AnswersSoFar {A = A} (Err e) ps xs → AnswersSoFar {A = A} (Err e) (ps ++ qs) xs
+answers_before A errors.Write ps qs xs i k = part_before ps qs xs k
+answers_before A errors.Memory ps qs xs i k = part_before ps qs xs k
+answers_before A errors.JournalFull ps qs xs i k = part_before ps qs xs k
+answers_before A errors.Read ps qs xs i k = absurd i
+answers_before A (errors.BadLength n) ps qs xs i k = absurd i
+answers_before A errors.Truncated ps qs xs i k = absurd i
+answers_before A errors.TurnsSpent ps qs xs i k = absurd i
+
+-- an interruption says nothing of the rest
+pub ends_interrupted : (A : Type 0) (m : ℕ) (e : ServeError) (held left : List ℕ) → IsInterruption e → EndsPiece {A = A} m (Err e) held left
+ends_interrupted A m errors.Write held left i = tt
+ends_interrupted A m errors.Memory held left i = tt
+ends_interrupted A m errors.JournalFull held left i = tt
+ends_interrupted A m errors.Read held left i = absurd i
+ends_interrupted A m (errors.BadLength n) held left i = absurd i
+ends_interrupted A m errors.Truncated held left i = absurd i
+ends_interrupted A m errors.TurnsSpent held left i = absurd i

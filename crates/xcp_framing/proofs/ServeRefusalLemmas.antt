@@ -1,0 +1,126 @@
+-- Refusals that end a call, passed on from what answers less to what answers more.
+use Rattle.std.proofs.Common.{◌≡◌, ℕ, List, [], ◌∷◌, ◌++◌, drop, Option, Some, None, Result, Ok, Err, refl, sym, ap, ◌∙◌, append_assoc}
+use Rattle.std.proofs.lemmas.List.{append-nil}
+use Rattle.std.specs.Io.KnownBytes.{Consumes as Takes}
+use Rattle.xcp_slave.specs.declared.Exchange.{Exchange}
+use Rattle.xcp_slave.specs.declared.Request.{Request}
+use Rattle.xcp_slave.specs.declared.Request.TheVariants as requests
+use Rattle.xcp_framing.specs.declared.station.StationError.{StationError}
+use Rattle.xcp_framing.specs.declared.station.StationError.TheVariants as refusals
+use Rattle.xcp_framing.specs.declared.serving.ServeError.{ServeError}
+use Rattle.xcp_framing.specs.declared.serving.ServeError.TheVariants as errors
+use Rattle.xcp_framing.specs.Frames.{frames, rest}
+use Rattle.xcp_framing.specs.FramerInput.{Feeds}
+use Rattle.xcp_framing.specs.private.FrameOutput.{Output}
+use Rattle.xcp_framing.specs.Serve.{AnswersAll, OnRead, refused_with}
+use Rattle.xcp_framing.specs.ServeRefusal.{OnRefusal, DrainsNext, AsksNext, ReadsNext, Refused}
+use Rattle.xcp_framing.proofs.ExchangeLemmas.{answers_all_more}
+use Rattle.xcp_framing.proofs.PieceLemmas.{Consumes, ahead}
+use Rattle.xcp_framing.proofs.StreamLemmas.{Midway, read_more}
+
+-- the station's error, as the call's
+pub on_refusal : (A : Type 0) (e : StationError) (F : StationError → Type 0) → F e → OnRefusal {A = A} (Err (refused_with e)) F
+on_refusal A refusals.Memory F h = h
+on_refusal A refusals.JournalFull F h = h
+
+-- what a refusal tells of a part of the call, it tells of all of it
+pub on_refusal_map : (A B : Type 0) (e : ServeError) (F G : StationError → Type 0) → ((x : StationError) → F x → G x) → OnRefusal {A = A} (Err e) F → OnRefusal {A = B} (Err e) G
+on_refusal_map A B errors.Read F G f h = tt
+on_refusal_map A B errors.Write F G f h = tt
+on_refusal_map A B (errors.BadLength n) F G f h = tt
+on_refusal_map A B errors.Truncated F G f h = tt
+on_refusal_map A B errors.Memory F G f h = f refusals.Memory h
+on_refusal_map A B errors.TurnsSpent F G f h = tt
+on_refusal_map A B errors.JournalFull F G f h = f refusals.JournalFull h
+
+pub on_refusal_all : (A : Type 0) (r : Result A ServeError) (F G : StationError → Type 0) → ((x : StationError) → F x → G x) → OnRefusal r F → OnRefusal r G
+on_refusal_all A (Ok v) F G f h = tt
+on_refusal_all A (Err e) F G f h = on_refusal_map A A e F G f h
+
+-- exchanges before the part of the call that was refused
+pub refused_more : {S : Type 0} (exchanges_of : S → List Exchange) (refuses : S → Request → StationError → Type 0) (e : StationError) (Next Later : List Exchange → Request → Type 0) {old mid : List Exchange} {new : S} (xs : List Exchange)
+    → mid ≡ old ++ xs → ((ys : List Exchange) (q : Request) → Next ys q → Later (xs ++ ys) q) → Refused exchanges_of refuses e Next mid new → Refused exchanges_of refuses e Later old new
+refused_more exchanges_of refuses e Next Later {old = old} xs g f r = record {
+  exchanges = xs ++ r.exchanges;
+  grown = r.grown ∙ ap (λ (z : List Exchange). z ++ r.exchanges) g ∙ append_assoc old xs r.exchanges;
+  request = r.request;
+  next = f r.exchanges r.request r.next;
+  may = r.may;
+}
+
+-- a packet's command
+pub asks_command : (p : List ℕ) → AsksNext (p ∷ []) [] (requests.Command (record { items = p }))
+asks_command p = record { done = []; packet = p; later = []; full = []; cut = []; packets_are = refl; joined = refl; answered = refl; asks = refl }
+
+-- a packet's command was refused
+pub refused_command : {S : Type 0} (exchanges_of : S → List Exchange) (refuses : S → Request → StationError → Type 0) (e : StationError) (p : List ℕ) (state : S) {new : S}
+    → exchanges_of new ≡ exchanges_of state → refuses new (requests.Command (record { items = p })) e → Refused exchanges_of refuses e (AsksNext (p ∷ [])) (exchanges_of state) new
+refused_command exchanges_of refuses e p state same may = record {
+  exchanges = [];
+  grown = same ∙ sym (append-nil (exchanges_of state));
+  request = requests.Command (record { items = p });
+  next = asks_command p;
+  may = may;
+}
+
+-- a Drain behind a packet's command
+pub asks_drain : (p : List ℕ) (x : Exchange) → x.request ≡ requests.Command (record { items = p }) → (ys : List Exchange) (q : Request) → DrainsNext ys q → AsksNext (p ∷ []) ((x ∷ []) ++ ys) q
+asks_drain p x a ys q h = record { done = []; packet = p; later = []; full = []; cut = x ∷ ys; packets_are = refl; joined = refl; answered = refl; asks = (a, h) }
+
+-- behind packets that were answered
+pub asks_more : (ps qs : List (List ℕ)) (xs ys : List Exchange) (q : Request) → AnswersAll ps xs → AsksNext qs ys q → AsksNext (ps ++ qs) (xs ++ ys) q
+asks_more ps qs xs ys q h k = record {
+  done = ps ++ k.done;
+  packet = k.packet;
+  later = k.later;
+  full = xs ++ k.full;
+  cut = k.cut;
+  packets_are = ap (λ (z : List (List ℕ)). ps ++ z) k.packets_are ∙ sym (append_assoc ps k.done (k.packet ∷ k.later));
+  joined = ap (λ (z : List Exchange). xs ++ z) k.joined ∙ sym (append_assoc xs k.full k.cut);
+  answered = answers_all_more ps k.done xs k.full h k.answered;
+  asks = k.asks;
+}
+
+-- packets that come later don't matter
+pub asks_before : (ps qs : List (List ℕ)) (xs : List Exchange) (q : Request) → AsksNext ps xs q → AsksNext (ps ++ qs) xs q
+asks_before ps qs xs q k = record {
+  done = k.done;
+  packet = k.packet;
+  later = k.later ++ qs;
+  full = k.full;
+  cut = k.cut;
+  packets_are = ap (λ (z : List (List ℕ)). z ++ qs) k.packets_are ∙ append_assoc k.done (k.packet ∷ k.later) qs;
+  joined = k.joined;
+  answered = k.answered;
+  asks = k.asks;
+}
+
+-- a refusal in a piece of the stream, of which packets were answered
+pub refused_in_piece : {S : Type 0} (exchanges_of : S → List Exchange) (refuses : S → Request → StationError → Type 0) (m j : ℕ) (h s t r left : List ℕ) (p : List ℕ) {used : ℕ} {old now : List Exchange} {new : S} {a b : Output} {from at first count : ℕ}
+    → Consumes m h s r used old now a b from at first count → t ≡ drop used s → Feeds m r t j (p ∷ []) left
+    → (e : StationError) → Refused exchanges_of refuses e (AsksNext (p ∷ [])) now new → Refused exchanges_of refuses e (AsksNext (frames m (h ++ s))) old new
+refused_in_piece exchanges_of refuses m j h s t r left p x d f e k =
+    let step = ahead m j r t left f in
+    let later = frames m (left ++ drop j t) in
+    let all : frames m (h ++ s) ≡ (x.done ++ p ∷ []) ++ later = x.packets ∙ rw (← d, step.0) (sym (append_assoc x.done (p ∷ []) later)) in
+    rw all (refused_more exchanges_of refuses e (AsksNext (p ∷ [])) (AsksNext ((x.done ++ p ∷ []) ++ later)) x.grows.exchanges x.grows.grown
+    (λ ys q n. asks_before (x.done ++ p ∷ []) later (x.grows.exchanges ++ ys) q (asks_more x.done (p ∷ []) x.grows.exchanges ys q x.grows.fact n)) k)
+
+-- the packets alone of what was read
+pub read_packets : (m : ℕ) (i n : Option (List ℕ)) (packets : List (List ℕ)) (behind : List ℕ) → OnRead i n (λ stream. (packets ≡ frames m stream) × (behind ≡ rest m stream)) → OnRead i n (λ stream. packets ≡ frames m stream)
+read_packets m None n packets behind h = tt
+read_packets m (Some xs) None packets behind h = absurd h
+read_packets m (Some xs) (Some ys) packets behind h = (h.0, h.1, h.2.0)
+
+-- a refusal in the piece of the stream that was read last
+pub refused_midway : {S : Type 0} (exchanges_of : S → List Exchange) (refuses : S → Request → StationError → Type 0) (m : ℕ) {i o n : Option (List ℕ)} {held : List ℕ} (chunk : List ℕ) {old now : List Exchange} {new : S} {a b : Output} {sent count : ℕ}
+    → Midway m i o held old now a b sent count → Takes o n chunk
+    → (e : StationError) → Refused exchanges_of refuses e (AsksNext (frames m (held ++ chunk))) now new → Refused exchanges_of refuses e (ReadsNext m i n) old new
+refused_midway exchanges_of refuses m {i = i} {o = o} {n = n} {held = held} chunk x t e k =
+    let more = frames m (held ++ chunk) in
+    refused_more exchanges_of refuses e (AsksNext more) (ReadsNext m i n) x.grows.exchanges x.grows.grown
+    (λ ys q next. record {
+      packets = x.packets ++ more;
+      read = read_packets m i n (x.packets ++ more) (rest m (held ++ chunk)) (read_more m i o n x.packets held chunk x.read t);
+      asks = asks_more x.packets more x.grows.exchanges ys q x.grows.fact next;
+    }) k

@@ -1,0 +1,11 @@
+-- The parts of a call of `serve`: what its private functions promise to it.
+use Rattle.std.specs.Prelude.{⊤}
+use Rattle.xcp_framing.specs.declared.serving.ServeError.{ServeError}
+use Rattle.xcp_framing.specs.declared.serving.ServeError.TheVariants as errors
+
+-- a write or the station ended the call
+abbrev pub IsInterruption : ServeError → Type 0
+IsInterruption errors.Write = ⊤
+IsInterruption errors.Memory = ⊤
+IsInterruption errors.JournalFull = ⊤
+IsInterruption _ = ⊥

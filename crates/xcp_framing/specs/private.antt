@@ -1,0 +1,11 @@
+-- Words that contracts of private functions and invariants cite. No contract of a public function needs them.
+pub mod PacketChain
+pub mod HexDigits
+pub mod FramerInput
+pub mod FrameOutput
+pub mod CommandPacket
+pub mod LineInSlot
+pub mod LineReading
+pub mod Serve
+pub mod ServeBy
+pub mod ServeParts

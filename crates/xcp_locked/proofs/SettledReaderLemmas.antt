@@ -1,0 +1,29 @@
+-- Which member a reader holds.
+use Rattle.std.proofs.Common.{◌≡◌, ◌≢◌, ℕ, zero, suc, ◌+◌, ◌<◌, ◌≤◌, ◌%◌, List, [], ◌∷◌, length, slice_index_or, refl, ap, ◌∙◌, arith, Option, Some, None}
+use Rattle.std.proofs.lemmas.List.{length-map}
+use Rattle.std.specs.List.{slice_get}
+use Rattle.xcp_locked.specs.Publications.{Publication, publication, images_of}
+use Rattle.xcp_locked.specs.private.Publications.{places_of}
+
+pub some_of : (o : Option (ℕ × ℕ)) → o ≢ None → (b : ℕ) × (p : ℕ) × (o ≡ Some (b, p))
+some_of None ne = absurd (ne refl)
+some_of (Some h) ne = (h.0, h.1, refl)
+
+-- the member of a number, by its place and its image
+pub member_at : (list : List Publication) (n d : ℕ) → n < length list → slice_get list n ≡ Some (publication (slice_index_or (places_of list) n d) (slice_index_or (images_of list) n []))
+member_at [] n d low = absurd (omega arith)
+member_at (p ∷ list) zero d low = refl
+member_at (p ∷ list) (suc n) d low = member_at list n d (omega arith)
+
+images_length : (list : List Publication) → length (images_of list) ≡ length list
+images_length list = length-map list (λ (p : Publication). p.image)
+
+pub places_length : (list : List Publication) → length (places_of list) ≡ length list
+places_length list = length-map list (λ (p : Publication). p.place)
+
+-- a number modulo 2^64 is the number itself, since there are few publications
+pub same_number : (p r n : ℕ) (seen : List (List ℕ)) (list : List Publication) → p < length seen → seen ≡ images_of list → r ≡ p % 18446744073709551616 → length list ≤ n + 1 → n ≤ 65536 → (r ≡ p) × (r < length list)
+same_number p r n seen list low is number few limit =
+    let l : length seen ≡ length list = ap length is ∙ images_length list in
+    let e : r ≡ p = omega (arith, low, number, few, limit, l) in
+    (e, omega (arith, e, low, l))

@@ -1,0 +1,36 @@
+-- Tasks that ran, one by one.
+use Rattle.std.proofs.Common.{◌≡◌, ℕ, List, [], ◌∷◌, ◌++◌, refl, ap, ◌∙◌, subst}
+use Rattle.std.specs.Prelude.{Option, Some, None, is_none, true}
+use Rattle.xcp_locked.specs.declared.tasks.TaskError.{TaskError}
+use Rattle.xcp_locked.specs.declared.tasks.Done.{Done}
+use Rattle.xcp_locked.specs.declared.worker.Worker.{Worker}
+use Rattle.xcp_locked.specs.TaskOutcome.{first_fault, or_else}
+use Rattle.xcp_locked.specs.Tasks.{Worked}
+
+or_else_assoc : (a b c : Option TaskError) → or_else a (or_else b c) ≡ or_else (or_else a b) c
+or_else_assoc None b c = refl
+or_else_assoc (Some e) b c = refl
+
+or_else_none : (a : Option TaskError) → or_else a None ≡ a
+or_else_none None = refl
+or_else_none (Some e) = refl
+
+-- one more task's fault comes behind the others
+pub first_fault-more : {N : Type 0} (done : List (Done N)) (d : Done N) → first_fault (done ++ d ∷ []) ≡ or_else (first_fault done) d.fault
+first_fault-more [] d = or_else_none d.fault
+first_fault-more (x ∷ done) d = ap (λ z. or_else x.fault z) (first_fault-more done d) ∙ or_else_assoc x.fault (first_fault done) d.fault
+
+-- what a task did, said of its worker
+pub worked_as : {N : Type 0} (cycles cycles' task task' : ℕ) (w w' new : Worker N) (fault : Option TaskError) → task' ≡ task → cycles' ≡ cycles → w' ≡ w → Worked cycles' task' w' new fault → Worked cycles task w new fault
+worked_as {N} cycles cycles' task task' w w' new fault t n e h =
+    subst (λ (x : Worker N). Worked cycles task x new fault) e (subst (λ (k : ℕ). Worked k task w' new fault) n (subst (λ (k : ℕ). Worked cycles' k w' new fault) t h))
+
+-- a fault that is there stays the first
+pub or_else_stays : (a b : Option TaskError) → ¬ (a ≡ None) → or_else a b ≡ a
+or_else_stays None b h = absurd (h refl)
+or_else_stays (Some e) b h = refl
+
+-- nothing was told
+pub none_left : {A : Type 0} (o : Option A) → ((x : A) → o ≡ Some x → ⊥) → is_none o ≡ true
+none_left None h = refl
+none_left (Some x) h = absurd (h x refl)

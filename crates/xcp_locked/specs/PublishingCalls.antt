@@ -1,0 +1,16 @@
+-- What a shared slave publishes.
+use Rattle.std.specs.Prelude.{◌≡◌, ◌≢◌, ◌+◌, ◌⊎◌, ℕ, List, [], ◌∷◌, ◌++◌}
+use Rattle.xcp_slave.specs.declared.Exchange.{Exchange}
+use Rattle.xcp_slave.specs.SlaveValue.{SlaveValue}
+use Rattle.xcp_locked.specs.LockedSlave.{LockedValue}
+use Rattle.xcp_locked.specs.Publications.{Publication, Published, image_of, images_of}
+
+-- The call published the new image where it differs from the one before, and else nothing.
+abbrev pub Publishes : LockedValue → LockedValue → Type 0
+Publishes old new =
+    ((image_of new.slave ≡ image_of old.slave) × (new.publications ≡ old.publications))
+    ⊎ ((image_of new.slave ≢ image_of old.slave) × (new.publications ≡ old.publications ++ image_of new.slave ∷ []))
+
+-- The images are those published of these exchanges of a slave that was v.
+abbrev pub AreImages : SlaveValue → List Exchange → List (List ℕ) → Type 0
+AreImages v xs images = (list : List Publication) × Published v xs list × (images ≡ images_of list)

@@ -1,0 +1,30 @@
+-- What comes of tasks that run at the same time.
+use Rattle.std.specs.Prelude.{◌≡◌, ℕ, List, [], ◌∷◌, map, Option, Some, None}
+use Rattle.xcp_locked.specs.declared.tasks.TaskError.{TaskError}
+use Rattle.xcp_locked.specs.declared.worker.Worker.{Worker}
+use Rattle.xcp_locked.specs.declared.tasks.Done.{Done}
+use Rattle.xcp_locked.specs.declared.tasks.Ran.{Ran}
+use Rattle.xcp_locked.specs.PairedLists.{EachFrom}
+use Rattle.xcp_locked.specs.Tasks.{Worked}
+
+-- what came of the worker's task of this number
+abbrev pub WorkedAs : {N : Type 0} → ℕ → ℕ → Worker N → Done N → Type 0
+WorkedAs cycles task w d = Worked cycles task w d.worker d.fault
+
+-- the first of two faults
+abbrev pub or_else : Option TaskError → Option TaskError → Option TaskError
+or_else (Some e) other = Some e
+or_else None other = other
+
+-- the fault of the least task number that has one
+abbrev pub first_fault : {N : Type 0} → List (Done N) → Option TaskError
+first_fault [] = None
+first_fault (d ∷ more) = or_else d.fault (first_fault more)
+
+-- One task for each worker, numbered from 0: all workers come back, each having done what its task has, and the fault is that
+-- of the least task number.
+pub record RanTasks {N : Type 0} (cycles : ℕ) (workers : List (Worker N)) (r : Ran N) : Type 0 where
+  pub done : List (Done N)
+  pub worked : EachFrom (WorkedAs cycles) 0 workers done
+  pub back : r.workers.items ≡ map (λ d. d.worker) done
+  pub fault : r.fault ≡ first_fault done

@@ -1,0 +1,32 @@
+-- When a submit publishes, and when it needn't look at the image.
+use Rattle.std.specs.Prelude.{◌≡◌, ◌≢◌, ◌≤◌, ◌+◌, ◌⊎◌, ℕ, List, [], ◌∷◌, ◌++◌, length}
+use Rattle.xcp_bank.specs.BankId.{BankId}
+use Rattle.xcp_slave.specs.declared.Exchange.{Exchange}
+use Rattle.xcp_slave.specs.declared.Request.{Request}
+use Rattle.xcp_slave.specs.declared.Answer.{Answer}
+use Rattle.xcp_slave.specs.Step.{Answers}
+use Rattle.xcp_slave.specs.SlaveValue.{SlaveValue}
+use Rattle.xcp_locked.specs.declared.publisher.Publisher.{Publisher}
+use Rattle.xcp_locked.specs.Publications.{Publication, Published, image_of, images_of}
+use Rattle.xcp_locked.specs.private.Publications.{places_of}
+
+-- What the writer of this bank has published, and where, is what is published of these exchanges, which led from v to w; the
+-- image published last is at hand.
+pub record IsKept (bank : BankId) (v : SlaveValue) (xs : List Exchange) (w : SlaveValue) (p : Publisher) : Type 0 where
+  pub list : List Publication
+  pub published : Published v xs list
+  pub images : p.writer.publications ≡ images_of list
+  pub places : p.places.items ≡ places_of list
+  pub few : length list ≤ length xs + 1
+  pub last : p.last ≡ image_of w
+  pub named : p.writer.bank ≡ bank
+
+-- The image is published with this place where it isn't the last one, and else nothing changes.
+pub record Offers (place : ℕ) (image : List ℕ) (old new : Publisher) : Type 0 where
+  pub bank : new.writer.bank ≡ old.writer.bank
+  pub last : new.last ≡ image
+  pub outcome : ((image ≡ old.last) × (new.writer.publications ≡ old.writer.publications) × (new.places.items ≡ old.places.items)) ⊎ ((image ≢ old.last) × (new.writer.publications ≡ old.writer.publications ++ image ∷ []) × (new.places.items ≡ old.places.items ++ place ∷ []))
+
+-- No slave has another image after such a request.
+abbrev pub KeepsImage : Request → Type 0
+KeepsImage q = (v : SlaveValue) (a : Answer) (w : SlaveValue) → Answers v q a w → image_of w ≡ image_of v

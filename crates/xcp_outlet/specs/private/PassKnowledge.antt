@@ -1,0 +1,41 @@
+-- What a pass of the outlet knows behind each step of the channel.
+use Rattle.std.specs.Prelude.{ℕ, Bool, true, false, List, [], ◌∷◌, ◌++◌, Option, Some, None, option_map}
+use Rattle.xcp_outlet.specs.declared.message.Message.{Message}
+use Rattle.xcp_outlet.specs.PassKnowledge.{Packet, bytes_of, Half, Known, half}
+
+abbrev pub nobody : Known
+nobody = record { reply = None; daq = None; taken = None }
+
+-- the first pass stands for all three
+abbrev pub everything : Known
+everything = record { reply = Some (half [] false); daq = Some (half [] false); taken = Some [] }
+
+abbrev pub one_half : Bool → Half → Known
+one_half false h = record { reply = Some h; daq = None; taken = None }
+one_half true h = record { reply = None; daq = Some h; taken = None }
+
+abbrev pub message : Bool → Option Packet → Message
+message side p = record { from_data = side; packet = p }
+
+-- one message more: a packet, or the end mark
+abbrev pub more : Option (List ℕ) → Half → Half
+more (Some p) h = half (h.put ++ p ∷ []) h.ended
+more None h = half h.put true
+
+abbrev pub after_put_on : Bool → Option (List ℕ) → Known → Known
+after_put_on false p v = record { reply = option_map (more p) v.reply; daq = v.daq; taken = v.taken }
+after_put_on true p v = record { reply = v.reply; daq = option_map (more p) v.daq; taken = v.taken }
+
+abbrev pub after_put : Message → Known → Known
+after_put m v = after_put_on m.from_data (bytes_of m.packet) v
+
+abbrev pub after_take : Message → Known → Known
+after_take m v = record { reply = v.reply; daq = v.daq; taken = option_map (λ t. t ++ m ∷ []) v.taken }
+
+abbrev pub or_else : Option Half → Option Half → Option Half
+or_else None y = y
+or_else (Some x) y = Some x
+
+-- a pass that takes in an end's half
+abbrev pub both_of : Known → Known → Known
+both_of v w = record { reply = or_else w.reply v.reply; daq = or_else w.daq v.daq; taken = v.taken }

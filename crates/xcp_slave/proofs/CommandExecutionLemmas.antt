@@ -1,0 +1,52 @@
+-- A command that is executed.
+use Rattle.std.proofs.Common.{◌≡◌, ◌∙◌, ℕ, List, refl, ap, subst, Option, Some, None, Result, Ok, Err}
+use Rattle.xcp_packet.specs.declared.Order.{Order}
+use Rattle.xcp_packet.specs.declared.Command.{Command}
+use Rattle.xcp_packet.specs.declared.Command.TheVariants as commands
+use Rattle.xcp_packet.specs.declared.Reply.{Reply}
+use Rattle.xcp_packet.specs.declared.Sent.{Sent}
+use Rattle.xcp_packet.specs.declared.Sent.TheVariants as sents
+use Rattle.xcp_packet.specs.declared.Fault.{Fault}
+use Rattle.xcp_packet.specs.ReplyInBytes.{fault_reply, sent_bytes, reply_bytes}
+use Rattle.xcp_packet.specs.Rows.{Tells}
+use Rattle.xcp_memory.specs.Layout.{LayoutValue}
+use Rattle.xcp_slave.specs.declared.answer.Answer.{Answer}
+use Rattle.xcp_slave.specs.declared.answer.Answer.TheVariants as answers
+use Rattle.xcp_slave.specs.SlaveValue.{SlaveValue, layout_of, noblock}
+use Rattle.xcp_slave.specs.Rows.{row}
+use Rattle.xcp_slave.specs.private.Rows.{TellsRow}
+use Rattle.xcp_slave.specs.Step.{Executes, answer_of, found_by}
+use Rattle.xcp_slave.specs.private.AnswerInBytes.{answer_said}
+use Rattle.xcp_slave.proofs.LayoutKeptLemmas.{found_by-layout}
+
+-- whatever the command finds, a refusal leaves the slave without its block
+noblock-found_by : (c : Command) (v : SlaveValue) → noblock (found_by c v) ≡ noblock v
+noblock-found_by (commands.DownloadNext remaining bytes) v = refl
+noblock-found_by _ v = refl
+
+-- and the byte order is the same
+order-found_by : (c : Command) (v : SlaveValue) → (layout_of (found_by c v)).order ≡ (layout_of v).order
+order-found_by c v = ap (λ (l : LayoutValue). l.order) (found_by-layout c v)
+
+-- the packet of these bytes, if there is one
+abbrev packet_or : Option (List ℕ) → Answer
+packet_or None = answers.Silent
+packet_or (Some bytes) = answers.Packet (record { items = bytes })
+
+-- what was sent is the reply's packet
+said_sent : (order : Order) (sent : Sent) (bytes : List ℕ) (reply : Option Reply) → sent_bytes sent bytes ≡ reply_bytes order reply → answer_said order (Ok sent) bytes ≡ answer_of order reply
+said_sent order sents.Lent bytes (Some reply) h = ap packet_or h
+said_sent order sents.Lent bytes None h = absurd (cc)
+said_sent order sents.Nothing bytes (Some reply) h = absurd (cc)
+said_sent order sents.Nothing bytes None h = refl
+
+pub obeyed : (c : Command) (v u w : SlaveValue) (a : Answer) (r : Result Sent Fault) (bytes : List ℕ) → u ≡ found_by c v → TellsRow c u r bytes w → a ≡ answer_said (layout_of v).order r bytes → Executes c v a w
+unfolding TellsRow
+obeyed c v u w a (Ok sent) bytes e m s =
+    let k = subst (λ (x : SlaveValue). Tells (layout_of x).order (row c x) (noblock x) (Ok sent) bytes w) e m in
+    let reply = (row c (found_by c v)).reply in
+    let h = subst (λ (order : Order). sent_bytes sent bytes ≡ reply_bytes order reply) (order-found_by c v) k.1 in
+    (Ok reply, (k.0, refl, k.2), s ∙ said_sent (layout_of v).order sent bytes reply h)
+obeyed c v u w a (Err fault) bytes e m s =
+    let k = subst (λ (x : SlaveValue). Tells (layout_of x).order (row c x) (noblock x) (Err fault) bytes w) e m in
+    (Err (fault_reply fault), (k.0, k.1 ∙ noblock-found_by c v), s)

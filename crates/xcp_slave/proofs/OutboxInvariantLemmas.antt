@@ -1,0 +1,73 @@
+-- The packets that wait.
+use Rattle.std.proofs.Common.{◌≡◌, ℕ, zero, suc, ◌+◌, ◌<◌, ◌≤◌, Bool, true, false, List, [], ◌∷◌, ◌++◌, length, take, get_or, Option, refl, subst, arith, length-append, All, inl, inr}
+use Rattle.std.specs.Prelude.{◌==◌, if◌then◌else◌}
+use Rattle.std.specs.List.{flat_map, enumerate_from}
+use Rattle.std.proofs.lemmas.List.Elements.{All-append}
+use Rattle.arrayvec.specs.ArrayVec.{ArrayVec}
+use Rattle.xcp_memory.specs.Layout.{LayoutValue}
+use Rattle.xcp_memory.specs.Pages.{PagesValue}
+use Rattle.xcp_daq.specs.declared.element.Element.{Element}
+use Rattle.xcp_daq.specs.DaqLists.{DaqValue, DaqList, all_odts, odt_size, first_pid}
+use Rattle.xcp_daq.specs.Sample.{due, odt_bytes, packet_of, odt_packets, packets_from, list_packets, sampled}
+use Rattle.xcp_daq.proofs.DueListLemmas.{first_true}
+use Rattle.xcp_daq.proofs.SampleLemmas.{short_odt}
+use Rattle.xcp_slave.specs.Step.{store_event}
+use Rattle.xcp_slave.specs.SlaveInvariant.{HasRoom, IsLists, IsDataPacket, IsWaiting}
+
+none : {A : Type 0} (P : A → Type 0) → All P []
+none P = λ k d below. absurd (omega arith)
+
+one : {A : Type 0} (P : A → Type 0) (x : A) → P x → All P (x ∷ [])
+one P x h zero d below = h
+one P x h (suc k) d below = absurd (omega arith)
+
+packet : (l : LayoutValue) (pid : ℕ) (bytes : List ℕ) → pid < 64 → length bytes < l.max_dto → All (IsDataPacket l) (packet_of pid bytes)
+packet l pid [] h k = none (IsDataPacket l)
+packet l pid (b ∷ bytes) h k = one (IsDataPacket l) (record { items = pid ∷ b ∷ bytes }) (record { pid = h; least = omega arith; most = omega arith })
+
+packets : (l : LayoutValue) (pages : PagesValue) (first : ℕ) (odts : List (List (Option Element))) → first + length odts ≤ 64 → All (λ odt. odt_size odt < l.max_dto) odts → All (IsDataPacket l) (packets_from pages first odts)
+packets l pages first [] h k = none (IsDataPacket l)
+packets l pages first (o ∷ odts) h k =
+    let small = k zero [] (omega arith) in
+    All-append (IsDataPacket l) (odt_packets pages (first, o)) (packets_from pages (first + 1) odts)
+    (packet l first (odt_bytes pages o) (omega arith) (omega (arith, short_odt pages o)))
+    (packets l pages (first + 1) odts (omega arith) (λ j d below. k (suc j) d (omega arith)))
+
+-- the ODTs of a list and of those before it
+pid_room : (lists : List DaqList) (i : ℕ) (d : DaqList) → i < length lists → length (all_odts (take i lists)) + length (get_or lists i d).odts ≤ length (all_odts lists)
+pid_room [] i d h = absurd (omega arith)
+pid_room (x ∷ lists) zero d h = omega (arith, length-append x.odts (all_odts lists))
+pid_room (x ∷ lists) (suc i) d h = omega (arith, length-append x.odts (all_odts lists), length-append x.odts (all_odts (take i lists)), pid_room lists i d (omega arith))
+
+by_due : (l : LayoutValue) (b : Bool) (ps : List (ArrayVec ℕ)) → (b ≡ true → All (IsDataPacket l) ps) → All (IsDataPacket l) (if b then ps else [])
+by_due l true ps h = h refl
+by_due l false ps h = none (IsDataPacket l)
+
+from : (l : LayoutValue) (channel : ℕ) (pages : PagesValue) (v : DaqValue) (i : ℕ) (lists : List DaqList) → ((k : ℕ) (d : DaqList) → k < length lists → HasRoom l (get_or lists k d) × (length (all_odts (take (i + k) v.lists)) + length (get_or lists k d).odts ≤ 64)) → All (IsDataPacket l) (flat_map (list_packets channel pages v) (enumerate_from i lists))
+from l channel pages v i [] h = none (IsDataPacket l)
+from l channel pages v i (x ∷ lists) h =
+    let here = h zero x (omega arith) in
+    let pid : first_pid i v + length x.odts ≤ 64 = subst (λ (n : ℕ). length (all_odts (take n v.lists)) + length x.odts ≤ 64) (omega arith) here.1 in
+    All-append (IsDataPacket l) (list_packets channel pages v (i, x)) (flat_map (list_packets channel pages v) (enumerate_from (i + 1) lists))
+    (by_due l (due channel x) (packets_from pages (first_pid i v) x.odts) (λ e. packets l pages (first_pid i v) x.odts pid (here.0.fits (first_true x.running (x.event == channel) (x.since == 0) e))))
+    (from l channel pages v (i + 1) lists (λ k d below. (
+      (h (suc k) d (omega arith)).0,
+      subst (λ (n : ℕ). length (all_odts (take n v.lists)) + length (get_or lists k d).odts ≤ 64) (omega arith) (h (suc k) d (omega arith)).1,
+    )))
+
+-- the packets of an event are data packets
+pub sample : (l : LayoutValue) (channel : ℕ) (pages : PagesValue) (v : DaqValue) → IsLists l v → All (IsDataPacket l) (sampled channel pages v)
+sample l channel pages v h =
+    from l channel pages v 0 v.lists (λ k d below.
+    (let fact : length (all_odts (take k v.lists)) + length (get_or v.lists k d).odts ≤ 64 = omega (arith, pid_room v.lists k d below, h.daq.odts) in
+    let same : k ≡ 0 + k = omega arith in
+    (h.room k d below, subst (λ (n : ℕ). length (all_odts (take n v.lists)) + length (get_or v.lists k d).odts ≤ 64) same fact)))
+
+pub data-waits : (l : LayoutValue) (o ps : List (ArrayVec ℕ)) → All (IsWaiting l) o → All (IsDataPacket l) ps → All (IsWaiting l) (o ++ ps)
+data-waits l o ps h k = All-append (IsWaiting l) o ps h (λ j d below. inr (k j d below))
+
+pub event-waits : (l : LayoutValue) (o : List (ArrayVec ℕ)) → All (IsWaiting l) o → All (IsWaiting l) (o ++ store_event ∷ [])
+event-waits l o h = All-append (IsWaiting l) o (store_event ∷ []) h (one (IsWaiting l) store_event (inl refl))
+
+pub rest-waits : (l : LayoutValue) (p : ArrayVec ℕ) (o : List (ArrayVec ℕ)) → All (IsWaiting l) (p ∷ o) → All (IsWaiting l) o
+rest-waits l p o h = λ k d below. h (suc k) d (omega arith)

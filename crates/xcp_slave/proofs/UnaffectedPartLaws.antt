@@ -1,0 +1,172 @@
+-- Parts of a slave that requests leave alone.
+use Rattle.std.proofs.Common.{◌≡◌, ◌≢◌, ℕ, ◌+◌, Bool, true, false, List, [], ◌∷◌, length, Option, None, Result, Ok, Err, ap, sym, ◌∙◌, refl, subst, arith, nat_le, nat_lt}
+use Rattle.std.specs.Prelude.{◌==◌, ◌&&◌, ◌||◌, if◌then◌else◌}
+use Rattle.std.proofs.lemmas.Bool.Decides.{nat_tests}
+use Rattle.arrayvec.specs.ArrayVec.{ArrayVec}
+use Rattle.xcp_packet.specs.CommandForms.{code}
+use Rattle.xcp_packet.specs.ByteOrder.{byte_at}
+use Rattle.xcp_packet.specs.Decoding.{Decodes}
+use Rattle.xcp_packet.specs.Rows.{Meets}
+use Rattle.xcp_packet.specs.declared.Command.{Command}
+use Rattle.xcp_packet.specs.declared.Command.TheVariants as commands
+use Rattle.xcp_packet.specs.declared.Refuse.{Refuse}
+use Rattle.xcp_packet.specs.declared.Refuse.TheVariants as refuses
+use Rattle.xcp_packet.specs.declared.Reply.{Reply}
+use Rattle.xcp_packet.proofs.ByteOrderLemmas.{length-bytes_of}
+use Rattle.xcp_memory.specs.Memory.{Writes}
+use Rattle.xcp_memory.specs.Pages.{PagesValue}
+use Rattle.xcp_transfer.specs.declared.mta.Mta.TheVariants.{Nowhere, Memory, Text}
+use Rattle.xcp_transfer.specs.declared.mta.TextId.TheVariants.{Id, Name}
+use Rattle.xcp_slave.specs.declared.request.Request.{Request}
+use Rattle.xcp_slave.specs.declared.request.Request.TheVariants as requests
+use Rattle.xcp_slave.specs.declared.answer.Answer.{Answer}
+use Rattle.xcp_slave.specs.SlaveValue.{SlaveValue, layout_of, noblock}
+use Rattle.xcp_slave.specs.Rows.{row}
+use Rattle.xcp_slave.specs.Step.{Answers, AnswersPacket, Heeds, Drains, Fires, outbox_size, stored, with_event, with_signals, found_by, is_connect}
+use Rattle.xcp_slave.specs.SlaveInvariant.{IsSlave}
+use Rattle.xcp_slave.specs.AcceptedCommands.{Accepts}
+use Rattle.xcp_slave.specs.CodesByEffect.{IsNone, IsBeside, IsNoEvent, mta_codes, session_codes, list_codes, store_codes}
+use Rattle.xcp_slave.proofs.StepLaws.{either}
+use Rattle.xcp_slave.proofs.AcceptedCommandLaws.{accepted}
+use Rattle.xcp_slave.proofs.MemoryLaws.{bits-writes}
+
+-- a part that a command's row and the end of a block leave
+
+meets-part : {A : Type 0} (f : SlaveValue → A) (c : Command) (v : SlaveValue) (x : Result (Option Reply) Reply) (w : SlaveValue) → f (noblock v) ≡ f v → f (row c (found_by c v)).after ≡ f v → Meets (row c (found_by c v)) (noblock v) x w → f w ≡ f v
+meets-part f c v (Ok o) w n r m = ap f m.2 ∙ r
+meets-part f c v (Err e) w n r m = ap f m.1 ∙ n
+
+heeds-part : {A : Type 0} (f : SlaveValue → A) (P : ℕ → Type 0) (v : SlaveValue) (p : List ℕ) (d : Result Command Refuse) (a : Answer) (w : SlaveValue) → f (noblock v) ≡ f v → ((c : Command) → P (code c) → f (row c (found_by c v)).after ≡ f v) → P (byte_at 0 p) → Decodes (layout_of v).order p d → Heeds v d a w → f w ≡ f v
+heeds-part f P v p (Ok c) a w n r h s k = either (v.connected || is_connect c) _ _ _ k (λ m. meets-part f c v m.0 w n (r c (subst P s.0.first h)) m.1) (λ m. ap f m.1)
+heeds-part f P v p (Err refuses.Empty) a w n r h s k = ap f k.1
+heeds-part f P v p (Err refuses.Unknown) a w n r h s k = either v.connected _ _ _ k (λ m. ap f m.1 ∙ n) (λ m. ap f m.1)
+heeds-part f P v p (Err refuses.Short) a w n r h s k = either v.connected _ _ _ k (λ m. ap f m.1 ∙ n) (λ m. ap f m.1)
+
+pub packet-part : {A : Type 0} (f : SlaveValue → A) (P : ℕ → Type 0) (v : SlaveValue) (p : List ℕ) (a : Answer) (w : SlaveValue) → f (noblock v) ≡ f v → ((c : Command) → P (code c) → f (row c (found_by c v)).after ≡ f v) → P (byte_at 0 p) → AnswersPacket v p a w → f w ≡ f v
+packet-part f P v p a w n r h k = heeds-part f P v p k.0 a w n r h k.1 k.2
+
+-- a part that the other requests leave
+
+pub drains-part : {A : Type 0} (f : SlaveValue → A) (o : List (ArrayVec ℕ)) (v : SlaveValue) (a : Answer) (w : SlaveValue) → ((rest : List (ArrayVec ℕ)) → f (record v { outbox = rest }) ≡ f v) → Drains o v a w → f w ≡ f v
+drains-part f [] v a w h k = ap f k.1
+drains-part f (p ∷ rest) v a w h k = ap f k.1 ∙ h rest
+
+pub fires-part : {A : Type 0} (f : SlaveValue → A) (channel : ℕ) (signals : List ℕ) (v : SlaveValue) (a : Answer) (w : SlaveValue) → ((packets : List (ArrayVec ℕ)) → f (record (with_event channel (with_signals signals v)) { outbox = packets }) ≡ f v) → Fires channel signals v a w → f w ≡ f v
+fires-part f channel signals v a w h k =
+    either (nat_lt channel (length (layout_of v).events)) _ _ _ k
+    (λ m. either (length signals == (layout_of v).signals_length) _ _ _ m
+    (λ n. either (nat_le (length v.outbox + length _) outbox_size) _ _ _ n (λ o. ap f o.1 ∙ h _) (λ o. ap f o.1 ∙ h v.outbox))
+    (λ n. ap f n.1))
+    (λ m. ap f m.1)
+
+pub stores-part : {A : Type 0} (f : SlaveValue → A) (v : SlaveValue) (a : Answer) (w : SlaveValue) → f (stored v) ≡ f v → Answers v requests.FinishStore a w → f w ≡ f v
+stores-part f v a w h k = either v.store _ _ _ k (λ m. either (v.connected && nat_le outbox_size (length v.outbox)) _ _ _ m (λ n. ap f n.1) (λ n. ap f n.1 ∙ h)) (λ m. ap f m.1)
+
+-- the MTA
+
+row-mta : (c : Command) (v : SlaveValue) → IsNone mta_codes (code c) → (row c (found_by c v)).after.transfer.mta ≡ v.transfer.mta
+row-mta (commands.Connect mode) v h = cc
+row-mta commands.Disconnect v h = cc
+row-mta (commands.GetId kind) v h = cc
+row-mta (commands.SetMta extension address) v h = cc
+row-mta (commands.Upload n) v h = cc
+row-mta (commands.ShortUpload n extension address) v h = cc
+row-mta (commands.BuildChecksum size) v h = cc
+row-mta (commands.Download n bytes) v h = cc
+row-mta (commands.DownloadNext remaining bytes) v h = cc
+row-mta (commands.DownloadMax bytes) v h = cc
+row-mta (commands.ShortDownload n extension address bytes) v h = cc
+row-mta (commands.GetDaqEventInfo channel) v h = cc
+row-mta _ v h = refl
+
+pub mta-kept : (v : SlaveValue) (q : Request) (a : Answer) (w : SlaveValue) → IsBeside mta_codes q → q ≢ requests.Hangup → Answers v q a w → w.transfer.mta ≡ v.transfer.mta
+mta-kept v (requests.Command p) a w b n k = packet-part (λ x. x.transfer.mta) (IsNone mta_codes) v p.items a w refl (λ c h. row-mta c v h) b k
+mta-kept v (requests.Event channel signals) a w b n k = fires-part (λ x. x.transfer.mta) channel signals.items v a w (λ o. refl) k
+mta-kept v requests.Drain a w b n k = drains-part (λ x. x.transfer.mta) v.outbox v a w (λ o. refl) k
+mta-kept v requests.FinishStore a w b n k = stores-part (λ x. x.transfer.mta) v a w refl k
+mta-kept v requests.Hangup a w b n k = absurd (n refl)
+
+-- whether a tool is connected
+
+row-session : (c : Command) (v : SlaveValue) → IsNone session_codes (code c) → (row c (found_by c v)).after.connected ≡ v.connected
+row-session (commands.Connect mode) v h = cc
+row-session commands.Disconnect v h = cc
+row-session _ v h = refl
+
+pub session-kept : (v : SlaveValue) (q : Request) (a : Answer) (w : SlaveValue) → IsBeside session_codes q → q ≢ requests.Hangup → Answers v q a w → w.connected ≡ v.connected
+session-kept v (requests.Command p) a w b n k = packet-part (λ x. x.connected) (IsNone session_codes) v p.items a w refl (λ c h. row-session c v h) b k
+session-kept v (requests.Event channel signals) a w b n k = fires-part (λ x. x.connected) channel signals.items v a w (λ o. refl) k
+session-kept v requests.Drain a w b n k = drains-part (λ x. x.connected) v.outbox v a w (λ o. refl) k
+session-kept v requests.FinishStore a w b n k = stores-part (λ x. x.connected) v a w refl k
+session-kept v requests.Hangup a w b n k = absurd (n refl)
+
+-- the DAQ lists
+
+row-lists : (c : Command) (v : SlaveValue) → IsNone list_codes (code c) → (row c (found_by c v)).after.daq ≡ v.daq
+row-lists commands.Disconnect v h = cc
+row-lists (commands.ClearDaqList list) v h = cc
+row-lists (commands.SetDaqPtr list odt entry) v h = cc
+row-lists (commands.WriteDaq offset size extension address) v h = cc
+row-lists (commands.SetDaqListMode mode list event prescaler priority) v h = cc
+row-lists (commands.StartStopDaqList mode list) v h = cc
+row-lists (commands.StartStopSynch mode) v h = cc
+row-lists commands.ReadDaq v h = cc
+row-lists commands.FreeDaq v h = cc
+row-lists (commands.AllocDaq count) v h = cc
+row-lists (commands.AllocOdt list count) v h = cc
+row-lists (commands.AllocOdtEntry list odt count) v h = cc
+row-lists _ v h = refl
+
+pub lists-kept : (v : SlaveValue) (q : Request) (a : Answer) (w : SlaveValue) → IsBeside list_codes q → IsNoEvent q → q ≢ requests.Hangup → Answers v q a w → w.daq ≡ v.daq
+lists-kept v (requests.Command p) a w b e n k = packet-part (λ x. x.daq) (IsNone list_codes) v p.items a w refl (λ c h. row-lists c v h) b k
+lists-kept v (requests.Event channel signals) a w b e n k = absurd e
+lists-kept v requests.Drain a w b e n k = drains-part (λ x. x.daq) v.outbox v a w (λ o. refl) k
+lists-kept v requests.FinishStore a w b e n k = stores-part (λ x. x.daq) v a w refl k
+lists-kept v requests.Hangup a w b e n k = absurd (n refl)
+
+-- the store request
+
+row-store : (c : Command) (v : SlaveValue) → IsNone store_codes (code c) → (row c (found_by c v)).after.store ≡ v.store
+row-store (commands.SetRequest mode id) v h = cc
+row-store _ v h = refl
+
+pub store-kept : (v : SlaveValue) (q : Request) (a : Answer) (w : SlaveValue) → IsBeside store_codes q → q ≢ requests.FinishStore → Answers v q a w → w.store ≡ v.store
+store-kept v (requests.Command p) a w b n k = packet-part (λ x. x.store) (IsNone store_codes) v p.items a w refl (λ c h. row-store c v h) b k
+store-kept v (requests.Event channel signals) a w b n k = fires-part (λ x. x.store) channel signals.items v a w (λ o. refl) k
+store-kept v requests.Drain a w b n k = drains-part (λ x. x.store) v.outbox v a w (λ o. refl) k
+store-kept v requests.FinishStore a w b n k = absurd (n refl)
+store-kept v requests.Hangup a w b n k = ap (λ (x : SlaveValue). x.store) k.1
+
+-- what a command changes, and nothing else
+
+pub id-alone : (v w : SlaveValue) (bytes : List ℕ) → Accepts v (commands.GetId 0) bytes w → w ≡ record v { transfer = record v.transfer { mta = Text Id 0; block = None } }
+id-alone v w bytes h = (accepted (commands.GetId 0) v bytes w h).after
+
+is_other : (kind : ℕ) → kind ≢ 0 → (kind == 0) ≡ false
+is_other kind h = grind (arith, nat_tests, h)
+
+pub id-none : (v w : SlaveValue) (kind : ℕ) (bytes : List ℕ) → kind ≢ 0 → Accepts v (commands.GetId kind) bytes w → w ≡ record v { transfer = record v.transfer { block = None } }
+id-none v w kind bytes n h = (accepted (commands.GetId kind) v bytes w h).after ∙ ap (λ (b : Bool). record v { transfer = record v.transfer { mta = if b then Text Id 0 else v.transfer.mta; block = None } }) (is_other kind n)
+
+pub event-alone : (v w : SlaveValue) (channel : ℕ) (bytes : List ℕ) → Accepts v (commands.GetDaqEventInfo channel) bytes w → w ≡ record v { transfer = record v.transfer { mta = Text (Name channel) 0; block = None } }
+event-alone v w channel bytes h = (accepted (commands.GetDaqEventInfo channel) v bytes w h).after
+
+-- the slave with other pages, and with no block
+paged : SlaveValue → PagesValue → SlaveValue
+paged v p = record v { transfer = record v.transfer { pages = p; block = None } }
+
+pub bits-alone : (v w : SlaveValue) (s ma mx a : ℕ) (bytes : List ℕ) → IsSlave v → v.transfer.mta ≡ Memory a → Accepts v (commands.ModifyBits s ma mx) bytes w → (four : List ℕ) × (length four ≡ 4) × Writes v.transfer.pages a four w.transfer.pages × (w ≡ record v { transfer = record v.transfer { pages = w.transfer.pages; block = None } })
+unfolding paged
+bits-alone v w s ma mx a bytes h e k =
+    let r = bits-writes v w s ma mx a bytes h e k in
+    let after = (accepted (commands.ModifyBits s ma mx) v bytes w k).after in
+    (_, length-bytes_of (layout_of v).order 4 _, r.2, after ∙ sym (ap (λ (x : SlaveValue). paged v x.transfer.pages) after))
+
+pub connect-alone : (v w : SlaveValue) (mode : ℕ) (bytes : List ℕ) → Accepts v (commands.Connect mode) bytes w → w ≡ record v { connected = true; transfer = record v.transfer { mta = Nowhere; block = None } }
+connect-alone v w mode bytes h = (accepted (commands.Connect mode) v bytes w h).after
+
+pub disconnect-alone : (v w : SlaveValue) (bytes : List ℕ) → Accepts v commands.Disconnect bytes w → w ≡ record v { connected = false; transfer = record v.transfer { mta = Nowhere; block = None }; daq = record { lists = []; pointer = None; last = None }; outbox = [] }
+disconnect-alone v w bytes h = (accepted commands.Disconnect v bytes w h).after
+
+pub hangup-alone : (v w : SlaveValue) (a : Answer) → Answers v requests.Hangup a w → w ≡ record v { connected = false; transfer = record v.transfer { mta = Nowhere; block = None }; daq = record { lists = []; pointer = None; last = None }; outbox = [] }
+hangup-alone v w a h = h.1

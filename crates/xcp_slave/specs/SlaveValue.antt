@@ -1,0 +1,40 @@
+-- A slave as contracts see it.
+use Rattle.std.specs.Prelude.{ℕ, Bool, false, List, [], None}
+use Rattle.arrayvec.specs.ArrayVec.{ArrayVec}
+use Rattle.xcp_memory.specs.Layout.{LayoutValue}
+use Rattle.xcp_memory.specs.Pages.{PagesValue, opening_pages}
+use Rattle.xcp_transfer.specs.declared.Mta.TheVariants.{Nowhere}
+use Rattle.xcp_transfer.specs.TransferValue.{TransferValue, opening_transfer, without_block}
+use Rattle.xcp_daq.specs.DaqLists.{DaqValue, opening_daq}
+
+-- The slave's value: whether a tool is connected; what its transfers go by: the pages (and with them the layout and the
+-- signals), the memory transfer address, and the block under way; the DAQ lists; the packets that wait to be sent, in order;
+-- and whether a store of the pages is requested.
+pub record SlaveValue : Type 0 where
+  pub connected : Bool
+  pub transfer : TransferValue
+  pub daq : DaqValue
+  pub outbox : List (ArrayVec ℕ)
+  pub store : Bool
+
+-- the layout of a slave
+abbrev pub layout_of : SlaveValue → LayoutValue
+layout_of v = v.transfer.pages.layout
+
+-- The opening: a slave that has just been made. Nobody is connected, the pages are as laid out, there is no DAQ list, no packet
+-- waits, and no store is requested.
+abbrev pub opening : LayoutValue → SlaveValue
+opening l = record { connected = false; transfer = opening_transfer (opening_pages l); daq = opening_daq; outbox = []; store = false }
+
+-- The slave without the block that is under way. A refusal leaves this.
+abbrev pub noblock : SlaveValue → SlaveValue
+noblock v = record v { transfer = without_block v.transfer }
+
+-- the slave with other pages, without the block that is under way
+abbrev pub with_pages : SlaveValue → PagesValue → SlaveValue
+with_pages v pages = record v { transfer = record v.transfer { pages = pages; block = None } }
+
+-- The end of a session: nobody is connected, the memory transfer address and a block under way are gone, and so are the DAQ
+-- lists and the packets that wait. Pages, their numbers and modes, the signals and a store request stay.
+abbrev pub ended : SlaveValue → SlaveValue
+ended v = record v { connected = false; transfer = record v.transfer { mta = Nowhere; block = None }; daq = opening_daq; outbox = [] }

@@ -1,0 +1,90 @@
+-- What exchange a string spells: a head of six bytes, then the bytes of the request and those of the answer. The head is the
+-- request's tag, its channel (the low byte first), the answer's tag, its number, and the length of the request's bytes.
+use Rattle.std.specs.Prelude.{ℕ, ◌+◌, ◌*◌, ◌/◌, ◌%◌, List, [], ◌∷◌, ◌++◌, length, take, drop, slice_index, ◌==◌, if◌then◌else◌}
+use Rattle.xcp_slave.specs.declared.Request.{Request}
+use Rattle.xcp_slave.specs.declared.Request.TheVariants as requests
+use Rattle.xcp_slave.specs.declared.Answer.{Answer}
+use Rattle.xcp_slave.specs.declared.Answer.TheVariants as answers
+use Rattle.xcp_slave.specs.declared.Exchange.{Exchange}
+
+-- a request as a tag, a channel and bytes
+abbrev pub request_tag : Request → ℕ
+request_tag (requests.Command packet) = 0
+request_tag (requests.Event channel signals) = 1
+request_tag requests.Drain = 2
+request_tag requests.FinishStore = 3
+request_tag requests.Hangup = 4
+
+abbrev pub request_channel : Request → ℕ
+request_channel (requests.Event channel signals) = channel
+request_channel _ = 0
+
+abbrev pub request_bytes : Request → List ℕ
+request_bytes (requests.Command packet) = packet.items
+request_bytes (requests.Event channel signals) = signals.items
+request_bytes _ = []
+
+-- the request of a tag, a channel and bytes
+abbrev pub request_of : ℕ → ℕ → List ℕ → Request
+request_of tag channel bytes =
+    if tag == 0 then requests.Command (record { items = bytes }) else (
+    if tag == 1 then requests.Event channel (record { items = bytes }) else (
+    if tag == 2 then requests.Drain else (
+    if tag == 3 then requests.FinishStore else requests.Hangup)))
+
+-- an answer as a tag, a number and bytes
+abbrev pub answer_tag : Answer → ℕ
+answer_tag answers.Silent = 0
+answer_tag (answers.Packet packet) = 1
+answer_tag (answers.Sampled n) = 2
+answer_tag answers.Overrun = 3
+answer_tag answers.NoChannel = 4
+answer_tag answers.BadSignals = 5
+answer_tag answers.Nothing = 6
+answer_tag (answers.Stored n) = 7
+answer_tag answers.NoStore = 8
+answer_tag answers.Later = 9
+
+abbrev pub answer_count : Answer → ℕ
+answer_count (answers.Sampled n) = n
+answer_count (answers.Stored n) = n
+answer_count _ = 0
+
+abbrev pub answer_bytes : Answer → List ℕ
+answer_bytes (answers.Packet packet) = packet.items
+answer_bytes _ = []
+
+-- the answer of a tag, a number and bytes
+abbrev pub answer_of : ℕ → ℕ → List ℕ → Answer
+answer_of tag n bytes =
+    if tag == 0 then answers.Silent else (
+    if tag == 1 then answers.Packet (record { items = bytes }) else (
+    if tag == 2 then answers.Sampled n else (
+    if tag == 3 then answers.Overrun else (
+    if tag == 4 then answers.NoChannel else (
+    if tag == 5 then answers.BadSignals else (
+    if tag == 6 then answers.Nothing else (
+    if tag == 7 then answers.Stored n else (
+    if tag == 8 then answers.NoStore else answers.Later))))))))
+
+-- the exchange that a string spells
+abbrev pub exchange_in : List ℕ → Exchange
+exchange_in string = record {
+  request = request_of (slice_index string 0) (slice_index string 1 + slice_index string 2 * 256) (take (slice_index string 5) (drop 6 string));
+  answer = answer_of (slice_index string 3) (slice_index string 4) (drop (slice_index string 5) (drop 6 string));
+}
+
+-- the string that spells an exchange
+abbrev pub spelling : Exchange → List ℕ
+spelling x =
+    (request_tag x.request ∷ request_channel x.request % 256 ∷ request_channel x.request / 256 ∷ answer_tag x.answer ∷ answer_count x.answer
+    ∷ length (request_bytes x.request) ∷ []) ++ request_bytes x.request ++ answer_bytes x.answer
+
+-- the room that any exchange needs: its string's length, a head, and twice 255 bytes
+abbrev pub room_for_any : ℕ
+room_for_any = 2 + (6 + 255 + 255)
+
+-- A trace as contracts see it: its exchanges, in order, and how many bytes it can take before it needs more memory.
+pub record TraceValue : Type 0 where
+  pub exchanges : List Exchange
+  pub room : ℕ
