@@ -1,7 +1,7 @@
 //! From a command to bytes.
 ghost use Rattle.std.specs.Prelude.{◌≡◌, ◌≤◌, ◌<◌, ◌+◌, ◌↔◌, length, IsTrue, [], ◌∷◌};
 ghost use Rattle.arrayvec.specs.ArrayVec.{array_vec_len};
-ghost use Rattle.xcp_packet.specs.private.EncodeByParameter.{built, start, up_to, put};
+ghost use Rattle.xcp_packet.specs.private.EncodeByParameter.{built, put, start, up_to};
 ghost use Rattle.xcp_packet.specs.ByteOrder.{word_bytes, double_bytes};
 ghost use Rattle.xcp_packet.specs.PlainSpelling.{plain, OnePacket, HasWidths};
 ghost use Rattle.xcp_packet.specs.CommandSpelling.{spells};

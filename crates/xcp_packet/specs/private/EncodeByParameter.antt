@@ -1,5 +1,4 @@
--- The plain spelling as it is put together, parameter by parameter. It is the plain spelling, by a lemma of proofs/;
--- contracts of private functions alone cite it.
+-- The plain spelling as it is put together, parameter by parameter. It is the plain spelling, by a lemma of proofs/.
 use Rattle.std.specs.Prelude.{ℕ, List, [], ◌∷◌, ◌++◌, ◌-◌, length, replicate}
 use Rattle.xcp_packet.specs.CommandForms.{Parameter, code, parameters}
 use Rattle.xcp_packet.specs.PlainSpelling.{place_of, bytes_in}
