@@ -1,13 +1,19 @@
 -- Digits that are read in pairs.
 use Rattle.std.proofs.Common.{◌≡◌, ◌<◌, ◌≤◌, ℕ, suc, ◌+◌, ◌*◌, ◌%◌, Bool, true, false, cond, List, [], ◌∷◌, ◌++◌, length, drop, refl, sym, ap, ◌∙◌, arith, Option, Some, None, Result, Ok, Err, append_assoc, drop-cons, ◌⊎◌, inl, inr}
-use Rattle.std.specs.Prelude.{slice_index, unwrap_or, filter, not, map, ◌==◌, ◌||◌}
+use Rattle.std.specs.Prelude.{slice_index, unwrap_or, is_some, filter, not, map, ◌==◌, ◌||◌}
 use Rattle.std.specs.List.{list_any, range_with_len}
 use Rattle.std.proofs.lemmas.List.{append-nil, drop_all}
 use Rattle.std.proofs.lemmas.List.FromFn.{get_or-map-range_with_len}
 use Rattle.hex.specs.Hex.{decode_pairs, digit_or_error, hex_digit_value, ◌>>=◌}
 use Rattle.hex.specs.declared.error.FromHexError.{FromHexError}
 use Rattle.xcp_framing.specs.private.HexDigits.{value_or}
-use Rattle.xcp_framing.specs.ScriptLine.{bytes_if_ok, hex_bytes, is_space}
+use Rattle.xcp_framing.specs.declared.line.Line.{Line}
+use Rattle.xcp_framing.specs.declared.line.Line.TheVariants.{Faulty}
+use Rattle.xcp_framing.specs.declared.slot.Parsed.{Parsed}
+use Rattle.xcp_framing.specs.declared.slot.Parsed.TheVariants as parseds
+use Rattle.xcp_framing.specs.declared.slot.Slot.{Slot}
+use Rattle.xcp_framing.specs.private.LineInSlot.{line_in}
+use Rattle.xcp_framing.specs.ScriptLine.{bytes_if_ok, command_of, command_with, hex_bytes, is_space}
 
 pub in_table : (digit : ℕ) → digit < 256 → slice_index (map value_or (range_with_len 0 256)) digit ≡ value_or digit
 in_table digit h = get_or-map-range_with_len value_or 0 256 digit digit 0 h (omega arith)
@@ -120,3 +126,48 @@ no_space_out [] h = refl
 no_space_out (b ∷ line) h =
     let two = neither (b == 32) (list_any (λ c. c == 32) line) h in
     ap (λ (t : Bool). cond (not t) (b ∷ filter (λ c. not (is_space c)) line) (filter (λ c. not (is_space c)) line)) two.0 ∙ ap (λ (xs : List ℕ). b ∷ xs) (no_space_out line two.1)
+
+-- what two digits say is something only where both are digits, and something is behind them
+paired : (o p : Option ℕ) (r : Option (List ℕ)) (bytes : List ℕ) → pair_of o p r ≡ Some bytes
+    → (is_some o ≡ true) × ((is_some p ≡ true) × ((more : List ℕ) × (r ≡ Some more)))
+paired (Some a) (Some b) (Some more) bytes e = (refl, (refl, (more, refl)))
+paired (Some a) (Some b) None bytes e = absurd (cc)
+paired (Some a) None r bytes e = absurd (cc)
+paired None p r bytes e = absurd (cc)
+
+no_digit_is_space : (c : ℕ) → is_some (hex_digit_value c) ≡ true → is_space c ≡ false
+no_digit_is_space c h = grind (arith, h)
+
+one_kept : (b : ℕ) (line : List ℕ) → is_space b ≡ false → filter (λ c. not (is_space c)) (b ∷ line) ≡ b ∷ filter (λ c. not (is_space c)) line
+one_kept b line h = ap (λ (t : Bool). cond (not t) (b ∷ filter (λ c. not (is_space c)) line) (filter (λ c. not (is_space c)) line)) h
+
+-- no space stands among digits that say bytes
+all_kept : (digits bytes : List ℕ) → said digits ≡ Some bytes → filter (λ c. not (is_space c)) digits ≡ digits
+unfolding decode_pairs
+all_kept [] bytes e = refl
+all_kept (digit ∷ []) bytes e = absurd (cc)
+all_kept (h ∷ l ∷ rest) bytes e =
+    let both = paired (hex_digit_value h) (hex_digit_value l) (said rest) bytes (sym (said_pair h l rest) ∙ e) in
+    one_kept h (l ∷ rest) (no_digit_is_space h both.0)
+    ∙ ap (λ (xs : List ℕ). h ∷ xs) (one_kept l rest (no_digit_is_space l both.1.0) ∙ ap (λ (xs : List ℕ). l ∷ xs) (all_kept rest both.1.1.0 both.1.1.1))
+
+said_of : (most : ℕ) (digits bytes : List ℕ) → hex_bytes most digits ≡ Some bytes → said digits ≡ Some bytes
+unfolding hex_bytes
+said_of most digits bytes h = grind (arith, h)
+
+read_of : (most : ℕ) (line : List ℕ) (o : Option (List ℕ)) → hex_bytes most line ≡ o → (command_with o ≡ Faulty → ⊥) → hex_bytes most line ≡ hex_bytes most (filter (λ c. not (is_space c)) line)
+read_of most line None e fine = absurd (fine refl)
+read_of most line (Some bytes) e fine = ap (λ (xs : List ℕ). hex_bytes most xs) (sym (all_kept line bytes (said_of most line bytes e)))
+
+-- a command that is read as it stands is read so without spaces too
+pub read_as_it_stands : (most : ℕ) (line : List ℕ) (said : Line) → said ≡ command_with (hex_bytes most line) → (said ≡ Faulty → ⊥) → said ≡ command_of most line
+read_as_it_stands most line said is fine =
+    is ∙ ap command_with (read_of most line (hex_bytes most line) refl (λ h. fine (is ∙ h)))
+
+-- only a faulty line is told as one
+pub faulty_in : (parsed : Parsed) (slot : Slot) → line_in parsed slot ≡ Faulty → parsed ≡ parseds.Faulty
+faulty_in parseds.Skip slot h = absurd (cc)
+faulty_in parseds.Command slot h = absurd (cc)
+faulty_in parseds.Event slot h = absurd (cc)
+faulty_in (parseds.Word word) slot h = absurd (cc)
+faulty_in parseds.Faulty slot h = refl

@@ -111,10 +111,23 @@ fn parse_command(max_cto: u8, line: &[u8], slot: &mut Slot) -> Parsed
     requires { length line.now ≤ 1024 }
     ensures { line_in result slot.new ≡ command_of max_cto line.now }
 {
+    match read_command(max_cto, line, slot) {
+        // a space is no digit, so a line that is read has none
+        Parsed::Faulty => parse_faulty(max_cto, line, slot),
+        parsed => parsed,
+    }
+}
+
+/// What a line says whose bytes are no digits as they stand: spaces may stand between them.
+fn parse_faulty(max_cto: u8, line: &[u8], slot: &mut Slot) -> Parsed
+    requires faulty { command_with (hex_bytes max_cto line.now) ≡ Line.Faulty }
+    requires short { length line.now ≤ 1024 }
+    ensures { line_in result slot.new ≡ command_of max_cto line.now }
+{
     if line.contains(&b' ') {
         return parse_spaced(max_cto, line, slot);
     }
-    read_command(max_cto, line, slot)
+    Parsed::Faulty
 }
 
 /// The same of a line in which spaces stand: it is copied without them.

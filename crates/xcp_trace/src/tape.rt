@@ -4,12 +4,10 @@ ghost use Rattle.xcp_trace.specs.Tape.{behind_string, framed, length_at, string_
 
 use std::alloc::{AllocError, Global};
 use std::marker::Model;
+use std::mem;
 
 /// The bytes before a string, which say its length.
 const LENGTH_BYTES: usize = 2;
-
-/// So many bytes at most are moved one by one: a call that copies them would cost more.
-const FEW: usize = 16;
 
 /// Byte strings of at most 65,535 bytes each, one behind another in one growing buffer.
 #[derive(Drop)]
@@ -97,22 +95,6 @@ impl Tape {
     }
 }
 
-/// Appends bytes for which there is room.
-fn put(bytes: &mut Vec<u8>, more: &[u8])
-    requires { vec_len bytes.old + length more.now ≤ vec_capacity bytes.old }
-    ensures items { bytes.new.items ≡ bytes.old.items ++ more.now }
-    ensures len { vec_len bytes.new ≡ vec_len bytes.old + length more.now }
-    ensures capacity { vec_capacity bytes.old ≤ vec_capacity bytes.new }
-{
-    if more.len() > FEW {
-        let _ = bytes.extend_from_slice(more);
-        return;
-    }
-    for byte in more {
-        bytes.push_reserved(*byte);
-    }
-}
-
 /// Appends a string behind its length.
 fn put_string(bytes: &mut Vec<u8>, first: &[u8], second: &[u8], third: &[u8], fourth: &[u8])
     requires short { length first.now + length second.now + length third.now + length fourth.now
@@ -122,12 +104,56 @@ fn put_string(bytes: &mut Vec<u8>, first: &[u8], second: &[u8], third: &[u8], fo
     ensures { bytes.new.items
         ≡ bytes.old.items ++ framed (first.now ++ second.now ++ third.now ++ fourth.now) }
 {
+    // In a local Vec the length stays in a register: behind the reference it would be stored with
+    // each piece that is put.
+    let alloc = *bytes.allocator();
+    let mut local = mem::replace(bytes, Vec::new(alloc));
     let length = first.len() + second.len() + third.len() + fourth.len();
-    put(bytes, &(length as u16).to_le_bytes());
-    put(bytes, first);
-    put(bytes, second);
-    put(bytes, third);
-    put(bytes, fourth);
+    put(&mut local, &(length as u16).to_le_bytes());
+    put(&mut local, first);
+    put(&mut local, second);
+    put(&mut local, third);
+    put(&mut local, fourth);
+    *bytes = local;
+}
+
+/// Appends bytes for which there is room.
+#[inline(always)]
+fn put(bytes: &mut Vec<u8>, more: &[u8])
+    requires { vec_len bytes.old + length more.now ≤ vec_capacity bytes.old }
+    ensures items { bytes.new.items ≡ bytes.old.items ++ more.now }
+    ensures len { vec_len bytes.new ≡ vec_len bytes.old + length more.now }
+    ensures capacity { vec_capacity bytes.old ≤ vec_capacity bytes.new }
+{
+    let mut left = more;
+    for _eight in 0..more.len() / 8 {
+        left = put_piece::<8>(bytes, left);
+    }
+    let left = put_piece::<4>(bytes, left);
+    let left = put_piece::<2>(bytes, left);
+    let _none = put_piece::<1>(bytes, left);
+}
+
+/// Appends the first `N` bytes, if there are so many, and returns those behind them. They are all
+/// read before one is written, so that they are moved at once.
+#[inline(always)]
+fn put_piece<'a, const N: usize>(bytes: &mut Vec<u8>, more: &'a [u8]) -> &'a [u8]
+    requires few { N ≤ 8 }
+    requires room { vec_len bytes.old + length more.now ≤ vec_capacity bytes.old }
+    ensures items { bytes.new.items ++ result.now ≡ bytes.old.items ++ more.now }
+    ensures len { vec_len bytes.new + length result.now ≡ vec_len bytes.old + length more.now }
+    ensures capacity { vec_capacity bytes.new ≡ vec_capacity bytes.old }
+    ensures taken { N ≤ length more.now → length result.now + N ≡ length more.now }
+    ensures kept { length more.now < N → length result.now ≡ length more.now }
+{
+    let Some((piece, left)) = more.split_first_chunk::<N>() else {
+        return more;
+    };
+    let piece = *piece;
+    for i in 0..N {
+        bytes.push_reserved(piece[i]);
+    }
+    left
 }
 
 /// The string at the head of bytes, and the bytes behind it.

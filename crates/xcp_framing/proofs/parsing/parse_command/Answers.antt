@@ -1,6 +1,5 @@
-use Rattle.std.proofs.Common.{sym}
-use Rattle.xcp_framing.proofs.HexDigitLemmas.{no_space_out}
+use Rattle.xcp_framing.proofs.HexDigitLemmas.{faulty_in, read_as_it_stands}
 use Rattle.xcp_framing.proofs.parsing.parse_command.Goals as goal
 
-pub returns : goal.returns
-returns c = rw (no_space_out c.args.line.now (sym c.if-contains.ensures.value)) c.read_command.ensures
+pub returns-in_default : goal.returns-in_default
+returns-in_default c = read_as_it_stands _ _ _ c.read_command.ensures (λ h. c.in_default.not-Faulty (faulty_in _ _ h))
