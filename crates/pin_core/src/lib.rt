@@ -10,8 +10,6 @@ mod laws;
 mod pins;
 mod reader;
 mod runs;
-#[cfg(test)]
-mod tests;
 mod words;
 
 pub use events::{Event, RunError, Seen, StepError};

@@ -5,6 +5,8 @@
 #[cfg(test)]
 mod calls;
 #[cfg(test)]
+mod cores;
+#[cfg(test)]
 mod events;
 #[cfg(test)]
 mod holders;

@@ -20,6 +20,3 @@ pub use purpose::{Options, OptionsFault};
 pub use replaying::replay;
 pub use source::{read_text, read_whole};
 pub use words::{Unasked, asked};
-
-#[cfg(test)]
-mod tests;

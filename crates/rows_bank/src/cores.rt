@@ -1,9 +1,9 @@
 // Lists of events with their answers, worked out by hand from the table of events.
 ghost use Rattle.std.specs.Prelude.{◌<◌, ◌≤◌, length};
 
-use crate::Event::{Look, Pin, Publish, Read, Reset, Scan, Unpin, Write};
-use crate::Seen::{Done, Index, Leavings, Word};
-use crate::{Core, Event, MAX_WORDS, RunError, Seen, StepError, run};
+use pin_core::Event::{Look, Pin, Publish, Read, Reset, Scan, Unpin, Write};
+use pin_core::Seen::{Done, Index, Leavings, Word};
+use pin_core::{Core, Event, MAX_WORDS, RunError, Seen, StepError, run};
 use std::alloc::Global;
 use std::process::Abort;
 use std::test::Fail;

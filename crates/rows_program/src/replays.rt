@@ -1,10 +1,9 @@
 //! Replays of scripts.
-use super::layouts::{ENGINE, changed, document};
-use crate::fault::Fault;
-use crate::replaying::replay;
+use crate::layouts::{ENGINE, changed, document};
 use std::alloc::{AllocError, Global};
 use std::test::Fail;
 use xcp_framing::Watched;
+use xcp_program::{Fault, replay};
 
 /// How a replay of a script ends, in at most so many turns, and a comma and what it wrote behind that.
 fn told(alloc: Global, config: &str, script: &str, turns: u32) -> Result<String, AllocError> {

@@ -1,10 +1,9 @@
 //! The words of the command line, and what is told where they ask for nothing.
-use crate::purpose::Options;
-use crate::words::{Unasked, asked};
 use std::alloc::{AllocError, Global};
 use std::env::FillError;
 use std::rt::Env;
 use std::test::Fail;
+use xcp_program::{Options, Unasked, asked};
 
 /// The words that a program was started with, cut at each `|`.
 #[derive(Drop)]

@@ -1,7 +1,6 @@
 //! The reading of a layout file.
-use crate::fault::Fault;
-use crate::source::{read_text, read_whole};
 use std::test::Fail;
+use xcp_program::{Fault, read_text, read_whole};
 
 #[test]
 fn a_file_has_at_most_65_536_bytes(rt: HostRuntime) -> Result<(), Fail> {

@@ -1,0 +1,12 @@
+//! Tests of the program's library, by public calls alone: what no clause says, the worked run, the faults of a layout file, the
+//! words of the command line, and all texts.
+#![tactic(auto)]
+
+#[cfg(test)]
+mod layouts;
+#[cfg(test)]
+mod replays;
+#[cfg(test)]
+mod sources;
+#[cfg(test)]
+mod words;
