@@ -223,7 +223,7 @@ fn all_end_alike<N: Name>(locked: &mut Locked<N>, looked: &mut [(Reader<N>, bool
 
 // Which publication a reader takes once it is told of all, if it is no older one than it held, and is
 // the controller's image.
-pub fn newest<N: Name>(locked: &mut Locked<N>, reader: &mut Reader<N>) -> Option<Settled> {
+fn newest<N: Name>(locked: &mut Locked<N>, reader: &mut Reader<N>) -> Option<Settled> {
     let before = locked.settle_reader(reader)?;
     locked.tell(reader);
     reader.acquire();

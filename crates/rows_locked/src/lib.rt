@@ -4,8 +4,6 @@
 #[cfg(test)]
 mod asking;
 #[cfg(test)]
-mod counts;
-#[cfg(test)]
 mod crossings;
 #[cfg(test)]
 mod crowds;
@@ -18,8 +16,6 @@ mod journals;
 #[cfg(test)]
 mod meetings;
 #[cfg(test)]
-mod noise;
-#[cfg(test)]
 mod openings;
 #[cfg(test)]
 mod readers;
@@ -29,7 +25,5 @@ mod rows;
 mod servers;
 #[cfg(test)]
 mod sessions;
-#[cfg(test)]
-mod soaks;
 #[cfg(test)]
 mod streams;

@@ -33,17 +33,12 @@ fn layout(alloc: Global, bytes: &[u8], pages: i64) -> Result<Layout, Fail> {
     })?)
 }
 
-// The layout of `unnamed`.
-pub fn small(alloc: Global) -> Result<Layout, Fail> {
-    layout(alloc, &[0, 1, 2, 3], 2)
-}
-
 // One whose segment has four bytes and two pages.
 pub fn unnamed(alloc: Global, callers: u8) -> Result<Unnamed, Fail>
     requires { (1 ≤ callers) × (callers ≤ 16) }
     ensures { IfOk result (λ u. u.callers ≡ callers) }
 {
-    let layout = small(alloc)?;
+    let layout = layout(alloc, &[0, 1, 2, 3], 2)?;
     Ok(Unnamed::new(alloc, layout, callers)?)
 }
 

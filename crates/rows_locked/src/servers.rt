@@ -17,7 +17,7 @@ use xcp_locked::{
 use xcp_slave::Answer;
 
 // The turns of a connection's pump.
-pub const PUMP_TURNS: u32 = 100_000_000;
+const PUMP_TURNS: u32 = 100_000_000;
 
 pub type Ends<I> = Vec<(Watched<I>, Watched<Hole>)>;
 

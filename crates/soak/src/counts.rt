@@ -1,11 +1,14 @@
-// A writer that counts the frames that are written to it.
+//! Packets that are counted by what they begin with: those of receipts, and those that are written in
+//! frames.
 ghost use Rattle.std.specs.Prelude.{◌<◌};
 
 use std::io::{self, Write};
 use std::sync::atomic::{AtomicU32, Ordering};
+use xcp_locked::{Caller, Name};
+use xcp_slave::Answer;
 
-// How many frames had a packet that begins by FF, by FE, and by another byte, and how many had a number out
-// of order.
+/// How many frames had a packet that begins by FF, by FE, and by another byte, and how many had a number
+/// out of order.
 #[derive(Drop)]
 pub struct Counts {
     kinds: [AtomicU32; 3],
@@ -20,7 +23,7 @@ impl Counts {
         }
     }
 
-    // How many there were of each kind, if all were in order.
+    /// How many there were of each kind, if all were in order.
     pub fn kinds(&self) -> Option<[u32; 3]> {
         if self.strays.load(Ordering::SeqCst) > 0 {
             return None;
@@ -34,8 +37,20 @@ impl Counts {
     }
 }
 
+/// How many packets of this caller's receipts begin by FF, by FE, and by another byte.
+pub fn kinds_of<N: Name>(caller: &Caller<N>) -> [u32; 3] {
+    let mut kinds = [0u32; 3];
+    for receipt in caller.receipts.iter() {
+        if let Answer::Packet(packet) = &receipt.answer {
+            let kind = kind(*packet.first().unwrap_or(&0));
+            kinds[kind] = kinds[kind].wrapping_add(1);
+        }
+    }
+    kinds
+}
+
 // Of a packet that begins by this byte: 0 for an answer, 1 for an error, 2 for another one.
-pub fn kind(first: u8) -> usize
+fn kind(first: u8) -> usize
     ensures { result < 3 }
 {
     match first {
@@ -45,7 +60,7 @@ pub fn kind(first: u8) -> usize
     }
 }
 
-// Counts frames whose packets have at most 255 bytes, and are numbered from 0 modulo 65,536.
+/// Counts frames whose packets have at most 255 bytes, and are numbered from 0 modulo 65,536.
 #[derive(Drop)]
 pub struct Counted<'a> {
     counts: &'a Counts,

@@ -1,7 +1,7 @@
-// Frames of a tool that sends a session and then its commands in any order, some of them cut or altered.
-
-use arrayvec::ArrayVec;
-use std::test::Fail;
+//! Frames of a tool that sends a session and then its commands in any order, some of them cut or altered.
+use std::alloc::AllocError;
+use std::io;
+use xcp_packet::Packet;
 
 // A session over two pages of four bytes: its commands, each a line in hex. Behind CONNECT come a transfer,
 // pages, a list that samples those bytes at each event, and what a slave doesn't have.
@@ -64,8 +64,6 @@ impl Dice {
     }
 }
 
-type Packet = ArrayVec<u8, 32>;
-
 // The command of a line, from 0.
 fn command(line: u32) -> Option<Packet> {
     let mut packet = Packet::new();
@@ -92,7 +90,7 @@ fn spoil(packet: &mut Packet, dice: &mut Dice) {
 }
 
 // Adds a packet's frame: its length, its number, of which nothing is asked, and its bytes.
-fn add_frame(text: &mut Vec<u8>, packet: &Packet, number: u8) -> Result<(), Fail> {
+fn add_frame(text: &mut Vec<u8>, packet: &Packet, number: u8) -> Result<(), AllocError> {
     text.push((packet.len() % 256) as u8)?;
     text.push(0)?;
     text.push(number)?;
@@ -103,24 +101,27 @@ fn add_frame(text: &mut Vec<u8>, packet: &Packet, number: u8) -> Result<(), Fail
     Ok(())
 }
 
-// Adds the session, and then so many frames of its commands; how many of all these have a packet.
-pub fn add_noise(text: &mut Vec<u8>, seed: u32, rounds: u32) -> Result<u64, Fail> {
+/// Adds so many frames: the session, and behind it its commands in any order. The answer is how many of
+/// them have a packet.
+pub fn add_noise(text: &mut Vec<u8>, seed: u32, frames: u32) -> io::Result<u64> {
     let mut dice = Dice { state: seed };
     let mut packets = 0u64;
-    for round in 0..rounds {
-        let line = if round < LINES {
-            round
+    for frame in 0..frames {
+        let line = if frame < LINES {
+            frame
         } else {
             u32::from(dice.throw(LINES as u8))
         };
-        let mut packet = command(line).ok_or("a command")?;
-        if round >= LINES {
+        let Some(mut packet) = command(line) else {
+            return Err(io::ErrorKind::InvalidData.into());
+        };
+        if frame >= LINES {
             spoil(&mut packet, &mut dice);
         }
         if !packet.is_empty() {
             packets = packets.wrapping_add(1);
         }
-        add_frame(text, &packet, (round % 256) as u8)?;
+        add_frame(text, &packet, (frame % 256) as u8)?;
     }
     Ok(packets)
 }

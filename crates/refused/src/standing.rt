@@ -1,0 +1,35 @@
+//! What of a slave and of a caller a refused call has to leave.
+use xcp_locked::{Caller, Locked, Name, Receipt};
+
+/// How often each caller calls.
+pub const ROUNDS: usize = 6;
+
+/// How long the journal is, how many packets wait, the controller's image, and how many receipts a caller
+/// has and which.
+#[derive(PartialEq, Drop)]
+pub struct Standing {
+    calls: u64,
+    pending: u8,
+    image: [u8; 2040],
+    count: usize,
+    receipts: [Option<Receipt>; ROUNDS],
+}
+
+impl Standing {
+    /// It takes no memory. A caller has a receipt a round at most.
+    pub fn of<N: Name>(locked: &Locked<N>, caller: &Caller<N>) -> Standing {
+        let mut image = [0; 2040];
+        let calls = locked.image(&mut image);
+        let mut receipts = [None, None, None, None, None, None];
+        for (copy, receipt) in receipts.iter_mut().zip(caller.receipts.iter()) {
+            *copy = Some(receipt.copy());
+        }
+        Standing {
+            calls,
+            pending: locked.pending(),
+            image,
+            count: caller.receipts.len(),
+            receipts,
+        }
+    }
+}

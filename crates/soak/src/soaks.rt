@@ -1,0 +1,115 @@
+//! One slave beside two tools and six tasks, up to its end, and what is checked then.
+ghost use Rattle.std.specs.Prelude.{◌≡◌};
+
+use crate::checks::Checks;
+use crate::counts::Counted;
+use crate::figures::Figures;
+use crate::plan::Plan;
+use crate::readings::last_publication;
+use crate::replays::replays;
+use crate::sides::{Side, are_told_all};
+use crate::streams::{Trickle, Yielding};
+use std::alloc::Global;
+use std::io;
+use std::marker::Brand;
+use std::sync::Wait;
+use std::thread::Threads;
+use std::time::Clock;
+use xcp_config::read_layout;
+use xcp_locked::{Closing, Name, Unnamed, run_server, settle_all};
+use xcp_memory::Layout;
+
+// (More than a connection's text has bytes.)
+const TURNS: u32 = 10_000_000;
+
+// (A pump ends with its connection.)
+const PUMP_TURNS: u32 = 100_000_000;
+
+// Four bytes of two pages, so that both tools write the same ones.
+const CONFIG: &str = "id = \"ECU1\"
+max_cto = 32
+max_dto = 64
+[[segment]]
+address = 0x1000
+data = \"00010203\"
+[signals]
+address = 0x8000
+length = 8
+[[event]]
+name = \"10ms\"
+cycle = 10
+unit = 6
+";
+
+fn layout(alloc: Global) -> io::Result<Layout> {
+    read_layout(alloc, CONFIG).map_err(|_fault| io::Error::from(io::ErrorKind::InvalidData))
+}
+
+/// What comes of a slave.
+#[derive(Clone, Copy)]
+pub struct Soaked {
+    pub checks: Checks,
+    pub figures: Figures,
+}
+
+/// Runs one slave: the seed says what its two tools send.
+pub fn soak_one<R: Threads + Wait + Clock + Sync>(
+    rt: &R,
+    alloc: Global,
+    plan: &Plan,
+    seed: u32,
+) -> io::Result<Soaked> {
+    let twice = seed.wrapping_mul(2);
+    let sides = [
+        Side::new(alloc, twice, plan.frames)?,
+        Side::new(alloc, twice.wrapping_add(1), plan.frames)?,
+    ];
+    let unnamed = Unnamed::new(alloc, layout(alloc)?, 10)?;
+    soak_named::<Brand, R>(rt, alloc, unnamed, plan, &sides)
+}
+
+fn soak_named<N: Name + Send + Sync, R: Threads + Wait + Clock + Sync>(
+    rt: &R,
+    alloc: Global,
+    unnamed: Unnamed,
+    plan: &Plan,
+    sides: &[Side; 2],
+) -> io::Result<Soaked>
+    requires name { (unnamed.name ≡ N.name) × (unnamed.callers ≡ N.parts)
+        × (unnamed.layout ≡ N.layout) × (unnamed.bank ≡ N.bank) }
+    requires callers { unnamed.callers ≡ 10 }
+{
+    let [one, other] = sides;
+    let ends = Vec::from_array(alloc, [one.end(), other.end()])?;
+    let mut closing: Closing<N, Trickle<'_>, Counted<'_>> = run_server(
+        rt,
+        alloc,
+        unnamed,
+        ends,
+        6,
+        plan.cycles,
+        TURNS,
+        PUMP_TURNS,
+        &Yielding,
+    )?;
+    let calls = closing.locked.len();
+    let settled = settle_all(&mut closing) == Ok(calls);
+    let Closing {
+        mut locked,
+        callers,
+        mut readers,
+        ends,
+        left: _left,
+        fault,
+    } = closing;
+    let last = last_publication(&mut locked, &mut readers);
+    let checks = Checks {
+        tasks: fault.is_none(),
+        callers: settled,
+        tools: are_told_all(sides, &ends, &callers) == Some(true),
+        replay: replays(alloc, layout(alloc)?, &locked, &callers)?,
+        readers: last.is_some(),
+    };
+    let figures = Figures::of(&callers, calls, last);
+    Ok(Soaked { checks, figures })
+}
