@@ -4,7 +4,7 @@ use crate::rows::first_wrong_of;
 use std::test::Fail;
 
 /// Each is a fresh start behind CONNECT.
-const ROWS: [&str; 14] = [
+const ROWS: [&str; 15] = [
     "
     FD > FF 00 00 00 00 00
 ",
@@ -61,6 +61,17 @@ const ROWS: [&str; 14] = [
     F6 00 00 00 00 20 00 00 > FF
     F3 00 00 00 08 00 00 00 > FF 03 00 00 50 05 00 00
 ",
+    // The sum is that of the tool's page, and not of the controller's.
+    "
+    EB 02 00 01 > FF
+    F6 00 00 00 00 10 00 00 > FF
+    F0 01 FF > FF
+    F6 00 00 00 00 10 00 00 > FF
+    F3 00 00 00 10 00 00 00 > FF 03 00 00 77 01 00 00
+    EB 02 00 00 > FF
+    F6 00 00 00 00 10 00 00 > FF
+    F3 00 00 00 10 00 00 00 > FF 03 00 00 78 00 00 00
+",
     "
     EB 02 00 01 > FF
     ED 02 00 00 00 10 00 00 11 22 > FF
@@ -102,6 +113,11 @@ fn blocks(rt: HostRuntime) -> Result<(), Fail> {
         FC > FE 00
         EF 02 07 08 > FE 29 00
         F5 02 > FF D1 D2
+        # GET_STATUS gives a block up too.
+        F6 00 00 00 00 10 00 00 > FF
+        F0 08 01 02 03 04 05 06 > -
+        FD > FF 00 00 00 00 00
+        EF 02 07 08 > FE 29 00
         # A packet of no bytes is no command.
         F6 00 00 00 00 10 00 00 > FF
         F0 08 01 02 03 04 05 06 > -

@@ -33,9 +33,9 @@ abbrev pub event_info_refusal : LayoutValue → ℕ → Option Code
 event_info_refusal layout channel = first_holding ((nat_le (length layout.events) channel, OutOfRange) ∷ [])
 
 -- what is told of an event channel
-abbrev pub told_event : EventValue → EventInfo
-told_event e = record { name_length = length e.name; cycle = e.cycle; unit = e.unit; priority = e.priority }
+abbrev pub info_of_event : EventValue → EventInfo
+info_of_event e = record { name_length = length e.name; cycle = e.cycle; unit = e.unit; priority = e.priority }
 
 -- what GET_DAQ_EVENT_INFO is told
 abbrev pub event_info_reply : LayoutValue → ℕ → EventInfo
-event_info_reply layout channel = told_event (get_or layout.events channel no_event)
+event_info_reply layout channel = info_of_event (get_or layout.events channel no_event)

@@ -1,4 +1,4 @@
--- The pools that hold the lists, and the tree that they are. No public contract names them.
+-- The tree of lists, ODTs and entries that the pools hold: what the value of the lists is read off.
 use Rattle.std.specs.Prelude.{ℕ, List, [], ◌∷◌, take, drop, Option}
 use Rattle.std.specs.List.{flat_map}
 use Rattle.xcp_daq.specs.declared.element.Element.{Element}

@@ -22,4 +22,7 @@ pub mod MemoryLaws
 pub mod BlockLaws
 pub mod UnaffectedPartLaws
 pub mod PacketQueueLaws
+pub mod SampledByteLaws
+pub mod DueListLaws
+pub mod PacketIdentifierLaws
 pub mod BlockDownloadLaws

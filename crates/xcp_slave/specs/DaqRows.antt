@@ -41,13 +41,13 @@ abbrev pub told_info : ProcessorInfo → Reply
 told_info i = replies.DaqInfo i.lists i.events
 
 -- (ASAM MCD-1 XCP, protocol layer, description of commands: GET_DAQ_EVENT_INFO.)
-abbrev pub told_event : EventInfo → Reply
-told_event e = replies.EventInfo e.name_length e.cycle e.unit e.priority
+abbrev pub event_reply : EventInfo → Reply
+event_reply e = replies.EventInfo e.name_length e.cycle e.unit e.priority
 
 -- GET_DAQ_EVENT_INFO tells of an event channel, and leaves the MTA at the first byte of its name.
 abbrev pub get_daq_event_info_row : ℕ → SlaveValue → Row SlaveValue
 get_daq_event_info_row channel v = record {
   refusals = refused (event_info_refusal (layout_of v) channel);
-  reply = Some (told_event (event_info_reply (layout_of v) channel));
+  reply = Some (event_reply (event_info_reply (layout_of v) channel));
   after = record v { transfer = record v.transfer { mta = Text (Name channel) 0; block = None } };
 }

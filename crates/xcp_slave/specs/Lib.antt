@@ -10,6 +10,8 @@ pub mod SlaveInvariant
 pub mod AcceptedCommands
 pub mod MemoryEffects
 pub mod PacketQueue
+pub mod SampledBytes
 pub mod BlockDownload
 pub mod CodesByEffect
+pub mod DueLists
 pub mod private

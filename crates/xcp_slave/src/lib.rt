@@ -34,7 +34,10 @@ pub use law::{
     refusals_leave_the_slave,
 };
 pub use page_properties::PageProperties;
-pub use queue::{an_event_waits_whole, what_waits_is_a_queue};
+pub use queue::{
+    a_list_is_due_by_its_prescaler, a_pid_names_one_odt, a_sample_has_the_controllers_bytes,
+    an_event_waits_whole, what_waits_is_a_queue,
+};
 pub use request::Request;
 pub use runs::{
     a_block_may_be_written, a_reference_page_is_kept, a_store_fills_the_reference_pages,

@@ -1,9 +1,16 @@
 //! Laws of the packets that wait. Each is the contract of a function with an empty body.
-ghost use Rattle.std.specs.Prelude.{◌≡◌, ◌<◌, ◌≤◌, ◌+◌, ◌⊎◌, ◌∷◌, ◌++◌, ℕ, All, List, length};
+ghost use Rattle.std.specs.Prelude.{◌≡◌, ◌<◌, ◌≤◌, ◌+◌, ◌%◌, ◌==◌, ◌⊎◌, ◌∷◌, ◌++◌, ℕ, All, List, [], false, length, true};
 ghost use Rattle.arrayvec.specs.ArrayVec.{ArrayVec};
+ghost use Rattle.xcp_daq.specs.DaqLists.{DaqList, first_pid, list_at};
+ghost use Rattle.xcp_daq.specs.Sample.{due};
+ghost use Rattle.xcp_packet.specs.declared.Command.{Command};
+ghost use Rattle.xcp_slave.specs.AcceptedCommands.{Accepts};
+ghost use Rattle.xcp_slave.specs.DueLists.{KeepsLists, events_of};
 ghost use Rattle.xcp_slave.specs.PacketQueue.{IsWithin, PutsIn, all_taken, event_packets, put_in, taken_out};
 ghost use Rattle.xcp_slave.specs.Run.{Run};
-ghost use Rattle.xcp_slave.specs.Step.{Answers};
+ghost use Rattle.xcp_slave.specs.SampledBytes.{DuePackets};
+ghost use Rattle.xcp_slave.specs.SlaveInvariant.{IsSlave};
+ghost use Rattle.xcp_slave.specs.Step.{Answers, with_signals};
 ghost use Rattle.xcp_slave.specs.SlaveValue.{SlaveValue};
 ghost use Rattle.xcp_slave.specs.declared.answer.Answer.{Answer};
 ghost use Rattle.xcp_slave.specs.declared.exchange.Exchange.{Exchange};
@@ -26,4 +33,29 @@ pub fn an_event_waits_whole()
     ensures none { (v : SlaveValue) (channel : ℕ) (signals : ArrayVec ℕ) (a : Answer) (w : SlaveValue) → Answers v (Request.Event channel signals) a w → ((n : ℕ) × (a ≡ Answer.Sampled n)) ⊎ (w.outbox ≡ v.outbox) }
     ensures room { (v : SlaveValue) (channel n : ℕ) (signals : ArrayVec ℕ) (w : SlaveValue) → Answers v (Request.Event channel signals) (Answer.Sampled n) w → length w.outbox ≤ 64 }
     ensures overrun { (v : SlaveValue) (channel : ℕ) (signals : ArrayVec ℕ) (w : SlaveValue) → Answers v (Request.Event channel signals) Answer.Overrun w → 64 < length v.outbox + length (event_packets v channel signals.items) }
+{}
+
+/// An event that is sampled puts the packets of the lists that are due, in order: for each ODT its PID,
+/// and behind it, entry by entry, the bytes that the controller reads there once the event's signals
+/// are in their place.
+pub fn a_sample_has_the_controllers_bytes()
+    ensures { (v : SlaveValue) (channel n : ℕ) (signals : ArrayVec ℕ) (w : SlaveValue) → IsSlave v → Answers v (Request.Event channel signals) (Answer.Sampled n) w → (packets : List (ArrayVec ℕ)) × DuePackets channel (with_signals signals.items v).transfer.pages v.daq 0 v.daq.lists packets × (w.outbox ≡ v.outbox ++ packets) }
+{}
+
+/// A list that was started is due at the first event of its channel behind the start, and then at each
+/// p-th, p being its prescaler, whatever comes between but a command that changes lists or the end of a
+/// session. An event whose packets have no room counts too. A list that was stopped is due at no event,
+/// and no list at an event of another channel.
+pub fn a_list_is_due_by_its_prescaler()
+    ensures started { (v u : SlaveValue) (i : ℕ) (bytes : List ℕ) (xs : List Exchange) (w : SlaveValue) → IsSlave v → Accepts v (Command.StartStopDaqList 1 i) bytes u → All (λ (x : Exchange). KeepsLists x.request) xs → Run u xs w → due (list_at v.daq i).event (list_at w.daq i) ≡ (events_of (list_at v.daq i).event xs % (list_at v.daq i).prescaler == 0) }
+    ensures selected { (v u : SlaveValue) (i : ℕ) (bytes : List ℕ) (xs : List Exchange) (w : SlaveValue) → IsSlave v → (list_at v.daq i).selected ≡ true → Accepts v (Command.StartStopSynch 1) bytes u → All (λ (x : Exchange). KeepsLists x.request) xs → Run u xs w → due (list_at v.daq i).event (list_at w.daq i) ≡ (events_of (list_at v.daq i).event xs % (list_at v.daq i).prescaler == 0) }
+    ensures stopped { (v u : SlaveValue) (i channel : ℕ) (bytes : List ℕ) (xs : List Exchange) (w : SlaveValue) → Accepts v (Command.StartStopDaqList 0 i) bytes u → All (λ (x : Exchange). KeepsLists x.request) xs → Run u xs w → due channel (list_at w.daq i) ≡ false }
+    ensures runs { (l : DaqList) (channel : ℕ) → due channel l ≡ true → (l.running ≡ true) × (l.event ≡ channel) }
+{}
+
+/// A packet identifier (PID) names one ODT: two ODTs, of one list or of two, have different ones. And
+/// START_STOP_DAQ_LIST answers that of the list's first ODT.
+pub fn a_pid_names_one_odt()
+    ensures one { (v : SlaveValue) (i j k l : ℕ) → j < length (list_at v.daq i).odts → l < length (list_at v.daq k).odts → first_pid i v.daq + j ≡ first_pid k v.daq + l → (i ≡ k) × (j ≡ l) }
+    ensures told { (v w : SlaveValue) (mode i : ℕ) (bytes : List ℕ) → Accepts v (Command.StartStopDaqList mode i) bytes w → bytes ≡ first_pid i v.daq ∷ [] }
 {}
