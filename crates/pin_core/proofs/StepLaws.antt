@@ -14,6 +14,7 @@ use Rattle.pin_core.proofs.ListLemmas.{at_each}
 use Rattle.pin_core.proofs.ReaderStepLemmas.{look_keeps, pin_keeps, unpin_keeps}
 use Rattle.pin_core.proofs.WriterStepLemmas.{scan_keeps, reset_keeps, write_keeps, publish_keeps}
 
+-- a step from a lawful state leads to a lawful state
 pub step_keeps : (W : ℕ) (s t : PinState) (e : Event) (a : Seen) → Lawful W s → Steps W s e a t → Lawful W t
 step_keeps W s t (Look r) a law h = subst (Lawful W) (sym h.2) (look_keeps W s r law h.0)
 step_keeps W s t (Unpin r last) a law h = subst (Lawful W) (sym h.4) (unpin_keeps W s r h.0 h.1 last law h.2)
@@ -24,10 +25,12 @@ step_keeps W s t (Reset b) a law h = subst (Lawful W) (sym h.2) (reset_keeps W s
 step_keeps W s t (Write k x) a law h = subst (Lawful W) (sym h.3) (write_keeps W s k x h.0 law h.1)
 step_keeps W s t Publish a law h = subst (Lawful W) (sym h.3) (publish_keeps W s h.0 law h.1)
 
+-- a run from a lawful state leads to a lawful state
 pub run_keeps : (W : ℕ) (s t : PinState) (es : List Event) (answers : List Seen) → Lawful W s → Runs W s es answers t → Lawful W t
 run_keeps W s t [] answers law h = subst (Lawful W) (sym h.1) law
 run_keeps W s t (e ∷ es) answers law h = run_keeps W h.1 t es h.2 (step_keeps W s h.1 e h.0 law h.4) h.5
 
+-- an event that has a step can happen
 pub step_enabled : (W : ℕ) (s t : PinState) (e : Event) (a : Seen) → Steps W s e a t → IsEnabled W s e
 step_enabled W s t (Look r) a h = h.0
 step_enabled W s t (Unpin r last) a h = (h.0, h.1, h.2)
@@ -38,6 +41,7 @@ step_enabled W s t (Reset b) a h = h.0
 step_enabled W s t (Write k x) a h = (h.0, h.1)
 step_enabled W s t Publish a h = (h.0, h.1)
 
+-- an event that can happen has a step
 pub enabled_steps : (W : ℕ) (s : PinState) (e : Event) → IsEnabled W s e → (a : Seen) × (t : PinState) × Steps W s e a t
 enabled_steps W s (Look r) h = (Index s.index, after_look s r, (h, refl, refl))
 enabled_steps W s (Unpin r last) h = (Done, after_unpin s r h.0 last, (h.0, h.1, h.2, refl, refl))
@@ -54,6 +58,7 @@ same_hold o b c p q e f = ap (λ (z : ℕ × ℕ). z.0) (same_Some (b, p) (c, q)
 same_built : (o : Option ℕ) (b c : ℕ) → o ≡ Some b → o ≡ Some c → b ≡ c
 same_built o b c e f = same_Some b c (sym e ∙ f)
 
+-- an event in a state has one answer and one next state at most
 pub determined : (W : ℕ) (s t u : PinState) (e : Event) (a b : Seen) → Steps W s e a t → Steps W s e b u → (a ≡ b) × (t ≡ u)
 determined W s t u (Look r) a b h k = (h.1 ∙ sym k.1, h.2 ∙ sym k.2)
 determined W s t u (Unpin r last) a b h k = (h.3 ∙ sym k.3, h.4 ∙ (ap (λ (c : ℕ). after_unpin s r c last) (same_hold (reader s r).held h.0 k.0 h.1 k.1 h.2.1 k.2.1) ∙ sym k.4))
@@ -75,6 +80,7 @@ append_none (x ∷ l) = ap (λ k. x ∷ k) (append_none l)
 adds_none : (s t : PinState) → t.writer.publications ≡ s.writer.publications → Adds s t
 adds_none s t e = ([], e ∙ append_none s.writer.publications)
 
+-- a step only adds publications, behind those that there were
 pub step_adds : (W : ℕ) (s t : PinState) (e : Event) (a : Seen) → Steps W s e a t → Adds s t
 step_adds W s t (Look r) a h = adds_none s t (ap (λ (v : PinState). v.writer.publications) h.2)
 step_adds W s t (Unpin r last) a h = adds_none s t (ap (λ (v : PinState). v.writer.publications) h.4)
@@ -89,6 +95,7 @@ step_adds W s t Publish a h = (s.writer.written ∷ [], ap (λ (v : PinState). v
 fewer : (s : PinState) (q : ℕ) (x : Reader) → q < length s.readers → (reader s q).seen ≤ x.seen → (r : ℕ) → (reader s r).seen ≤ (get_or (set s.readers q x) r newcomer).seen
 fewer s q x inside le r = at_each (λ j y. (reader s j).seen ≤ y.seen) s.readers q x newcomer inside le (λ j ne. omega arith) r
 
+-- after a step from a lawful state no reader has seen fewer publications than before
 pub step_seen : (W : ℕ) (s t : PinState) (e : Event) (a : Seen) (r : ℕ) → Lawful W s → Steps W s e a t → (reader s r).seen ≤ (reader t r).seen
 step_seen W s t (Look q) a r law h = subst (λ (v : PinState). (reader s r).seen ≤ (reader v r).seen) (sym h.2)
     (let n = law.sizes.seats in let c = h.0.0 in fewer s q (looking s.index (published s) (reader s q)) (omega arith) (law.seen q).most r)
@@ -102,6 +109,7 @@ step_seen W s t (Reset b) a r law h = subst (λ (v : PinState). (reader s r).see
 step_seen W s t (Write k x) a r law h = subst (λ (v : PinState). (reader s r).seen ≤ (reader v r).seen) (sym h.3) (omega arith)
 step_seen W s t Publish a r law h = subst (λ (v : PinState). (reader s r).seen ≤ (reader v r).seen) (sym h.3) (omega arith)
 
+-- a run from a lawful state only adds publications at the end, and no reader has seen fewer than before
 pub run_adds : (W : ℕ) (s t : PinState) (es : List Event) (answers : List Seen) (r : ℕ) → Lawful W s → Runs W s es answers t
     → (more : List (List ℕ)) × (t.writer.publications ≡ s.writer.publications ++ more) × ((reader s r).seen ≤ (reader t r).seen)
 run_adds W s t [] answers r law h = ([], ap (λ (v : PinState). v.writer.publications) h.1 ∙ append_none s.writer.publications, subst (λ (v : PinState). (reader s r).seen ≤ (reader v r).seen) (sym h.1) (omega arith))

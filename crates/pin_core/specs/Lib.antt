@@ -3,6 +3,7 @@ pub mod CurrentWord
 pub mod CoreFields
 pub mod Effects
 pub mod Steps
+pub mod FaultNumbers
 pub mod StateInvariant
 pub mod Laws
 pub mod private

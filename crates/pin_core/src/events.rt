@@ -1,5 +1,7 @@
 // What can happen, and what each says. By field, `r` is a reader, `b` a buffer, `k` a place among a
 // buffer's words, each numbered from 0.
+ghost use Rattle.std.specs.Prelude.{◌≡◌};
+ghost use Rattle.pin_core.specs.FaultNumbers.{number_of};
 
 /// One atomic step of one actor: the first four are a reader's, the others the writer's.
 #[derive(Clone, Copy, PartialEq, Eq, Debug)]
@@ -42,6 +44,18 @@ pub enum StepError {
     NotEnabled,
     /// The condition holds, and memory was refused: for `Publish` alone, which copies an image.
     Memory,
+}
+
+impl StepError {
+    /// The refusal's number: 1 NotEnabled, 2 Memory.
+    pub fn number(&self) -> u8
+        ensures { result ≡ number_of self.now }
+    {
+        match self {
+            StepError::NotEnabled => 1,
+            StepError::Memory => 2,
+        }
+    }
 }
 
 /// Why a run stopped.

@@ -269,23 +269,29 @@ fn refused_events(rt: HostRuntime) -> Result<(), Fail> {
 #[test]
 fn widest_image(rt: HostRuntime) -> Result<(), Fail> {
     let mut core = Core::new(rt.alloc(), &[5; 256])?;
-    let seen = run(rt.alloc(), &mut core, &[Scan(7), Reset(7)])?;
-    assert_eq!(rt; seen.as_slice(), [Leavings(0), Done].as_slice());
+    let begun = [core.step(Scan(7)), core.step(Reset(7))];
+    assert_eq!(rt; begun, [Ok(Leavings(0)), Ok(Done)]);
     for k in 0..256u16 {
-        assert_eq!(rt; core.step(Publish), Err(StepError::NotEnabled));
-        assert_eq!(rt; core.step(Write(k, u64::from(k) + 1)), Ok(Done));
+        let written = [core.step(Publish), core.step(Write(k, u64::from(k) + 1))];
+        assert_eq!(rt; written, [Err(StepError::NotEnabled), Ok(Done)]);
     }
-    assert_eq!(rt; core.step(Write(256, 0)), Err(StepError::NotEnabled));
-    let seen = run(
-        rt.alloc(),
-        &mut core,
-        &[Publish, Pin(5), Read(5, 255), Read(5, 0)],
-    )?;
+    let published = [core.step(Write(256, 0)), core.step(Publish)];
+    assert_eq!(rt; published, [Err(StepError::NotEnabled), Ok(Done)]);
+    let read = [
+        core.step(Pin(5)),
+        core.step(Read(5, 255)),
+        core.step(Read(5, 0)),
+        core.step(Read(5, 256)),
+    ];
     assert_eq!(rt;
-        seen.as_slice(),
-        [Done, Index(7), Word(256), Word(1)].as_slice()
+        read,
+        [
+            Ok(Index(7)),
+            Ok(Word(256)),
+            Ok(Word(1)),
+            Err(StepError::NotEnabled)
+        ]
     );
-    assert_eq!(rt; core.step(Read(5, 256)), Err(StepError::NotEnabled));
     Ok(())
 }
 
@@ -315,10 +321,15 @@ fn refused_memory_changes_nothing(rt: HostRuntime) -> Result<(), Fail> {
         answer => answer,
     };
     assert_eq!(rt; published, Ok(Done));
-    assert_eq!(rt; core.step(Look(3)), Ok(Index(1)));
-    assert_eq!(rt; core.step(Read(3, 0)), Ok(Word(7)));
-    assert_eq!(rt; core.step(Unpin(3, false)), Ok(Done));
-    assert_eq!(rt; core.step(Pin(3)), Ok(Index(1)));
-    assert_eq!(rt; core.step(Read(3, 0)), Ok(Word(8)));
+    let rows = [
+        (Look(3), Index(1)),
+        (Read(3, 0), Word(7)),
+        (Unpin(3, false), Done),
+        (Pin(3), Index(1)),
+        (Read(3, 0), Word(8)),
+    ];
+    for (event, seen) in rows {
+        assert_eq!(rt; core.step(event), Ok(seen));
+    }
     Ok(())
 }

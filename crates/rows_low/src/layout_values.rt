@@ -63,8 +63,7 @@ fn layout_has_its_values(rt: HostRuntime) -> Result<(), Fail> {
         Some((0x2000, 8, 2, 0xAA)),
         Some((10, 6, 0)),
     );
-    assert!(rt; parts == wanted);
-    assert!(rt; layout.checksum() == ChecksumKind::Add14);
+    assert!(rt; parts == wanted && layout.checksum() == ChecksumKind::Add14);
     assert!(rt; order_of(rt.alloc(), Order::Motorola)? == Order::Motorola);
     assert!(rt; layout.id() == b"ECU1".as_slice() && is_named(&layout, 0, b"10ms"));
     Ok(())
