@@ -59,6 +59,7 @@ read_word W s t a r b p k law held h =
 held_width : (W : ℕ) (s : PinState) (r b p : ℕ) → Lawful W s → (reader s r).held ≡ Some (b, p) → length (publication s p) ≡ W
 held_width W s r b p law held = let k = law.keeps r b p held in ap length (sym k.words) ∙ law.sizes.widths b k.buffer
 
+-- a reader that doesn't unpin in a run holds one publication, which stays as it is, and reads only words of it
 pub reads_one : (W : ℕ) (s t : PinState) (events : List Event) (answers : List Seen) (r b p : ℕ) → Lawful W s → Runs W s events answers t
     → (reader s r).held ≡ Some (b, p) → KeepsHold r events
     → ((reader t r).held ≡ Some (b, p)) × (publication t p ≡ publication s p) × (length (publication s p) ≡ W) × ReadsOf r (publication s p) events answers

@@ -17,9 +17,11 @@ module _ (f : Reader → ℕ) (rs : List Reader) (r : ℕ) (x : Reader) (inside 
   pub sum_less : f x + 1 ≡ f (get_or rs r newcomer) → sum_by f (set rs r x) + 1 ≡ sum_by f rs
   sum_less e = let s = sum_by-set f rs r x newcomer inside in omega arith
 
+-- who holds a buffer counts 1 among its holders
 pub at_same : (b p : ℕ) → at_buffer b (Some (b, p)) ≡ 1
 at_same b p = ap (λ (t : Bool). cond t 1 0) (eq-eqb b b refl)
 
+-- who holds one buffer counts 0 among the holders of another
 pub at_other : (b c p : ℕ) → b ≢ c → at_buffer c (Some (b, p)) ≡ 0
 at_other b c p ne = ap (λ (t : Bool). cond t 1 0) (ne_eqb b c ne)
 
@@ -27,6 +29,7 @@ at_other b c p ne = ap (λ (t : Bool). cond t 1 0) (ne_eqb b c ne)
 pub held_inside : (rs : List Reader) (r : ℕ) (h : ℕ × ℕ) → (get_or rs r newcomer).held ≡ Some h → r < length rs
 held_inside rs r h e = lt_of_not-le (λ (past : length rs ≤ r). none-some h (ap (λ (y : Reader). y.held) (sym (get_or_past rs r newcomer past)) ∙ e))
 
+-- a buffer that no reader holds has 0 holders
 pub no_holders : (b : ℕ) (rs : List Reader) → ((r p : ℕ) → (get_or rs r newcomer).held ≢ Some (b, p)) → holders b rs ≡ 0
 no_holders b [] none = refl
 no_holders b (x ∷ xs) none = sum_by-cons (λ (y : Reader). at_buffer b y.held) x xs ∙ (

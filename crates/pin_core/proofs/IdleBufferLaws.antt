@@ -65,6 +65,7 @@ module _ (i : ℕ) (rs : List Reader) where
       (λ some. let f₀ = f.0 in let f₁ = f.1 in inr ((λ h. let g = f₀ (omega arith) in omega arith), λ h. let g = f₁ (omega arith) in omega arith))))
       (find_idle n)
 
+-- in a lawful state there is a buffer, not the current one, that nobody holds
 pub some_idle : (W : ℕ) (s : PinState) → Lawful W s → (b : ℕ) × IsIdle s b
 some_idle W s law = ⊎_elim {A = Idle s.index s.readers 8} {B = Full s.index s.readers 8} (λ f. (f.0, (f.1, f.2, f.3)))
     (λ f. let b = below_all 8 s.readers in let i = law.sizes.index in let n = law.sizes.seats in let g = f.0 i in absurd (omega arith)) (find_idle s.index s.readers 8)

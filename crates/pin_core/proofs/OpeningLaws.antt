@@ -6,20 +6,24 @@ use Rattle.std.proofs.lemmas.Bool.{false≢true}
 use Rattle.pin_core.specs.State.{Reader, PinState, newcomer, reader, words_of, leavings_of, started_of, opening}
 use Rattle.pin_core.specs.StateInvariant.{at_buffer, holders, Lawful}
 
+-- a list of equal elements has this element at every place, and behind its end as the default
 pub alike : {A : Type 0} (n : ℕ) (a : A) (i : ℕ) → get_or (replicate n a) i a ≡ a
 alike zero a i = refl
 alike (suc n) a zero = refl
 alike (suc n) a (suc i) = alike n a i
 
+-- a list of n equal elements has this element at every place below n, whatever the default
 pub within : {A : Type 0} (n : ℕ) (a d : A) (i : ℕ) → i < n → get_or (replicate n a) i d ≡ a
 within zero a d i h = absurd (omega arith)
 within (suc n) a d zero h = refl
 within (suc n) a d (suc i) h = within n a d i (omega arith)
 
+-- a list of n equal elements has length n
 pub long : {A : Type 0} (n : ℕ) (a : A) → length (replicate n a) ≡ n
 long zero a = refl
 long (suc n) a = ap suc (long n a)
 
+-- among newcomers a buffer has no holder
 pub none_there : (n b : ℕ) → holders b (replicate n newcomer) ≡ 0
 none_there zero b = refl
 none_there (suc n) b = let s = sum_by-cons (λ (y : Reader). at_buffer b y.held) newcomer (replicate n newcomer) in let m = none_there n b in omega arith

@@ -28,6 +28,7 @@ module _ (s : PinState) (n : ℕ) (ls : List ℕ) (rs : List Reader) where
   still_built : (W b : ℕ) → IsBuilt W s b → get_or ls b 0 ≡ leavings_of s b → IsBuilt W moved b
   still_built W b k same = record { buffer = k.buffer; apart = k.apart; fresh = k.fresh; clean = same ∙ k.clean; room = k.room; front = k.front }
 
+-- a Look that can happen keeps the state lawful
 pub look_keeps : (W : ℕ) (s : PinState) (r : ℕ) → Lawful W s → CanLook s r → Lawful W (after_look s r)
 look_keeps W s r law can =
     let inside : r < length s.readers = (let l = law.sizes.seats in let c = can.0 in omega arith) in
@@ -57,6 +58,7 @@ look_keeps W s r law can =
           (λ q ne. law.seen q);
     }
 
+-- a Pin that can happen keeps the state lawful
 pub pin_keeps : (W : ℕ) (s : PinState) (r : ℕ) → Lawful W s → CanPin s r → Lawful W (after_pin s r)
 pin_keeps W s r law can =
     let inside : r < length s.readers = (let l = law.sizes.seats in let c = can.0 in omega arith) in
@@ -110,6 +112,7 @@ gone_after true last e = absurd (false≢true (sym e))
 gone_after false true e = refl
 gone_after false false e = refl
 
+-- an Unpin that can happen keeps the state lawful
 pub unpin_keeps : (W : ℕ) (s : PinState) (r b p : ℕ) (last : Bool) → Lawful W s → CanUnpin s r b p last → Lawful W (after_unpin s r b last)
 unpin_keeps W s r b p last law can =
     let inside : r < length s.readers = (let l = law.sizes.seats in let c = can.0 in omega arith) in

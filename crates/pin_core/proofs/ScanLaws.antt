@@ -43,6 +43,7 @@ finds W s t (e ∷ es) answers (suc i) b law h only idle is =
     let rest = finds W u t es h.2 i b (step_keeps W s u e h.0 law h.4) h.5 (λ j x at. only (suc j) x at) (idle.0, (λ x. idle.1 (x ∙ same)), omega arith) is in
     (h.0 ∷ rest.0, rest.1, (h.0, u, rest.0, refl, h.4, rest.2), rest.3)
 
+-- a run from a lawful state that scans every buffer but the current one, and builds nothing, finds a quiet one
 pub scans_find : (W : ℕ) (s t : PinState) (events : List Event) (answers : List Seen) → Lawful W s → Runs W s events answers t → OnlyScans events → ScansAllOthers s events → FindsQuiet W s events
 scans_find W s t events answers law h only all =
     let idle = some_idle W s law in

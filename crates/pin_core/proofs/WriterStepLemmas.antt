@@ -11,6 +11,7 @@ use Rattle.pin_core.specs.StateInvariant.{holders, CountsAnOther, IsBuilt, Lawfu
 use Rattle.pin_core.proofs.ListLemmas.{at_each}
 use Rattle.pin_core.proofs.HolderCountLemmas.{no_holders, counted_once}
 
+-- a Scan that can happen keeps the state lawful
 pub scan_keeps : (W : ℕ) (s : PinState) (b : ℕ) → Lawful W s → CanScan s b → Lawful W (after_scan s b)
 scan_keeps W s b law can =
     let z = law.sizes in
@@ -38,6 +39,7 @@ scan_keeps W s b law can =
       seen = law.seen;
     }
 
+-- a Reset that can happen keeps the state lawful
 pub reset_keeps : (W : ℕ) (s : PinState) (b : ℕ) → Lawful W s → CanReset s b → Lawful W (after_reset s b)
 reset_keeps W s b law can =
     let z = law.sizes in
@@ -75,6 +77,7 @@ reset_keeps W s b law can =
       seen = law.seen;
     }
 
+-- a Write that can happen keeps the state lawful
 pub write_keeps : (W : ℕ) (s : PinState) (k x b : ℕ) → Lawful W s → CanWrite W s k b → Lawful W (after_write s k x b)
 write_keeps W s k x b law can =
     let z = law.sizes in
@@ -132,6 +135,7 @@ built_whole W s b law can =
     let w = law.sizes.widths b built.buffer in let c = can.1 in let le : length (words_of s b) ≤ length s.writer.written = omega arith in
     sym (take_all (length s.writer.written) (words_of s b) le) ∙ built.front
 
+-- a Publish that can happen keeps the state lawful
 pub publish_keeps : (W : ℕ) (s : PinState) (b : ℕ) → Lawful W s → CanPublish W s b → Lawful W (after_publish s b)
 publish_keeps W s b law can =
     let z = law.sizes in

@@ -5,9 +5,9 @@ use xcp_config::ConfigError;
 
 #[derive(Clone, Copy)]
 pub enum Outcome {
-    /// The call answered that memory is wanting, and left what it works on as it promises.
+    /// The call answered that an allocation failed, and left what it works on as it promises.
     Memory,
-    /// Memory was wanting for what the call works on, before it was made.
+    /// An allocation failed for what the call works on, before it was made.
     Before,
     /// All came as with ample memory.
     Ample,

@@ -15,6 +15,7 @@ pub record Seen {A B : Type 0} (f : A → B) (xs : List A) (i : ℕ) (x : A) : T
   pub below : i < length (map f xs)
   pub is : f x ≡ get_or (map f xs) i (f x)
 
+-- what an element of a list is seen as stands at the element's place in what the list is seen as
 pub seen : {A B : Type 0} (f : A → B) (xs : List A) (i : ℕ) (x : A) → i < length xs → x ≡ get_or xs i x → Seen f xs i x
 seen f xs i x h e = record { below = rw length-map h; is = ap f e ∙ sym (get_or-map f xs i x (f x) h) }
 
@@ -46,6 +47,7 @@ segment_passed ss i total s h e t k =
     let n : sum_by size_of (take (i + 1) ss) ≡ total + size_of s = sum_here size_of ss i s h e ∙ ap (λ m. m + size_of s) (sym t) in
     member_passed (checks_in ss) ss i s h e (ap (λ m. first_holding (segment_checks i m s)) n ∙ k)
 
+-- where a check of a segment fails, its fault is the first of the segments from this one on
 pub segment_failed : (ss : List Data) (i total : ℕ) (s : Data) (f : ConfigError) → i < length ss → s ≡ get_or ss i s → total ≡ sum_by size_of (take i ss) → first_holding (segment_checks i (total + size_of s) s) ≡ Some f → first_holding (flat_map (checks_in ss) (enumerate_from i (drop i ss))) ≡ Some f
 segment_failed ss i total s f h e t k =
     let n : sum_by size_of (take (i + 1) ss) ≡ total + size_of s = sum_here size_of ss i s h e ∙ ap (λ m. m + size_of s) (sym t) in

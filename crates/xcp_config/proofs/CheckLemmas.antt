@@ -33,6 +33,7 @@ pub if_ok : {T E : Type 0} (r : Result T E) (P Q : T → Type 0) → ((x : T) �
 if_ok (Ok x) P Q f h = f x h
 if_ok (Err e) P Q f h = tt
 
+-- what follows from a fact about an error holds of it, where a call gave one
 pub if_err : {T E : Type 0} (r : Result T E) (P Q : E → Type 0) → ((e : E) → P e → Q e) → IfErr r P → IfErr r Q
 if_err (Ok x) P Q f h = tt
 if_err (Err e) P Q f h = f e h

@@ -68,10 +68,12 @@ pub text_good : (k : Key) (most : ℕ) (v : Option Data) → first_holding (text
 unfolding text_checks
 text_good k most v h = third_passes (is_some v) (is_some (option_and_then as_str v)) (is_text most (text_of v)) (error.Missing k) (error.Kind k) (error.Range k) h
 
+-- an integer that passes its checks is within its limits
 pub integer_good : (k : Key) (least most : ℕ) (v : Option Data) → first_holding (integer_checks k (number_limit least most k) v) ≡ None → is_within least most (integer_of v) ≡ true
 unfolding integer_checks
 integer_good k least most v h = third_passes (is_some v) (is_some (option_and_then as_integer v)) (is_within least most (integer_of v)) (error.Missing k) (error.Kind k) (error.Range k) h
 
+-- data that pass their checks have one byte or more
 pub data_good : (k : Key) (v : Option Data) → first_holding (data_checks k (least_limit k) v) ≡ None → nat_le 1 (length (bytes_of v)) ≡ true
 unfolding data_checks
 data_good k v h = third_passes (is_some v) (is_some (option_and_then as_str v)) (nat_le 1 (length (bytes_of v))) (error.Missing k) (error.Kind k) (error.Range k) h

@@ -28,6 +28,7 @@ pub record HasMembers (v : Option Data) (ds : List Data) : Type 0 where
   pub array : is_some (option_and_then as_array v) ≡ true
   pub members : members_of v ≡ ds
 
+-- a value that is an array of these items has them as its members
 pub has_members : (v : Option Data) (d : Data) (ds : List Data) → v ≡ Some d → as_array d ≡ Some (items_of ds) → HasMembers v ds
 has_members v d ds e f = rw e (record { there = refl; array = rw f refl; members = rw f (list_of_items ds) })
 

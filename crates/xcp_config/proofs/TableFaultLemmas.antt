@@ -1,4 +1,4 @@
--- No check of a table tells that the text is no document, or that memory is wanting.
+-- No check of a table tells that the text is no document, or that an allocation failed.
 use Rattle.std.proofs.Common.{◌≡◌, ◌≢◌, ℕ, Bool, true, false, ◌&&◌, List, [], ◌∷◌, ◌++◌, map, ◌+◌, codes, Option, Some, refl, sym, if◌then◌else◌}
 use Rattle.std.specs.List.{list_all, flat_map, enumerate_from}
 use Rattle.toml.specs.Data.{Data, get}

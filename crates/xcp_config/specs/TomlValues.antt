@@ -1,4 +1,4 @@
--- The values that a TOML document has at its keys (TOML v1.0.0: keys, arrays and tables), read as a configuration reads them.
+-- The values that a TOML document has at its keys (TOML v1.1.0: keys, arrays and tables), read as a configuration reads them.
 use Rattle.std.specs.Prelude.{ℕ, ℤ, pos, Bool, List, [], ◌∷◌, ◌&&◌, codes, Option, Some, None, Result, Ok, Err, is_some, unwrap_or, if◌then◌else◌}
 use Rattle.std.specs.Option.{option_and_then}
 use Rattle.std.specs.List.{list_all}

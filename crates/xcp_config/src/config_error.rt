@@ -26,7 +26,7 @@ pub enum ConfigError {
     /// More than there is room for.
     #[error("too many: {0:?}")]
     TooMany(Key),
-    /// Memory was wanting.
+    /// An allocation failed.
     #[error("out of memory")]
     Memory,
 }

@@ -19,7 +19,7 @@ use xcp_memory::{Layout, Parts};
 /// The layout that a text describes. `Text` comes only where the text is no TOML document; then the keys are looked at
 /// in the order of `specs/TableChecks.antt`, and the first check that fails tells the fault: for each key `Missing`,
 /// `Kind`, `Range`; for an array `TooMany` behind these; for a segment the number of bytes so far, its last address,
-/// and then its number of pages; areas that overlap last. `Memory` comes where memory is wanting, at any place.
+/// and then its number of pages; areas that overlap last. `Memory` comes where an allocation fails, at any place.
 pub fn read_layout(alloc: Global, text: &str) -> Result<Layout, ConfigError>
     ensures layout { IfOk result (λ l. HasLayout text.now l) }
     ensures text { result ≡ Err ConfigError.Text → IsNoDocument text.now }

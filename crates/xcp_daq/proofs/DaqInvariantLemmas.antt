@@ -62,6 +62,7 @@ pub record Grows (was now : List (List (Option Element))) : Type 0 where
   pub odts : length was ≤ length now
   pub entries : (j : ℕ) → j < length was → length (get_or was j []) ≤ length (get_or now j [])
 
+-- ODTs that stay the same have at least the entries that they had
 pub same_grows : (was now : List (List (Option Element))) → was ≡ now → Grows was now
 same_grows was now e = record { odts = omega (arith, ap length e); entries = λ j h. omega (arith, ap (λ (os : List (List (Option Element))). length (get_or os j [])) e) }
 
@@ -104,6 +105,7 @@ lawful_with v i l h below lawful odts entries written grows =
 pub lawful_last : (v : DaqValue) (a : Option Allocation) → IsDaq v → IsDaq (record v { last = a })
 lawful_last v a h = record { lists = h.lists; odts = h.odts; entries = h.entries; each = h.each; written = h.written; pointer = pointer_kept v (record v { last = a }) v.pointer (omega arith) (λ i k. same_grows _ _ refl) h.pointer }
 
+-- lists stay lawful with another pointer that names an entry, or with none
 pub lawful_pointer : (v : DaqValue) (p : Option Pointer) → IsDaq v → IsPointerOf v p → IsDaq (record v { pointer = p })
 lawful_pointer v p h k = record { lists = h.lists; odts = h.odts; entries = h.entries; each = h.each; written = h.written; pointer = pointer_kept v (record v { pointer = p }) p (omega arith) (λ i below. same_grows _ _ refl) k }
 
@@ -205,12 +207,14 @@ lawful_entries v i j odt h below place still more room written =
 pub written_at_odt : (v : DaqValue) (i j : ℕ) → IsDaq v → i < length v.lists → j < length (list_at v i).odts → All IsEntry (odt_at v i j)
 written_at_odt v i j h below place = all_part IsEntry (λ (x : List (Option Element)). x) (list_at v i).odts j [] place (written_at_list v i h below)
 
+-- lists stay lawful with n unwritten entries more in an ODT of a stopped list, if there are then at most 256
 pub lawful_more_entries : (v : DaqValue) (i j n : ℕ) → IsDaq v → i < length v.lists → j < length (list_at v i).odts → (list_at v i).running ≡ false → length (all_entries v.lists) + n ≤ 256 → IsDaq (with_list v i (record (list_at v i) { odts = slice_set (list_at v i).odts j (odt_at v i j ++ replicate n None) }))
 lawful_more_entries v i j n h below place still room =
     let odt : List (Option Element) = odt_at v i j in
     let long : length (odt ++ replicate n None) ≡ length odt + n = omega (arith, length-append odt (replicate n None), length-replicate {A = Option Element} n None) in
     lawful_entries v i j (odt ++ replicate n None) h below place still (omega arith) (omega arith) (All-append IsEntry odt (replicate n None) (written_at_odt v i j h below place) (All-replicate IsEntry n None tt))
 
+-- lists stay lawful where a lawful element is written into an entry of a stopped list
 pub lawful_entry : (v : DaqValue) (i j k : ℕ) (e : Element) → IsDaq v → i < length v.lists → j < length (list_at v i).odts → (list_at v i).running ≡ false → IsEntry (Some e) → IsDaq (with_list v i (record (list_at v i) { odts = slice_set (list_at v i).odts j (slice_set (odt_at v i j) k (Some e)) }))
 lawful_entry v i j k e h below place still lawful =
     let odt : List (Option Element) = odt_at v i j in
@@ -225,6 +229,7 @@ joined_bare : (os : List (List (Option Element))) → joined (map (map bare) os)
 joined_bare [] = refl
 joined_bare (o ∷ os) = ap (λ xs. map bare o ++ xs) (joined_bare os) ∙ sym (map-append bare o (joined os))
 
+-- lists stay lawful where all entries of a stopped list lose their elements
 pub lawful_bare : (v : DaqValue) (i : ℕ) → IsDaq v → i < length v.lists → (list_at v i).running ≡ false → IsDaq (with_list v i (record (list_at v i) { odts = map (map (λ entry. None)) (list_at v i).odts }))
 lawful_bare v i h below still =
     let os : List (List (Option Element)) = (list_at v i).odts in
@@ -258,6 +263,7 @@ lawful_bound l m event prescaler priority is h still a b c d =
     let since : m.since ≡ 0 = ap (λ (x : DaqList). x.since) is ∙ h.still still in
     record { event = a; prescaler_least = b; prescaler_most = c; priority = d; since = omega arith; still = λ e. since; fits = λ e. cc }
 
+-- a lawful list that is stopped, its count of events 0, is lawful, selected or not
 pub lawful_stopped : (l : DaqList) (m : Mode) (selected : Bool) → list_of m l.odts ≡ l → IsList l → IsList (list_of (record m { running = false; selected = selected; since = 0 }) l.odts)
 lawful_stopped l m selected is h =
     let event = ap (λ (x : DaqList). x.event) is in
@@ -265,6 +271,7 @@ lawful_stopped l m selected is h =
     let priority = ap (λ (x : DaqList). x.priority) is in
     record { event = omega (arith, h.event); prescaler_least = omega (arith, h.prescaler_least); prescaler_most = omega (arith, h.prescaler_most); priority = omega (arith, h.priority); since = omega (arith, h.prescaler_least); still = λ e. refl; fits = λ e. cc }
 
+-- a lawful list that is started, its count of events 0, is lawful, if each of its ODTs has at most 254 bytes
 pub lawful_started : (l : DaqList) (m : Mode) (selected : Bool) → list_of m l.odts ≡ l → IsList l → All (λ odt. odt_size odt ≤ 254) l.odts → IsList (list_of (record m { running = true; selected = selected; since = 0 }) l.odts)
 lawful_started l m selected is h small =
     let event = ap (λ (x : DaqList). x.event) is in
@@ -272,6 +279,7 @@ lawful_started l m selected is h small =
     let priority = ap (λ (x : DaqList). x.priority) is in
     record { event = omega (arith, h.event); prescaler_least = omega (arith, h.prescaler_least); prescaler_most = omega (arith, h.prescaler_most); priority = omega (arith, h.priority); since = omega (arith, h.prescaler_least); still = λ e. refl; fits = λ e. small }
 
+-- a lawful list that is selected, or is no longer, is lawful
 pub lawful_selected : (l : DaqList) (m : Mode) (selected : Bool) → list_of m l.odts ≡ l → IsList l → IsList (list_of (record m { selected = selected }) l.odts)
 lawful_selected l m selected is h =
     let k : IsList (list_of m l.odts) = subst IsList (sym is) h in
@@ -356,6 +364,7 @@ counted_odts_by : (l : DaqList) (n : ℕ) (b : Bool) → (if b then record l { s
 counted_odts_by l n true = refl
 counted_odts_by l n false = refl
 
+-- an event leaves the ODTs of a list as they are
 pub counted_odts : (channel : ℕ) (l : DaqList) → (counted channel l).odts ≡ l.odts
 counted_odts channel l = counted_odts_by l ((l.since + 1) % l.prescaler) (counts channel l)
 

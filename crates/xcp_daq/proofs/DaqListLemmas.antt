@@ -26,11 +26,13 @@ daq_of ms os p l = record { lists = lists_of ms os; pointer = p; last = l }
 abbrev pub new_mode : Mode
 new_mode = record { event = 0; prescaler = 1; priority = 0; running = false; selected = false; since = 0 }
 
+-- modes and the ODTs of as many lists make as many lists
 pub length-lists : (ms : List Mode) (os : List Os) → length ms ≡ length os → length (lists_of ms os) ≡ length ms
 length-lists [] os h = refl
 length-lists (m ∷ ms) [] h = absurd (omega arith)
 length-lists (m ∷ ms) (o ∷ os) h = ap suc (length-lists ms os (omega arith))
 
+-- list i is made of mode i and the ODTs at i, and is as a new list where there is none
 pub list_of_is : (ms : List Mode) (os : List Os) (i : ℕ) → length ms ≡ length os → get_or (lists_of ms os) i no_list ≡ list_of (get_or ms i new_mode) (get_or os i [])
 list_of_is [] [] i h = refl
 list_of_is [] (o ∷ os) i h = absurd (omega arith)
@@ -45,28 +47,33 @@ lists-set (n ∷ ms) [] i m o h k = absurd (omega arith)
 lists-set (n ∷ ms) (p ∷ os) zero m o h k = refl
 lists-set (n ∷ ms) (p ∷ os) (suc i) m o h k = ap (λ ls. list_of n p ∷ ls) (lists-set ms os i m o (omega arith) (omega arith))
 
+-- where mode i changes, list i gets it and keeps its ODTs, and no other list changes
 pub lists-set_mode : (ms : List Mode) (os : List Os) (i : ℕ) (m : Mode) → length ms ≡ length os → i < length ms → lists_of (slice_set ms i m) os ≡ slice_set (lists_of ms os) i (list_of m (get_or os i []))
 lists-set_mode [] os i m h k = absurd (omega arith)
 lists-set_mode (n ∷ ms) [] i m h k = absurd (omega arith)
 lists-set_mode (n ∷ ms) (p ∷ os) zero m h k = refl
 lists-set_mode (n ∷ ms) (p ∷ os) (suc i) m h k = ap (λ ls. list_of n p ∷ ls) (lists-set_mode ms os i m (omega arith) (omega arith))
 
+-- where the ODTs at i change, list i gets them and keeps its mode, and no other list changes
 pub lists-set_odts : (ms : List Mode) (os : List Os) (i : ℕ) (o : Os) → length ms ≡ length os → i < length ms → lists_of ms (slice_set os i o) ≡ slice_set (lists_of ms os) i (list_of (get_or ms i new_mode) o)
 lists-set_odts [] os i o h k = absurd (omega arith)
 lists-set_odts (n ∷ ms) [] i o h k = absurd (omega arith)
 lists-set_odts (n ∷ ms) (p ∷ os) zero o h k = refl
 lists-set_odts (n ∷ ms) (p ∷ os) (suc i) o h k = ap (λ ls. list_of n p ∷ ls) (lists-set_odts ms os i o (omega arith) (omega arith))
 
+-- modes and ODTs put behind others make lists behind the others' lists
 pub lists-append : (ms ns : List Mode) (os ps : List Os) → length ms ≡ length os → lists_of (ms ++ ns) (os ++ ps) ≡ lists_of ms os ++ lists_of ns ps
 lists-append [] ns [] ps h = refl
 lists-append [] ns (o ∷ os) ps h = absurd (omega arith)
 lists-append (m ∷ ms) ns [] ps h = absurd (omega arith)
 lists-append (m ∷ ms) ns (o ∷ os) ps h = ap (λ ls. list_of m o ∷ ls) (lists-append ms ns os ps (omega arith))
 
+-- n modes of a new list, each with no ODT, make n new lists
 pub lists-new : (n : ℕ) → lists_of (replicate n new_mode) (replicate n []) ≡ replicate n no_list
 lists-new zero = refl
 lists-new (suc n) = ap (λ (ls : List DaqList). no_list ∷ ls) (lists-new n)
 
+-- the first n lists are made of the first n modes and the first n lists' ODTs
 pub lists-take : (n : ℕ) (ms : List Mode) (os : List Os) → take n (lists_of ms os) ≡ lists_of (take n ms) (take n os)
 lists-take zero ms os = refl
 lists-take (suc n) [] os = refl
@@ -79,12 +86,14 @@ lists-map f g h [] os = refl
 lists-map f g h (m ∷ ms) [] = refl
 lists-map f g h (m ∷ ms) (o ∷ os) = ap (λ ls. list_of (f m) o ∷ ls) (lists-map f g h ms os) ∙ ap (λ l. l ∷ map g (lists_of ms os)) (h m o)
 
+-- all ODTs of lists made of modes and ODTs are these ODTs, one list's behind another's
 pub odts-of : (ms : List Mode) (os : List Os) → length ms ≡ length os → all_odts (lists_of ms os) ≡ joined os
 odts-of [] [] h = refl
 odts-of [] (o ∷ os) h = absurd (omega arith)
 odts-of (m ∷ ms) [] h = absurd (omega arith)
 odts-of (m ∷ ms) (o ∷ os) h = ap (λ xs. o ++ xs) (odts-of ms os (omega arith))
 
+-- some mode runs exactly where some list made of the modes does
 pub running-of : (ms : List Mode) (os : List Os) → length ms ≡ length os → list_any (λ (m : Mode). m.running) ms ≡ list_any (λ (l : DaqList). l.running) (lists_of ms os)
 running-of [] os h = refl
 running-of (m ∷ ms) [] h = absurd (omega arith)
@@ -94,15 +103,19 @@ running-of (m ∷ ms) (o ∷ os) h = ap (λ b. m.running || b) (running-of ms os
 pub count_of : (d : DaqValue) (ms : List Mode) (os : List Os) (p : Option Pointer) (l : Option Allocation) → daq_of ms os p l ≡ d → length ms ≡ length os → length d.lists ≡ length ms
 count_of d ms os p l is h = sym (ap (λ (v : DaqValue). length v.lists) is) ∙ length-lists ms os h
 
+-- list i of the value is made of the mode and the ODTs at i of its parts
 pub list_at_is : (d : DaqValue) (ms : List Mode) (os : List Os) (p : Option Pointer) (l : Option Allocation) (i : ℕ) → daq_of ms os p l ≡ d → length ms ≡ length os → list_at d i ≡ list_of (get_or ms i new_mode) (get_or os i [])
 list_at_is d ms os p l i is h = sym (ap (λ (v : DaqValue). list_at v i) is) ∙ list_of_is ms os i h
 
+-- the ODTs of list i of the value are those at i of its parts
 pub odts_at_is : (d : DaqValue) (ms : List Mode) (os : List Os) (p : Option Pointer) (l : Option Allocation) (i : ℕ) → daq_of ms os p l ≡ d → length ms ≡ length os → (list_at d i).odts ≡ get_or os i []
 odts_at_is d ms os p l i is h = ap (λ (x : DaqList). x.odts) (list_at_is d ms os p l i is h)
 
+-- all ODTs of the value are those of its parts, one list's behind another's
 pub all_odts_are : (d : DaqValue) (ms : List Mode) (os : List Os) (p : Option Pointer) (l : Option Allocation) → daq_of ms os p l ≡ d → length ms ≡ length os → all_odts d.lists ≡ joined os
 all_odts_are d ms os p l is h = sym (ap (λ (v : DaqValue). all_odts v.lists) is) ∙ odts-of ms os h
 
+-- all entries of the value are those of its parts, one ODT's behind another's
 pub all_entries_are : (d : DaqValue) (ms : List Mode) (os : List Os) (p : Option Pointer) (l : Option Allocation) → daq_of ms os p l ≡ d → length ms ≡ length os → all_entries d.lists ≡ joined (joined os)
 all_entries_are d ms os p l is h = ap joined (all_odts_are d ms os p l is h)
 
@@ -113,15 +126,18 @@ length-takes (suc n) [] (y ∷ ys) h = absurd (omega arith)
 length-takes (suc n) (x ∷ xs) [] h = absurd (omega arith)
 length-takes (suc n) (x ∷ xs) (y ∷ ys) h = ap suc (length-takes n xs ys (omega arith))
 
+-- the first PID of list i is the number of ODTs that the parts have before it
 pub first_pid_is : (d : DaqValue) (ms : List Mode) (os : List Os) (p : Option Pointer) (l : Option Allocation) (i : ℕ) → daq_of ms os p l ≡ d → length ms ≡ length os → first_pid i d ≡ length (joined (take i os))
 first_pid_is d ms os p l i is h =
     sym (ap (λ (v : DaqValue). length (all_odts (take i v.lists))) is)
     ∙ ap (λ ls. length (all_odts ls)) (lists-take i ms os)
     ∙ ap length (odts-of (take i ms) (take i os) (length-takes i ms os h))
 
+-- some list of the value runs exactly where some mode of its parts does
 pub any_running_is : (d : DaqValue) (ms : List Mode) (os : List Os) (p : Option Pointer) (l : Option Allocation) → daq_of ms os p l ≡ d → length ms ≡ length os → list_any (λ (m : Mode). m.running) ms ≡ any_running d
 any_running_is d ms os p l is h = running-of ms os h ∙ ap any_running is
 
+-- an element that is there is read the same by any default
 pub default_free : {A : Type 0} (xs : List A) (i : ℕ) (d e : A) → i < length xs → get_or xs i d ≡ get_or xs i e
 default_free [] i d e h = absurd (omega arith)
 default_free (x ∷ xs) zero d e h = refl
@@ -170,5 +186,6 @@ counted_by m o false = refl
 pub synchronised_of : (mode : ℕ) (m : Mode) (o : Os) → list_of (synchronised_mode mode m) o ≡ record (synchronised mode (list_of m o)) { selected = false }
 synchronised_of mode m o = synchronised_by m o (mode == 0) m.selected (mode == 1)
 
+-- an event changes a list as it changes the list's mode
 pub counted_of : (channel : ℕ) (m : Mode) (o : Os) → list_of (counted_mode channel m) o ≡ counted channel (list_of m o)
 counted_of channel m o = counted_by m o (m.running && (m.event == channel))

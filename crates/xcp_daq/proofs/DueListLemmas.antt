@@ -75,5 +75,6 @@ count_more f ms os i n here same place so_far e =
     let next : List (ArrayVec ℕ) = f (i, list_of (get_or ms i new_mode) (get_or os i [])) in
     omega (arith, length-append out next, ap length (due_more f ms os i out (out ++ next) same place refl refl))
 
+-- the packets of the first lists and of the next one are no more than those of all lists
 pub count_most : (f : ℕ × DaqList → List (ArrayVec ℕ)) (ms : List Mode) (os : List Os) (i n here : ℕ) → length ms ≡ length os → i < length ms → n ≡ length (flat_map f (take i (enumerate_from 0 (lists_of ms os)))) → here ≡ length (f (i, list_of (get_or ms i new_mode) (get_or os i []))) → n + here ≤ length (flat_map f (enumerate_from 0 (lists_of ms os)))
 count_most f ms os i n here same place so_far e = omega (arith, count_more f ms os i n here same place so_far e, fewer f (i + 1) (enumerate_from 0 (lists_of ms os)))

@@ -22,15 +22,19 @@ tree oc ec es = parts oc (parts ec es)
 fit_odts : (oc ec : List ℕ) (es : List E) → IsFit oc ec es → total oc ≡ length (parts ec es)
 fit_odts oc ec es f = f.cut ∙ sym (length-parts ec es)
 
+-- there are as many lists as counts of ODTs
 pub list_count : (d : List (List (List E))) (oc ec : List ℕ) (es : List E) → tree oc ec es ≡ d → length d ≡ length oc
 list_count d oc ec es is = sym (ap length is) ∙ length-parts oc (parts ec es)
 
+-- each list has a count of its ODTs
 pub list_in : (d : List (List (List E))) (oc ec : List ℕ) (es : List E) (i : ℕ) → tree oc ec es ≡ d → i < length d → i < length oc
 list_in d oc ec es i is h = omega (arith, list_count d oc ec es is)
 
+-- list i has as many ODTs as its count says, where the pools fit each other
 pub odt_count : (d : List (List (List E))) (oc ec : List ℕ) (es : List E) (i : ℕ) → tree oc ec es ≡ d → IsFit oc ec es → i < length oc → length (get_or d i []) ≡ get_or oc i 0
 odt_count d oc ec es i is f h = sym (ap (λ (t : List (List (List E))). length (get_or t i [])) is) ∙ length-part oc (parts ec es) i h (fit_odts oc ec es f)
 
+-- the number of an ODT of list i is below the list's count of ODTs, where the pools fit each other
 pub odt_in : (d : List (List (List E))) (oc ec : List ℕ) (es : List E) (i j : ℕ) → tree oc ec es ≡ d → IsFit oc ec es → i < length d → j < length (get_or d i []) → j < get_or oc i 0
 odt_in d oc ec es i j is f h k = omega (arith, odt_count d oc ec es i is f (list_in d oc ec es i is h))
 
@@ -38,9 +42,11 @@ odt_in d oc ec es i j is f h k = omega (arith, odt_count d oc ec es i is f (list
 pub odt_is : (d : List (List (List E))) (oc ec : List ℕ) (es : List E) (i j g : ℕ) → tree oc ec es ≡ d → IsFit oc ec es → i < length oc → j < get_or oc i 0 → g ≡ total (take i oc) + j → get_or (get_or d i []) j [] ≡ get_or (parts ec es) g []
 odt_is d oc ec es i j g is f h hj hg = sym (ap (λ (t : List (List (List E))). get_or (get_or t i []) j []) is) ∙ get-part oc (parts ec es) i j g [] h (fit_odts oc ec es f) hj hg
 
+-- ODT j of list i, at place g of its pool, has as many entries as the count at g says
 pub entry_count : (d : List (List (List E))) (oc ec : List ℕ) (es : List E) (i j g : ℕ) → tree oc ec es ≡ d → IsFit oc ec es → i < length oc → j < get_or oc i 0 → g ≡ total (take i oc) + j → g < length ec → length (get_or (get_or d i []) j []) ≡ get_or ec g 0
 entry_count d oc ec es i j g is f h hj hg lg = ap length (odt_is d oc ec es i j g is f h hj hg) ∙ length-part ec es g lg f.filled
 
+-- entry k of the ODT at place g of its pool stands k places behind the entries of all ODTs before it
 pub entry_is : (d : List (List (List E))) (oc ec : List ℕ) (es : List E) (i j g k m : ℕ) → tree oc ec es ≡ d → IsFit oc ec es → i < length oc → j < get_or oc i 0 → g ≡ total (take i oc) + j → g < length ec → k < get_or ec g 0 → m ≡ total (take g ec) + k → (e : E) → get_or (get_or (get_or d i []) j []) k e ≡ get_or es m e
 entry_is d oc ec es i j g k m is f h hj hg lg hk hm e = ap (λ (odt : List E). get_or odt k e) (odt_is d oc ec es i j g is f h hj hg) ∙ get-part ec es g k m e lg f.filled hk hm
 
@@ -48,12 +54,15 @@ entry_is d oc ec es i j g k m is f h hj hg lg hk hm e = ap (λ (odt : List E). g
 pub all_joined : (d : List (List (List E))) (oc ec : List ℕ) (es : List E) → tree oc ec es ≡ d → IsFit oc ec es → joined d ≡ parts ec es
 all_joined d oc ec es is f = ap joined (sym is) ∙ joined-parts oc (parts ec es) (fit_odts oc ec es f)
 
+-- there are as many ODTs in all as counts of entries, where the pools fit each other
 pub odts_counted : (d : List (List (List E))) (oc ec : List ℕ) (es : List E) → tree oc ec es ≡ d → IsFit oc ec es → length (joined d) ≡ length ec
 odts_counted d oc ec es is f = ap length (all_joined d oc ec es is f) ∙ length-parts ec es
 
+-- all entries of all lists, in order, are the pool of entries, where the pools fit each other
 pub entries_joined : (d : List (List (List E))) (oc ec : List ℕ) (es : List E) → tree oc ec es ≡ d → IsFit oc ec es → joined (joined d) ≡ es
 entries_joined d oc ec es is f = ap joined (all_joined d oc ec es is f) ∙ joined-parts ec es f.filled
 
+-- there are as many entries in all as the pool of entries has, where the pools fit each other
 pub entries_counted : (d : List (List (List E))) (oc ec : List ℕ) (es : List E) → tree oc ec es ≡ d → IsFit oc ec es → length (joined (joined d)) ≡ length es
 entries_counted d oc ec es is f = ap length (entries_joined d oc ec es is f)
 
@@ -158,29 +167,34 @@ list_is d oc ec es i first from is h hf hm =
     ∙ parts-take (get_or oc i 0) (drop first ec) (drop (total (take first ec)) es)
     ∙ ap (λ k. parts (take (get_or oc i 0) (drop first ec)) (drop k es)) (sym hm)
 
+-- n counts of 0 behind the counts of ODTs add n lists without ODTs behind the others
 pub lists_added : (d : List (List (List E))) (oc oc' ec : List ℕ) (es : List E) (k n : ℕ) → tree oc ec es ≡ d → k ≡ length oc → oc' ≡ spliced oc k (replicate n 0) → tree oc' ec es ≡ d ++ replicate n []
 lists_added d oc oc' ec es k n is f b =
     let odts : List (List E) = parts ec es in
     ap (λ (ns : List ℕ). parts ns odts) b ∙ parts-blank oc odts k n ∙ spliced-end (parts oc odts) (replicate n []) k (f ∙ sym (length-parts oc odts)) ∙ ap (λ (t : List (List (List E))). t ++ replicate n []) is
 
+-- pools that fit each other still do with n counts of 0 put in among those of ODTs
 pub lists_added-fit : (oc oc' ec : List ℕ) (es : List E) (k n : ℕ) → IsFit oc ec es → oc' ≡ spliced oc k (replicate n 0) → IsFit oc' ec es
 lists_added-fit oc oc' ec es k n f b = record {
   cut = omega (arith, f.cut, ap total b, total-spliced oc (replicate n 0) k, total-zeros n);
   filled = f.filled;
 }
 
+-- n counts of 0 put in behind those of list i, and its count n greater, add n ODTs without entries to list i
 pub odts_added : (d : List (List (List E))) (oc oc' ec ec' : List ℕ) (es : List E) (i k n : ℕ) → tree oc ec es ≡ d → IsFit oc ec es → i < length oc → k ≡ total (take i oc) + get_or oc i 0 → ec' ≡ spliced ec k (replicate n 0) → oc' ≡ slice_set oc i (get_or oc i 0 + n) → tree oc' ec' es ≡ slice_set d i (get_or d i [] ++ replicate n [])
 odts_added d oc oc' ec ec' es i k n is t h f a b =
     let odts : List (List E) = parts ec es in
     let e1 : parts ec' es ≡ spliced odts k (replicate n []) = ap (λ (ns : List ℕ). parts ns es) a ∙ parts-blank ec es k n in
     ap (λ (xs : List (List E)). parts oc' xs) e1 ∙ ap (λ (ns : List ℕ). parts ns (spliced odts k (replicate n []))) b ∙ parts-grown oc odts (replicate n []) i k n h (fit_odts oc ec es t) (length-replicate n []) f ∙ ap (λ (u : List (List (List E))). slice_set u i (get_or u i [] ++ replicate n [])) is
 
+-- pools that fit each other still do with n counts of 0 put in and the count of list i n greater
 pub odts_added-fit : (oc oc' ec ec' : List ℕ) (es : List E) (i k n : ℕ) → IsFit oc ec es → i < length oc → ec' ≡ spliced ec k (replicate n 0) → oc' ≡ slice_set oc i (get_or oc i 0 + n) → IsFit oc' ec' es
 odts_added-fit oc oc' ec ec' es i k n f h b a = record {
   cut = omega (arith, f.cut, ap total a, total-set oc i n h, ap length b, length-spliced ec (replicate n 0) k, length-replicate {A = ℕ} n 0);
   filled = omega (arith, f.filled, ap total b, total-spliced ec (replicate n 0) k, total-zeros n);
 }
 
+-- n unwritten entries put in behind those of an ODT, and its count n greater, add n entries to this ODT
 pub entries_added : (d : List (List (List E))) (oc ec ec' : List ℕ) (es es' : List E) (i j g k n : ℕ) → tree oc ec es ≡ d → IsFit oc ec es → i < length oc → j < get_or oc i 0 → g ≡ total (take i oc) + j → g < length ec → k ≡ total (take g ec) + get_or ec g 0 → es' ≡ spliced es k (replicate n None) → ec' ≡ slice_set ec g (get_or ec g 0 + n) → tree oc ec' es' ≡ slice_set d i (slice_set (get_or d i []) j (get_or (get_or d i []) j [] ++ replicate n None))
 entries_added d oc ec ec' es es' i j g k n is f hi hj hg lg hk a b =
     let odts : List (List E) = parts ec es in
@@ -193,12 +207,14 @@ entries_added d oc ec ec' es es' i j g k n is f hi hj hg lg hk a b =
     ∙ ap (λ (xs : List E). slice_set (parts oc odts) i (slice_set (get_or (parts oc odts) i []) j (xs ++ new))) e2
     ∙ ap (λ (u : List (List (List E))). slice_set u i (slice_set (get_or u i []) j (get_or (get_or u i []) j [] ++ new))) is
 
+-- pools that fit each other still do with n unwritten entries put in and the count of an ODT n greater
 pub entries_added-fit : (oc ec ec' : List ℕ) (es es' : List E) (g k n : ℕ) → IsFit oc ec es → g < length ec → es' ≡ spliced es k (replicate n None) → ec' ≡ slice_set ec g (get_or ec g 0 + n) → IsFit oc ec' es'
 entries_added-fit oc ec ec' es es' g k n f h b a = record {
   cut = omega (arith, f.cut, ap length a, length-set ec g (get_or ec g 0 + n));
   filled = omega (arith, f.filled, ap total a, total-set ec g n h, ap length b, length-spliced es (replicate n None) k, length-replicate {A = E} n None);
 }
 
+-- a write at an entry's place in the pool writes this entry of its ODT and its list, and no other
 pub written : (d : List (List (List E))) (oc ec : List ℕ) (es es' : List E) (i j g k m : ℕ) (x : E) → tree oc ec es ≡ d → IsFit oc ec es → i < length oc → j < get_or oc i 0 → g ≡ total (take i oc) + j → g < length ec → k < get_or ec g 0 → m ≡ total (take g ec) + k → es' ≡ slice_set es m x → tree oc ec es' ≡ slice_set d i (slice_set (get_or d i []) j (slice_set (get_or (get_or d i []) j []) k x))
 written d oc ec es es' i j g k m x is f hi hj hg lg hk hm a =
     let odts : List (List E) = parts ec es in
@@ -211,6 +227,7 @@ written d oc ec es es' i j g k m x is f hi hj hg lg hk hm a =
     ∙ ap (λ (xs : List E). slice_set (parts oc odts) i (slice_set (get_or (parts oc odts) i []) j (slice_set xs k x))) e2
     ∙ ap (λ (u : List (List (List E))). slice_set u i (slice_set (get_or u i []) j (slice_set (get_or (get_or u i []) j []) k x))) is
 
+-- pools that fit each other still do when an entry is written
 pub written-fit : (oc ec : List ℕ) (es es' : List E) (m : ℕ) (x : E) → IsFit oc ec es → es' ≡ slice_set es m x → IsFit oc ec es'
 written-fit oc ec es es' m x f a = record { cut = f.cut; filled = f.filled ∙ sym (length-set es m x) ∙ sym (ap length a) }
 
@@ -276,6 +293,7 @@ unwritten d oc ec es es' i first end from to is f h hf he hm ht a =
     ∙ ap (λ (ps : List (List E)). slice_set (parts oc odts) i (g ps)) (sym part)
     ∙ ap (λ (t : List (List (List E))). slice_set t i (g (get_or t i []))) is
 
+-- pools that fit each other still do when the entries from one place to another lose their elements
 pub unwritten-fit : (oc ec : List ℕ) (es es' : List E) (from to : ℕ) → IsFit oc ec es → from ≤ to → to ≤ length es → es' ≡ take from es ++ replicate (to - from) None ++ drop to es → IsFit oc ec es'
 unwritten-fit oc ec es es' from to f h k a =
     let blank : List E = replicate (to - from) None in

@@ -76,22 +76,27 @@ module _ {A : Type 0} where
   spliced-end (x ∷ xs) ys zero h = absurd (omega arith)
   spliced-end (x ∷ xs) ys (suc k) h = ap (λ (zs : List A). x ∷ zs) (spliced-end xs ys k (omega arith))
 
+-- the sum of two lists joined is that of the first plus that of the second
 pub total-append : (ms ns : List ℕ) → total (ms ++ ns) ≡ total ms + total ns
 total-append [] ns = omega arith
 total-append (m ∷ ms) ns = omega (arith, total-append ms ns)
 
+-- the sum of a list with another put in is that of the one plus that of the other
 pub total-spliced : (ms ns : List ℕ) (k : ℕ) → total (spliced ms k ns) ≡ total ms + total ns
 total-spliced ms ns k = omega (arith, total-append (take k ms) (ns ++ drop k ms), total-append ns (drop k ms), ap total (take-append-drop k ms), total-append (take k ms) (drop k ms))
 
+-- the sum of zeros is 0
 pub total-zeros : (n : ℕ) → total (replicate n 0) ≡ 0
 total-zeros zero = refl
 total-zeros (suc n) = omega (arith, total-zeros n)
 
+-- where one number of a list grows by c, the sum grows by c
 pub total-set : (ns : List ℕ) (i c : ℕ) → i < length ns → total (slice_set ns i (get_or ns i 0 + c)) ≡ total ns + c
 total-set [] i c h = absurd (omega arith)
 total-set (n ∷ ns) zero c h = omega arith
 total-set (n ∷ ns) (suc i) c h = omega (arith, total-set ns i c (omega arith))
 
+-- the sum of the first i + 1 numbers is that of the first i plus number i
 pub total-more : (ns : List ℕ) (i : ℕ) → i < length ns → total (take (i + 1) ns) ≡ total (take i ns) + get_or ns i 0
 total-more [] i h = absurd (omega arith)
 total-more (n ∷ ns) zero h = omega arith
@@ -99,6 +104,7 @@ total-more (n ∷ ns) (suc i) h =
     let e : suc i + 1 ≡ suc (i + 1) = omega arith in
     rw e (omega (arith, total-more ns i (omega arith)))
 
+-- the sum of the first numbers of a list is at most that of all
 pub total-take : (ns : List ℕ) (i : ℕ) → total (take i ns) ≤ total ns
 total-take ns i = omega (arith, ap total (take-append-drop i ns), total-append (take i ns) (drop i ns))
 

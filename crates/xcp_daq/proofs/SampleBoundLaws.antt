@@ -63,5 +63,6 @@ short_packets channel pages v i (l ∷ lists) h =
     (all_by (due channel l) (packets_from pages (first_pid i v) l.odts) (λ e. short_from pages (first_pid i v) l.odts (lawful.fits (first_true l.running (l.event == channel) (l.since == 0) e))))
     (short_packets channel pages v (i + 1) lists (λ k d below. h (suc k) d (omega arith)))
 
+-- where the lists are lawful, an event gives 64 packets at most, each of 1 to 255 bytes
 pub bounded : (channel : ℕ) (pages : PagesValue) (v : DaqValue) → IsDaq v → (length (sampled channel pages v) ≤ 64) × All IsPacket (sampled channel pages v)
 bounded channel pages v h = (omega (arith, h.odts, few_packets channel pages v 0 v.lists), short_packets channel pages v 0 v.lists h.each)

@@ -41,10 +41,12 @@ pub one_packet : (pid : ℕ) (bytes : List ℕ) → length (packet_of pid bytes)
 one_packet pid [] = omega arith
 one_packet pid (b ∷ bytes) = omega arith
 
+-- no bytes give no packet
 pub no_packet : (pid : ℕ) (bytes : List ℕ) → length bytes ≡ 0 → length (packet_of pid bytes) ≡ 0
 no_packet pid [] h = refl
 no_packet pid (b ∷ bytes) h = absurd (omega arith)
 
+-- bytes, one at least, give one packet
 pub some_packet : (pid : ℕ) (bytes : List ℕ) → 1 ≤ length bytes → length (packet_of pid bytes) ≡ 1
 some_packet pid [] h = absurd (omega arith)
 some_packet pid (b ∷ bytes) h = refl

@@ -151,6 +151,7 @@ only : (id : ℕ) (v : Known) → get_elem? (everything ∷ []) id ≡ some v �
 only zero v e = (refl, some-injective everything v e)
 only (suc id) v e = absurd (some-ne-none v (sym e))
 
+-- the rule holds of an empty channel whose one pass stands for both ends and for what was taken
 pub begins : Routed [] (everything ∷ [])
 begins = record {
   got = [];
@@ -187,10 +188,12 @@ puts_at n id true p ps items views room r at =
       refl,
     )
 
+-- the rule stays where an end that has put no end mark puts one more message, and its pass knows it
 pub puts : (n id : ℕ) (side : Bool) (p : Option Packet) (ps : List (List ℕ)) (v : Known) → v ≡ one_half side (half ps false)
     → Pushes Routed n id v (message side p) (λ w. w ≡ after_put (message side p) v) × Learns Routed id v (λ items. Unit {0})
 puts n id side p ps v is = (subst (λ (u : Known). Pushes Routed n id u (message side p) (λ w. w ≡ after_put (message side p) u)) (sym is) (puts_at n id side p ps), λ items views h at. tt)
 
+-- the rule stays where the next message is taken, and the pass that takes it knows it
 pub takes : (id : ℕ) (v : Known) (t : List Message) → v.taken ≡ Some t → Pops Routed id v (λ m w. w ≡ after_take m v) × Learns Routed id v (λ items. Unit {0})
 takes id v t has = (
   (λ m items views r at.
@@ -209,6 +212,7 @@ takes id v t has = (
   λ items views h at. tt,
 )
 
+-- the rule stays where the reply end's half leaves a pass for a new pass of its own
 pub cut_replies : (id : ℕ) (v : Known) (h : Half) → v.reply ≡ Some h → Forks Routed id v (record { reply = None; daq = v.daq; taken = v.taken }) (record { reply = v.reply; daq = None; taken = None })
 cut_replies id v h has items views r at =
     let a : Known = record { reply = None; daq = v.daq; taken = v.taken } in
@@ -219,6 +223,7 @@ cut_replies id v h has items views r at =
       takes = owned_left (λ v. v.taken) (λ t. t ≡ r.got) (λ t. t ≡ r.got) views id v a b at refl refl r.takes;
     }
 
+-- the same where the data end's half leaves it
 pub cut_data : (id : ℕ) (v : Known) (h : Half) → v.daq ≡ Some h → Forks Routed id v (record { reply = v.reply; daq = None; taken = v.taken }) (record { reply = None; daq = v.daq; taken = None })
 cut_data id v h has items views r at =
     let a : Known = record { reply = v.reply; daq = None; taken = v.taken } in
@@ -229,6 +234,7 @@ cut_data id v h has items views r at =
       takes = owned_left (λ v. v.taken) (λ t. t ≡ r.got) (λ t. t ≡ r.got) views id v a b at refl refl r.takes;
     }
 
+-- the rule stays where a pass takes in the reply end's half of another one, which then stands for nothing
 pub meets_reply : (id : ℕ) (v : Known) (other : ℕ) (w : Known) (h : Half) → w.reply ≡ Some h → Merges Routed id v other w (record { reply = w.reply; daq = v.daq; taken = v.taken }) nobody
 meets_reply id v other w h has items views r at apart at' =
     let b : Known = record { reply = w.reply; daq = v.daq; taken = v.taken } in record {
@@ -238,6 +244,7 @@ meets_reply id v other w h has items views r at apart at' =
       takes = owned_stays (λ v. v.taken) (λ t. t ≡ r.got) (λ t. t ≡ r.got) views id other v b nobody at refl refl r.takes;
     }
 
+-- the same where it takes in the data end's half
 pub meets_data : (id : ℕ) (v : Known) (other : ℕ) (w : Known) (h : Half) → w.daq ≡ Some h → Merges Routed id v other w (record { reply = v.reply; daq = w.daq; taken = v.taken }) nobody
 meets_data id v other w h has items views r at apart at' =
     let b : Known = record { reply = v.reply; daq = w.daq; taken = v.taken } in record {
@@ -247,6 +254,7 @@ meets_data id v other w h has items views r at apart at' =
       takes = owned_stays (λ v. v.taken) (λ t. t ≡ r.got) (λ t. t ≡ r.got) views id other v b nobody at refl refl r.takes;
     }
 
+-- where a pass knows what was taken and what an end has put, the channel holds what was put and not taken
 pub compares : (id : ℕ) (v : Known) → Learns Routed id v (Compares v)
 compares id v items views r at t has =
     let same : t ≡ r.got = (r.takes.1 id v at t has).1 in (
@@ -254,6 +262,7 @@ compares id v items views r at t has =
       λ h is. (r.data_packets.1 id v at h is).1 ∙ ap (λ (z : List Message). of true (z ++ items)) (sym same),
     )
 
+-- the rule stays where a pass takes in that of either end, which then stands for nothing
 pub meets : (id : ℕ) (v : Known) (other : ℕ) (w : Known) (side : Bool) (h : Half) → w ≡ one_half side h → Merges Routed id v other w (both_of v w) nobody
 meets id v other w false h is = subst (λ (u : Known). Merges Routed id v other u (both_of v u) nobody) (sym is) (meets_reply id v other (one_half false h) h refl)
 meets id v other w true h is = subst (λ (u : Known). Merges Routed id v other u (both_of v u) nobody) (sym is) (meets_data id v other (one_half true h) h refl)

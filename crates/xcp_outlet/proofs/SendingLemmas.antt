@@ -47,6 +47,7 @@ packet_marks false false p = refl
 mark_wrote : (b : Bool) (n k : ℕ) (held : List ℕ) (t : List Message) (from : Bool) (before after : Option (List ℕ)) (old new : ℕ) → Wrote b n k held (all_packets t) before after old new → Wrote b n k held (all_packets (t ++ message from None ∷ [])) before after old new
 mark_wrote b n k held t from before after old new w = subst (λ (z : List (List ℕ)). Wrote b n k held z before after old new) (sym (all_snoc t (message from None) ∙ append-nil (all_packets t))) w
 
+-- the data end's end mark, once taken, is noted in the line and brings no packet
 pub data_ends : (line : Line) (t : List Message) {before after : Option (List ℕ)} {old new : ℕ} → Progress line t before after old new
     → Progress (record { sent = line.sent; flushed = line.flushed; held = line.held; broken = line.broken; replies_ended = line.replies_ended; data_ended = true }) (t ++ message true None ∷ []) before after old new
 data_ends line t {before = before} {after = after} {old = old} {new = new} g = record {
@@ -55,6 +56,7 @@ data_ends line t {before = before} {after = after} {old = old} {new = new} g = r
   data_mark = gets true t (message true None) refl;
 }
 
+-- the same of the reply end's end mark
 pub replies_end : (line : Line) (t : List Message) {before after : Option (List ℕ)} {old new : ℕ} → Progress line t before after old new
     → Progress (record { sent = line.sent; flushed = line.flushed; held = line.held; broken = line.broken; replies_ended = true; data_ended = line.data_ended }) (t ++ message false None ∷ []) before after old new
 replies_end line t {before = before} {after = after} {old = old} {new = new} g = record {
@@ -192,6 +194,7 @@ pub all_written : (line : Line) (t : List Message) (a b : Option (List ℕ)) {ol
 all_written line t a b {old = old} {new = new} well none g =
     holds_all line.flushed line.sent line.held.items (all_packets t) a b none (subst (λ (x : Bool). Wrote x line.flushed line.sent line.held.items (all_packets t) a b old new) well g.wrote)
 
+-- after a failed write, the first packets taken are written whole, and of the others' frames a front
 pub part_written : (line : Line) (t : List Message) (a b : Option (List ℕ)) {old new : ℕ} → line.broken ≡ true → Progress line t a b old new → WritesPart line.flushed (all_packets t) a b old new
 part_written line t a b {old = old} {new = new} off g = subst (λ (x : Bool). Wrote x line.flushed line.sent line.held.items (all_packets t) a b old new) off g.wrote
 
@@ -213,6 +216,7 @@ of_same line t u {before = before} {after = after} {old = old} {new = new} is g 
 pub no_replies_end : (line : Line) (t : List Message) (a b : Option (List ℕ)) {old new : ℕ} → line.replies_ended ≡ false → Progress line t a b old new → ¬ BothEnded t
 no_replies_end line t a b missing g = λ both. absurd (true≢false (sym both.0 ∙ (sym g.reply_mark ∙ missing)))
 
+-- the same where it is the data end's mark
 pub no_data_end : (line : Line) (t : List Message) (a b : Option (List ℕ)) {old new : ℕ} → line.data_ended ≡ false → Progress line t a b old new → ¬ BothEnded t
 no_data_end line t a b missing g = λ both. absurd (true≢false (sym both.1 ∙ (sym g.data_mark ∙ missing)))
 

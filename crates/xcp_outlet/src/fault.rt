@@ -7,7 +7,8 @@ use thiserror::Error;
 /// Why not all that both ends put was sent. A write that failed is told before a missing end mark.
 #[derive(Clone, Copy, Debug, Error, PartialEq, Eq, Drop)]
 pub enum SendError {
-    /// 1: a write failed. So many packets, modulo 2^64, were written whole by then.
+    /// 1: a write failed. So many packets, modulo 2^64, were written before: those behind them were
+    /// to be written together, and a front of their frames may have been.
     #[error("a write failed behind {0} packets")]
     Write(u64),
     /// 2: the channel gave no more before both end marks. So many packets, modulo 2^64, came, and

@@ -61,6 +61,7 @@ executed : (c : Command) (v : SlaveValue) (bytes : List ℕ) (w : SlaveValue) (x
 executed c v bytes w (Ok o) m e = replied-by c v bytes w o m.0 m.1 m.2 e
 executed c v bytes w (Err f) m e = refused-by c v bytes f _ m.0 e
 
+-- a command that is accepted meets none of its row's refusals; reply and effect are the row's
 pub accepted : (c : Command) (v : SlaveValue) (bytes : List ℕ) (w : SlaveValue) → Accepts v c bytes w → Accepted c v bytes w
 accepted c v bytes w h =
     let k = h.answered in
@@ -74,6 +75,7 @@ accepted c v bytes w h =
 abbrev mta_of : SlaveValue → Mta
 mta_of v = v.transfer.mta
 
+-- the pages of a slave
 abbrev pub pages_of : SlaveValue → PagesValue
 pages_of v = v.transfer.pages
 
@@ -81,30 +83,39 @@ pages_of v = v.transfer.pages
 pub upload-mta : (v w : SlaveValue) (n a : ℕ) (bytes : List ℕ) → v.transfer.mta ≡ Memory a → Accepts v (commands.Upload n) bytes w → w.transfer.mta ≡ Memory (a + n)
 upload-mta v w n a bytes e h = ap mta_of (accepted (commands.Upload n) v bytes w h).after ∙ ap (λ (m : Mta). moved m n) e
 
+-- an accepted UPLOAD of n bytes moves an MTA in a text on by n
 pub upload-text : (v w : SlaveValue) (n place : ℕ) (id : TextId) (bytes : List ℕ) → v.transfer.mta ≡ Text id place → Accepts v (commands.Upload n) bytes w → w.transfer.mta ≡ Text id (place + n)
 upload-text v w n place id bytes e h = ap mta_of (accepted (commands.Upload n) v bytes w h).after ∙ ap (λ (m : Mta). moved m n) e
 
+-- an accepted SHORT_UPLOAD of n bytes at an address leaves the MTA behind them
 pub short-upload-mta : (v w : SlaveValue) (n extension a : ℕ) (bytes : List ℕ) → Accepts v (commands.ShortUpload n extension a) bytes w → w.transfer.mta ≡ Memory (a + n)
 short-upload-mta v w n extension a bytes h = ap mta_of (accepted (commands.ShortUpload n extension a) v bytes w h).after
 
+-- an accepted BUILD_CHECKSUM of n bytes moves an MTA at an address on by n
 pub checksum-mta : (v w : SlaveValue) (n a : ℕ) (bytes : List ℕ) → v.transfer.mta ≡ Memory a → Accepts v (commands.BuildChecksum n) bytes w → w.transfer.mta ≡ Memory (a + n)
 checksum-mta v w n a bytes e h = ap mta_of (accepted (commands.BuildChecksum n) v bytes w h).after ∙ ap (λ (m : Mta). moved m n) e
 
+-- an accepted CONNECT leaves the MTA nowhere
 pub connect-mta : (v w : SlaveValue) (mode : ℕ) (bytes : List ℕ) → Accepts v (commands.Connect mode) bytes w → w.transfer.mta ≡ Nowhere
 connect-mta v w mode bytes h = ap mta_of (accepted (commands.Connect mode) v bytes w h).after
 
+-- an accepted DISCONNECT leaves the MTA nowhere
 pub disconnect-mta : (v w : SlaveValue) (bytes : List ℕ) → Accepts v commands.Disconnect bytes w → w.transfer.mta ≡ Nowhere
 disconnect-mta v w bytes h = ap mta_of (accepted commands.Disconnect v bytes w h).after
 
+-- a hangup leaves the MTA nowhere
 pub hangup-mta : (v w : SlaveValue) (a : Answer) → Answers v requests.Hangup a w → w.transfer.mta ≡ Nowhere
 hangup-mta v w a h = ap mta_of h.1
 
+-- an accepted GET_ID of kind 0 sets the MTA to the first byte of the identification
 pub id-mta : (v w : SlaveValue) (bytes : List ℕ) → Accepts v (commands.GetId 0) bytes w → w.transfer.mta ≡ Text Id 0
 id-mta v w bytes h = ap mta_of (accepted (commands.GetId 0) v bytes w h).after
 
+-- an accepted GET_DAQ_EVENT_INFO sets the MTA to the first byte of its channel's name
 pub event-mta : (v w : SlaveValue) (channel : ℕ) (bytes : List ℕ) → Accepts v (commands.GetDaqEventInfo channel) bytes w → w.transfer.mta ≡ Text (Name channel) 0
 event-mta v w channel bytes h = ap mta_of (accepted (commands.GetDaqEventInfo channel) v bytes w h).after
 
+-- an accepted SET_MTA sets the MTA to its address
 pub set-mta : (v w : SlaveValue) (extension a : ℕ) (bytes : List ℕ) → Accepts v (commands.SetMta extension a) bytes w → w.transfer.mta ≡ Memory a
 set-mta v w extension a bytes h = ap mta_of (accepted (commands.SetMta extension a) v bytes w h).after
 
@@ -114,6 +125,7 @@ set-mta v w extension a bytes h = ap mta_of (accepted (commands.SetMta extension
 data-of : (xs ys : List ℕ) → 0xFF ∷ xs ≡ 0xFF ∷ ys → xs ≡ ys
 data-of xs ys e = ap (drop 1) e
 
+-- an accepted UPLOAD of n bytes with the MTA at an address is answered with the tool's n bytes from there on
 pub upload-reads : (v w : SlaveValue) (n a : ℕ) (bytes : List ℕ) → IsSlave v → v.transfer.mta ≡ Memory a → Accepts v (commands.Upload n) bytes w → Reads Tool v.transfer.pages a n bytes
 upload-reads v w n a bytes s e h =
     let k = accepted (commands.Upload n) v bytes w h in
@@ -133,6 +145,7 @@ upload-text-reads v w n place id bytes e h =
     let told : bytes ≡ bytes_at v.transfer.pages v.transfer.mta n = data-of _ _ (k.sent ∙ ap (layout (layout_of v).order) same) in
     (grind (arith, nat_tests, enough), told ∙ ap (λ (m : Mta). bytes_at v.transfer.pages m n) e)
 
+-- an accepted SHORT_UPLOAD of n bytes is answered with the tool's n bytes from its address on
 pub short-upload-reads : (v w : SlaveValue) (n extension a : ℕ) (bytes : List ℕ) → IsSlave v → Accepts v (commands.ShortUpload n extension a) bytes w → Reads Tool v.transfer.pages a n bytes
 short-upload-reads v w n extension a bytes s h =
     let k = accepted (commands.ShortUpload n extension a) v bytes w h in

@@ -108,6 +108,7 @@ comes-holds : (v u : SlaveValue) (n a : ℕ) (xs : List Exchange) (came : List �
 comes-holds v u n a xs came k =
     subst (λ (b : List ℕ). Holds n a b u) (sym k.all) (gathers-holds n a (take (packet_room (layout_of v)) k.items.items) k.begun xs k.others u (begun-holds v u n a xs came k) k.gathered)
 
+-- a block that has begun is under way at its address: it has the bytes that came, and expects the rest of its n
 pub block-gathered : (v u : SlaveValue) (n a : ℕ) (xs : List Exchange) (came : List ℕ) → Comes v n a xs came u → (b : BlockValue) × (u.transfer.block ≡ Some b) × (b.address ≡ a) × (b.bytes ≡ came) × (length came + b.expected ≡ n)
 block-gathered v u n a xs came k = let h = comes-holds v u n a xs came k in (h.block, h.way, h.address, h.bytes, h.long)
 
@@ -126,6 +127,7 @@ segments-gathered n a came v (x ∷ xs) rest u s h k =
           segments-gathered n a (came ++ b.0) k.0 xs b.1 u (λ j d below. s (suc j) d (omega arith)) (brings-holds n a came b.0 v x.request x.answer k.0 h b.2 k.1) b.4 ∙ ap (λ (y : SlaveValue). y.transfer.pages.segments) led)
     ]
 
+-- until its last packet, and where no FinishStore comes between, a block leaves the segments' pages as they were
 pub block-keeps : (v u : SlaveValue) (n a : ℕ) (xs : List Exchange) (came : List ℕ) → All (λ (x : Exchange). x.request ≢ requests.FinishStore) xs → Comes v n a xs came u → u.transfer.pages.segments ≡ v.transfer.pages.segments
 block-keeps v u n a xs came s k =
     segments-gathered n a (take (packet_room (layout_of v)) k.items.items) k.begun xs k.others u s (begun-holds v u n a xs came k) k.gathered
@@ -133,18 +135,21 @@ block-keeps v u n a xs came s k =
 
 -- the last packet
 
+-- with its last packet a block is written at its address: the bytes that came, and then the packet's own
 pub block-written : (v u w : SlaveValue) (n a remaining : ℕ) (xs : List Exchange) (came bytes : List ℕ) (items : ArrayVec ℕ) → Comes v n a xs came u → IsSlave u → Accepts u (commands.DownloadNext remaining items) bytes w → Writes u.transfer.pages a (came ++ take remaining items.items) w.transfer.pages
 block-written v u w n a remaining xs came bytes items k s last =
     let h = comes-holds v u n a xs came k in
     let r = block-both u w remaining items bytes h.block s h.way last in
     subst (λ (c : ℕ). Writes u.transfer.pages c (came ++ take remaining items.items) w.transfer.pages) h.address (subst (λ (b : List ℕ). Writes u.transfer.pages h.block.address (b ++ take remaining items.items) w.transfer.pages) h.bytes r.0)
 
+-- the bytes that came and those of the last packet are as many as DOWNLOAD announced
 pub block-all : (v u w : SlaveValue) (n a remaining : ℕ) (xs : List Exchange) (came bytes : List ℕ) (items : ArrayVec ℕ) → Comes v n a xs came u → IsSlave u → Accepts u (commands.DownloadNext remaining items) bytes w → length (came ++ take remaining items.items) ≡ n
 block-all v u w n a remaining xs came bytes items k s last =
     let h = comes-holds v u n a xs came k in
     let r = block-both u w remaining items bytes h.block s h.way last in
     ap (λ (b : List ℕ). length (b ++ take remaining items.items)) (sym h.bytes) ∙ r.2 ∙ ap (λ (b : List ℕ). length b + h.block.expected) h.bytes ∙ h.long
 
+-- after the last packet the MTA stands behind the whole block, and no block is under way
 pub block-behind : (v u w : SlaveValue) (n a remaining : ℕ) (xs : List Exchange) (came bytes : List ℕ) (items : ArrayVec ℕ) → Comes v n a xs came u → IsSlave u → Accepts u (commands.DownloadNext remaining items) bytes w → (w.transfer.mta ≡ Memory (a + n)) × (w.transfer.block ≡ None)
 block-behind v u w n a remaining xs came bytes items k s last =
     let h = comes-holds v u n a xs came k in

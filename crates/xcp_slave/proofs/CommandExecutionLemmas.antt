@@ -40,6 +40,7 @@ said_sent order sents.Lent bytes None h = absurd (cc)
 said_sent order sents.Nothing bytes (Some reply) h = absurd (cc)
 said_sent order sents.Nothing bytes None h = refl
 
+-- a command is executed where its row is met at the slave that it finds and the row's outcome is answered
 pub obeyed : (c : Command) (v u w : SlaveValue) (a : Answer) (r : Result Sent Fault) (bytes : List ℕ) → u ≡ found_by c v → TellsRow c u r bytes w → a ≡ answer_said (layout_of v).order r bytes → Executes c v a w
 unfolding TellsRow
 obeyed c v u w a (Ok sent) bytes e m s =

@@ -39,6 +39,7 @@ no-response l p (inl e) =
     (λ k. omega arith, λ k. omega arith)
 no-response l p (inr d) = let b = d.pid in (λ k. omega arith, λ k. omega arith)
 
+-- no packet that waits begins with FF or FE, as responses do
 pub waiting-responds : (v : SlaveValue) → IsSlave v → All (λ (p : ArrayVec ℕ). (slice_index p.items 0 ≢ 0xFF) × (slice_index p.items 0 ≢ 0xFE)) v.outbox
 waiting-responds v h = λ k d below. no-response (layout_of v) _ (h.waiting k d below)
 
@@ -62,6 +63,7 @@ other-error x a R n e r = let z : is_packet x ≡ true = ap (λ (y : Answer). is
 samples-error : (channel : ℕ) (packets : List (ArrayVec ℕ)) (v : SlaveValue) (a : Answer) (w : SlaveValue) (R : Type 0) → IsErrorPacket a → Samples channel packets v a w → R
 samples-error channel packets v a w R r k = either (nat_le (length v.outbox + length packets) outbox_size) _ _ _ k (λ o. other-error (answers.Sampled (length packets)) a _ refl o.0 r) (λ o. other-error answers.Overrun a _ refl o.0 r)
 
+-- an error packet other than FE 00 leaves the slave as it was but without a block, whatever the request
 pub every-error : (v : SlaveValue) (q : Request) (a : Answer) (w : SlaveValue) → IsSlave v → Answers v q a w → IsErrorPacket a → w ≡ noblock v
 every-error v (requests.Command p) a w h k r = error-leaves v p a w k r
 every-error v (requests.Event channel signals) a w h k r =
@@ -133,5 +135,6 @@ heeds-codes v packet (Err refuses.Empty) p w rest s h e = ignored-packet p _ h.0
 heeds-codes v packet (Err refuses.Unknown) p w rest s h e = either v.connected _ _ _ h (λ k. refused-packet v CmdUnknown p packet refl k.0) (λ k. ignored-packet p _ k.0)
 heeds-codes v packet (Err refuses.Short) p w rest s h e = either v.connected _ _ _ h (λ k. refused-packet v CmdSyntax p packet refl k.0) (λ k. ignored-packet p _ k.0)
 
+-- a command's answer that begins with FE is FE 00, to SYNCH (FC), or an error packet with a refusal's code
 pub error-codes : (v : SlaveValue) (q p : ArrayVec ℕ) (w : SlaveValue) (rest : List ℕ) → Answers v (requests.Command q) (answers.Packet p) w → p.items ≡ 0xFE ∷ rest → ((slice_index q.items 0 ≡ 0xFC) × (p.items ≡ 0xFE ∷ 0x00 ∷ [])) ⊎ IsRefusing p.items
 error-codes v q p w rest h e = heeds-codes v q.items h.0 p w rest h.1 h.2 e

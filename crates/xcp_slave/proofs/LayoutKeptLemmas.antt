@@ -42,6 +42,7 @@ next-layout : (o : Option BlockValue) (remaining : ℕ) (bytes : List ℕ) (t : 
 next-layout None remaining bytes t = refl
 next-layout (Some b) remaining bytes t = chosen-layout _ _ _ t.pages.layout (written_at-layout t.pages (Memory b.address) _) refl
 
+-- no command's row changes the layout
 pub row-layout : (c : Command) (v : SlaveValue) → layout_of (row c v).after ≡ layout_of v
 row-layout (commands.Download n bytes) v = chosen-layout _ _ _ (layout_of v) (written_at-layout v.transfer.pages v.transfer.mta _) refl
 row-layout (commands.DownloadNext remaining bytes) v = next-layout v.transfer.block remaining bytes.items v.transfer
@@ -50,6 +51,7 @@ row-layout (commands.ShortDownload n extension address bytes) v = written_at-lay
 row-layout (commands.ModifyBits s ma mx) v = written_at-layout v.transfer.pages v.transfer.mta _
 row-layout _ v = refl
 
+-- the slave as a command finds it has the same layout
 pub found_by-layout : (c : Command) (v : SlaveValue) → layout_of (found_by c v) ≡ layout_of v
 found_by-layout (commands.DownloadNext remaining bytes) v = refl
 found_by-layout _ v = refl
@@ -90,6 +92,7 @@ fires-layout channel signals v a w h =
     (λ k. either (length signals == (layout_of v).signals_length) _ _ _ k (samples-layout channel _ (with_signals signals v) a w) (λ l. same-layout v w l.1))
     (λ k. same-layout v w k.1)
 
+-- no request changes the layout
 pub answers-layout : (v : SlaveValue) (q : Request) (a : Answer) (w : SlaveValue) → Answers v q a w → layout_of w ≡ layout_of v
 answers-layout v (requests.Command p) a w h = heeds-layout v h.0 a w h.2
 answers-layout v (requests.Event channel signals) a w h = fires-layout channel signals.items v a w h

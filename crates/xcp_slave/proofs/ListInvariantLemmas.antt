@@ -38,6 +38,7 @@ one-more : {A : Type 0} (t : Bool) (x : A) (rows : List (Bool × A)) → (first_
 one-more true x rows f h = cc
 one-more false x rows f h = (refl, f h)
 
+-- where there is no first test that holds, none of the tests holds
 pub none-holds : {A : Type 0} (rows : List (Bool × A)) → first_holding rows ≡ None → NoneHolds rows
 none-holds [] h = tt
 none-holds (row ∷ rows) h = one-more row.0 row.1 rows (none-holds rows) h
@@ -46,15 +47,19 @@ none-holds (row ∷ rows) h = one-more row.0 row.1 rows (none-holds rows) h
 pub is_below : (n m : ℕ) → nat_le m n ≡ false → n < m
 is_below n m h = grind (arith, nat_tests, h)
 
+-- n is at most m where the test that m is less than n is false
 pub at_most : (n m : ℕ) → nat_lt m n ≡ false → n ≤ m
 at_most n m h = grind (arith, nat_tests, h)
 
+-- the test for equality holds of equal numbers
 pub equal : (n m : ℕ) → n ≡ m → (n == m) ≡ true
 equal n m h = grind (arith, nat_tests, h)
 
+-- numbers of which the test for equality is false differ
 pub differs : (n m : ℕ) → (n == m) ≡ false → n ≢ m
 differs n m h = λ e. (let t = equal n m e in cc)
 
+-- a test whose negation is false holds
 pub is_true : (b : Bool) → not b ≡ false → b ≡ true
 is_true true h = refl
 is_true false h = cc
@@ -99,6 +104,7 @@ no_odts : (n : ℕ) → all_odts (replicate n no_list) ≡ []
 no_odts zero = refl
 no_odts (suc n) = no_odts n
 
+-- an ALLOC_DAQ that isn't refused keeps the DAQ lists lawful
 pub alloc-daq : (l : LayoutValue) (count : ℕ) (v : DaqValue) → IsLists l v → alloc_daq_refusal count v ≡ None → IsLists l (alloc_daq_after count v)
 alloc-daq l count v h r =
     let a = none-holds ((not (may_follow v.last AllocDaq), Sequence) ∷ (any_running v, DaqActive) ∷ (count == 0, OutOfRange) ∷ (nat_lt 16 (length v.lists + count), MemoryOverflow) ∷ []) r in
@@ -118,6 +124,7 @@ empty_odts : (n : ℕ) → joined (replicate {A = List (Option Element)} n []) �
 empty_odts zero = refl
 empty_odts (suc n) = empty_odts n
 
+-- the same for ALLOC_ODT
 pub alloc-odt : (l : LayoutValue) (list count : ℕ) (v : DaqValue) → IsLists l v → alloc_odt_refusal list count v ≡ None → IsLists l (alloc_odt_after list count v)
 alloc-odt l list count v h r =
     let a = none-holds ((not (may_follow v.last AllocOdt), Sequence) ∷ (lacks_list v list, OutOfRange) ∷ (any_running v, DaqActive) ∷ (count == 0, OutOfRange) ∷ (nat_lt 64 (length (all_odts v.lists) + count), MemoryOverflow) ∷ []) r in
@@ -134,6 +141,7 @@ alloc-odt l list count v h r =
     with-last l (with_list v list x) (Some AllocOdt)
     (with-list l v list x h (lawful_more_odts v list count h.daq below still (at_most _ _ e.0)) (subst (All (LiesWritten l)) (sym entries) (entries-at l v list h below)) (idle-room l x still))
 
+-- the same for ALLOC_ODT_ENTRY
 pub alloc-entry : (l : LayoutValue) (list odt count : ℕ) (v : DaqValue) → IsLists l v → alloc_odt_entry_refusal list odt count v ≡ None → IsLists l (alloc_odt_entry_after list odt count v)
 alloc-entry l list odt count v h r =
     let a = none-holds ((not (may_follow v.last AllocOdtEntry), Sequence) ∷ (lacks_list v list, OutOfRange) ∷ (lacks_odt v list odt, OutOfRange) ∷ ((list_at v list).running, DaqActive) ∷ (count == 0, OutOfRange) ∷ (nat_lt 256 (length (all_entries v.lists) + count), MemoryOverflow) ∷ []) r in
@@ -162,6 +170,7 @@ all_bare : (l : LayoutValue) (os : List (List (Option Element))) → All (LiesWr
 all_bare l [] = λ k d below. absurd (omega arith)
 all_bare l (o ∷ os) = All-append (LiesWritten l) (map (λ entry. None) o) (joined (map (map (λ entry. None)) os)) (All-map (LiesWritten l) (λ entry. None) o (λ k d b. tt)) (all_bare l os)
 
+-- the same for CLEAR_DAQ_LIST
 pub clear-list : (l : LayoutValue) (list : ℕ) (v : DaqValue) → IsLists l v → clear_daq_list_refusal list v ≡ None → IsLists l (clear_daq_list_after list v)
 clear-list l list v h r =
     let a = none-holds ((lacks_list v list, OutOfRange) ∷ []) r in
@@ -178,6 +187,7 @@ clear-list l list v h r =
     let second : IsDaq w = lawful_bare u list first there still in
     with-list l v list (cleared x) h (subst IsDaq (cleared_twice v u w list m below refl refl refl) second) (all_bare l x.odts) (idle-room l (cleared x) refl)
 
+-- the same for SET_DAQ_PTR
 pub set-pointer : (l : LayoutValue) (list odt entry : ℕ) (v : DaqValue) → IsLists l v → set_daq_ptr_refusal list odt entry v ≡ None → IsLists l (set_daq_ptr_after list odt entry v)
 set-pointer l list odt entry v h r =
     let a = none-holds ((lacks_list v list, OutOfRange) ∷ (lacks_odt v list odt, OutOfRange) ∷ (lacks_entry v list odt entry, OutOfRange) ∷ []) r in
@@ -209,6 +219,7 @@ write-by : (l : LayoutValue) (offset size extension address : ℕ) (v : DaqValue
 write-by l offset size extension address v None layout h at some still a b c = h
 write-by l offset size extension address v (Some p) layout h at some still a b c = entry-written l size address v p layout h at still a b c
 
+-- a WRITE_DAQ that isn't refused keeps the DAQ lists lawful, where the layout is within its limits
 pub write-daq : (l : LayoutValue) (offset size extension address : ℕ) (v : DaqValue) → IsLayout l → IsLists l v → write_daq_refusal l offset size extension address v ≡ None → IsLists l (write_daq_after size address v)
 write-daq l offset size extension address v layout h r =
     let a = none-holds ((has_no_pointer v.pointer, DaqConfig) ∷ (pointed_list_runs v.pointer v, DaqActive) ∷ element_rows l offset size extension address) r in
@@ -224,12 +235,14 @@ read-by : (l : LayoutValue) (v : DaqValue) (o : Option Pointer) → IsLists l v 
 read-by l v None h k = h
 read-by l v (Some p) h k = with-pointer l v (moved_on v p) h (moved_in v p k)
 
+-- what READ_DAQ does keeps the DAQ lists lawful
 pub read-daq : (l : LayoutValue) (v : DaqValue) → IsLists l v → IsLists l (read_daq_after v)
 read-daq l v h = read-by l v v.pointer h h.daq.pointer
 
 is_some : (n : ℕ) → (n == 0) ≡ false → 1 ≤ n
 is_some n h = grind (arith, nat_tests, h)
 
+-- the same for SET_DAQ_LIST_MODE as for WRITE_DAQ, where its prescaler and priority are at most 255
 pub set-mode : (l : LayoutValue) (mode list event prescaler priority : ℕ) (v : DaqValue) → IsLayout l → IsLists l v → prescaler ≤ 255 → priority ≤ 255 → set_daq_list_mode_refusal l mode list event prescaler v ≡ None → IsLists l (set_daq_list_mode_after list event prescaler priority v)
 set-mode l mode list event prescaler priority v layout h p q r =
     let a = none-holds ((not (mode == 0), ModeNotValid) ∷ (lacks_list v list, OutOfRange) ∷ ((list_at v list).running, DaqActive) ∷ (nat_le (length l.events) event, OutOfRange) ∷ (prescaler == 0, OutOfRange) ∷ []) r in
@@ -268,6 +281,7 @@ guarded : (a b : Bool) → (not a && b) ≡ false → a ≡ false → b ≡ fals
 guarded true b h e = cc
 guarded false b h e = h
 
+-- a START_STOP_DAQ_LIST that isn't refused keeps the DAQ lists lawful, where the layout is within its limits
 pub start-stop : (l : LayoutValue) (mode list : ℕ) (v : DaqValue) → IsLayout l → IsLists l v → start_stop_daq_list_refusal l mode list v ≡ None → IsLists l (start_stop_daq_list_after mode list v)
 start-stop l mode list v layout h r =
     let a = none-holds ((nat_lt 2 mode, ModeNotValid) ∷ (lacks_list v list, OutOfRange) ∷ (not (mode == 0) && has_large_odt l (list_at v list), DaqConfig) ∷ []) r in
@@ -303,6 +317,7 @@ not_both : (a b : Bool) → (a && b) ≡ false → a ≡ true → b ≡ false
 not_both true b h e = h
 not_both false b h e = cc
 
+-- the same for START_STOP_SYNCH
 pub synch : (l : LayoutValue) (mode : ℕ) (v : DaqValue) → IsLayout l → IsLists l v → start_stop_synch_refusal l mode v ≡ None → IsLists l (start_stop_synch_after mode v)
 synch l mode v layout h r =
     let a = none-holds ((nat_lt 2 mode, ModeNotValid) ∷ ((mode == 1) && list_any (λ x. x.selected && has_large_odt l x) v.lists, DaqConfig) ∷ []) r in
@@ -321,6 +336,7 @@ counted-room : (l : LayoutValue) (x : DaqList) (n : ℕ) → HasRoom l x → (b 
 counted-room l x n h true = record { fits = h.fits }
 counted-room l x n h false = h
 
+-- the DAQ lists stay lawful when they have counted an event
 pub event : (l : LayoutValue) (channel : ℕ) (v : DaqValue) → IsLists l v → IsLists l (after_event channel v)
 event l channel v h =
     mapped l (counted channel) v (counted_odts channel)

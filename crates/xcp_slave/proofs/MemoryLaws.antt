@@ -68,9 +68,11 @@ download-both v w n a items bytes h e k0 =
     let led : w.transfer ≡ downloaded v.transfer v.transfer.mta (take n items.items) = ap (λ (x : SlaveValue). x.transfer) k.after ∙ ap (λ (b : Bool). if b then downloaded v.transfer v.transfer.mta (take n items.items) else record v.transfer { block = block_begun v.transfer.mta (n - room) (take room items.items) }) one in
     at-address v w v.transfer.mta a n (take n items.items) h e (none-behind (write_refusal_at v.transfer.pages v.transfer.mta n) t.1.1) (length-take-le n items.items (enough (length items.items) n room t.1.0 one)) led
 
+-- an accepted DOWNLOAD of n bytes with the MTA at an address writes these n bytes there
 pub download-writes : (v w : SlaveValue) (n a : ℕ) (items : ArrayVec ℕ) (bytes : List ℕ) → IsSlave v → v.transfer.mta ≡ Memory a → Accepts v (commands.Download n items) bytes w → Writes v.transfer.pages a (take n items.items) w.transfer.pages
 download-writes v w n a items bytes h e k = (download-both v w n a items bytes h e k).0
 
+-- an accepted DOWNLOAD of n bytes moves an MTA at an address on by n
 pub download-mta : (v w : SlaveValue) (n a : ℕ) (items : ArrayVec ℕ) (bytes : List ℕ) → IsSlave v → v.transfer.mta ≡ Memory a → Accepts v (commands.Download n items) bytes w → w.transfer.mta ≡ Memory (a + n)
 download-mta v w n a items bytes h e k = (download-both v w n a items bytes h e k).1
 
@@ -83,9 +85,11 @@ short-both v w n extension a items bytes h k0 =
     let r = at-address v w (Memory a) a n (take n items.items) h refl (none-behind (write_refusal_at v.transfer.pages (Memory a) n) t.1.1.1) long led in
     (r.0, r.1, long)
 
+-- an accepted SHORT_DOWNLOAD of n bytes writes them at its address
 pub short-writes : (v w : SlaveValue) (n extension a : ℕ) (items : ArrayVec ℕ) (bytes : List ℕ) → IsSlave v → Accepts v (commands.ShortDownload n extension a items) bytes w → Writes v.transfer.pages a (take n items.items) w.transfer.pages
 short-writes v w n extension a items bytes h k = (short-both v w n extension a items bytes h k).0
 
+-- an accepted SHORT_DOWNLOAD of n bytes leaves the MTA behind them
 pub short-mta : (v w : SlaveValue) (n extension a : ℕ) (items : ArrayVec ℕ) (bytes : List ℕ) → IsSlave v → Accepts v (commands.ShortDownload n extension a items) bytes w → w.transfer.mta ≡ Memory (a + n)
 short-mta v w n extension a items bytes h k = (short-both v w n extension a items bytes h k).1
 
@@ -97,12 +101,15 @@ max-both v w a items bytes h e k0 =
     let led : w.transfer ≡ downloaded v.transfer v.transfer.mta (take n items.items) = ap (λ (x : SlaveValue). x.transfer) k.after in
     at-address v w v.transfer.mta a n (take n items.items) h e (none-behind (write_refusal_at v.transfer.pages v.transfer.mta n) t.1) (length-take-le n items.items (not-less (length items.items) n t.0)) led
 
+-- an accepted DOWNLOAD_MAX with the MTA at an address writes its MAX_CTO - 1 bytes there
 pub max-writes : (v w : SlaveValue) (a : ℕ) (items : ArrayVec ℕ) (bytes : List ℕ) → IsSlave v → v.transfer.mta ≡ Memory a → Accepts v (commands.DownloadMax items) bytes w → Writes v.transfer.pages a (take ((layout_of v).max_cto - 1) items.items) w.transfer.pages
 max-writes v w a items bytes h e k = (max-both v w a items bytes h e k).0
 
+-- an accepted DOWNLOAD_MAX moves an MTA at an address on by MAX_CTO - 1
 pub max-mta : (v w : SlaveValue) (a : ℕ) (items : ArrayVec ℕ) (bytes : List ℕ) → IsSlave v → v.transfer.mta ≡ Memory a → Accepts v (commands.DownloadMax items) bytes w → w.transfer.mta ≡ Memory (a + ((layout_of v).max_cto - 1))
 max-mta v w a items bytes h e k = (max-both v w a items bytes h e k).1
 
+-- an accepted MODIFY_BITS keeps the MTA
 pub bits-mta : (v w : SlaveValue) (s ma mx : ℕ) (bytes : List ℕ) → Accepts v (commands.ModifyBits s ma mx) bytes w → w.transfer.mta ≡ v.transfer.mta
 bits-mta v w s ma mx bytes k = ap (λ (x : SlaveValue). x.transfer.mta) (accepted (commands.ModifyBits s ma mx) v bytes w k).after
 
@@ -139,9 +146,11 @@ block-both v w remaining items bytes b h e k0 =
     let ends = at-address v w (Memory b.address) b.address (length b.bytes + b.expected) all h refl i.writable long led in
     (ends.0, ends.1, long, ap (λ (x : TransferValue). x.block) led)
 
+-- an accepted DOWNLOAD_NEXT writes the whole block at the block's address, its own bytes last
 pub block-writes : (v w : SlaveValue) (remaining : ℕ) (items : ArrayVec ℕ) (bytes : List ℕ) (b : BlockValue) → IsSlave v → v.transfer.block ≡ Some b → Accepts v (commands.DownloadNext remaining items) bytes w → Writes v.transfer.pages b.address (b.bytes ++ take remaining items.items) w.transfer.pages
 block-writes v w remaining items bytes b h e k = (block-both v w remaining items bytes b h e k).0
 
+-- an accepted DOWNLOAD_NEXT leaves the MTA behind the whole block
 pub block-mta : (v w : SlaveValue) (remaining : ℕ) (items : ArrayVec ℕ) (bytes : List ℕ) (b : BlockValue) → IsSlave v → v.transfer.block ≡ Some b → Accepts v (commands.DownloadNext remaining items) bytes w → w.transfer.mta ≡ Memory (b.address + (length b.bytes + b.expected))
 block-mta v w remaining items bytes b h e k = (block-both v w remaining items bytes b h e k).1
 
@@ -204,6 +213,7 @@ reads-step v requests.Drain a w q k = drains-reads v.outbox v a w k
 reads-step v requests.FinishStore a w q k = absurd q
 reads-step v requests.Hangup a w q k = led-same v (ended v) w k.1 (same-memory v.transfer.pages)
 
+-- a run that writes, switches and copies nothing, with no event and no FinishStore, leaves the memory as it was
 pub reads-run : (v : SlaveValue) (xs : List Exchange) (w : SlaveValue) → All (λ (x : Exchange). IsReading x.request) xs → Run v xs w → SameMemory v.transfer.pages w.transfer.pages
 reads-run v [] w n r = led-same v v w r (same-memory v.transfer.pages)
 reads-run v (x ∷ xs) w n r = same-trans v.transfer.pages r.0.transfer.pages w.transfer.pages (reads-step v x.request x.answer r.0 (n zero x (omega arith)) r.1) (reads-run r.0 xs w (λ k d below. n (suc k) d (omega arith)) r.2)

@@ -63,11 +63,14 @@ sample l channel pages v h =
     let same : k ≡ 0 + k = omega arith in
     (h.room k d below, subst (λ (n : ℕ). length (all_odts (take n v.lists)) + length (get_or v.lists k d).odts ≤ 64) same fact)))
 
+-- packets that may wait, and data packets behind them, may all wait
 pub data-waits : (l : LayoutValue) (o ps : List (ArrayVec ℕ)) → All (IsWaiting l) o → All (IsDataPacket l) ps → All (IsWaiting l) (o ++ ps)
 data-waits l o ps h k = All-append (IsWaiting l) o ps h (λ j d below. inr (k j d below))
 
+-- the same with the event packet of a store behind them
 pub event-waits : (l : LayoutValue) (o : List (ArrayVec ℕ)) → All (IsWaiting l) o → All (IsWaiting l) (o ++ store_event ∷ [])
 event-waits l o h = All-append (IsWaiting l) o (store_event ∷ []) h (one (IsWaiting l) store_event (inl refl))
 
+-- of packets that may wait, those behind the first may too
 pub rest-waits : (l : LayoutValue) (p : ArrayVec ℕ) (o : List (ArrayVec ℕ)) → All (IsWaiting l) (p ∷ o) → All (IsWaiting l) o
 rest-waits l p o h = λ k d below. h (suc k) d (omega arith)

@@ -9,6 +9,7 @@ use Rattle.xcp_slave.specs.private.OutboxRing.{ring, IsRing, wrapped}
 length-twice : {A : Type 0} (slots : List A) → length slots ≡ 64 → length (slots ++ slots) ≡ 128
 length-twice {A} slots h = length-append slots slots ∙ omega arith
 
+-- the list that stands in a ring is as long as the ring's count
 pub length-ring : {A : Type 0} (first count : ℕ) (slots : List A) → IsRing first count slots → length (ring first count slots) ≡ count
 length-ring {A} first count slots r =
     let two = length-twice slots r.slots_are in
@@ -27,6 +28,7 @@ around {A} slots n d h k = by_test (nat_lt n 64) refl
     by_test true e = get_or_append_left slots slots d n (let l : n < 64 = grind (arith, nat_tests, e) in omega arith)
     by_test false e = get_or-append_right slots slots 64 n d h (grind (arith, nat_tests, e))
 
+-- element i of a ring stands i slots on from the first; behind the last slot comes slot 0
 pub at : {A : Type 0} (first count : ℕ) (slots : List A) (i : ℕ) (d : A) → IsRing first count slots → i < count → get_or (ring first count slots) i d ≡ get_or slots (wrapped (first + i)) d
 at {A} first count slots i d r h =
     let begins = r.begins in
@@ -85,6 +87,7 @@ is_ring-pushed {A} first count slots x r h = record {
   holds = omega arith;
 }
 
+-- a ring that isn't full has one more element at its end once that stands in the slot behind its last
 pub pushed : {A : Type 0} (first count : ℕ) (slots : List A) (x : A) → IsRing first count slots → count < 64 → ring first (count + 1) (slice_set slots (wrapped (first + count)) x) ≡ ring first count slots ++ x ∷ []
 pushed {A} first count slots x r h =
     let begins = r.begins in
@@ -108,6 +111,7 @@ is_ring-taken {A} first count slots r =
     let holds = r.holds in
     record { slots_are = r.slots_are; begins = wrapped_below (first + 1) (omega arith); holds = omega arith }
 
+-- a ring that isn't empty is what stands in its first slot, and then the ring from the next slot on
 pub taken : {A : Type 0} (first count : ℕ) (slots : List A) (x : A) → IsRing first count slots → 0 < count → x ≡ get_or slots first x → ring first count slots ≡ x ∷ ring (wrapped (first + 1)) (count - 1) slots
 taken {A} first count slots x r h e =
     let begins = r.begins in

@@ -60,5 +60,6 @@ heeds-length v (Err refuses.Empty) p w l h = ignored v w p _ h
 heeds-length v (Err refuses.Unknown) p w l h = either v.connected _ _ _ h (refused-length v w CmdUnknown p l) (ignored v w p _)
 heeds-length v (Err refuses.Short) p w l h = either v.connected _ _ _ h (refused-length v w CmdSyntax p l) (ignored v w p _)
 
+-- a packet that answers a command has at least one byte and at most MAX_CTO
 pub answers-length : (v : SlaveValue) (packet p : ArrayVec ℕ) (w : SlaveValue) → IsLayout (layout_of v) → Answers v (requests.Command packet) (answers.Packet p) w → (0 < length p.items) × (length p.items ≤ (layout_of v).max_cto)
 answers-length v packet p w l h = heeds-length v h.0 p w l h.2

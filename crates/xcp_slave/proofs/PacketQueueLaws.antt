@@ -75,6 +75,7 @@ no-room n h = grind (arith, nat_tests, h)
 outbox-of : (y w : SlaveValue) → w ≡ y → w.outbox ≡ y.outbox
 outbox-of y w e = ap (λ (x : SlaveValue). x.outbox) e
 
+-- an event is sampled, and its packets wait; or it overruns, or has bad signals or no channel, and none of them does
 pub fired : (v : SlaveValue) (channel : ℕ) (signals : List ℕ) (a : Answer) (w : SlaveValue) → Fires channel signals v a w → Fired v channel signals a w
 fired v channel signals a w k =
     either (nat_lt channel (length (layout_of v).events)) _ _ _ k
@@ -104,6 +105,7 @@ fires-queue v channel signals a w k =
       ]
     ]
 
+-- within a session, what a step takes out and what then waits is what waited and what it puts in, in order
 pub step-queues : (v : SlaveValue) (q : Request) (a : Answer) (w : SlaveValue) → IsWithin q → Answers v q a w → taken_out q a ++ w.outbox ≡ v.outbox ++ put_in v q a
 unfolding Queues
 step-queues v (requests.Command p) a w h k = command-queues v p a w h k
@@ -114,12 +116,14 @@ step-queues v requests.Hangup a w h k = absurd h
 
 -- runs
 
+-- of each run there is a list of the packets that it puts in
 pub run-puts-in : (v : SlaveValue) (xs : List Exchange) (w : SlaveValue) → Run v xs w → (packets : List (ArrayVec ℕ)) × PutsIn v xs packets w
 run-puts-in v [] w r = ([], (refl, r))
 run-puts-in v (x ∷ xs) w r =
     let rest = run-puts-in r.0 xs w r.2 in
     (put_in v x.request x.answer ++ rest.0, (r.0, rest.0, r.1, refl, rest.1))
 
+-- within a session, what a run takes out and what then waits is what waited and what it puts in, in order
 pub run-queues : (v : SlaveValue) (xs : List Exchange) (packets : List (ArrayVec ℕ)) (w : SlaveValue) → All (λ (x : Exchange). IsWithin x.request) xs → PutsIn v xs packets w → all_taken xs ++ w.outbox ≡ v.outbox ++ packets
 run-queues v [] packets w h k = ap (λ (x : SlaveValue). x.outbox) k.1 ∙ nothing-put v ∙ ap (λ (o : List (ArrayVec ℕ)). v.outbox ++ o) (sym k.0)
 run-queues v (x ∷ xs) packets w h k =
@@ -141,6 +145,7 @@ drains-first o v packet rest a w e k =
     let now : Drains (packet ∷ rest) v a w = subst (λ (x : List (ArrayVec ℕ)). Drains x v a w) e k in
     (now.0, ap (λ (x : SlaveValue). x.outbox) now.1)
 
+-- a drain answers the first packet that waits, and then the others wait
 pub first-drained : (v : SlaveValue) (packet : ArrayVec ℕ) (rest : List (ArrayVec ℕ)) (a : Answer) (w : SlaveValue) → v.outbox ≡ packet ∷ rest → Answers v requests.Drain a w → (a ≡ answers.Packet packet) × (w.outbox ≡ rest)
 first-drained v packet rest a w e k = drains-first v.outbox v packet rest a w e k
 
@@ -172,12 +177,15 @@ event-waits v channel n signals w k =
       ]
     ]
 
+-- a sampled event is answered with the number of its packets, and all of them wait behind the others
 pub event-whole : (v : SlaveValue) (channel n : ℕ) (signals : ArrayVec ℕ) (w : SlaveValue) → Answers v (requests.Event channel signals) (answers.Sampled n) w → (n ≡ length (event_packets v channel signals.items)) × (w.outbox ≡ v.outbox ++ event_packets v channel signals.items)
 event-whole v channel n signals w k = let r = event-waits v channel n signals w k in (r.0, r.1)
 
+-- after a sampled event at most 64 packets wait
 pub event-room : (v : SlaveValue) (channel n : ℕ) (signals : ArrayVec ℕ) (w : SlaveValue) → Answers v (requests.Event channel signals) (answers.Sampled n) w → length w.outbox ≤ 64
 event-room v channel n signals w k = (event-waits v channel n signals w k).2
 
+-- an event that isn't sampled leaves the packets that wait as they were
 pub event-none : (v : SlaveValue) (channel : ℕ) (signals : ArrayVec ℕ) (a : Answer) (w : SlaveValue) → Answers v (requests.Event channel signals) a w → ((n : ℕ) × (a ≡ answers.Sampled n)) ⊎ (w.outbox ≡ v.outbox)
 event-none v channel signals a w k =
     elim (fired v channel signals.items a w k).ways [
@@ -185,6 +193,7 @@ event-none v channel signals a w k =
       | inr s ↦ inr s.0
     ]
 
+-- an event overruns only where its packets and those that wait are more than 64
 pub event-overrun : (v : SlaveValue) (channel : ℕ) (signals : ArrayVec ℕ) (w : SlaveValue) → Answers v (requests.Event channel signals) answers.Overrun w → 64 < length v.outbox + length (event_packets v channel signals.items)
 event-overrun v channel signals w k =
     elim (fired v channel signals.items answers.Overrun w k).ways [

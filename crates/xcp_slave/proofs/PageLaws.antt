@@ -62,27 +62,33 @@ at-concerned v w mode segment page i bytes h below c =
     ap (λ (x : SlaveValue). segment_at x.transfer.pages i) (accepted (commands.SetCalPage mode segment page) v bytes w h).after
     ∙ switched-here v.transfer.pages mode segment page i below (is_of_all mode) (concerned-by mode segment i c)
 
+-- an accepted SET_CAL_PAGE with bit 0 of its mode gives the page to the controller in each segment that it concerns
 pub ecu-given : (v w : SlaveValue) (mode segment page i : ℕ) (bytes : List ℕ) → Accepts v (commands.SetCalPage mode segment page) bytes w → i < length v.transfer.pages.segments → Concerns mode segment i → bit_and mode 0x01 ≡ 0x01 → (segment_at w.transfer.pages i).ecu ≡ page
 ecu-given v w mode segment page i bytes h below c bit =
     ap (λ (s : SegmentPages). s.ecu) (at-concerned v w mode segment page i bytes h below c) ∙ ap (λ (b : Bool). if b then page else (segment_at v.transfer.pages i).ecu) (equal (bit_and mode 0x01) 0x01 bit)
 
+-- an accepted SET_CAL_PAGE with bit 1 of its mode gives the page to the tool in each segment that it concerns
 pub xcp-given : (v w : SlaveValue) (mode segment page i : ℕ) (bytes : List ℕ) → Accepts v (commands.SetCalPage mode segment page) bytes w → i < length v.transfer.pages.segments → Concerns mode segment i → bit_and mode 0x02 ≡ 0x02 → (segment_at w.transfer.pages i).xcp ≡ page
 xcp-given v w mode segment page i bytes h below c bit =
     ap (λ (s : SegmentPages). s.xcp) (at-concerned v w mode segment page i bytes h below c) ∙ ap (λ (b : Bool). if b then page else (segment_at v.transfer.pages i).xcp) (equal (bit_and mode 0x02) 0x02 bit)
 
+-- without bit 0 of the mode the controller keeps its page number in each segment that is concerned
 pub ecu-kept : (v w : SlaveValue) (mode segment page i : ℕ) (bytes : List ℕ) → Accepts v (commands.SetCalPage mode segment page) bytes w → i < length v.transfer.pages.segments → Concerns mode segment i → bit_and mode 0x01 ≢ 0x01 → (segment_at w.transfer.pages i).ecu ≡ (segment_at v.transfer.pages i).ecu
 ecu-kept v w mode segment page i bytes h below c bit =
     ap (λ (s : SegmentPages). s.ecu) (at-concerned v w mode segment page i bytes h below c) ∙ ap (λ (b : Bool). if b then page else (segment_at v.transfer.pages i).ecu) (unequal (bit_and mode 0x01) 0x01 bit)
 
+-- without bit 1 of the mode the tool keeps its page number in each segment that is concerned
 pub xcp-kept : (v w : SlaveValue) (mode segment page i : ℕ) (bytes : List ℕ) → Accepts v (commands.SetCalPage mode segment page) bytes w → i < length v.transfer.pages.segments → Concerns mode segment i → bit_and mode 0x02 ≢ 0x02 → (segment_at w.transfer.pages i).xcp ≡ (segment_at v.transfer.pages i).xcp
 xcp-kept v w mode segment page i bytes h below c bit =
     ap (λ (s : SegmentPages). s.xcp) (at-concerned v w mode segment page i bytes h below c) ∙ ap (λ (b : Bool). if b then page else (segment_at v.transfer.pages i).xcp) (unequal (bit_and mode 0x02) 0x02 bit)
 
+-- without bit 7 of its mode an accepted SET_CAL_PAGE changes no segment but the one that it names
 pub others-kept : (v w : SlaveValue) (mode segment page i : ℕ) (bytes : List ℕ) → Accepts v (commands.SetCalPage mode segment page) bytes w → bit_and mode 0x80 ≢ 0x80 → i ≢ segment → segment_at w.transfer.pages i ≡ segment_at v.transfer.pages i
 others-kept v w mode segment page i bytes h bit other =
     ap (λ (x : SlaveValue). segment_at x.transfer.pages i) (accepted (commands.SetCalPage mode segment page) v bytes w h).after
     ∙ switched-elsewhere v.transfer.pages mode segment page i (is_of_all mode) (unequal (bit_and mode 0x80) 0x80 bit) other
 
+-- an accepted SET_CAL_PAGE changes no byte of the pages of a segment that it concerns
 pub bytes-kept : (v w : SlaveValue) (mode segment page i : ℕ) (bytes : List ℕ) → Accepts v (commands.SetCalPage mode segment page) bytes w → i < length v.transfer.pages.segments → Concerns mode segment i → (segment_at w.transfer.pages i).pages ≡ (segment_at v.transfer.pages i).pages
 bytes-kept v w mode segment page i bytes h below c = ap (λ (s : SegmentPages). s.pages) (at-concerned v w mode segment page i bytes h below c)
 
@@ -94,6 +100,7 @@ copy-target v w source source_page target target_page bytes h =
     let a = none-holds ((lacks_segment source p, SegmentNotValid) ∷ (lacks_page source_page (segment_at p source), PageNotValid) ∷ (lacks_segment target p, SegmentNotValid) ∷ (lacks_page target_page (segment_at p target), PageNotValid) ∷ (target_page == 0, WriteProtected) ∷ (not (length (content p source source_page) == length (content p target target_page)), OutOfRange) ∷ []) (none-refused (copy_refusal source source_page target target_page p) k.allowed) in
     differs target_page 0 a.1.1.1.1.0
 
+-- after an accepted COPY_CAL_PAGE the target page has the content that the source page had
 pub copy-content : (v w : SlaveValue) (source source_page target target_page : ℕ) (bytes : List ℕ) → Accepts v (commands.CopyCalPage source source_page target target_page) bytes w → get_or (segment_at w.transfer.pages target).pages target_page [] ≡ get_or (segment_at v.transfer.pages source).pages source_page []
 copy-content v w source source_page target target_page bytes h =
     let k = accepted (commands.CopyCalPage source source_page target target_page) v bytes w h in
@@ -116,6 +123,7 @@ set-keeps f (x ∷ xs) (suc j) (suc i) s h = set-keeps f xs j i s h
 copied : (v w : SlaveValue) (source source_page target target_page i : ℕ) (bytes : List ℕ) → Accepts v (commands.CopyCalPage source source_page target target_page) bytes w → segment_at w.transfer.pages i ≡ get_or (slice_set v.transfer.pages.segments target (with_content (segment_at v.transfer.pages target) target_page (content v.transfer.pages source source_page))) i no_pages
 copied v w source source_page target target_page i bytes h = ap (λ (x : SlaveValue). segment_at x.transfer.pages i) (accepted (commands.CopyCalPage source source_page target target_page) v bytes w h).after
 
+-- an accepted COPY_CAL_PAGE changes no page but its target
 pub copy-others : (v w : SlaveValue) (source source_page target target_page i k : ℕ) (bytes : List ℕ) → Accepts v (commands.CopyCalPage source source_page target target_page) bytes w → (i ≢ target) ⊎ (k ≢ target_page) → get_or (segment_at w.transfer.pages i).pages k [] ≡ get_or (segment_at v.transfer.pages i).pages k []
 copy-others v w source source_page target target_page i k bytes h (inl d) =
     ap (λ (s : SegmentPages). get_or s.pages k []) (copied v w source source_page target target_page i bytes h ∙ get_or-set_other v.transfer.pages.segments target i _ no_pages d)
@@ -124,6 +132,7 @@ copy-others v w source source_page target target_page i k bytes h (inr d) =
     ap (λ (s : SegmentPages). get_or s.pages k []) (copied v w source source_page target target_page i bytes h)
     ∙ set-keeps (λ (s : SegmentPages). get_or s.pages k []) p.segments target i (with_content (segment_at p target) target_page (content p source source_page)) (get_or-set_other (segment_at p target).pages target_page k (content p source source_page) [] d)
 
+-- an accepted COPY_CAL_PAGE changes no page number of controller or tool
 pub copy-sides : (v w : SlaveValue) (source source_page target target_page i : ℕ) (bytes : List ℕ) → Accepts v (commands.CopyCalPage source source_page target target_page) bytes w → ((segment_at w.transfer.pages i).ecu ≡ (segment_at v.transfer.pages i).ecu) × ((segment_at w.transfer.pages i).xcp ≡ (segment_at v.transfer.pages i).xcp)
 copy-sides v w source source_page target target_page i bytes h =
     let p : PagesValue = v.transfer.pages in
@@ -145,6 +154,7 @@ store-led v w n i h =
     (λ m. ap (λ (x : SlaveValue). segment_at x.transfer.pages i) m.1 ∙ frozen-at v.transfer.pages.segments i))
     (λ k. let e = k.0 in cc)
 
+-- a store gives the reference page of each segment in FREEZE mode the content of the page that the tool has
 pub store-fills : (v w : SlaveValue) (n i : ℕ) → IsSlave v → Answers v requests.FinishStore (answers.Stored n) w → i < length v.transfer.pages.segments → (segment_at v.transfer.pages i).freeze ≡ true → get_or (segment_at w.transfer.pages i).pages 0 [] ≡ xcp_page (segment_at v.transfer.pages i)
 store-fills v w n i g h below on =
     let s : SegmentPages = segment_at v.transfer.pages i in
@@ -157,6 +167,7 @@ chosen-others s true k (inl e) = cc
 chosen-others s true k (inr d) = get_or-set_other s.pages 0 k (xcp_page s) [] d
 chosen-others s false k h = refl
 
+-- a store changes no page but the reference pages of the segments in FREEZE mode
 pub store-others : (v w : SlaveValue) (n i k : ℕ) → Answers v requests.FinishStore (answers.Stored n) w → ((segment_at v.transfer.pages i).freeze ≡ false) ⊎ (k ≢ 0) → get_or (segment_at w.transfer.pages i).pages k [] ≡ get_or (segment_at v.transfer.pages i).pages k []
 store-others v w n i k h d =
     ap (λ (y : SegmentPages). get_or y.pages k []) (store-led v w n i h)
@@ -166,6 +177,7 @@ chosen-sides : (s t : SegmentPages) (b : Bool) → t.ecu ≡ s.ecu → t.xcp ≡
 chosen-sides s t true e x = (e, x)
 chosen-sides s t false e x = (refl, refl)
 
+-- a store changes no page number of controller or tool
 pub store-sides : (v w : SlaveValue) (n i : ℕ) → Answers v requests.FinishStore (answers.Stored n) w → ((segment_at w.transfer.pages i).ecu ≡ (segment_at v.transfer.pages i).ecu) × ((segment_at w.transfer.pages i).xcp ≡ (segment_at v.transfer.pages i).xcp)
 store-sides v w n i h =
     let s : SegmentPages = segment_at v.transfer.pages i in
@@ -185,6 +197,7 @@ meets-block order c p v (Err e) w s a b m = ap (λ (x : SlaveValue). x.transfer.
 block-of : (v w : SlaveValue) → w ≡ noblock v → w.transfer.block ≡ None
 block-of v w e = ap (λ (x : SlaveValue). x.transfer.block) e
 
+-- b or c can't be false where b is true
 pub connected-or : (b c : Bool) → b ≡ true → (b || c) ≡ false → ⊥
 connected-or true c e h = cc
 connected-or false c e h = cc
@@ -195,6 +208,7 @@ heeds-block v p (Err refuses.Empty) a w on some b e s k = absurd (some s)
 heeds-block v p (Err refuses.Unknown) a w on some b e s k = either-test v.connected _ _ _ (λ t m. block-of v w m.1) (λ t m. cc) k
 heeds-block v p (Err refuses.Short) a w on some b e s k = either-test v.connected _ _ _ (λ t m. block-of v w m.1) (λ t m. cc) k
 
+-- while a tool is connected, a packet that isn't empty and is no DOWNLOAD or DOWNLOAD_NEXT leaves no block
 pub gives-up : (v : SlaveValue) (p : ArrayVec ℕ) (a : Answer) (w : SlaveValue) → v.connected ≡ true → p.items ≢ [] → slice_index p.items 0 ≢ 0xEF → slice_index p.items 0 ≢ 0xF0 → Answers v (requests.Command p) a w → w.transfer.block ≡ None
 gives-up v p a w on some b e k = heeds-block v p.items k.0 a w on some b e k.1 k.2
 
@@ -246,6 +260,7 @@ unfolding StoreDone
 done-by v a w (inl e) f = absurd (let z : true ≡ false = sym e ∙ f in cc)
 done-by v a w (inr e) f = e
 
+-- a store request goes only in a step that answers that the store is done, and of how many segments
 pub store-stands : (v : SlaveValue) (q : Request) (a : Answer) (w : SlaveValue) → v.store ≡ true → w.store ≡ false → Answers v q a w → a ≡ answers.Stored (frozen_count v.transfer.pages)
 store-stands v q a w h f k = done-by v a w (step-store v q a w h k) f
 
@@ -254,6 +269,7 @@ writable-by : (p : PagesValue) (a n : ℕ) (o : Option ℕ) → segment_of p.lay
 writable-by p a n None e h = absurd (outside (is_inside a n (signals_extent p.layout)) h)
 writable-by p a n (Some i) e h = (i, subst (λ (o : Option ℕ). IfSome o (Located p.layout a n)) e (areas.located p.layout a n (segment_of p.layout a n) refl), differs (segment_at p i).xcp 0 (unprotected ((segment_at p i).xcp == 0) h))
 
+-- the whole range of a block under way lies in one segment, of which the tool has another page than page 0
 pub block-writable : (v : SlaveValue) (b : BlockValue) → IsSlave v → v.transfer.block ≡ Some b → (i : ℕ) × Located (layout_of v) b.address (length b.bytes + b.expected) i × ((segment_at v.transfer.pages i).xcp ≢ 0)
 block-writable v b h e =
     let k : IsBlock v.transfer.pages b = subst (λ (o : Option BlockValue). IsUnderWay v.transfer.pages o) e h.transfer.transfer.block in

@@ -144,6 +144,7 @@ first-error (t ∷ ts) e a h =
 pub refusal-error : (c : Command) (v : SlaveValue) (e : Reply) → first_holding (row c v).refusals ≡ Some e → is_error e ≡ true
 refusal-error c v e h = first-error (row c v).refusals e (row-errors c v) h
 
+-- the bytes begin with FE, as those of an error packet do
 abbrev pub BeginsWithError : List ℕ → Type 0
 BeginsWithError bytes = (rest : List ℕ) × (bytes ≡ 0xFE ∷ rest)
 

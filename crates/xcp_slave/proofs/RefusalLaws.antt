@@ -91,6 +91,7 @@ heeds-error v (Err refuses.Empty) a w h r = silent-error a _ r h.0
 heeds-error v (Err refuses.Unknown) a w h r = either v.connected _ _ _ h (λ k. k.1) (λ k. silent-error a _ r k.0)
 heeds-error v (Err refuses.Short) a w h r = either v.connected _ _ _ h (λ k. k.1) (λ k. silent-error a _ r k.0)
 
+-- a command's error packet other than FE 00 leaves the slave as it was, but without a block
 pub error-leaves : (v : SlaveValue) (packet : ArrayVec ℕ) (a : Answer) (w : SlaveValue) → Answers v (requests.Command packet) a w → IsErrorPacket a → w ≡ noblock v
 error-leaves v packet a w h r = heeds-error v h.0 a w h.2 r
 
@@ -125,12 +126,14 @@ fires-refusal channel signals v a w h r =
 samples-overrun : (channel : ℕ) (packets : List (ArrayVec ℕ)) (v w : SlaveValue) → Samples channel packets v answers.Overrun w → w ≡ with_event channel v
 samples-overrun channel packets v w h = either (nat_le (length v.outbox + length packets) outbox_size) _ _ _ h (λ k. let e = k.0 in cc) (λ k. k.1)
 
+-- an event that overruns changes the signals and the lists' counts of events, and nothing else
 pub overrun-leaves : (v : SlaveValue) (channel : ℕ) (signals : ArrayVec ℕ) (w : SlaveValue) → Answers v (requests.Event channel signals) answers.Overrun w → w ≡ with_event channel (with_signals signals.items v)
 overrun-leaves v channel signals w h =
     either (nat_lt channel (length (layout_of v).events)) _ _ _ h
     (λ k. either (length signals.items == (layout_of v).signals_length) _ _ _ k (samples-overrun channel _ (with_signals signals.items v) w) (λ l. let e = l.0 in cc))
     (λ k. let e = k.0 in cc)
 
+-- an answer that says that nothing was done leaves the slave as it was
 pub refusal-leaves : (v : SlaveValue) (q : Request) (a : Answer) (w : SlaveValue) → Answers v q a w → IsRefusal a → w ≡ v
 refusal-leaves v (requests.Command p) a w h r = heeds-refusal v h.0 a w h.2 r
 refusal-leaves v (requests.Event channel signals) a w h r = fires-refusal channel signals.items v a w h r

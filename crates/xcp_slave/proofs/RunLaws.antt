@@ -10,6 +10,7 @@ use Rattle.xcp_slave.specs.Run.{Run, requests_of}
 use Rattle.xcp_slave.proofs.StepLaws.{answers-single, answers-some}
 use Rattle.xcp_slave.proofs.LayoutKeptLemmas.{answers-layout}
 
+-- for each slave and each list of requests there is a run
 pub run-some : (v : SlaveValue) (qs : List Request) → (xs : List Exchange) × (w : SlaveValue) × (requests_of xs ≡ qs) × Run v xs w
 run-some v [] = ([], v, refl, refl)
 run-some v (q ∷ qs) =
@@ -18,6 +19,7 @@ run-some v (q ∷ qs) =
     let x : Exchange = record { request = q; answer = s.0 } in
     (x ∷ r.0, r.1, ap (λ (zs : List Request). q ∷ zs) r.2, (s.1, s.2, r.3))
 
+-- and no other: where a run begins and its requests determine its answers and where it ends
 pub run-single : (v : SlaveValue) (xs ys : List Exchange) (w u : SlaveValue) → requests_of xs ≡ requests_of ys → Run v xs w → Run v ys u → (xs ≡ ys) × (w ≡ u)
 run-single v [] [] w u e h k = (refl, h ∙ sym k)
 run-single v [] (y ∷ ys) w u e h k = (cc, cc)
@@ -31,6 +33,7 @@ run-single v (x ∷ xs) (y ∷ ys) w u e h k =
     let first : x ≡ y = ap (λ (q : Request). make q x.answer) same ∙ ap (λ (a : Answer). make y.request a) s.0 in
     (ap (λ (z : Exchange). z ∷ xs) first ∙ ap (λ (zs : List Exchange). y ∷ zs) r.0, r.1)
 
+-- no run changes the layout
 pub run-layout : (v : SlaveValue) (xs : List Exchange) (w : SlaveValue) → Run v xs w → layout_of w ≡ layout_of v
 run-layout v [] w h = ap (λ (x : SlaveValue). layout_of x) h
 run-layout v (x ∷ xs) w h = run-layout h.0 xs w h.2 ∙ answers-layout v x.request x.answer h.0 h.1

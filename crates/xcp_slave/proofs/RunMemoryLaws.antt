@@ -97,6 +97,7 @@ first-step v requests.Drain a w n h k = led-first v w w refl (drains-segments v.
 first-step v requests.FinishStore a w n h k = absurd (n refl)
 first-step v requests.Hangup a w n h k = led-first v (ended v) w k.1 refl
 
+-- no step but FinishStore changes a reference page
 pub reference-step : (v : SlaveValue) (q : Request) (a : Answer) (w : SlaveValue) (i : ℕ) → q ≢ requests.FinishStore → IsSlave v → Answers v q a w → get_or (segment_at w.transfer.pages i).pages 0 [] ≡ get_or (segment_at v.transfer.pages i).pages 0 []
 unfolding SameFirst
 reference-step v q a w i n h k = first-step v q a w n h k i
@@ -156,9 +157,11 @@ steady-run v (x ∷ xs) w i k h b s r apart =
     let rest = steady-run r.0 xs w i k next (λ k d below. b (suc k) d (omega arith)) (λ k d below. s (suc k) d (omega arith)) r.2 still in
     record { page = rest.page ∙ one.page; ecu = rest.ecu ∙ one.ecu; xcp = rest.xcp ∙ one.xcp }
 
+-- a page that the tool doesn't have keeps its bytes through each run without a switch, a copy and a store
 pub others-run : (v : SlaveValue) (xs : List Exchange) (w : SlaveValue) (i k : ℕ) → IsSlave v → All (λ (x : Exchange). IsOfBytes x.request) xs → All (λ (x : Exchange). IsSteady x.request) xs → Run v xs w → k ≢ (segment_at v.transfer.pages i).xcp → get_or (segment_at w.transfer.pages i).pages k [] ≡ get_or (segment_at v.transfer.pages i).pages k []
 others-run v xs w i k h b s r apart = (steady-run v xs w i k h b s r apart).page
 
+-- so does the page that the controller has, where the tool has another
 pub ecu-run : (v : SlaveValue) (xs : List Exchange) (w : SlaveValue) (i : ℕ) → IsSlave v → All (λ (x : Exchange). IsOfBytes x.request) xs → All (λ (x : Exchange). IsSteady x.request) xs → Run v xs w → (segment_at v.transfer.pages i).ecu ≢ (segment_at v.transfer.pages i).xcp → ecu_page (segment_at w.transfer.pages i) ≡ ecu_page (segment_at v.transfer.pages i)
 ecu-run v xs w i h b s r apart =
     let all = steady-run v xs w i (segment_at v.transfer.pages i).ecu h b s r apart in
@@ -166,6 +169,7 @@ ecu-run v xs w i h b s r apart =
 
 -- the memory along runs
 
+-- where q has the memory of p, and r that of q, r has that of p
 pub same-trans : (p q r : PagesValue) → SameMemory p q → SameMemory q r → SameMemory p r
 same-trans p q r h k = record { layout = k.layout ∙ h.layout; signals = k.signals ∙ h.signals; count = k.count ∙ h.count; pages = λ i. k.pages i ∙ h.pages i; ecu = λ i. k.ecu i ∙ h.ecu i; xcp = λ i. k.xcp i ∙ h.xcp i }
 
@@ -173,6 +177,7 @@ same-follows : (p q r : PagesValue) (ws : List Write) → SameMemory p q → Fol
 same-follows p q r [] h k = same-trans p q r h k
 same-follows p q r (x ∷ ws) h k = (k.0, k.1, same-trans p q k.0 h k.2, k.3, k.4)
 
+-- without a switch, a copy, a store and an event, what a run leaves is its writes, one after another
 pub run-puts : (v : SlaveValue) (xs : List Exchange) (w : SlaveValue) → IsSlave v → All (λ (x : Exchange). IsOfBytes x.request) xs → All (λ (x : Exchange). IsQuiet x.request) xs → Run v xs w → (ws : List Write) × Puts v xs ws w × Follows v.transfer.pages ws w.transfer.pages
 run-puts v [] w h b s r = ([], (refl, r), subst (λ (y : SlaveValue). SameMemory v.transfer.pages y.transfer.pages) (sym r) (same-memory v.transfer.pages))
 run-puts v (x ∷ xs) w h b s r =
@@ -186,6 +191,7 @@ run-puts v (x ∷ xs) w h b s r =
 same-xcp : (p q : PagesValue) (i : ℕ) → SameMemory p q → xcp_page (segment_at q i) ≡ xcp_page (segment_at p i)
 same-xcp p q i h = ap (λ (n : ℕ). get_or (segment_at q i).pages n []) (h.xcp i) ∙ ap (λ (ps : List (List ℕ)). get_or ps (segment_at p i).xcp []) (h.pages i)
 
+-- where the memory is the same, the tool has the same byte at each address
 pub same-tool : (p q : PagesValue) (b y : ℕ) → SameMemory p q → Tool p b y → Tool q b y
 same-tool p q b y h (inl s) =
     let at : Stands (get_or q.layout.segments s.0 no_segment).address (xcp_page (segment_at q s.0)) b y =
@@ -225,6 +231,7 @@ or-none : (o : Option ℕ) → or_else o None ≡ o
 or-none (Some y) = refl
 or-none None = refl
 
+-- after writes the tool has at an address the last byte that they put there, or else what stood there before
 pub last-stands : (p q : PagesValue) (ws : List Write) (b : ℕ) → Follows p ws q → IsLeft (last_at ws b) p q b
 last-stands p q [] b h = same-left p q b h
 last-stands p q (x ∷ ws) b h =

@@ -114,9 +114,11 @@ row-idle (commands.Connect mode) v h e = cc
 row-idle commands.Disconnect v h e = refl
 row-idle _ v h e = absurd (idle-no v.connected h e)
 
+-- a slave within its limits is so without its block too
 pub noblock-kept : (v : SlaveValue) → IsSlave v → IsSlave (noblock v)
 noblock-kept v h = record { transfer = transfers.without v.transfer h.transfer; lists = h.lists; few = h.few; waiting = h.waiting; idle = λ e. ap noblock (h.idle e) }
 
+-- and so it is as a command finds it
 pub found-kept : (c : Command) (v : SlaveValue) → IsSlave v → IsSlave (found_by c v)
 found-kept (commands.DownloadNext remaining bytes) v h = h
 found-kept _ v h = noblock-kept v h
@@ -238,6 +240,7 @@ ended-kept v h = record { transfer = transfers.nowhere v.transfer h.transfer; li
 spelt : (order : Order) (p : List ℕ) (d : Result Command Refuse) → All (λ byte. byte < 256) p → Decodes order p d → (c : Command) → d ≡ Ok c → HasBytes c
 spelt order p d b k c e = has-bytes order c p b (subst (Decodes order p) e k)
 
+-- each step keeps a slave within its limits, where a command packet is made of bytes
 pub answers-kept : (v : SlaveValue) (q : Request) (a : Answer) (w : SlaveValue) → IsOfBytes q → IsSlave v → Answers v q a w → IsSlave w
 answers-kept v (requests.Command p) a w b h k = heeds-kept v p.items k.0 a w (spelt (layout_of v).order p.items k.0 b k.1) h k.2
 answers-kept v (requests.Event channel signals) a w b h k = fires-kept channel signals.items v a w h k
@@ -245,6 +248,7 @@ answers-kept v requests.Drain a w b h k = drains-kept v.outbox v a w refl h k
 answers-kept v requests.FinishStore a w b h k = either v.store _ _ _ k (stores-kept v a w h) (λ m. same-kept v w h m.1)
 answers-kept v requests.Hangup a w b h k = same-kept (ended v) w (ended-kept v h) k.1
 
+-- a slave at its opening is within its limits, where its layout is
 pub opening-slave : (l : LayoutValue) → IsLayout l → IsSlave (opening l)
 opening-slave l h = record {
   transfer = record { layout = h; pages = is_pages-opening l (replicate l.signals_length 0) h (length-replicate l.signals_length 0); transfer = record { mta = tt; block = tt } };
@@ -254,9 +258,11 @@ opening-slave l h = record {
   idle = λ off. refl;
 }
 
+-- each run keeps a slave within its limits, where its command packets are made of bytes
 pub run-kept : (v : SlaveValue) (xs : List Exchange) (w : SlaveValue) → IsSlave v → All (λ (x : Exchange). IsOfBytes x.request) xs → Run v xs w → IsSlave w
 run-kept v [] w h b r = same-kept v w h r
 run-kept v (x ∷ xs) w h b r = run-kept r.0 xs w (answers-kept v x.request x.answer r.0 (b zero x (omega arith)) h r.1) (λ k d below. b (suc k) d (omega arith)) r.2
 
+-- so each run from the opening, with a layout within its limits, leads to a slave within its limits
 pub run-slave : (l : LayoutValue) (xs : List Exchange) (w : SlaveValue) → IsLayout l → All (λ (x : Exchange). IsOfBytes x.request) xs → Run (opening l) xs w → IsSlave w
 run-slave l xs w h b r = run-kept (opening l) xs w (opening-slave l h) b r

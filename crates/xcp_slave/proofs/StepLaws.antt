@@ -28,6 +28,7 @@ pub either : (t : Bool) (P Q R : Type 0) → MatchBool t P Q → (P → R) → (
 either true P Q R h p q = p h
 either false P Q R h p q = q h
 
+-- the same for two statements that one test decides
 pub both : (t : Bool) (P Q S T R : Type 0) → MatchBool t P Q → MatchBool t S T → (P → S → R) → (Q → T → R) → R
 both true P Q S T R h k p q = p h k
 both false P Q S T R h k p q = q h k
@@ -140,6 +141,7 @@ fires-some channel signals v =
     (answers.BadSignals, v, (refl, refl)))
     (answers.NoChannel, v, (refl, refl))
 
+-- for each slave and each request there is at most one answer and one slave after it
 pub answers-single : (v : SlaveValue) (q : Request) (a b : Answer) (w u : SlaveValue) → Answers v q a w → Answers v q b u → (a ≡ b) × (w ≡ u)
 answers-single v (requests.Command p) a b w u h k =
     let s = decodes_once (layout_of v).order p.items k.0 h.0 k.1 h.1 in
@@ -149,6 +151,7 @@ answers-single v requests.Drain a b w u h k = drains-single v.outbox v a b w u h
 answers-single v requests.FinishStore a b w u h k = both v.store _ _ _ _ _ h k (stores-single v a b w u) (settled answers.NoStore v a b w u)
 answers-single v requests.Hangup a b w u h k = settled answers.Silent (ended v) a b w u h k
 
+-- and there are an answer and a slave after it
 pub answers-some : (v : SlaveValue) (q : Request) → (a : Answer) × (w : SlaveValue) × Answers v q a w
 answers-some v (requests.Command p) =
     let d = decodes_total (layout_of v).order p.items in

@@ -37,14 +37,17 @@ pub outside : (b : Bool) → (if b then Some WriteProtected else Some AccessDeni
 outside true h = cc
 outside false h = cc
 
+-- where a write isn't refused as protected, the test for it is false
 pub unprotected : (b : Bool) → (if b then Some WriteProtected else None) ≡ None → b ≡ false
 unprotected true h = cc
 unprotected false h = refl
 
+-- where a refusal that is decided elsewhere doesn't hold, there is none
 pub none-refused : (o : Option Code) → first_holding (refused o) ≡ None → o ≡ None
 none-refused None h = refl
 none-refused (Some code) h = cc
 
+-- the same where it stands among tests of which none holds
 pub none-behind : (o : Option Code) → NoneHolds (refused o) → o ≡ None
 none-behind None h = refl
 none-behind (Some code) h = absurd (let e : true ≡ false = h.0 in cc)
@@ -55,6 +58,7 @@ pub record IsGood (p : PagesValue) (m : Mta) : Type 0 where
   pub pages : IsPages p
   pub mta : IsMta p.layout m
 
+-- lawful transfers have lawful pages, and an MTA for them
 pub good : (t : TransferValue) → IsLawful t → IsGood t.pages t.mta
 good t h = record { layout = h.layout; pages = h.pages; mta = h.transfer.mta }
 
@@ -62,6 +66,7 @@ good t h = record { layout = h.layout; pages = h.pages; mta = h.transfer.mta }
 pub lawful-of : (p : PagesValue) (m : Mta) → IsGood p m → IsLawful (record { pages = p; mta = m; block = None })
 lawful-of p m h = record { layout = h.layout; pages = h.pages; transfer = record { mta = h.mta; block = tt } }
 
+-- lawful transfers are lawful without their block too
 pub without : (t : TransferValue) → IsLawful t → IsLawful (record t { block = None })
 without t h = lawful-of t.pages t.mta (good t h)
 
@@ -98,6 +103,7 @@ moved-written p (Text id place) n k h = cc
 with-mta : (p : PagesValue) (m k : Mta) → IsGood p m → IsMta p.layout k → IsGood p k
 with-mta p m k h i = record { layout = h.layout; pages = h.pages; mta = i }
 
+-- a write at an MTA at which a write of some length isn't refused leaves transfers lawful
 pub downloaded-kept : (t : TransferValue) (m : Mta) (bytes : List ℕ) (n : ℕ) → IsLawful t → write_refusal_at t.pages m n ≡ None → IsLawful (downloaded t m bytes)
 downloaded-kept t m bytes n h r =
     lawful-of (written_at t.pages m bytes) (moved m (length bytes)) (written-at-good t.pages m bytes (moved m (length bytes)) (with-mta t.pages t.mta (moved m (length bytes)) (good t h) (moved-written t.pages m n (length bytes) r)))
@@ -122,6 +128,7 @@ begun p (Memory address) n room bytes r a b c =
     record { some = omega arith; most = omega arith; writable = ap (λ (k : ℕ). write_refusal p address k) same ∙ r }
 begun p (Text id place) n room bytes r a b c = cc
 
+-- a DOWNLOAD that isn't refused leaves transfers lawful
 pub download : (n : ℕ) (bytes : List ℕ) (t : TransferValue) → IsLawful t → first_holding (download_row n bytes t).refusals ≡ None → IsLawful (download_row n bytes t).after
 download n bytes t h r =
     let room : ℕ = packet_room t.pages.layout in
@@ -133,6 +140,7 @@ download n bytes t h r =
     (let s = begun-sizes n room (length bytes) (neither _ _ a.0).1 a.1.0 e in
     record { layout = h.layout; pages = h.pages; transfer = record { mta = h.transfer.mta; block = begun t.pages t.mta n room bytes w s.0 s.1 s.2 } }))
 
+-- a DOWNLOAD_NEXT not refused and not the last tells the expected number, more than its packet, which is full
 pub next-sizes : (remaining expected room long : ℕ) → not (remaining == expected) ≡ false → nat_lt long (min remaining room) ≡ false → nat_le remaining room ≡ false → (remaining ≡ expected) × (room < remaining) × (room ≤ long)
 next-sizes remaining expected room long a b c = (grind (arith, nat_tests, a), grind (arith, nat_tests, c), grind (arith, nat_tests, b, c))
 
@@ -154,19 +162,23 @@ next-by (Some b) remaining bytes t h u r =
     (let s = next-sizes remaining b.expected room (length bytes) a.0 a.1.0 e in
     record { layout = h.layout; pages = h.pages; transfer = record { mta = h.transfer.mta; block = next-block t.pages b room bytes u (omega (arith, s.0, s.1)) s.2 } }))
 
+-- a DOWNLOAD_NEXT that isn't refused leaves transfers lawful
 pub download-next : (remaining : ℕ) (bytes : List ℕ) (t : TransferValue) → IsLawful t → first_holding (download_next_row remaining bytes t).refusals ≡ None → IsLawful (download_next_row remaining bytes t).after
 download-next remaining bytes t h r = next-by t.block remaining bytes t h h.transfer.block r
 
+-- the same for DOWNLOAD_MAX
 pub download-max : (bytes : List ℕ) (t : TransferValue) → IsLawful t → first_holding (download_max_row bytes t).refusals ≡ None → IsLawful (download_max_row bytes t).after
 download-max bytes t h r =
     let n : ℕ = t.pages.layout.max_cto - 1 in
     let a = none-holds ((nat_lt (length bytes) n, Error CmdSyntax) ∷ refused (write_refusal_at t.pages t.mta n)) r in
     downloaded-kept t t.mta (take n bytes) n h (none-behind (write_refusal_at t.pages t.mta n) a.1)
 
+-- the same for SHORT_DOWNLOAD
 pub short-download : (n extension address : ℕ) (bytes : List ℕ) (t : TransferValue) → IsLawful t → first_holding (short_download_row n extension address bytes t).refusals ≡ None → IsLawful (short_download_row n extension address bytes t).after
 short-download n extension address bytes t h r =
     lawful-of (written_at t.pages (Memory address) (take n bytes)) (Memory (address + length (take n bytes))) (written-at-good t.pages (Memory address) (take n bytes) (Memory (address + length (take n bytes))) (with-mta t.pages t.mta (Memory (address + length (take n bytes))) (good t h) tt))
 
+-- what MODIFY_BITS does leaves transfers lawful
 pub modify-bits : (s ma mx : ℕ) (t : TransferValue) → IsLawful t → IsLawful (modify_bits_row s ma mx t).after
 modify-bits s ma mx t h = lawful-of (written_at t.pages t.mta _) t.mta (written-at-good t.pages t.mta _ t.mta (good t h))
 
@@ -175,11 +187,13 @@ moved-read p Nowhere n h r = tt
 moved-read p (Memory a) n h r = tt
 moved-read p (Text id place) n h r = (h.0, grind (arith, nat_tests, r))
 
+-- an UPLOAD that isn't refused leaves transfers lawful
 pub upload : (n : ℕ) (t : TransferValue) → IsLawful t → first_holding (upload_row n t).refusals ≡ None → IsLawful (upload_row n t).after
 upload n t h r =
     let a = none-holds ((n == 0 || nat_lt (t.pages.layout.max_cto - 1) n, Error OutOfRange) ∷ (not (is_readable t.pages t.mta n), Error AccessDenied) ∷ []) r in
     lawful-of t.pages (moved t.mta n) (with-mta t.pages t.mta (moved t.mta n) (good t h) (moved-read t.pages t.mta n h.transfer.mta (is_true _ a.1.0)))
 
+-- what SHORT_UPLOAD does leaves transfers lawful
 pub short-upload : (n extension address : ℕ) (t : TransferValue) → IsLawful t → IsLawful (short_upload_row n extension address t).after
 short-upload n extension address t h = lawful-of t.pages (Memory (address + n)) (with-mta t.pages t.mta (Memory (address + n)) (good t h) tt)
 
@@ -191,6 +205,7 @@ moved-summed p Nowhere n r = tt
 moved-summed p (Memory a) n r = tt
 moved-summed p (Text id place) n r = absurd (none-unlying p.layout.checksum n r)
 
+-- a BUILD_CHECKSUM that isn't refused leaves transfers lawful
 pub build-checksum : (size : ℕ) (t : TransferValue) → IsLawful t → first_holding (build_checksum_row size t).refusals ≡ None → IsLawful (build_checksum_row size t).after
 build-checksum size t h r =
     lawful-of t.pages (moved t.mta size) (with-mta t.pages t.mta (moved t.mta size) (good t h) (moved-summed t.pages t.mta size (none-refused (sum_refusal_at t.pages t.mta size) r)))
@@ -199,6 +214,7 @@ id-mta : (b : Bool) (l : LayoutValue) (m : Mta) → IsMta l m → IsMta l (if b 
 id-mta true l m h = (tt, omega arith)
 id-mta false l m h = h
 
+-- what GET_ID does leaves transfers lawful
 pub get-id : (kind : ℕ) (t : TransferValue) → IsLawful t → IsLawful (get_id_row kind t).after
 get-id kind t h = lawful-of t.pages _ (with-mta t.pages t.mta _ (good t h) (id-mta (kind == 0) t.pages.layout t.mta h.transfer.mta))
 
@@ -206,9 +222,11 @@ get-id kind t h = lawful-of t.pages _ (with-mta t.pages t.mta _ (good t h) (id-m
 pub set-mta : (address : ℕ) (t : TransferValue) → IsLawful t → IsLawful (record t { mta = Memory address })
 set-mta address t h = record { layout = h.layout; pages = h.pages; transfer = record { mta = tt; block = h.transfer.block } }
 
+-- with the MTA nowhere and no block under way transfers stay lawful
 pub nowhere : (t : TransferValue) → IsLawful t → IsLawful (record t { mta = Nowhere; block = None })
 nowhere t h = record { layout = h.layout; pages = h.pages; transfer = record { mta = tt; block = tt } }
 
+-- with the MTA at the first byte of a name, of a channel that there is, and no block, transfers stay lawful
 pub event-name : (channel : ℕ) (t : TransferValue) → IsLawful t → channel < length t.pages.layout.events → IsLawful (record t { mta = Text (Name channel) 0; block = None })
 event-name channel t h k = record { layout = h.layout; pages = h.pages; transfer = record { mta = (k, omega arith); block = tt } }
 
@@ -242,11 +260,13 @@ switched-by t mode segment page h r false e names lacks =
     let there : page < length s.pages = is_below _ _ (one-of (lacks_page page s) false lacks) in
     is_pages-set t.pages segment (segment_switched mode page s) h.pages below (segment-switched mode page _ s (h.pages.each segment below) there)
 
+-- a SET_CAL_PAGE that isn't refused leaves transfers lawful
 pub switched-kept : (t : TransferValue) (mode segment page : ℕ) → IsLawful t → switch_refusal mode segment page t.pages ≡ None → IsLawful (record t { pages = pages_switched mode segment page t.pages; block = None })
 switched-kept t mode segment page h r =
     let a = none-holds ((not (is_switch_mode mode), ModeNotValid) ∷ (names_none mode segment t.pages, SegmentNotValid) ∷ (list_any (lacks_page page) (concerned mode segment t.pages), PageNotValid) ∷ []) r in
     with-segments t _ h (switched-by t mode segment page h r (is_of_all mode) refl a.1.0 a.1.1.0)
 
+-- the same for SET_SEGMENT_MODE
 pub mode-kept : (t : TransferValue) (mode segment : ℕ) → IsLawful t → set_freeze_refusal mode segment t.pages ≡ None → IsLawful (record t { pages = pages_with_mode mode segment t.pages; block = None })
 mode-kept t mode segment h r =
     let a = none-holds ((not (is_segment_mode mode), ModeNotValid) ∷ (lacks_segment segment t.pages, SegmentNotValid) ∷ []) r in
@@ -255,6 +275,7 @@ mode-kept t mode segment h r =
     let lawful : IsSegment (get_or t.pages.layout.segments segment no_segment) (record (segment_at t.pages segment) { freeze = is_freeze mode }) = record { count = s.count; sized = s.sized; ecu = s.ecu; xcp = s.xcp } in
     with-segments t _ h (is_pages-set t.pages segment (record (segment_at t.pages segment) { freeze = is_freeze mode }) h.pages below lawful)
 
+-- the same for COPY_CAL_PAGE
 pub copied-kept : (t : TransferValue) (source source_page target target_page : ℕ) → IsLawful t → copy_refusal source source_page target target_page t.pages ≡ None → IsLawful (record t { pages = pages_copied source source_page target target_page t.pages; block = None })
 copied-kept t source source_page target target_page h r = with-segments t _ h (is_pages-copied t.pages source source_page target target_page h.pages r)
 
@@ -263,6 +284,7 @@ block-kept : (p q : PagesValue) (o : Option BlockValue) → ((a n : ℕ) → wri
 block-kept p q None same h = tt
 block-kept p q (Some b) same h = record { some = h.some; most = h.most; writable = same b.address (length b.bytes + b.expected) ∙ h.writable }
 
+-- a store leaves transfers lawful, with the block under way
 pub frozen-kept : (t : TransferValue) → IsLawful t → IsLawful (record t { pages = pages_frozen t.pages })
 frozen-kept t h = record { layout = h.layout; pages = is_pages-frozen t.pages h.pages; transfer = record { mta = h.transfer.mta; block = block-kept t.pages (pages_frozen t.pages) t.block (same_writable t.pages) h.transfer.block } }
 
@@ -270,6 +292,7 @@ signals-writable : (p : PagesValue) (signals : List ℕ) (a n : ℕ) (o : Option
 signals-writable p signals a n None = refl
 signals-writable p signals a n (Some i) = refl
 
+-- and so do other signals, of as many bytes as the layout says
 pub signals-kept : (t : TransferValue) (signals : List ℕ) → IsLawful t → length signals ≡ t.pages.layout.signals_length → IsLawful (record t { pages = record t.pages { signals = signals } })
 signals-kept t signals h e =
     let q : PagesValue = record t.pages { signals = signals } in

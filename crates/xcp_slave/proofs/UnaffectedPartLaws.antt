@@ -42,15 +42,18 @@ heeds-part f P v p (Err refuses.Empty) a w n r h s k = ap f k.1
 heeds-part f P v p (Err refuses.Unknown) a w n r h s k = either v.connected _ _ _ k (λ m. ap f m.1 ∙ n) (λ m. ap f m.1)
 heeds-part f P v p (Err refuses.Short) a w n r h s k = either v.connected _ _ _ k (λ m. ap f m.1 ∙ n) (λ m. ap f m.1)
 
+-- what the end of a block and each command of certain codes leave, a packet of such a code leaves too
 pub packet-part : {A : Type 0} (f : SlaveValue → A) (P : ℕ → Type 0) (v : SlaveValue) (p : List ℕ) (a : Answer) (w : SlaveValue) → f (noblock v) ≡ f v → ((c : Command) → P (code c) → f (row c (found_by c v)).after ≡ f v) → P (byte_at 0 p) → AnswersPacket v p a w → f w ≡ f v
 packet-part f P v p a w n r h k = heeds-part f P v p k.0 a w n r h k.1 k.2
 
 -- a part that the other requests leave
 
+-- a drain leaves each part that doesn't depend on the packets that wait
 pub drains-part : {A : Type 0} (f : SlaveValue → A) (o : List (ArrayVec ℕ)) (v : SlaveValue) (a : Answer) (w : SlaveValue) → ((rest : List (ArrayVec ℕ)) → f (record v { outbox = rest }) ≡ f v) → Drains o v a w → f w ≡ f v
 drains-part f [] v a w h k = ap f k.1
 drains-part f (p ∷ rest) v a w h k = ap f k.1 ∙ h rest
 
+-- an event leaves each part that its signals, counts of events and other packets that wait don't change
 pub fires-part : {A : Type 0} (f : SlaveValue → A) (channel : ℕ) (signals : List ℕ) (v : SlaveValue) (a : Answer) (w : SlaveValue) → ((packets : List (ArrayVec ℕ)) → f (record (with_event channel (with_signals signals v)) { outbox = packets }) ≡ f v) → Fires channel signals v a w → f w ≡ f v
 fires-part f channel signals v a w h k =
     either (nat_lt channel (length (layout_of v).events)) _ _ _ k
@@ -59,6 +62,7 @@ fires-part f channel signals v a w h k =
     (λ n. ap f n.1))
     (λ m. ap f m.1)
 
+-- FinishStore leaves each part that a finished store doesn't change
 pub stores-part : {A : Type 0} (f : SlaveValue → A) (v : SlaveValue) (a : Answer) (w : SlaveValue) → f (stored v) ≡ f v → Answers v requests.FinishStore a w → f w ≡ f v
 stores-part f v a w h k = either v.store _ _ _ k (λ m. either (v.connected && nat_le outbox_size (length v.outbox)) _ _ _ m (λ n. ap f n.1) (λ n. ap f n.1 ∙ h)) (λ m. ap f m.1)
 
@@ -79,6 +83,7 @@ row-mta (commands.ShortDownload n extension address bytes) v h = cc
 row-mta (commands.GetDaqEventInfo channel) v h = cc
 row-mta _ v h = refl
 
+-- a request that is no hangup and no command that moves the MTA keeps the MTA
 pub mta-kept : (v : SlaveValue) (q : Request) (a : Answer) (w : SlaveValue) → IsBeside mta_codes q → q ≢ requests.Hangup → Answers v q a w → w.transfer.mta ≡ v.transfer.mta
 mta-kept v (requests.Command p) a w b n k = packet-part (λ x. x.transfer.mta) (IsNone mta_codes) v p.items a w refl (λ c h. row-mta c v h) b k
 mta-kept v (requests.Event channel signals) a w b n k = fires-part (λ x. x.transfer.mta) channel signals.items v a w (λ o. refl) k
@@ -93,6 +98,7 @@ row-session (commands.Connect mode) v h = cc
 row-session commands.Disconnect v h = cc
 row-session _ v h = refl
 
+-- a request that is no CONNECT, DISCONNECT or hangup keeps whether a tool is connected
 pub session-kept : (v : SlaveValue) (q : Request) (a : Answer) (w : SlaveValue) → IsBeside session_codes q → q ≢ requests.Hangup → Answers v q a w → w.connected ≡ v.connected
 session-kept v (requests.Command p) a w b n k = packet-part (λ x. x.connected) (IsNone session_codes) v p.items a w refl (λ c h. row-session c v h) b k
 session-kept v (requests.Event channel signals) a w b n k = fires-part (λ x. x.connected) channel signals.items v a w (λ o. refl) k
@@ -117,6 +123,7 @@ row-lists (commands.AllocOdt list count) v h = cc
 row-lists (commands.AllocOdtEntry list odt count) v h = cc
 row-lists _ v h = refl
 
+-- a request that is no event, no hangup and no command that changes the DAQ lists or their pointer keeps both
 pub lists-kept : (v : SlaveValue) (q : Request) (a : Answer) (w : SlaveValue) → IsBeside list_codes q → IsNoEvent q → q ≢ requests.Hangup → Answers v q a w → w.daq ≡ v.daq
 lists-kept v (requests.Command p) a w b e n k = packet-part (λ x. x.daq) (IsNone list_codes) v p.items a w refl (λ c h. row-lists c v h) b k
 lists-kept v (requests.Event channel signals) a w b e n k = absurd e
@@ -130,6 +137,7 @@ row-store : (c : Command) (v : SlaveValue) → IsNone store_codes (code c) → (
 row-store (commands.SetRequest mode id) v h = cc
 row-store _ v h = refl
 
+-- a request that is no SET_REQUEST and no FinishStore keeps the store request
 pub store-kept : (v : SlaveValue) (q : Request) (a : Answer) (w : SlaveValue) → IsBeside store_codes q → q ≢ requests.FinishStore → Answers v q a w → w.store ≡ v.store
 store-kept v (requests.Command p) a w b n k = packet-part (λ x. x.store) (IsNone store_codes) v p.items a w refl (λ c h. row-store c v h) b k
 store-kept v (requests.Event channel signals) a w b n k = fires-part (λ x. x.store) channel signals.items v a w (λ o. refl) k
@@ -139,15 +147,18 @@ store-kept v requests.Hangup a w b n k = ap (λ (x : SlaveValue). x.store) k.1
 
 -- what a command changes, and nothing else
 
+-- an accepted GET_ID of kind 0 sets the MTA to the identification, gives a block up, and changes nothing else
 pub id-alone : (v w : SlaveValue) (bytes : List ℕ) → Accepts v (commands.GetId 0) bytes w → w ≡ record v { transfer = record v.transfer { mta = Text Id 0; block = None } }
 id-alone v w bytes h = (accepted (commands.GetId 0) v bytes w h).after
 
 is_other : (kind : ℕ) → kind ≢ 0 → (kind == 0) ≡ false
 is_other kind h = grind (arith, nat_tests, h)
 
+-- an accepted GET_ID of another kind gives a block up, and changes nothing else
 pub id-none : (v w : SlaveValue) (kind : ℕ) (bytes : List ℕ) → kind ≢ 0 → Accepts v (commands.GetId kind) bytes w → w ≡ record v { transfer = record v.transfer { block = None } }
 id-none v w kind bytes n h = (accepted (commands.GetId kind) v bytes w h).after ∙ ap (λ (b : Bool). record v { transfer = record v.transfer { mta = if b then Text Id 0 else v.transfer.mta; block = None } }) (is_other kind n)
 
+-- an accepted GET_DAQ_EVENT_INFO sets the MTA to its channel's name, gives a block up, and changes nothing else
 pub event-alone : (v w : SlaveValue) (channel : ℕ) (bytes : List ℕ) → Accepts v (commands.GetDaqEventInfo channel) bytes w → w ≡ record v { transfer = record v.transfer { mta = Text (Name channel) 0; block = None } }
 event-alone v w channel bytes h = (accepted (commands.GetDaqEventInfo channel) v bytes w h).after
 
@@ -155,6 +166,7 @@ event-alone v w channel bytes h = (accepted (commands.GetDaqEventInfo channel) v
 paged : SlaveValue → PagesValue → SlaveValue
 paged v p = record v { transfer = record v.transfer { pages = p; block = None } }
 
+-- an accepted MODIFY_BITS writes four bytes at the MTA's address, gives a block up, and changes nothing else
 pub bits-alone : (v w : SlaveValue) (s ma mx a : ℕ) (bytes : List ℕ) → IsSlave v → v.transfer.mta ≡ Memory a → Accepts v (commands.ModifyBits s ma mx) bytes w → (four : List ℕ) × (length four ≡ 4) × Writes v.transfer.pages a four w.transfer.pages × (w ≡ record v { transfer = record v.transfer { pages = w.transfer.pages; block = None } })
 unfolding paged
 bits-alone v w s ma mx a bytes h e k =
@@ -162,11 +174,14 @@ bits-alone v w s ma mx a bytes h e k =
     let after = (accepted (commands.ModifyBits s ma mx) v bytes w k).after in
     (_, length-bytes_of (layout_of v).order 4 _, r.2, after ∙ sym (ap (λ (x : SlaveValue). paged v x.transfer.pages) after))
 
+-- an accepted CONNECT begins a session, with the MTA nowhere and no block, and changes nothing else
 pub connect-alone : (v w : SlaveValue) (mode : ℕ) (bytes : List ℕ) → Accepts v (commands.Connect mode) bytes w → w ≡ record v { connected = true; transfer = record v.transfer { mta = Nowhere; block = None } }
 connect-alone v w mode bytes h = (accepted (commands.Connect mode) v bytes w h).after
 
+-- an accepted DISCONNECT ends the session with its MTA, block, DAQ lists and outbox, and changes nothing else
 pub disconnect-alone : (v w : SlaveValue) (bytes : List ℕ) → Accepts v commands.Disconnect bytes w → w ≡ record v { connected = false; transfer = record v.transfer { mta = Nowhere; block = None }; daq = record { lists = []; pointer = None; last = None }; outbox = [] }
 disconnect-alone v w bytes h = (accepted commands.Disconnect v bytes w h).after
 
+-- the same for a hangup
 pub hangup-alone : (v w : SlaveValue) (a : Answer) → Answers v requests.Hangup a w → w ≡ record v { connected = false; transfer = record v.transfer { mta = Nowhere; block = None }; daq = record { lists = []; pointer = None; last = None }; outbox = [] }
 hangup-alone v w a h = h.1

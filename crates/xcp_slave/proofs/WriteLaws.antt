@@ -62,6 +62,7 @@ Touches p q = SameMemory p q ⊎ Written p q
 abbrev Lands : TransferValue → Command → PagesValue → Option Reply → Type 0
 Lands t c q reply = SameMemory t.pages q ⊎ ((x : Written t.pages q) × PutBy t c x.write × (reply ≡ Some Done))
 
+-- the memory is the same as itself
 pub same-memory : (p : PagesValue) → SameMemory p p
 same-memory p = record { layout = refl; signals = refl; count = refl; pages = λ i. refl; ecu = λ i. refl; xcp = λ i. refl }
 
@@ -74,12 +75,15 @@ chosen : (t : TransferValue) (c : Command) (b : Bool) (s u : TransferValue) → 
 chosen t c true s u h k = h refl
 chosen t c false s u h k = inl k
 
+-- a packet that isn't too short for n bytes, which one packet can have, has n bytes
 pub enough : (long n room : ℕ) → nat_lt long (min n room) ≡ false → nat_le n room ≡ true → n ≤ long
 enough long n room a b = grind (arith, nat_tests, a, b)
 
+-- a number is at least n where the test that it is less is false
 pub not-less : (long n : ℕ) → nat_lt long n ≡ false → n ≤ long
 not-less long n a = grind (arith, nat_tests, a)
 
+-- numbers are equal where the negated test for equality is false
 pub is_same : (n m : ℕ) → not (n == m) ≡ false → n ≡ m
 is_same n m h = grind (arith, nat_tests, h)
 
@@ -126,6 +130,7 @@ inside-by : (o : Option ℕ) (p : PagesValue) (a n : ℕ) → write_refusal_by o
 inside-by None p a n h = absurd (outside (is_inside a n (signals_extent p.layout)) h)
 inside-by (Some i) p a n h = refl
 
+-- where four bytes at the MTA may be written, MODIFY_BITS puts the double word that is read there, modified
 pub bits-put : (s ma mx : ℕ) (t : TransferValue) → IsLawful t → write_refusal_at t.pages t.mta 4 ≡ None → (a : ℕ) → t.mta ≡ Memory a → PutBy t (commands.ModifyBits s ma mx) (record { address = a; bytes = double_bytes t.pages.layout.order (modified s ma mx (double_at t.pages.layout.order 0 (bytes_at t.pages t.mta 4))) })
 bits-put s ma mx t h r a k =
     let p : PagesValue = t.pages in
@@ -188,6 +193,7 @@ touched : (t : TransferValue) (c : Command) (q : PagesValue) (reply : Option Rep
 touched t c q reply (inl s) = inl s
 touched t c q reply (inr x) = inr x.0
 
+-- a command that is no switch and no copy and isn't refused leaves the memory as it was, or does one write
 pub row-touches : (c : Command) (v : SlaveValue) → IsPlain c → IsLawful v.transfer → first_holding (row c v).refusals ≡ None → Touches v.transfer.pages (row c v).after.transfer.pages
 row-touches c v k h r = touched v.transfer c (row c v).after.transfer.pages (row c v).reply (row-lands c v k h r)
 
@@ -200,6 +206,7 @@ put-found (commands.ShortDownload n extension address bytes) v x h = h
 put-found (commands.ModifyBits s ma mx) v x h = h
 put-found _ v x h = absurd h
 
+-- the slave as a command finds it has the same pages
 pub found-pages : (c : Command) (v : SlaveValue) → (found_by c v).transfer.pages ≡ v.transfer.pages
 found-pages (commands.DownloadNext remaining bytes) v = refl
 found-pages _ v = refl
@@ -271,6 +278,7 @@ quiet-steps v requests.Drain a w q h k = inl (drains-still v.outbox v a w k)
 quiet-steps v requests.FinishStore a w q h k = absurd q
 quiet-steps v requests.Hangup a w q h k = inl (still v (ended v) w k.1 refl)
 
+-- a step without a switch, a copy, a store and an event leaves the memory as it was, or does one write
 pub quiet-touches : (v : SlaveValue) (q : Request) (a : Answer) (w : SlaveValue) → IsQuiet q → IsSlave v → Answers v q a w → Touches v.transfer.pages w.transfer.pages
 unfolding Steps
 quiet-touches v q a w quiet h k = elim (quiet-steps v q a w quiet h k) [ inl s ↦ inl s | inr x ↦ inr x.0 ]
@@ -279,6 +287,7 @@ quiet-touches v q a w quiet h k = elim (quiet-steps v q a w quiet h k) [ inl s �
 pub writes-of : (p q : PagesValue) → IsLayout p.layout → IsPages p → (x : Written p q) → Writes p x.write.address x.write.bytes q
 writes-of p q l g x = (tool_is_written p q x.write.address x.write.bytes l g x.allowed).1 x.after
 
+-- such a step leaves the memory, or is the one write that its command asks for, and is told to be done
 pub step-writes : (v : SlaveValue) (q : Request) (a : Answer) (w : SlaveValue) → IsQuiet q → IsSlave v → Answers v q a w → IsStill v w ⊎ ((x : Write) × IsWrite v q a w x)
 unfolding Steps
 step-writes v q a w quiet h k =
@@ -310,6 +319,7 @@ page-by p a bytes i k (Some j) g e r h =
       | inr d ↦ ap (λ (x : SegmentPages). get_or x.pages k []) (get_or-set_other p.segments j i new no_pages d)
     ]
 
+-- page 0, and each page that the tool doesn't have, keeps its bytes where one write was done, or none
 pub page-kept : (p q : PagesValue) (i k : ℕ) → IsPages p → (k ≡ 0) ⊎ (k ≢ (segment_at p i).xcp) → Touches p q → get_or (segment_at q i).pages k [] ≡ get_or (segment_at p i).pages k []
 page-kept p q i k g h (inl s) = ap (λ (xs : List (List ℕ)). get_or xs k []) (s.pages i)
 page-kept p q i k g h (inr x) =

@@ -34,12 +34,14 @@ answer_again (answers.Stored n) = refl
 answer_again answers.NoStore = refl
 answer_again answers.Later = refl
 
+-- an exchange is read again off its spelling
 pub exchange_again : (x : Exchange) → exchange_in (spelling x) ≡ x
 exchange_again x =
     let asked = request_bytes x.request in
     let told = answer_bytes x.answer in
     rw (mod-add-div' (request_channel x.request) 256, take-append_seam asked told, drop-append_seam asked told, request_again x.request, answer_again x.answer) refl
 
+-- an entry is read again off its spelling
 pub entry_again : (e : Entry) → entry_in (entry_spelling e) ≡ e
 entry_again e = ap (λ (x : Exchange). record { caller = e.caller; exchange = x }) (exchange_again e.exchange)
 
@@ -71,5 +73,6 @@ all_more P (s ∷ strings) string all one = (all.0, all_more P strings string al
 pub exchange_pushed : (strings : List (List ℕ)) (x : Exchange) → map exchange_in (strings ++ spelling x ∷ []) ≡ map exchange_in strings ++ x ∷ []
 exchange_pushed strings x = map-append exchange_in strings (spelling x ∷ []) ∙ ap (λ (y : Exchange). map exchange_in strings ++ y ∷ []) (exchange_again x)
 
+-- strings with an entry's spelling behind them are read as their entries, and then this one
 pub entry_pushed : (strings : List (List ℕ)) (e : Entry) → map entry_in (strings ++ entry_spelling e ∷ []) ≡ map entry_in strings ++ e ∷ []
 entry_pushed strings e = map-append entry_in strings (entry_spelling e ∷ []) ∙ ap (λ (y : Entry). map entry_in strings ++ y ∷ []) (entry_again e)

@@ -6,6 +6,7 @@ use Rattle.std.proofs.lemmas.List.{length-append}
 use Rattle.std.proofs.lemmas.List.Concat.{flat_map-append}
 use Rattle.xcp_trace.specs.Tape.{length_at, string_at, behind_string, strings_in, framed, spelt}
 
+-- as many strings are read of bytes as are asked for
 pub length-strings_in : (n : ℕ) (bytes : List ℕ) → length (strings_in n bytes) ≡ n
 length-strings_in zero bytes = refl
 length-strings_in (suc n) bytes = ap suc (length-strings_in n (behind_string bytes))
@@ -17,6 +18,7 @@ head_is n = mod-add-div' n 256
 string-framed : (s more : List ℕ) → string_at (framed s ++ more) ≡ s
 string-framed s more = rw (head_is (length s)) (take-append_seam s more)
 
+-- the bytes behind a string at the head, written with its length, are those that follow it
 pub behind-framed : (s more : List ℕ) → behind_string (framed s ++ more) ≡ more
 behind-framed s more = rw (head_is (length s)) (drop-append_seam s more)
 
@@ -42,6 +44,7 @@ one_more n bytes s h =
     let joined : spelt (strings ++ s ∷ []) ++ [] ≡ bytes ++ framed s = append-nil (spelt (strings ++ s ∷ [])) ∙ spelt-behind bytes strings s h in
     sym (ap (λ (k : ℕ). strings_in k (bytes ++ framed s)) number) ∙ sym (ap (λ (b : List ℕ). strings_in (length (strings ++ s ∷ [])) b) joined) ∙ strings_in-spelt (strings ++ s ∷ []) []
 
+-- bytes that are n whole strings are n + 1 with one more string written behind them
 pub spelt-one_more : (n : ℕ) (bytes s : List ℕ) → spelt (strings_in n bytes) ≡ bytes → spelt (strings_in (n + 1) (bytes ++ framed s)) ≡ bytes ++ framed s
 spelt-one_more n bytes s h = ap spelt (one_more n bytes s h) ∙ spelt-behind bytes (strings_in n bytes) s h
 
@@ -76,17 +79,21 @@ without : (n : ℕ) (bytes : List ℕ) → spelt (strings_in (suc n) bytes) ≡ 
 without n bytes h =
     sym (behind-framed (string_at bytes) (spelt (strings_in n (behind_string bytes)))) ∙ ap behind_string h
 
+-- of bytes that are whole strings, one or more, the first string is all there
 pub first_is_whole : (n : ℕ) (bytes : List ℕ) → (n ≡ 0 → ⊥) → spelt (strings_in n bytes) ≡ bytes → 2 + length_at bytes ≤ length bytes
 first_is_whole zero bytes some h = absurd (some refl)
 first_is_whole (suc n) bytes some h = whole n bytes h
 
+-- bytes that are whole strings, one or more, are one string fewer behind the first one
 pub without_first : (n : ℕ) (bytes : List ℕ) → (n ≡ 0 → ⊥) → spelt (strings_in n bytes) ≡ bytes → spelt (strings_in (n - 1) (behind_string bytes)) ≡ behind_string bytes
 without_first zero bytes some h = absurd (some refl)
 without_first (suc n) bytes some h = let e : suc n - 1 ≡ n = omega arith in rw e (without n bytes h)
 
+-- one or more strings of bytes are the one at the head, and then those behind it
 pub first_of : (n : ℕ) (bytes : List ℕ) → (n ≡ 0 → ⊥) → strings_in n bytes ≡ string_at bytes ∷ strings_in (n - 1) (behind_string bytes)
 first_of zero bytes some = absurd (some refl)
 first_of (suc n) bytes some = let e : suc n - 1 ≡ n = omega arith in rw e refl
 
+-- strings are read again off their bytes
 pub strings_again : (strings : List (List ℕ)) → strings_in (length strings) (spelt strings) ≡ strings
 strings_again strings = ap (λ (b : List ℕ). strings_in (length strings) b) (sym (append-nil (spelt strings))) ∙ strings_in-spelt strings []

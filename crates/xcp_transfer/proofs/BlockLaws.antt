@@ -34,6 +34,7 @@ whole_by law v b remaining bytes l i h k =
     let done : (next_row (Some b) remaining bytes v).after.pages ≡ pages_written v.pages b.address (b.bytes ++ take remaining bytes) = ap (λ (t : TransferValue). t.pages) (chosen (nat_le remaining r) Done _ _ k) in
     (law v.pages (next_row (Some b) remaining bytes v).after.pages b.address (b.bytes ++ take remaining bytes) l.layout l.pages w).1 done
 
+-- the last packet of a block, if it isn't refused, writes the whole block from its address on
 pub written_whole : ToolIsWritten → (v : TransferValue) (b : BlockValue) (remaining : ℕ) (bytes : List ℕ) → IsLawful v → v.block ≡ Some b → first_holding (download_next_row remaining bytes v).refusals ≡ None → (download_next_row remaining bytes v).reply ≡ Some Done → Writes v.pages b.address (b.bytes ++ take remaining bytes) (download_next_row remaining bytes v).after.pages
 written_whole law v b remaining bytes l e =
     let i : IsBlock v.pages b = subst (λ (o : Option BlockValue). IsUnderWay v.pages o) e l.transfer.block in
@@ -50,5 +51,6 @@ last_by : (o : Option BlockValue) (v : TransferValue) (remaining : ℕ) (bytes :
 last_by None v remaining bytes h = refl
 last_by (Some b) v remaining bytes h = ap (λ (t : TransferValue). t.pages) (kept (nat_le remaining (packet_room v.pages.layout)) _ _ h)
 
+-- a DOWNLOAD_NEXT that has no reply leaves the pages as they are
 pub written_last : (v : TransferValue) (remaining : ℕ) (bytes : List ℕ) → (download_next_row remaining bytes v).reply ≡ None → (download_next_row remaining bytes v).after.pages ≡ v.pages
 written_last v remaining bytes h = last_by v.block v remaining bytes h

@@ -32,12 +32,14 @@ reads_text text place n bytes p =
       each = λ k h. ap (λ (xs : List ℕ). slice_index xs k) p.1 ∙ text_at text place n k h;
     }
 
+-- what the rows read at an MTA is the read, and there is one exactly where they find it readable
 pub rows_read : ToolIsRead → (p : PagesValue) (mta : Mta) (n : ℕ) (bytes : List ℕ) → IsLayout p.layout → IsPages p → ReadsAt p mta n bytes ↔ ((is_readable p mta n ≡ true) × (bytes ≡ bytes_at p mta n))
 rows_read law p Nowhere n bytes l g = (λ h. absurd h, λ h. let e = h.0 in absurd (cc))
 rows_read law p (Memory a) n bytes l g = law p a n bytes l g
 rows_read law p (Text id place) n bytes l g =
     (text_read (text_of p.layout id) place n bytes, reads_text (text_of p.layout id) place n bytes)
 
+-- where a write isn't refused, what the rows write at an MTA is the write, and no other is
 pub rows_write : ToolIsWritten → (p q : PagesValue) (mta : Mta) (bytes : List ℕ) → IsLayout p.layout → IsPages p → write_refusal_at p mta (length bytes) ≡ None → WritesAt p mta bytes q ↔ (q ≡ written_at p mta bytes)
 rows_write law p q Nowhere bytes l g h = absurd (cc)
 rows_write law p q (Memory a) bytes l g h = law p q a bytes l g h

@@ -8,6 +8,7 @@ pub none_first : (t : Bool) (x : Reply) (ts : List (Bool × Reply)) → first_ho
 none_first true x ts h = absurd (cc)
 none_first false x ts h = refl
 
+-- where no refusal of a row holds, none behind the first holds
 pub none_rest : (t : Bool) (x : Reply) (ts : List (Bool × Reply)) → first_holding ((t, x) ∷ ts) ≡ None → first_holding ts ≡ None
 none_rest true x ts h = absurd (cc)
 none_rest false x ts h = h
