@@ -47,6 +47,7 @@ number-at order n (suc k) (suc i) bytes h =
     let place : drop (n * i) (drop n bytes) ≡ drop (n * suc i) bytes = drop-drop (n * i) n bytes ∙ ap (λ (j : ℕ). drop j bytes) (add_comm n (n * i) ∙ sym (mul-suc n i)) in
     number-at order n k i (drop n bytes) (omega arith) ∙ ap (λ (ys : List ℕ). number_in order n ys) place
 
+-- the list of the first k numbers that bytes are has length k
 pub length-numbers : (order : Order) (n k : ℕ) (bytes : List ℕ) → length (numbers order n k bytes) ≡ k
 length-numbers order n zero bytes = refl
 length-numbers order n (suc k) bytes = ap suc (length-numbers order n k (drop n bytes))
@@ -55,6 +56,7 @@ length-numbers order n (suc k) bytes = ap suc (length-numbers order n k (drop n 
 pub checksum-sums : (v : PagesValue) (a n : ℕ) (read : List ℕ) → IsLayout v.layout → IsPages v → Reads Tool v a n read → checksum_of v a n ≡ summed v.layout.checksum v.layout.order read
 checksum-sums v a n read l g r = ap (summed v.layout.checksum v.layout.order) (sym ((tool_is_read v a n read l g).0 r).1)
 
+-- a checksum that adds bytes is the sum of the bytes that a read gives, modulo its width
 pub checksum-bytes : (v : PagesValue) (a n : ℕ) (read : List ℕ) → IsLayout v.layout → IsPages v → Reads Tool v a n read → unit v.layout.checksum ≡ 1 → checksum_of v a n ≡ sum read % modulus v.layout.checksum
 checksum-bytes v a n read l g r e =
     checksum-sums v a n read l g r

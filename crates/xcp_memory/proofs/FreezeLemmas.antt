@@ -59,5 +59,6 @@ same_refusal v a n None = refl
 same_refusal v a n (Some i) =
     ap (λ (x : ℕ). if x == 0 then Some WriteProtected else None) (ap (λ (s : SegmentPages). s.xcp) (get_or-map segment_frozen v.segments i no_pages) ∙ same_number (segment_at v i))
 
+-- storing the segments in FREEZE mode changes no refusal of a write
 pub same_writable : (v : PagesValue) (a n : ℕ) → write_refusal (pages_frozen v) a n ≡ write_refusal v a n
 same_writable v a n = same_refusal v a n (segment_of v.layout a n)

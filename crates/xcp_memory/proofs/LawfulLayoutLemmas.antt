@@ -38,6 +38,7 @@ pub within_number : (least most : ℕ) (z : ℤ) → is_within least most z ≡ 
 within_number least most (pos n) h = grind (arith, nat_tests)
 within_number least most (negsuc n) h = cc
 
+-- a byte that passes the test is a printable character
 pub printable : (b : ℕ) → is_printable b ≡ true → IsPrintable b
 printable b h = grind (arith, nat_tests)
 
@@ -47,10 +48,12 @@ pub record IsTextOf (most : ℕ) (bytes : List ℕ) : Type 0 where
   pub most_of : length bytes ≤ most
   pub printable_all : All IsPrintable bytes
 
+-- where two tests hold together, each of them holds
 pub both : (a b : Bool) → (a && b) ≡ true → (a ≡ true) × (b ≡ true)
 both true b h = (refl, h)
 both false b h = cc
 
+-- bytes that pass a text's test are printable characters, one at least and at most as many as it allows
 pub text : (most : ℕ) (bytes : List ℕ) → is_text most bytes ≡ true → IsTextOf most bytes
 text most bytes h =
     let p = both (nat_le 1 (length bytes) && nat_le (length bytes) most) (list_all is_printable bytes) h in
@@ -133,6 +136,7 @@ extents-named : (n : ℕ) (ss : List SegmentValue) → map (λ (a : Placed). a.e
 extents-named n [] = refl
 extents-named n (s ∷ ss) = ap (λ es. segment_extent s ∷ es) (extents-named (n + 1) ss)
 
+-- the areas of a layout lie where its named areas do, in the same order
 pub extents-areas : (l : LayoutValue) → extents l ≡ map (λ (a : Placed). a.extent) (areas l)
 extents-areas l =
     let signals : Placed = record { area = area.Signals; extent = signals_extent l } in
@@ -147,6 +151,7 @@ pub record NoneBroken (p : Parts) : Type 0 where
   pub events : first_holding (events_limits p.events.items) ≡ None
   pub apart : first_holding (apart_limits (areas (layout_of p))) ≡ None
 
+-- parts that break no limit break none in any group of them
 pub none_broken : (p : Parts) → first_fault p ≡ None → NoneBroken p
 none_broken p h =
     let a = none_both (own_limits p ++ segments_limits p.segments.items ++ signals_limits p.signals_address p.signals_length ++ events_limits p.events.items) (apart_limits (areas (layout_of p))) h in
@@ -188,6 +193,7 @@ pub record IsCounted (a b : Limit) (rest : List Limit) : Type 0 where
   pub most : b.0 ≡ false
   pub behind : first_holding rest ≡ None
 
+-- where none of these limits is broken, a count keeps both of its own, and none of those behind is broken
 pub counted : (a b : Limit) (rest : List Limit) → first_holding (a ∷ (b ∷ rest)) ≡ None → IsCounted a b rest
 counted a b rest h =
     let k = none_both (a ∷ (b ∷ [])) rest h in
@@ -198,6 +204,7 @@ counted a b rest h =
 abbrev pub segments_counted : List SegmentPart → Type 0
 segments_counted ss = IsCounted (must (nat_le 1 (length ss)) (Range key.Segment)) (must (nat_le (length ss) 4) (TooMany key.Segment)) (flat_map (limits_in ss) (enumerate_from 0 ss))
 
+-- there are 1 to 8 event channels, and none of them breaks a limit
 abbrev pub events_counted : List EventPart → Type 0
 events_counted es = IsCounted (must (nat_le 1 (length es)) (Range key.Event)) (must (nat_le (length es) 8) (TooMany key.Event)) (flat_map event_limits (enumerate_from 0 es))
 
@@ -205,6 +212,7 @@ events_counted es = IsCounted (must (nat_le 1 (length es)) (Range key.Event)) (m
 pub good_segments : (ss : List SegmentPart) → segments_counted ss → All IsGoodSegment ss
 good_segments ss c = each_kept (limits_in ss) IsGoodSegment (λ i s h. (good_segment ss i s h).1) 0 ss c.behind
 
+-- event channels that break no limit have names of 1 to 32 printable characters
 pub good_events : (es : List EventPart) → events_counted es → All IsGoodEvent es
 good_events es c = each_kept event_limits IsGoodEvent good_event 0 es c.behind
 

@@ -208,5 +208,6 @@ numbers p h =
       events = each_kept event_limits (λ e. IsByte e.cycle × IsByte e.unit × IsByte e.priority) event_numbers 0 es events.behind;
     }
 
+-- parts break no limit exactly where they make a lawful layout and their numbers are within their ranges
 pub kept_limits : (p : Parts) → (first_fault p ≡ None) ↔ (IsLayout (layout_of p) × AreNumbers p)
 kept_limits p = (λ h. (lawful p h, numbers p h), λ k. keep p k.0 k.1)

@@ -15,6 +15,7 @@ is_segment-opening s h =
       xcp = omega (arith, count);
     }
 
+-- a lawful layout's opening pages, with as many signal bytes as it says, are pages of it
 pub is_pages-opening : (l : LayoutValue) (signals : List ℕ) → IsLayout l → length signals ≡ l.signals_length → IsPages (record { layout = l; segments = map opening_segment l.segments; signals = signals })
 is_pages-opening l signals lawful h =
     let count = length-map l.segments opening_segment in

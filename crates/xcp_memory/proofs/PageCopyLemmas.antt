@@ -38,6 +38,7 @@ read_before {X} front back xs i d e h = sym (ap (λ (zs : List X). get_or zs i d
 pub first_behind : {X : Type 0} (front back xs : List X) (n : ℕ) (y d : X) → xs ≡ front ++ back → length front ≡ n → n < length xs → y ≡ get_or back 0 y → y ≡ get_or xs n d
 first_behind {X} front back xs n y d e h k is = is ∙ read_behind front back xs n y e h ∙ get_or_default xs n y d k
 
+-- an element read before a split is that of the whole list, by any default
 pub one_before : {X : Type 0} (front back xs : List X) (i : ℕ) (y d : X) → xs ≡ front ++ back → i < length front → y ≡ get_or front i y → y ≡ get_or xs i d
 one_before {X} front back xs i y d e h is = is ∙ get_or_default front i y d h ∙ read_before front back xs i d e h
 

@@ -56,6 +56,7 @@ none_holds false false true x y z h = cc
 none_holds false true c x y z h = cc
 none_holds true b c x y z h = cc
 
+-- a switch isn't refused if its mode is valid and the segments concerned are there and have the page
 pub switch_allowed : (v : PagesValue) (mode segment page : ℕ) → is_switch_mode mode ≡ true → names_none mode segment v ≡ false → list_any (lacks_page page) (concerned mode segment v) ≡ false → switch_refusal mode segment page v ≡ None
 switch_allowed v mode segment page h k l =
     no_refusal (not (is_switch_mode mode)) (names_none mode segment v) (list_any (lacks_page page) (concerned mode segment v)) ModeNotValid SegmentNotValid PageNotValid (ap not h) k l

@@ -8,9 +8,11 @@ use Rattle.xcp_memory.specs.Pages.{PagesValue, SegmentPages, IsSegment, IsPages,
 use Rattle.xcp_memory.specs.ComputedAccess.{is_inside, segment_of}
 use Rattle.xcp_memory.specs.private.RangeInSegment.{LiesOnPages}
 
+-- a range that passes an area's test begins at the area's first address or behind it
 pub inside_from : (a n : ℕ) (e : Extent) → is_inside a n e ≡ true → e.address ≤ a
 inside_from a n e h = grind (arith, nat_tests, h)
 
+-- a range that passes an area's test ends at the area's end or before it
 pub inside_to : (a n : ℕ) (e : Extent) → is_inside a n e ≡ true → a + n ≤ e.address + e.size
 inside_to a n e h = grind (arith, nat_tests, h)
 
@@ -18,6 +20,7 @@ inside_to a n e h = grind (arith, nat_tests, h)
 pub page_size : (segment : SegmentValue) (number : ℕ) (s : SegmentPages) → IsSegment segment s → number < length s.pages → length (get_or s.pages number []) ≡ length segment.bytes
 page_size segment number s h k = All-get_or (λ p. length p ≡ length segment.bytes) s.pages number [] k h.sized
 
+-- a range found in segment i lies on its pages: those of both sides are there and have the segment's size
 pub located : (v : PagesValue) (a n i : ℕ) → IsPages v → segment_of v.layout a n ≡ Some i → LiesOnPages v a n i
 located v a n i f h =
     let p = position-Some (λ s. is_inside a n (segment_extent s)) v.layout.segments i no_segment h in
@@ -34,6 +37,7 @@ located v a n i f h =
       xcp_size = page_size _ _ (segment_at v i) s s.xcp;
     }
 
+-- where the search for a range finds a segment, the range lies on that segment's pages
 pub locates : (v : PagesValue) (a n : ℕ) (o : Option ℕ) → IsPages v → o ≡ segment_of v.layout a n → IfSome o (λ i. LiesOnPages v a n i)
 locates v a n None f h = tt
 locates v a n (Some i) f h = located v a n i f (sym h)

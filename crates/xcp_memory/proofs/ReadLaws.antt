@@ -18,12 +18,15 @@ Pairs page_of v address byte = ((i : ℕ) × InSegment page_of v address byte i)
 abbrev pub IsSized : (SegmentPages → List ℕ) → PagesValue → Type 0
 IsSized page_of v = (i : ℕ) → i < length v.segments → length (page_of (segment_at v i)) ≡ length (get_or v.layout.segments i no_segment).bytes
 
+-- the tool's page of each segment has the segment's size
 pub tool_sized : (v : PagesValue) → IsPages v → IsSized xcp_page v
 tool_sized v h = λ i k. let s = h.each i k in page_size _ _ (segment_at v i) s s.xcp
 
+-- the controller's page of each segment has the segment's size
 pub controller_sized : (v : PagesValue) → IsPages v → IsSized ecu_page v
 controller_sized v h = λ i k. let s = h.each i k in page_size _ _ (segment_at v i) s s.ecu
 
+-- a range of n bytes that lies in an area, cut out of the area's bytes, has n bytes
 pub cut : (s a n : ℕ) (xs : List ℕ) → s ≤ a → a + n ≤ s + length xs → length (take n (drop (a - s) xs)) ≡ n
 cut s a n xs h k = length-take-le n (drop (a - s) xs) (omega (arith, length-drop (a - s) xs))
 
@@ -99,6 +102,7 @@ one_read : (page_of : SegmentPages → List ℕ) (v : PagesValue) (a n : ℕ) (x
 one_read page_of v a n xs ys l f z h k =
     ext_get_or 0 xs ys (h.0 ∙ sym k.0) (λ i m. one_byte page_of v (a + i) _ _ l f z (h.1 i (omega (arith, h.0))) (k.1 i (omega (arith, h.0))))
 
+-- a list is a read of the tool's bytes exactly where it is the one computed and the range lies in one area
 pub tool_is_read : (v : PagesValue) (a n : ℕ) (xs : List ℕ) → IsLayout v.layout → IsPages v → Reads Tool v a n xs ↔ ((lies_inside v.layout a n ≡ true) × (xs ≡ tool_bytes v a n))
 tool_is_read v a n xs l f =
     let z = tool_sized v f in (
@@ -110,6 +114,7 @@ tool_is_read v a n xs l f =
           subst (λ ys. Reads Tool v a n ys) (sym r.1) (record { inside = inside_lies v.layout a n r.0; long = g.0; each = g.1 })),
     )
 
+-- a list is a read of the controller's bytes exactly where it is the one computed and the range lies in one area
 pub controller_is_read : (v : PagesValue) (a n : ℕ) (xs : List ℕ) → IsLayout v.layout → IsPages v → Reads Controller v a n xs ↔ ((lies_inside v.layout a n ≡ true) × (xs ≡ controller_bytes v a n))
 controller_is_read v a n xs l f =
     let z = controller_sized v f in (
@@ -125,5 +130,6 @@ controller_is_read v a n xs l f =
 pub tool_reads : (v : PagesValue) (a n : ℕ) (xs : List ℕ) → IsLayout v.layout → IsPages v → lies_inside v.layout a n ≡ true → xs ≡ tool_bytes v a n → Reads Tool v a n xs
 tool_reads v a n xs l f h e = (tool_is_read v a n xs l f).1 (h, e)
 
+-- what is copied from the controller's bytes of a range in one area is a read of them
 pub controller_reads : (v : PagesValue) (a n : ℕ) (xs : List ℕ) → IsLayout v.layout → IsPages v → lies_inside v.layout a n ≡ true → xs ≡ controller_bytes v a n → Reads Controller v a n xs
 controller_reads v a n xs l f h e = (controller_is_read v a n xs l f).1 (h, e)

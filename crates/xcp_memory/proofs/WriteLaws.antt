@@ -207,5 +207,6 @@ written v w a bytes (Some i) l f e r =
     )
 written v w a bytes None l f e r = absurd (refused (is_inside a (length bytes) (signals_extent v.layout)) r)
 
+-- a write that isn't refused leads to the pages that are computed, and to no others
 pub tool_is_written : (v w : PagesValue) (a : ℕ) (bytes : List ℕ) → IsLayout v.layout → IsPages v → write_refusal v a (length bytes) ≡ None → Writes v a bytes w ↔ (w ≡ pages_written v a bytes)
 tool_is_written v w a bytes l f r = written v w a bytes (segment_of v.layout a (length bytes)) l f refl r

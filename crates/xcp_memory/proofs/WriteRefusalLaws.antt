@@ -106,5 +106,6 @@ protected_is_refused v a n l h =
 pub answers_outside : (v : PagesValue) (a n : ℕ) (r : Result (Unit {0}) Code) → Checks (write_refusal v a n) r → (r ≡ Err AccessDenied) ↔ (LiesInside v.layout a n → ⊥)
 answers_outside v a n r h = through (told_by (write_refusal v a n) r AccessDenied h) (outside_is_denied v a n)
 
+-- such a call answers protected exactly where the range, not empty, lies in one area that may not be written
 pub answers_protected : (v : PagesValue) (a n : ℕ) (r : Result (Unit {0}) Code) → IsLayout v.layout → 0 < n → Checks (write_refusal v a n) r → (r ≡ Err WriteProtected) ↔ LiesProtected v a n
 answers_protected v a n r l some h = through (told_by (write_refusal v a n) r WriteProtected h) (protected_is_refused v a n l some)

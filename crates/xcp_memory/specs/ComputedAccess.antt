@@ -1,4 +1,4 @@
--- Reads and writes as words that compute. Laws of this crate say that they are those of Memory.
+-- Functions that compute reads and writes; laws of this crate prove them equal to the relations of Memory.
 use Rattle.std.specs.Prelude.{ℕ, ◌+◌, ◌-◌, ◌<◌, ◌≤◌, Bool, true, ◌&&◌, List, ◌++◌, length, take, drop, Option, Some, None, nat_le, ◌==◌, if◌then◌else◌, position, slice_index_or as get_or, slice_set}
 use Rattle.xcp_packet.specs.declared.Code.{Code}
 use Rattle.xcp_packet.specs.declared.Code.TheVariants.{AccessDenied, WriteProtected}

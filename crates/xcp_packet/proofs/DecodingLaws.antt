@@ -7,7 +7,7 @@ use Rattle.xcp_packet.specs.ByteOrder.{byte_at}
 use Rattle.xcp_packet.specs.CommandForms.{code, least}
 use Rattle.xcp_packet.specs.CommandSpelling.{Begins, spells}
 use Rattle.xcp_packet.specs.Decoding.{Refused, Decodes}
-use Rattle.xcp_packet.specs.DecodeByCode.{readings, coded, Reads}
+use Rattle.xcp_packet.specs.private.DecodeByCode.{readings, coded, Reads}
 use Rattle.xcp_packet.proofs.ParameterLemmas.{reading, reading-stands, least-positive, coded-code}
 use Rattle.xcp_packet.specs.declared.order.Order.{Order}
 use Rattle.xcp_packet.specs.declared.command.Command.{Command}

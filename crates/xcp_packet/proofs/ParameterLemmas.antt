@@ -5,7 +5,7 @@ use Rattle.std.proofs.lemmas.Option.{none-some, same_Some}
 use Rattle.xcp_packet.specs.ByteOrder.{byte_at, word_at, double_at}
 use Rattle.xcp_packet.specs.CommandForms.{Parameter, byte, word, double, rest, code, least, parameters}
 use Rattle.xcp_packet.specs.CommandSpelling.{Stands, AllStand}
-use Rattle.xcp_packet.specs.DecodeByCode.{readings, coded}
+use Rattle.xcp_packet.specs.private.DecodeByCode.{readings, coded}
 use Rattle.xcp_packet.specs.declared.order.Order.{Order}
 use Rattle.xcp_packet.specs.declared.command.Command.{Command}
 use Rattle.xcp_packet.specs.declared.command.Command.TheVariants.{Disconnect}
@@ -17,6 +17,7 @@ filled order p (word place _) = word place (word_at order place p)
 filled order p (double place _) = double place (double_at order place p)
 filled order p (rest place _) = rest place (record { items = drop place p })
 
+-- these parameters, each with the value that stands in the packet p
 abbrev pub all_filled : Order → List ℕ → List Parameter → List Parameter
 all_filled order p [] = []
 all_filled order p (x ∷ xs) = filled order p x ∷ all_filled order p xs

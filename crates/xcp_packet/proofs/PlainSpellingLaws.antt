@@ -50,6 +50,7 @@ all_placed : (c : Command) → placed 1 (least c) (parameters c) ≡ true
 all_placed Disconnect = refl
 all_placed c = refl
 
+-- a command's parameters stand one behind the other from place 1 on and end at its least length or later
 pub command-placed : (c : Command) → Placed 1 (least c) (parameters c)
 command-placed c = is_placed 1 (least c) (parameters c) (all_placed c)
 

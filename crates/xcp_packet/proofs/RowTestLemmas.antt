@@ -7,6 +7,7 @@ pub kept : (b : Bool) → not b ≡ false → b ≡ true
 kept true h = refl
 kept false h = cc
 
+-- what must hold doesn't, where the test that it doesn't holds
 pub broken : (b : Bool) → not b ≡ true → b ≡ false
 broken true h = cc
 broken false h = refl

@@ -1,6 +1,6 @@
 //! From bytes to a command.
 ghost use Rattle.std.specs.Prelude.{◌≡◌, ◌≤◌, ◌↔◌, length, drop};
-ghost use Rattle.xcp_packet.specs.DecodeByCode.{Reads};
+ghost use Rattle.xcp_packet.specs.private.DecodeByCode.{Reads};
 ghost use Rattle.xcp_packet.specs.Decoding.{Refused};
 ghost use Rattle.xcp_packet.specs.CommandSpelling.{spells};
 

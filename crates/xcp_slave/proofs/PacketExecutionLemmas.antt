@@ -6,7 +6,7 @@ use Rattle.std.specs.Prelude.{nat_le, nat_lt}
 use Rattle.xcp_packet.specs.CommandForms.{code, least, parameters}
 use Rattle.xcp_packet.specs.ReplyPacket.{layout}
 use Rattle.xcp_packet.specs.ByteOrder.{byte_at}
-use Rattle.xcp_packet.specs.DecodeByCode.{readings, coded, Reads}
+use Rattle.xcp_packet.specs.private.DecodeByCode.{readings, coded, Reads}
 use Rattle.xcp_packet.specs.Decoding.{Decodes}
 use Rattle.xcp_packet.specs.CommandSpelling.{AllStand, spells}
 use Rattle.xcp_packet.specs.declared.Order.{Order}

@@ -4,7 +4,7 @@ ghost use Rattle.xcp_memory.specs.EcuImage.{ecu_image};
 ghost use Rattle.xcp_packet.specs.ReplyPacket.{Fits};
 ghost use Rattle.xcp_packet.specs.ReplyInBytes.{reply_bytes, sent_bytes};
 ghost use Rattle.xcp_packet.specs.ByteOrder.{byte_at};
-ghost use Rattle.xcp_packet.specs.DecodeByCode.{coded, readings};
+ghost use Rattle.xcp_packet.specs.private.DecodeByCode.{coded, readings};
 ghost use Rattle.xcp_slave.specs.private.ExecuteByCode.{TellsCoded, found_at, heeded};
 ghost use Rattle.xcp_slave.specs.Step.{Answers, AnswersPacket};
 ghost use Rattle.xcp_slave.specs.AnswerInBytes.{answer_in};

@@ -1,5 +1,4 @@
--- A packet as it is read, code by code. It decodes to what is read, by a lemma of proofs/; contracts of private
--- functions alone cite it.
+-- A packet as it is read, code by code. It decodes to what is read, by a lemma of proofs/.
 use Rattle.std.specs.Prelude.{◌≡◌, ◌≢◌, ◌<◌, ℕ, List, [], ◌∷◌, length, drop, Ok, Err, Result, Option, Some, None, MatchOption, if◌then◌else◌, ◌==◌}
 use Rattle.xcp_packet.specs.ByteOrder.{byte_at, word_at, double_at}
 use Rattle.xcp_packet.specs.CommandForms.{code, least}
