@@ -8,12 +8,15 @@ use Rattle.xcp_bank.specs.PinHistory.{Deed, events_of, answers_of, doer, deeds_b
 use Rattle.xcp_bank.specs.SeatKnowledge.{Begins, Reading}
 use Rattle.xcp_bank.specs.TableRule.{RecordsAll, StandsForAll}
 
+-- equal lists of answers have the same first answer
 pub head_same : (a b : Seen) (l m : List Seen) → a ∷ l ≡ b ∷ m → a ≡ b
 head_same a b l m e = cc
 
+-- equal lists of answers have the same answers behind the first
 pub tail_same : (a b : Seen) (l m : List Seen) → a ∷ l ≡ b ∷ m → l ≡ m
 tail_same a b l m e = cc
 
+-- a run of a history and a step from its end make a run of the history with this deed at its end
 pub runs_more : (W : ℕ) (s t u : PinState) (ds : List Deed) (d : Deed) → Runs W s (events_of ds) (answers_of ds) t → Steps W t d.0 d.1 u → Runs W s (events_of (ds ++ d ∷ [])) (answers_of (ds ++ d ∷ [])) u
 runs_more W s t u [] d r st = (d.1, u, [], refl, subst (λ (z : PinState). Steps W z d.0 d.1 u) r.1 st, (refl, refl))
 runs_more W s t u (x ∷ ds) d r st = (r.0, r.1, answers_of (ds ++ d ∷ []), ap (λ (z : Seen). z ∷ answers_of (ds ++ d ∷ [])) (head_same x.1 r.0 (answers_of ds) r.2 r.3), r.4, runs_more W r.1 t u ds d (subst (λ (l : List Seen). Runs W r.1 (events_of ds) l t) (sym (tail_same x.1 r.0 (answers_of ds) r.2 r.3)) r.5) st)
@@ -22,16 +25,19 @@ one : (d : Deed) (l m n : List Deed) → l ≡ m ++ n → (t : Bool) → cond t 
 one d l m n e true = ap (λ (z : List Deed). d ∷ z) e
 one d l m n e false = e
 
+-- one's own deeds in two histories joined are those in the first and then those in the second
 pub by_app : (who : ℕ) (ds bs : List Deed) → deeds_by who (ds ++ bs) ≡ deeds_by who ds ++ deeds_by who bs
 by_app who [] bs = refl
 by_app who (d ∷ ds) bs = one d (deeds_by who (ds ++ bs)) (deeds_by who ds) (deeds_by who bs) (by_app who ds bs) (eqb who (doer d.0))
 
+-- in a history of a single deed of one's own, one's own deeds are this one
 pub by_own : (who : ℕ) (d : Deed) → who ≡ doer d.0 → deeds_by who (d ∷ []) ≡ d ∷ []
 by_own who d e = ap (λ (t : Bool). cond t (d ∷ []) []) (eq-eqb who (doer d.0) e)
 
 by_other : (who : ℕ) (d : Deed) → who ≢ doer d.0 → deeds_by who (d ∷ []) ≡ []
 by_other who d ne = ap (λ (t : Bool). cond t (d ∷ []) []) (ne_eqb who (doer d.0) ne)
 
+-- a history that stays as it is grows by no deed of one's own
 pub grows_none : (who : ℕ) (h : List Deed) → Grows who h h []
 grows_none who h = record { more = []; is = sym (append-nil h); own_is = refl }
 
@@ -51,6 +57,7 @@ grows_own who k h o d e g = record {
   own_is = by_app who g.more (d ∷ []) ∙ (λ i. g.own_is i ++ by_own who d e i);
 }
 
+-- where a history grows twice, one's own deeds are those of the first time and then those of the second
 pub grows_again : (who : ℕ) (a b c o p : List Deed) → Grows who a b o → Grows who b c p → Grows who a c (o ++ p)
 grows_again who a b c o p g h = record {
   more = g.more ++ h.more;
@@ -62,6 +69,7 @@ grows_again who a b c o p g h = record {
 pub grows_act : (who : ℕ) (a b c o : List Deed) (d : Deed) → who ≡ doer d.0 → Grows who a b o → Grows who b c [] → Grows who a (c ++ d ∷ []) (o ++ d ∷ [])
 grows_act who a b c o d e g h = grows_own who a c o d e (subst (Grows who a c) (append-nil o) (grows_again who a b c o [] g h))
 
+-- a list of Scans with one more Scan at its end has only Scans
 pub scans_more : (ds : List Deed) (b n : ℕ) → AllScans ds → AllScans (ds ++ has_scanned b n ∷ [])
 scans_more [] b n k = ((b, n, refl), tt)
 scans_more (d ∷ ds) b n k = (k.0, scans_more ds b n k.1)
@@ -77,6 +85,7 @@ reads_more r words from n k v at is =
 pub does_step : (who : ℕ) (k p h : List Deed) (d : Deed) → who ≡ doer d.0 → Grows who k h p → Does who k p (h ++ d ∷ []) [] (d ∷ [])
 does_step who k p h d e g = let n = grows_own who k h p d e g in record { more = n.more; is = n.is; own_is = append-nil (deeds_by who n.more) ∙ n.own_is }
 
+-- what one does from one call's end to a second's and on to a third's is the deeds of both stretches, in order
 pub does_again : (who : ℕ) (a p b q c r ds es : List Deed) → Does who a p b q ds → Does who b q c r es → Does who a p c r (ds ++ es)
 does_again who a p b q c r ds es g h = record {
   more = g.more ++ h.more;
@@ -88,6 +97,7 @@ does_again who a p b q c r ds es g h = record {
       ∙ (ap (λ (l : List Deed). l ++ es) g.own_is ∙ append_assoc p ds es))));
 }
 
+-- where the history and one's own pending deeds stay as they are, one has done nothing
 pub does_none : (who : ℕ) (a p : List Deed) → Does who a p a p []
 does_none who a p = record { more = []; is = sym (append-nil a); own_is = sym (append-nil p) }
 
@@ -99,6 +109,7 @@ does_pending who a p d = record { more = []; is = sym (append-nil a); own_is = r
 pub begins_more : (a h : List Deed) (d : Deed) → Begins a h → Begins a (h ++ d ∷ [])
 begins_more a h d g = (g.0 ++ d ∷ [], ap (λ (l : List Deed). l ++ d ∷ []) g.1 ∙ append_assoc a g.0 (d ∷ []))
 
+-- a history that grew by no deed of the writer's, and then by any one deed, begins with what it was
 pub begins_whole : (a h : List Deed) (d : Deed) → Grows 0 a h [] → Begins a (h ++ d ∷ [])
 begins_whole a h d g = begins_more a h d (g.more, g.is)
 

@@ -7,6 +7,7 @@ use Rattle.xcp_bank.specs.SeatKnowledge.{Writing}
 use Rattle.xcp_bank.specs.private.WriterSteps.{Scanned, WasReset, Written, Published, writing_after_scan, writing_after_reset, writing_after_publish}
 use Rattle.xcp_bank.specs.private.SeatSteps.{Rests, Searched, FoundQuiet, scanned_to, filled, Publishes}
 
+-- before the first Scan no buffer has been searched, and the writer is as it was
 pub searched_none : (w : Writing) → Searched 0 w w
 searched_none w = record { quiet = w.pins.quiet; history = w.history; is = refl; scans = []; grows = grows_none 0 w.history; only = tt; most = omega arith; fewer = (λ l. absurd (omega arith)); not_yet = omega arith }
 

@@ -15,7 +15,7 @@ use Rattle.xcp_bank.specs.BankId.{bank_of}
 use Rattle.xcp_bank.specs.private.ReaderSteps.{UpToDate, Follows, GivesUp}
 use Rattle.xcp_bank.specs.Images.{image_of, images}
 use Rattle.xcp_bank.specs.SeatKnowledge.{Begins, AllBegin, Reading, Writing, Known, starting}
-use Rattle.xcp_bank.specs.private.SeatSplits.{told, told_again}
+use Rattle.xcp_bank.specs.private.SeatSplits.{when_joined, when_parted}
 use Rattle.xcp_bank.specs.PinHistory.{looked_at}
 use Rattle.xcp_bank.specs.private.SeatSteps.{IsReaderSeat, Acquired, HasRead, buffer_of}
 use Rattle.xcp_bank.specs.BankEnds.{ReaderEnd, reader_end, WriterEnd, writer_end, HoldsNumber, image_at, image_held, IsRun, AcquireDoes, ReadDoes, ReaderDoes, GivesBack}
@@ -24,9 +24,11 @@ use Rattle.xcp_bank.specs.private.EndFields.{ReaderKept}
 use Rattle.xcp_bank.proofs.EndFieldLemmas.{reader_is, kept_by, sits_at, sits_here}
 use Rattle.xcp_bank.proofs.ReaderSeatLemmas.{same≢newer, held_at}
 
+-- where a list of publications begins another, its images begin the other's images
 pub images_begin : (a b : List (List ℕ)) → Begins a b → Begins (images a) (images b)
 images_begin a b g = (images g.0, ap images g.1 ∙ map-append image_of a g.0)
 
+-- the same of several lists of publications that all begin one
 pub images_all : (ls : List (List (List ℕ))) (b : List (List ℕ)) → AllBegin ls b → AllBegin (map images ls) (images b)
 images_all [] b g = tt
 images_all (l ∷ ls) b g = (images_begin l b g.0, images_all ls b g.1)
@@ -39,6 +41,7 @@ shown_is token bank r y s = ap (λ (z : ℕ × Reading). reader_end bank z.0 z.1
 pub follows_up_to_date : (r : ℕ) (y : Reading) → UpToDate 256 r y → Follows 256 r y
 follows_up_to_date r y k = record { state = k.state; ran = k.ran; held = ap (λ (z : Reader). z.held) k.pins; gone = ap (λ (z : Reader). z.gone) k.pins }
 
+-- a reader's history that is a run to a state in which it holds what it says is that for contracts, too
 pub run_of : (bank : TableId) (r : ℕ) (y : Reading) → Follows 256 r y → IsRun (reader_end bank r y)
 run_of bank r y k = record { state = k.state; ran = k.ran; holds = k.held }
 
@@ -132,6 +135,7 @@ there l p size = dite (dec_le (length l) p)
     (λ past. (let z : length (get_or l p []) ≡ 0 = ap length (get_or_past l p [] past) in absurd (omega arith)))
     (λ below. omega arith)
 
+-- n Reads from word k on of a held image leave the reader as `read` and `number` say, if its history was a run
 pub read_end : (bank : TableId) (r k n b p : ℕ) (x y : Reading) → x.pins.held ≡ Some (b, p) → Follows 256 r x → HasRead k n p r x y → ReadEnd k n (reader_end bank r x) (reader_end bank r y)
 read_end bank r k n b p x y holds follows g =
     let seen : images y.list ≡ images x.list = ap images g.list in
@@ -157,7 +161,7 @@ read_end bank r k n b p x y holds follows g =
     }
 
 -- what a reader is told leaves what it holds
-pub follows_told : (r : ℕ) (x : Reading) (w : Writing) → Follows 256 r x → Follows 256 r (told_again w r (told w r x))
+pub follows_told : (r : ℕ) (x : Reading) (w : Writing) → Follows 256 r x → Follows 256 r (when_parted w r (when_joined w r x))
 follows_told r x w k = record { state = k.state; ran = k.ran; held = k.held; gone = k.gone }
 
 -- What `tell` says.
@@ -171,7 +175,8 @@ pub record ToldEnd (writer : WriterEnd) (old new : ReaderEnd) : Type 0 where
   pub heard : new.heard ≡ writer.history
   pub does : ReaderDoes old new (looked_at old.place writer.current ∷ looked_at old.place writer.current ∷ [])
 
-pub told_end : (bank bank' : TableId) (r : ℕ) (x : Reading) (w : Writing) → ToldEnd (writer_end bank' w) (reader_end bank r x) (reader_end bank r (told_again w r (told w r x)))
+-- a reader that the writer told when they were joined, and again when they were cut apart, is as `tell` says
+pub told_end : (bank bank' : TableId) (r : ℕ) (x : Reading) (w : Writing) → ToldEnd (writer_end bank' w) (reader_end bank r x) (reader_end bank r (when_parted w r (when_joined w r x)))
 told_end bank bank' r x w = record {
   same_reader = (refl, refl);
   seen = refl;

@@ -34,9 +34,11 @@ stands_begins s own id r x mine =
     let rest : List (List ℕ) = drop x.pins.seen s.writer.publications in
     (rest, sym (ap (λ (l : List (List ℕ)). l ++ rest) mine.list ∙ take-append-drop x.pins.seen s.writer.publications))
 
+-- readers whose numbers plus one are equal are the same reader
 pub same_suc : (q r : ℕ) → suc q ≡ suc r → q ≡ r
 same_suc q r e = omega arith
 
+-- a reader's number plus one is never 0, which stands for the writer
 pub writes_none : (r : ℕ) → 0 ≡ suc r → ⊥
 writes_none r e = absurd (omega arith)
 
@@ -183,6 +185,7 @@ module _ (W slots id : ℕ) (r : ℕ) (x : Reading) (i : ℕ) (f : ℕ → ℕ) 
   pub allowed : (me : Seat) → me.0 ≡ one_reader r x → Makes → (st : Step (Unit {0})) → Allows (Banked W) slots id me i f (reader_plays after st me)
   allowed me is make st = subst (λ (v : Known). Allows (Banked W) slots id (v, me.1) i f (reader_plays after st (v, me.1))) (sym is) (fits_one me.1 make st)
 
+-- the rule allows a Pin, one more in word 0, to a reader that isn't gone and holds nothing
 pub pin_allowed : (W slots id r : ℕ) (x : Reading) (me : Seat) → me.0 ≡ one_reader r x → x.pins.gone ≡ false → x.pins.held ≡ None → (st : Step (Unit {0}))
     → Allows (Banked W) slots id me 0 (λ n. (n + 1) % 18446744073709551616) (reader_plays (Pinned W) st me)
 pin_allowed W slots id r x me is here free st = allowed W slots id r x 0 (λ n. (n + 1) % 18446744073709551616) (Pinned W) me is
@@ -289,10 +292,12 @@ module _ (W : ℕ) (t : State (Unit {0}) Known) (b : Banked W t) (id r : ℕ) (x
     pasts = mine.past;
   }
 
+-- the rule allows a Look, which leaves word 0, to a reader that isn't gone
 pub look_allowed : (W slots id r : ℕ) (x : Reading) (me : Seat) → me.0 ≡ one_reader r x → x.pins.gone ≡ false → (st : Step (Unit {0})) → Allows (Banked W) slots id me 0 (λ n. n) (reader_plays (Looked W) st me)
 look_allowed W slots id r x me is here st = allowed W slots id r x 0 (λ n. n) (Looked W) me is
     (λ t b at. (reading_after_look r x b.core.index b.core.writer.publications b.history, look_step W t b id r x at here, look_tells W t b id r x at here)) st
 
+-- the rule allows a Read, which leaves the word, of any word of the buffer that a reader holds
 pub read_allowed : (W slots id r : ℕ) (x : Reading) (me : Seat) (i c p k : ℕ) → x.pins.held ≡ Some (c, p) → k < W → i ≡ 9 + (c * W + k) → me.0 ≡ one_reader r x → (st : Step (Unit {0})) → Allows (Banked W) slots id me i (λ n. n) (reader_plays (ReadAt W i) st me)
 read_allowed W slots id r x me i c p k holds low place is st = allowed W slots id r x i (λ n. n) (ReadAt W i) me is
     (λ t b at. (reading_after_read r k (get_or t.words i 0) b.history x, read_step W t b id r x at i c p k holds low place, read_tells W t b id r x at i c p k holds low place)) st
@@ -369,6 +374,7 @@ module _ (W : ℕ) (t : State (Unit {0}) Known) (b : Banked W t) (id r : ℕ) (x
             (get_or-set_same s.readers r (leaving last (reader s r)) newcomer (inside W t b id r x at) ∙ ap (λ (y : Reader). leaving last y) m.pins);
       }
 
+-- the rule allows an Unpin, one more in the leavings, to a holder that saw another buffer current or leaves for good
 pub unpin_allowed : (W slots id r : ℕ) (x : Reading) (me : Seat) (c p : ℕ) (last : Bool) → me.0 ≡ one_reader r x → x.pins.held ≡ Some (c, p) → (x.pins.looked ≢ c) ⊎ (last ≡ true) → (st : Step (Unit {0}))
     → Allows (Banked W) slots id me (1 + c) (λ n. (n + 1) % 18446744073709551616) (reader_plays (Unpinned W last) st me)
 unpin_allowed W slots id r x me c p last is holds may st = allowed W slots id r x (1 + c) (λ n. (n + 1) % 18446744073709551616) (Unpinned W last) me is

@@ -24,13 +24,16 @@ module _ (after : ℕ → Reading → ℕ → Reading → Type 0) (st : Step (Un
 pub below_the_buffers : (r : ℕ) (x : Reading) (n index : ℕ) (list : List (List ℕ)) (before : List Deed) → Finds r x n index list before → n < 34359738368
 below_the_buffers r x n index list before g = let low = g.buffer in let few = g.few in let head = g.head in omega arith
 
+-- two readers, with what they know, for which one seat stands are the same
 pub sits_one : (a : Token (Unit {0}) Known) (bank : TableId) (r q : ℕ) (x u : Reading) → IsReaderSeat a bank r x → IsReaderSeat a bank q u → ◌≡◌ {A = ℕ × Reading} (r, x) (q, u)
 sits_one a bank r q x u s t = let e : ◌≡◌ {A = List (ℕ × Reading)} ((r, x) ∷ []) ((q, u) ∷ []) = ap (λ (m : Seat). m.0.readers) (sym s.me ∙ t.me) in cc
 
+-- where buffer b is held, some publication is held there
 pub held_at : (o : Option (ℕ × ℕ)) (b : ℕ) → buffer_of o ≡ Some b → (p : ℕ) × (o ≡ Some (b, p))
 held_at None b e = absurd (none-some b e)
 held_at (Some h) b e = (h.1, ap (λ (k : ℕ). Some (k, h.1)) (same_Some h.0 b e))
 
+-- where no buffer is held, nothing is
 pub held_none : (o : Option (ℕ × ℕ)) → buffer_of o ≡ None → o ≡ None
 held_none None e = refl
 held_none (Some h) e = absurd (none-some h.0 (sym e))
@@ -39,6 +42,7 @@ abbrev IsSame : Taken → Type 0
 IsSame Same = Unit {0}
 IsSame Newer = ⊥
 
+-- the two answers of an acquire differ
 pub same≢newer : Same ≢ Newer
 same≢newer e = subst IsSame e tt
 
@@ -145,6 +149,7 @@ acquired_other r x y z u other old buffer p here holds l ne v m =
 
 -- Reads
 
+-- a reader that stays as it was has read no words
 pub read_none : (r : ℕ) (x : Reading) (from n p : ℕ) → n ≡ 0 → HasRead from n p r x x
 read_none r x from n p e = record {
   pins = refl;
@@ -158,6 +163,7 @@ read_none r x from n p e = record {
   did = subst (λ (m : ℕ). Does (suc r) x.history x.pending x.history x.pending (reads_of r (get_or x.list p []) from m)) (sym e) (does_none (suc r) x.history x.pending);
 }
 
+-- n Reads from a word on and a Read of the next word, of one publication, are n + 1 Reads from there on
 pub read_more : (r : ℕ) (x y z : Reading) (from n m p k v : ℕ) → HasRead from n p r x y → WordRead k p v r y z → from + n ≡ k → suc n ≡ m → HasRead from m p r x z
 read_more r x y z from n m p k v g w at next =
     let words : List ℕ = get_or x.list p [] in

@@ -21,6 +21,7 @@ others_more current b ne =
     let next : b + 1 ≡ suc b = omega arith in
     ap (others current) next ∙ ap (λ (t : Bool). cond t (others current b) (others current b ++ b ∷ [])) (ne_eqb b current ne)
 
+-- before the first Scan no buffer has been counted, none is found held, and the writer is as it was
 pub counted_none : (w : Writing) → Counted 0 0 w w
 counted_none w = record { quiet = w.pins.quiet; history = w.history; is = refl; found = []; each = refl; grows = grows_none 0 w.history; held_is = refl; long = omega arith; ahead = (λ l. refl); behind = (λ l. absurd (omega arith)); most = omega arith; fewer = (λ l. absurd (omega arith)); up_to_date = (λ l. absurd (omega arith)) }
 

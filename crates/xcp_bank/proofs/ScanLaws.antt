@@ -39,6 +39,7 @@ lawful_then history s r =
     let opens : Lawful 256 (opening r.0) = subst (λ (n : ℕ). Lawful n (opening r.0)) wide (opening_lawful r.0 (omega arith) (omega arith)) in
     run_keeps 256 (opening r.0) s (events_of history) (answers_of history) opens r.2
 
+-- right after a Scan that told n its buffer isn't current, and its started count is n plus the number of its holders
 pub scans_tell : (front : List Deed) (b n : ℕ) (s : PinState) → Ran 256 (front ++ has_scanned b n ∷ []) s → (b ≢ s.index) × (started_of s b ≡ n + holders b s.readers)
 scans_tell front b n s r =
     let last = runs_split 256 (opening r.0) s front (has_scanned b n ∷ []) r.2 in

@@ -13,7 +13,7 @@ use Rattle.pin_core.proofs.ReaderStepLemmas.{look_keeps}
 use Rattle.xcp_bank.specs.SeatKnowledge.{Begins, AllBegin, Reading, Writing, Known, one_reader, nobody}
 use Rattle.xcp_bank.specs.private.SeatKnowledge.{the_writer}
 use Rattle.xcp_bank.specs.TableRule.{Shows, Stands, StandsForAll, Leads, Banked}
-use Rattle.xcp_bank.specs.private.SeatSplits.{told, told_again, together, writer_alone, readers_apart, both_of}
+use Rattle.xcp_bank.specs.private.SeatSplits.{when_joined, when_parted, together, writer_alone, readers_apart, both_of}
 use Rattle.xcp_bank.proofs.PrefixLemmas.{all_again}
 use Rattle.xcp_bank.proofs.ReaderRuleLemmas.{stands_begins, same_suc, writes_none}
 use Rattle.xcp_bank.proofs.OtherSeatLemmas.{all_still}
@@ -45,10 +45,10 @@ module _ (W : ℕ) (t : State (Unit {0}) Known) (b : Banked W t) (id r m : ℕ) 
   shows = record { size = b.shows.size; head = b.shows.head; left = b.shows.left; image = b.shows.image }
 
   -- what the reader knows then, whichever of its lists it calls past
-  stands_by : (y : Reading) → y.pins ≡ (told w r x).pins → y.list ≡ w.pins.publications → AllBegin y.past y.list → Stands after own' m r y
+  stands_by : (y : Reading) → y.pins ≡ (when_joined w r x).pins → y.list ≡ w.pins.publications → AllBegin y.past y.list → Stands after own' m r y
   stands_by y pins list past =
       let z : Reader = looking s.index (published s) (reader s r) in
-      let known : ◌≡◌ {A = Reader} (looking s.index (published s) x.pins) (told w r x).pins = λ i. record { held = x.pins.held; looked = leads.current i; seen = length (leads.pins i).publications; gone = x.pins.gone } in
+      let known : ◌≡◌ {A = Reader} (looking s.index (published s) x.pins) (when_joined w r x).pins = λ i. record { held = x.pins.held; looked = leads.current i; seen = length (leads.pins i).publications; gone = x.pins.gone } in
       let whole : take (length w.pins.publications) s.writer.publications ≡ w.pins.publications = ap (λ (u : Writer). take (length w.pins.publications) u.publications) leads.pins ∙ take_all (length w.pins.publications) w.pins.publications (omega arith) in
       record {
         inside = mine.inside;
@@ -62,11 +62,11 @@ module _ (W : ℕ) (t : State (Unit {0}) Known) (b : Banked W t) (id r m : ℕ) 
   begins : Begins x.list w.pins.publications
   begins = subst (λ (u : Writer). Begins x.list u.publications) leads.pins (stands_begins s b.own id r x mine)
 
-  pub stands : Stands after own' m r (told w r x)
-  stands = stands_by (told w r x) refl refl (begins, all_again x.past x.list w.pins.publications mine.past begins)
+  pub stands : Stands after own' m r (when_joined w r x)
+  stands = stands_by (when_joined w r x) refl refl (begins, all_again x.past x.list w.pins.publications mine.past begins)
 
-  pub stands_again : Stands after own' m r (told_again w r x)
-  stands_again = stands_by (told_again w r x) refl refl (all_again x.past x.list w.pins.publications mine.past begins)
+  pub stands_again : Stands after own' m r (when_parted w r x)
+  stands_again = stands_by (when_parted w r x) refl refl (all_again x.past x.list w.pins.publications mine.past begins)
 
   -- who stands for others still does
   pub others : (j : ℕ) (ys : List (ℕ × Reading)) → j ≢ id → StandsForAll s b.own j ys → StandsForAll after own' j ys
@@ -82,12 +82,13 @@ module _ (W : ℕ) (t : State (Unit {0}) Known) (b : Banked W t) (id r m : ℕ) 
     unheld = same_sum (λ (u : Reader). at_buffer v.idle u.held) s.readers r (looking s.index (published s) (reader s r)) inside refl ∙ k.unheld;
   }
 
-pub tell_joins : (W id other r : ℕ) (x : Reading) (w : Writing) → x.pins.gone ≡ false → Joins (Banked W) id (the_writer w) other (one_reader r x) (both_of w r (told w r x)) nobody
+-- joining the writer's seat with that of a reader that isn't gone, which tells the reader, keeps the rule
+pub tell_joins : (W id other r : ℕ) (x : Reading) (w : Writing) → x.pins.gone ≡ false → Joins (Banked W) id (the_writer w) other (one_reader r x) (both_of w r (when_joined w r x)) nobody
 tell_joins W id other r x w here t b at apart there =
-    let at' : get_elem? t.views other ≡ some (one_reader r x) = sym (set_else t.views id other (both_of w r (told w r x)) apart) ∙ there in
+    let at' : get_elem? t.views other ≡ some (one_reader r x) = sym (set_else t.views id other (both_of w r (when_joined w r x)) apart) ∙ there in
     let mine : Stands b.core b.own other r x = (b.readers other (one_reader r x) at').0 in
     let lead = b.writer id (the_writer w) w at refl in
-    let V = both_of w r (told w r x) in
+    let V = both_of w r (when_joined w r x) in
     let s' = after_look b.core r in
     let d : Deed = looked_at r w.current in
     let own' = moved_to b.own r id in
@@ -132,13 +133,14 @@ tell_joins W id other r x w here t b at apart there =
           (at_set (set t.views id V) other j nobody u e);
     }
 
-pub tell_splits : (W id r : ℕ) (x : Reading) (w : Writing) → x.pins.gone ≡ false → Splits (Banked W) id (both_of w r x) (the_writer w) (one_reader r (told_again w r x))
+-- cutting a reader that isn't gone off the writer's seat, which tells it once more, keeps the rule
+pub tell_splits : (W id r : ℕ) (x : Reading) (w : Writing) → x.pins.gone ≡ false → Splits (Banked W) id (both_of w r x) (the_writer w) (one_reader r (when_parted w r x))
 tell_splits W id r x w here t b at =
     let m : ℕ = length (set t.views id (the_writer w)) in
     let mine : Stands b.core b.own id r x = (b.readers id (both_of w r x) at).0 in
     let lead = b.writer id (both_of w r x) w at refl in
     let V = the_writer w in
-    let R = one_reader r (told_again w r x) in
+    let R = one_reader r (when_parted w r x) in
     let s' = after_look b.core r in
     let d : Deed = looked_at r w.current in
     let own' = moved_to b.own r m in
@@ -183,9 +185,11 @@ tell_splits W id r x w here t b at =
           (at_end (set t.views id V) R u j e);
     }
 
+-- a seat that stands for the writer may take in one that stands for a reader, if that reader isn't gone
 pub join_allowed : (W id other r : ℕ) (x : Reading) (w : Writing) (v u : Known) → v ≡ the_writer w → u ≡ one_reader r x → x.pins.gone ≡ false → Joins (Banked W) id v other u (together v u) nobody
 join_allowed W id other r x w v u is_w is_r here = subst (λ (z : Known). Joins (Banked W) id z other u (together z u) nobody) (sym is_w)
     (subst (λ (z : Known). Joins (Banked W) id (the_writer w) other z (together (the_writer w) z) nobody) (sym is_r) (tell_joins W id other r x w here))
 
+-- a seat that stands for the writer and a reader may be cut into these two, if that reader isn't gone
 pub split_allowed : (W id r : ℕ) (x : Reading) (w : Writing) (v : Known) → v ≡ both_of w r x → x.pins.gone ≡ false → Splits (Banked W) id v (writer_alone v) (readers_apart v)
 split_allowed W id r x w v is here = subst (λ (z : Known). Splits (Banked W) id z (writer_alone z) (readers_apart z)) (sym is) (tell_splits W id r x w here)

@@ -12,6 +12,7 @@ use Rattle.xcp_bank.specs.TableRule.{RecordsAll, Stands, StandsForAll, Leads, Ba
 use Rattle.xcp_bank.specs.private.SeatSplits.{without_first, only_first}
 use Rattle.xcp_bank.proofs.OtherSeatLemmas.{stands_still, all_still}
 
+-- an element of a list with one added at its end is an old one, at its old place, or the new one, at the end
 pub at_end : {A : Type 0} (l : List A) (a b : A) (j : ℕ) → get_elem? (l ++ a ∷ []) j ≡ some b → ((j < length l) × (get_elem? l j ≡ some b)) ⊎ ((j ≡ length l) × (a ≡ b))
 at_end [] a b zero e = inr (refl, some-injective a b e)
 at_end [] a b (suc j) e = absurd (some-ne-none b (sym e))
@@ -22,9 +23,11 @@ at_end (x ∷ xs) a b (suc j) e = ⊎_elim {A = (j < length xs) × (get_elem? xs
 abbrev pub moved_to : (ℕ → ℕ) → ℕ → ℕ → ℕ → ℕ
 moved_to own n m q = cond (eqb q n) m (own q)
 
+-- a reader that goes to a seat is at that seat
 pub moved_here : (own : ℕ → ℕ) (n m : ℕ) → moved_to own n m n ≡ m
 moved_here own n m = ap (λ (t : Bool). cond t m (own n)) (eq-eqb n n refl)
 
+-- every other reader stays at its seat
 pub moved_else : (own : ℕ → ℕ) (n m q : ℕ) → q ≢ n → moved_to own n m q ≡ own q
 moved_else own n m q ne = ap (λ (t : Bool). cond t m (own q)) (ne_eqb q n ne)
 
@@ -35,6 +38,7 @@ waiting_still s own id n m (suc k) words le below h = (
   waiting_still s own id n m k words (omega arith) below h.1,
 )
 
+-- cutting the last of its readers, none of which has made a step, off the first seat keeps the rule
 pub cut_splits : (W id n : ℕ) (words : List ℕ) → Splits (Banked W) id (everybody (suc n) words) (everybody n words) (one_reader n (starting words))
 cut_splits W id n words t b at =
     let s = b.core in
@@ -89,5 +93,6 @@ cut_splits W id n words t b at =
           (at_end (set t.views id (everybody n words)) (one_reader n (starting words)) u j e);
     }
 
+-- the first seat may be cut into the last of its readers and the writer with the other readers
 pub cut_allowed : (W id n : ℕ) (words : List ℕ) (v : Known) → v ≡ everybody (suc n) words → Splits (Banked W) id v (without_first v) (only_first v)
 cut_allowed W id n words v is = subst (λ (u : Known). Splits (Banked W) id u (without_first u) (only_first u)) (sym is) (cut_splits W id n words)

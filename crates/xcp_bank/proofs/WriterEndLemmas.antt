@@ -20,6 +20,7 @@ pub record PublishedEnd (image : List ℕ) (old new : WriterEnd) : Type 0 where
   pub appended : new.publications ≡ old.publications ++ image ∷ []
   pub does : (words : List ℕ) × (image_of words ≡ image) × PublishDoes words old new
 
+-- words that were published leave the writer as `publish` says, with their image behind its publications
 pub published_end : (bank : TableId) (image words : List ℕ) (w u : Writing) → image_of words ≡ image → Publishes words w u → PublishedEnd image (writer_end bank w) (writer_end bank u)
 published_end bank image words w u same k = record {
   appended = ap images k.list ∙ (map-append image_of w.pins.publications (words ∷ []) ∙ ap (λ (z : List ℕ). images w.pins.publications ++ z ∷ []) same);

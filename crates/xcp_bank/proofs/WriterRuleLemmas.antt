@@ -241,20 +241,24 @@ module _ (W slots id : ℕ) (w : Writing) (i : ℕ) (f : ℕ → ℕ) (after : W
   pub lets : (me : Seat) → me.0 ≡ the_writer w → Makes → (st : Step (Unit {0})) → Allows (Banked W) slots id me i f (writer_plays after st me)
   lets me is make st = subst (λ (v : Known). Allows (Banked W) slots id (v, me.1) i f (writer_plays after st (v, me.1))) (sym is) (fits_writer me.1 make st)
 
+-- the rule allows the writer a Scan, which leaves the word, of a buffer not current, while none is being built
 pub scan_allowed : (W slots id : ℕ) (w : Writing) (me : Seat) (c : ℕ) → me.0 ≡ the_writer w → c < 8 → c ≢ w.current → w.pins.building ≡ None → (st : Step (Unit {0}))
     → Allows (Banked W) slots id me (1 + c) (λ n. n) (writer_plays (Scanned W c) st me)
 scan_allowed W slots id w me c is low apart none st = lets W slots id w (1 + c) (λ n. n) (Scanned W c) me is
     (λ t b at. let p = scan_step W t b id w at c low apart none in (writing_after_scan c (get_or t.words (1 + c) 0) b.history w, p.0, p.1)) st
 
+-- the rule allows the writer a Publish of a buffer built in full that ends with its number, modulo 2^64
 pub publish_allowed : (W slots id : ℕ) (w : Writing) (me : Seat) (c : ℕ) → me.0 ≡ the_writer w → w.pins.building ≡ Some c → length w.pins.written ≡ W → get_or w.pins.written (W - 1) 0 ≡ length w.pins.publications % 18446744073709551616 → (st : Step (Unit {0}))
     → Allows (Banked W) slots id me 0 (λ _. c * 4294967296) (writer_plays (Published W c) st me)
 publish_allowed W slots id w me c is building full last st = lets W slots id w 0 (λ _. c * 4294967296) (Published W c) me is (λ t b at. publish_step W t b id w at c building full last) st
 
+-- the rule allows the writer a Reset, which makes the leavings 0, of a buffer that it found quiet
 pub reset_allowed : (W slots id : ℕ) (w : Writing) (me : Seat) (c : ℕ) → me.0 ≡ the_writer w → c < 8 → w.pins.quiet ≡ Some c → (st : Step (Unit {0}))
     → Allows (Banked W) slots id me (1 + c) (λ _. 0) (λ n. writer_plays (WasReset c) st me 0)
 reset_allowed W slots id w me c is low quiet st = lets W slots id w (1 + c) (λ _. 0) (λ v n u. WasReset c v 0 u) me is
     (λ t b at. (writing_after_reset c b.history w, reset_step W t b id w at c low quiet, record { before = b.history; grows = grows W t b id w at; is = refl })) st
 
+-- the rule allows the writer a Write of the next word of the buffer that is being built
 pub write_allowed : (W slots id : ℕ) (w : Writing) (me : Seat) (c k x : ℕ) → me.0 ≡ the_writer w → w.pins.building ≡ Some c → length w.pins.written ≡ k → k < W → (st : Step (Unit {0}))
     → Allows (Banked W) slots id me (9 + (c * W + k)) (λ _. x) (λ n. writer_plays (Written x) st me x)
 write_allowed W slots id w me c k x is building at_k room st = lets W slots id w (9 + (c * W + k)) (λ _. x) (λ v n u. Written x v x u) me is

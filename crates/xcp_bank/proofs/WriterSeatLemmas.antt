@@ -16,5 +16,6 @@ module _ (after : Writing → ℕ → Writing → Type 0) (st : Step (Unit {0}))
       let p = plays w (ap (λ (m : Seat). m.0) s.me) in
       (p.0, record { bank_is = same ∙ s.bank_is; wide = s.wide; me = p.1 ∙ ap (λ (m : Seat). (the_writer p.0, m.1)) s.me }, p.2)
 
+-- two writers, with what they know, for which one seat stands are the same
 pub desks_one : (a : Token (Unit {0}) Known) (bank : TableId) (w v : Writing) → IsWriterSeat a bank w → IsWriterSeat a bank v → w ≡ v
 desks_one a bank w v s t = same_Some w v (ap (λ (m : Seat). m.0.writer) (sym s.me ∙ t.me))

@@ -11,7 +11,7 @@ ghost use Rattle.xcp_bank.specs.private.SeatKnowledge.{everybody};
 ghost use Rattle.xcp_bank.specs.TableRule.{Banked};
 ghost use Rattle.xcp_bank.specs.private.ReaderSteps.{GivesUp};
 ghost use Rattle.xcp_bank.specs.private.WriterSteps.{Scanned, WasReset, Written, Published};
-ghost use Rattle.xcp_bank.specs.private.SeatSplits.{told, told_again};
+ghost use Rattle.xcp_bank.specs.private.SeatSplits.{when_joined, when_parted};
 ghost use Rattle.xcp_bank.specs.private.SeatSteps.{IsReaderSeat, IsFirstSeat, IsWriterSeat, ReaderMoves, WriterMoves, PinnedAt, LookedAt, WordReadAt};
 
 mod cuts;
@@ -165,7 +165,7 @@ pub(crate) fn swap_in(board: &Board, token: &mut Token, buffer: usize) -> u64
 pub(crate) fn tell_at(board: &Board, writer: &mut Token, reader: Token) -> Token
     requires writer { (w : Writing) × IsWriterSeat writer.old board.now w }
     requires reader { (r : ℕ) × (x : Reading) × IsReaderSeat reader board.now r x × (x.pins.gone ≡ false) }
-    ensures { (w : Writing) (r : ℕ) (x : Reading) → IsWriterSeat writer.old board.now w → IsReaderSeat reader board.now r x → IsWriterSeat writer.new board.now w × IsReaderSeat result board.now r (told_again w r (told w r x)) }
+    ensures { (w : Writing) (r : ℕ) (x : Reading) → IsWriterSeat writer.old board.now w → IsReaderSeat reader board.now r x → IsWriterSeat writer.new board.now w × IsReaderSeat result board.now r (when_parted w r (when_joined w r x)) }
 {
     let Token { seat } = reader;
     let seat = telling::tell_at(&board.table.shared, &mut writer.seat, seat);

@@ -2,7 +2,7 @@
 ghost use Rattle.std.specs.Prelude.{◌≡◌, ℕ, ◌+◌, ◌%◌, ◌≤◌, List, [], ◌∷◌, ◌++◌, length, false};
 ghost use Rattle.xcp_bank.specs.SeatKnowledge.{Reading, Writing, beginning};
 ghost use Rattle.std.specs.Arc.{arc_value};
-ghost use Rattle.xcp_bank.specs.private.SeatSplits.{told, told_again};
+ghost use Rattle.xcp_bank.specs.private.SeatSplits.{when_joined, when_parted};
 ghost use Rattle.xcp_bank.specs.private.SeatSteps.{IsReaderSeat, IsWriterSeat};
 ghost use Rattle.xcp_bank.specs.Images.{image_of};
 ghost use Rattle.xcp_bank.specs.BankEnds.{writer_end, HeldDoes, PublishDoes};
@@ -99,7 +99,7 @@ impl Writer {
     pub(crate) fn tell_seat(&mut self, reader: Token) -> Token
         requires { (r : ℕ) × (x : Reading) × IsReaderSeat reader self.old.bank.table r x × (x.pins.gone ≡ false) }
         ensures same { self.new ≡ self.old }
-        ensures told { (w : Writing) × (writer_end self.old.bank.table w ≡ self.old) × ((r : ℕ) (x : Reading) → IsReaderSeat reader self.old.bank.table r x → IsReaderSeat result self.old.bank.table r (told_again w r (told w r x))) }
+        ensures told { (w : Writing) × (writer_end self.old.bank.table w ≡ self.old) × ((r : ℕ) (x : Reading) → IsReaderSeat reader self.old.bank.table r x → IsReaderSeat result self.old.bank.table r (when_parted w r (when_joined w r x))) }
     {
         tell_at(&self.board, &mut self.seat, reader)
     }

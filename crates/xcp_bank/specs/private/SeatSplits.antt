@@ -23,8 +23,8 @@ only_first v = record { readers = first_of v.readers; writer = None }
 -- A reader is joined with the writer, which is a Look: it has seen all that is published, what it had seen before is past, and it has
 -- heard the writer's history.
 
-abbrev pub told : Writing → ℕ → Reading → Reading
-told w r x = record {
+abbrev pub when_joined : Writing → ℕ → Reading → Reading
+when_joined w r x = record {
   pins = looking w.current (length w.pins.publications) x.pins;
   list = w.pins.publications;
   past = x.list ∷ x.past;
@@ -35,8 +35,8 @@ told w r x = record {
 
 -- And it is cut off again, which is a Look too. Between the two nothing is published.
 
-abbrev pub told_again : Writing → ℕ → Reading → Reading
-told_again w r x = record {
+abbrev pub when_parted : Writing → ℕ → Reading → Reading
+when_parted w r x = record {
   pins = looking w.current (length w.pins.publications) x.pins;
   list = w.pins.publications;
   past = x.past;
@@ -55,7 +55,7 @@ by_writer f (Some w) ys = each_by (f w) ys
 
 -- the first of the two stands for the writer
 abbrev pub together : Known → Known → Known
-together v u = record { readers = by_writer told v.writer u.readers; writer = v.writer }
+together v u = record { readers = by_writer when_joined v.writer u.readers; writer = v.writer }
 
 abbrev pub both_of : Writing → ℕ → Reading → Known
 both_of w r x = record { readers = (r, x) ∷ []; writer = Some w }
@@ -64,4 +64,4 @@ abbrev pub writer_alone : Known → Known
 writer_alone v = record { readers = []; writer = v.writer }
 
 abbrev pub readers_apart : Known → Known
-readers_apart v = record { readers = by_writer told_again v.writer v.readers; writer = None }
+readers_apart v = record { readers = by_writer when_parted v.writer v.readers; writer = None }

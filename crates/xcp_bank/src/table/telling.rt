@@ -1,7 +1,7 @@
 //! A reader is told what was published.
 ghost use Rattle.std.specs.Prelude.{◌≡◌, ℕ, false};
 ghost use Rattle.xcp_bank.specs.SeatKnowledge.{Reading, Writing};
-ghost use Rattle.xcp_bank.specs.private.SeatSplits.{told, told_again};
+ghost use Rattle.xcp_bank.specs.private.SeatSplits.{when_joined, when_parted};
 ghost use Rattle.xcp_bank.specs.private.SeatSteps.{IsReaderSeat, IsWriterSeat};
 
 use super::rule::{Store, View};
@@ -34,7 +34,7 @@ pub(super) fn tell_at(
 ) -> Seat<(), View>
     requires writer { (w : Writing) × IsWriterSeat writer.old store.now.table_id w }
     requires reader { (r : ℕ) × (x : Reading) × IsReaderSeat reader store.now.table_id r x × (x.pins.gone ≡ false) }
-    ensures { (w : Writing) (r : ℕ) (x : Reading) → IsWriterSeat writer.old store.now.table_id w → IsReaderSeat reader store.now.table_id r x → IsWriterSeat writer.new store.now.table_id w × IsReaderSeat result store.now.table_id r (told_again w r (told w r x)) }
+    ensures { (w : Writing) (r : ℕ) (x : Reading) → IsWriterSeat writer.old store.now.table_id w → IsReaderSeat reader store.now.table_id r x → IsWriterSeat writer.new store.now.table_id w × IsReaderSeat result store.now.table_id r (when_parted w r (when_joined w r x)) }
 {
     store.join_seat::<Telling>(writer, reader);
     store.split_seat::<Telling>(writer)

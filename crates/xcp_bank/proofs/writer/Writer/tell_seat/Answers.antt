@@ -2,7 +2,7 @@ use Rattle.std.proofs.Common.{◌≡◌, ℕ, sym, ap, ◌∙◌}
 use Rattle.atomic_table.specs.Seated.{TableId}
 use Rattle.std.specs.Arc.{arc_value}
 use Rattle.xcp_bank.specs.SeatKnowledge.{Reading, Writing}
-use Rattle.xcp_bank.specs.private.SeatSplits.{told, told_again}
+use Rattle.xcp_bank.specs.private.SeatSplits.{when_joined, when_parted}
 use Rattle.xcp_bank.specs.private.SeatSteps.{IsWriterSeat, IsReaderSeat}
 use Rattle.xcp_bank.specs.BankEnds.{WriterEnd, writer_end}
 use Rattle.xcp_bank.specs.EndFields.{writer_in}
@@ -13,14 +13,14 @@ use Rattle.xcp_bank.proofs.writer.Writer.tell_seat.Goals as goal
 -- the two seats before and after
 made : (c : goal.After-tell_at) → (r : ℕ) (x : Reading) → IsReaderSeat c.args.reader c.args.self.now.bank.table r x
     → IsWriterSeat c.tell_at.new.writer (arc_value c.self.inside.board) (writer_in c.self.inside.seat)
-    × IsReaderSeat c.tell_at.result c.args.self.now.bank.table r (told_again (writer_in c.self.inside.seat) r (told (writer_in c.self.inside.seat) r x))
+    × IsReaderSeat c.tell_at.result c.args.self.now.bank.table r (when_parted (writer_in c.self.inside.seat) r (when_joined (writer_in c.self.inside.seat) r x))
 made c = λ r x s.
     let bank = arc_value c.self.inside.board in
     let w : Writing = writer_in c.self.inside.seat in
     let T : c.deref.result.now ≡ bank = c.deref.ensures in
     let B : bank ≡ c.args.self.now.bank.table = ap (λ (z : WriterEnd). z.bank.table) c.self.view_is in
     let e = c.tell_at.ensures w r x (desks_at c.self.inside.seat w (sym T) c.self.invariant.desks) (sits_at c.args.reader r x (sym (T ∙ B)) s) in
-    (desks_at c.tell_at.new.writer w T e.0, sits_at c.tell_at.result r (told_again w r (told w r x)) (T ∙ B) e.1)
+    (desks_at c.tell_at.new.writer w T e.0, sits_at c.tell_at.result r (when_parted w r (when_joined w r x)) (T ∙ B) e.1)
 
 pub invariant_of-self : goal.invariant_of-self
 invariant_of-self c =
