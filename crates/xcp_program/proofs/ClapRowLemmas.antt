@@ -25,6 +25,7 @@ parts (k ∷ ks) b e = absurd (no_kinds k ks e)
 
 -- ---- each row
 
+-- P holds of each row
 abbrev pub Each : (Row → Type 0) → List Row → Type 0
 Each P [] = Unit {0}
 Each P (r ∷ rs) = P r × Each P rs
@@ -33,6 +34,7 @@ Each P (r ∷ rs) = P r × Each P rs
 abbrev pub Keeps : (Row → Type 0) → Rule → Type 0
 Keeps P a = (again : Bool) (values : List Text) (rows : List Row) → use_fault again a values rows ≡ [] → Each P rows → Each P (used a values rows)
 
+-- Q holds of each rule
 abbrev pub EachRule : (Rule → Type 0) → List Rule → Type 0
 EachRule Q [] = Unit {0}
 EachRule Q (a ∷ rest) = Q a × EachRule Q rest
@@ -177,6 +179,7 @@ no_default id b rows e = go (has_row b.id rows)
     go true = refl
     go false = ap (λ (d : List Text). row_for id (default_rows b.id (reading_by b) d rows)) e
 
+-- whether there is no text
 abbrev pub is_none : List Text → Bool
 is_none [] = true
 is_none (v ∷ vs) = false
@@ -193,6 +196,7 @@ one_leaves id b rows e = go (bytes_eq b.id id) refl b.defaults refl e
     go true other [] same e = no_default id b rows same
     go true other (v ∷ vs) same e = absurd (true≢false (sym e))
 
+-- the defaults of rules that are other arguments', or have none, leave an argument's first row
 pub defaults_leave : (id : Text) (c : List Rule) (rows : List Row) → list_all (leaves_row id) c ≡ true → row_for id (fold with_default rows c) ≡ row_for id rows
 defaults_leave id [] rows h = refl
 defaults_leave id (b ∷ rest) rows h =
@@ -213,6 +217,7 @@ own_default a v rows one = go (has_row a.id rows) refl
     go true e = some_there a.id rows (default_row a v) e
     go false e = subst (λ (d : List Text). row_for a.id (default_rows a.id (reading_by a) d rows) ≡ Some (unwrap_or (row_for a.id rows) (default_row a v))) (sym one) (new e)
 
+-- an argument's first row is that of the words, or its one default's, among rules that leave its row
 pub default_among : (before after : List Rule) (a : Rule) (v : Text) (rows : List Row) → list_all (leaves_row a.id) before ≡ true → list_all (leaves_row a.id) after ≡ true → a.defaults ≡ v ∷ []
     → row_for a.id (fold with_default rows (before ++ a ∷ after)) ≡ Some (unwrap_or (row_for a.id rows) (default_row a v))
 default_among [] after a v rows h k one = defaults_leave a.id after (with_default rows a) k ∙ own_default a v rows one

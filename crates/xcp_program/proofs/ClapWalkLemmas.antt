@@ -142,6 +142,7 @@ module _ (P : Row → Type 0) (s : Shape) (names : Names) (good : (p : Rule → 
 
 -- ---- no `help`
 
+-- the subcommand that was entered, if one was, isn't `help`
 abbrev pub NoHelp : Option (Text × List Text) → Type 0
 NoHelp stop = IfSome stop (λ p. bytes_eq p.0 (codes "help") ≡ false)
 

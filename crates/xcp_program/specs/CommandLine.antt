@@ -123,10 +123,15 @@ InRange (Serve config p t k n m) = (port.least ≤ p) × (p ≤ port.most) × (t
     × (period.least ≤ m) × (m ≤ period.most)
 
 -- Why the words ask for nothing, by the kinds of error of the first fault that clap finds in them (a wish for help is one): the error
--- has one of these kinds. Memory may be wanting at any place.
+-- has one of these kinds. Memory: an allocation may fail at any place.
 abbrev pub IsMistake : Kinds → OptionsFault → Type 0
 IsMistake kinds Memory = Unit {0}
 IsMistake kinds (Words e) = IsAmong (kind_of e) kinds
+
+-- the number of a fault of the words
+abbrev pub number_of : OptionsFault → ℕ
+number_of Memory = 1
+number_of (Words e) = 2
 
 -- what `options` answers, as the program tells it
 abbrev pub unasked_of : OptionsFault → Unasked
@@ -137,7 +142,7 @@ unasked_of (Words e) = unasked.Words e
 abbrev pub IsWish : Error → Type 0
 IsWish e = (kind_of e ≡ DisplayHelp) ⊎ (kind_of e ≡ DisplayVersion)
 
--- the status with which the program ends where it is asked nothing: 0 after a wish, 1 where the words are wrong, 4 where memory is wanting
+-- the status with which the program ends where it is asked nothing: 0 after a wish, 1 where the words are wrong, 4 where an allocation failed
 abbrev pub EndsWith : Unasked → ℕ → Type 0
 EndsWith unasked.Memory n = n ≡ 4
 EndsWith unasked.NoText n = n ≡ 1

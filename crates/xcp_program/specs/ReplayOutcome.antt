@@ -5,7 +5,7 @@ use Rattle.xcp_slave.specs.SlaveValue.{SlaveValue, opening}
 use Rattle.xcp_slave.specs.Run.{Run, requests_of}
 use Rattle.xcp_slave.specs.declared.Exchange.{Exchange}
 use Rattle.xcp_framing.specs.Replay.{EndsShort, OfLines, Replayed, Tells, asked}
-use Rattle.xcp_framing.specs.AnswerText.{told}
+use Rattle.xcp_framing.specs.AnswerText.{answers_text}
 use Rattle.xcp_framing.specs.declared.ReplayError.{ReplayError}
 use Rattle.xcp_framing.specs.declared.ReplayError.TheVariants as errors
 use Rattle.xcp_config.specs.declared.ConfigError.{ConfigError}
@@ -23,7 +23,7 @@ pub record AnswersScript (layout : LayoutValue) (script old new : Option (List �
   pub slave : SlaveValue
   pub run : Run (opening layout) exchanges slave
   pub asked : OfLines script (λ lines. Replayed layout.max_cto lines ended (requests_of exchanges))
-  pub written : Tells ended old new (told exchanges)
+  pub written : Tells ended old new (answers_text exchanges)
 
 -- the same, for the layout that the configuration describes
 pub record Replays (config : List ℕ) (script old new : Option (List ℕ)) (ended : Result ℕ ReplayError) : Type 0 where
@@ -53,7 +53,7 @@ abbrev pub IsFault : List ℕ → Fault → Type 0
 IsFault config f = (n : ℕ) × (f ≡ faults.Configuration n) × IsFaulty config n
 
 -- What a replay did, by what it returned. Configuration(n): the configuration has the fault of that number, and nothing was
--- written. Memory may be wanting before a slave stands: then nothing was written either. A mismatch is no end of a replay.
+-- written. An allocation may fail before a slave stands: then nothing was written either. A mismatch is no end of a replay.
 abbrev pub Ends : List ℕ → Option (List ℕ) → Option (List ℕ) → Option (List ℕ) → Result ℕ Fault → Type 0
 Ends config script old new (Ok n) = Replays config script old new (Ok n)
 Ends config script old new (Err (faults.Configuration n)) = IsFaulty config n × (new ≡ old)

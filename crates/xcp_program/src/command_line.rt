@@ -32,13 +32,14 @@ with one line there, and this status:
      type (3), out of its range (4), areas that overlap (5), or too many segments, bytes or events (6)
   2  line N: the line is faulty
   3  stream N: reading (1) or writing (2) failed
-  4  memory: memory was wanting";
+  4  memory: an allocation failed";
 
 /// What help says below the options of a server.
 const ENDS: &str =
     "Its first line is: listening PORT. It accepts T connections, answers each until it ends, and runs the tasks meanwhile.
 When all have ended it prints: calls N (N is the number of all calls), and: settled (what was answered is what the
-slave's journal has). These two lines come before that of a fault, but for a mismatch.
+slave's journal has). These two lines come before that of a fault, but not before that of a mismatch, of a faulty
+configuration, of stream 0, or of memory where nothing had begun.
 
 Wrong words end the program with status 1, and what is wrong with them on standard error. Any other fault ends it
 with one line there, and this status:
@@ -46,7 +47,7 @@ with one line there, and this status:
      type (3), out of its range (4), areas that overlap (5), or too many segments, bytes or events (6)
   3  stream N: listening or accepting failed (0); of the first faulty connection, reading failed (1), writing
      failed (2), a frame is too long (3) or cut short (4), the reads were spent (6); the journal is full (7)
-  4  memory: memory was wanting
+  4  memory: an allocation failed, or a thread couldn't be started
   5  mismatch caller C at I: what caller C was answered differs from the journal, first at its call I";
 
 /// The option `--config`, which both subcommands want.
@@ -174,7 +175,7 @@ fn number_in(matches: &ArgMatches<'_>, option: &str) -> u32
 }
 
 /// What the words ask for, of which the first is the program's name: only where clap finds no fault in them. `Words`
-/// has clap's error for the first fault, a wish for help among them; `Memory` comes where memory is wanting, at any
+/// has clap's error for the first fault, a wish for help among them; `Memory` comes where an allocation fails, at any
 /// place.
 pub fn options(alloc: Global, words: &[String]) -> Result<Options, OptionsFault>
     ensures asked { IfOk result (λ o. Asks (subcommand_of program (map string_bytes words.now)) o) }

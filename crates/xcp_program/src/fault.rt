@@ -19,7 +19,7 @@ pub enum Fault {
     /// accepted counts.
     #[error("stream {0}")]
     Stream(u8),
-    /// Memory was wanting.
+    /// An allocation failed, or a thread could not be started.
     #[error("memory")]
     Memory,
     /// The answers that a caller got differ from the journal's calls of that caller, first at this place among them.

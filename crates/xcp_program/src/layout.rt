@@ -9,7 +9,7 @@ use xcp_config::{ConfigError, read_layout};
 use xcp_memory::Layout;
 
 /// The layout that the text of a configuration file describes: `Configuration`, 1 to 6, where it
-/// describes none, by the number of its first fault; `Memory` where memory is wanting.
+/// describes none, by the number of its first fault; `Memory` where an allocation fails.
 pub fn layout_of(alloc: Global, config: &str) -> Result<Layout, Fault>
     ensures layout { IfOk result (λ l. HasLayout config.now l) }
     ensures refused { IfErr result (λ f. (f ≡ Fault.Memory) ⊎ IsFault config.now f) }

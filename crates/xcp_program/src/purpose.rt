@@ -32,10 +32,24 @@ pub enum Options {
 /// Why the words ask for nothing that the program does.
 #[derive(Debug, Drop)]
 pub enum OptionsFault {
-    /// Memory was wanting.
+    /// An allocation failed.
     Memory,
     /// The words are wrong, or ask for help; the text says more.
     Words(Error),
+}
+
+impl OptionsFault {
+    ghost use Rattle.xcp_program.specs.CommandLine.{number_of};
+
+    /// The fault's number: 1 Memory, 2 Words.
+    pub fn number(&self) -> u8
+        ensures { result ≡ number_of self.now }
+    {
+        match self {
+            OptionsFault::Memory => 1,
+            OptionsFault::Words(_) => 2,
+        }
+    }
 }
 
 impl From<AllocError> for OptionsFault {

@@ -10,7 +10,7 @@ use std::io::{ErrorKind, Read};
 const MOST_BYTES: usize = 65_536;
 
 /// All bytes of a file. `Configuration(0)` comes where reading fails or there are more than
-/// 65,536, `Memory` where memory is wanting.
+/// 65,536, `Memory` where an allocation fails.
 pub fn read_whole<R: Read + Drop>(alloc: Global, file: R) -> Result<Vec<u8>, Fault>
     ensures size { IfOk result (λ bytes. length bytes.items ≤ 65536) }
     ensures whole { IfOk result (λ bytes. IfSome (R.remaining file) (λ all. bytes.items ≡ all)) }

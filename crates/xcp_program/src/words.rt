@@ -16,7 +16,7 @@ use thiserror::Error;
 /// standard error.
 #[derive(Debug, Drop, Error)]
 pub enum Unasked {
-    /// Memory was wanting.
+    /// An allocation failed.
     #[error("xcpd: memory\n")]
     Memory,
     /// A word is no UTF-8.
@@ -29,7 +29,7 @@ pub enum Unasked {
 
 impl Unasked {
     /// The status with which the program ends: 0 where the words ask for help or for the version, 1 where they are wrong,
-    /// 4 where memory was wanting.
+    /// 4 where an allocation failed.
     pub fn status(&self) -> u8
         ensures { EndsWith self.now result }
     {
