@@ -82,14 +82,16 @@ fn pumped<R: Clock>(
 /// that is handed back ends the call.
 #[test]
 fn turns(rt: HostRuntime) {
-    assert_eq!(rt; pumped(&rt, rt.alloc(), 0, 1000, false), (Ok(0), 0, 0));
-    assert_eq!(rt; pumped(&rt, rt.alloc(), 3, 1000, false), (Ok(3), 3, 3));
-    assert_eq!(rt; pumped(&rt, rt.alloc(), 12, 1000, false), (Ok(10), 10, 10));
-    assert_eq!(rt; pumped(&rt, rt.alloc(), 3, 1000, true), (Ok(0), 0, 0));
-    assert_eq!(rt;
-        pumped(&rt, rt.alloc(), 3, 2, false),
-        (Err(ServeError::Write), 2, 3)
-    );
+    let rows = [
+        (0, 1000, false, (Ok(0), 0, 0)),
+        (3, 1000, false, (Ok(3), 3, 3)),
+        (12, 1000, false, (Ok(10), 10, 10)),
+        (3, 1000, true, (Ok(0), 0, 0)),
+        (3, 2, false, (Err(ServeError::Write), 2, 3)),
+    ];
+    for (packets, good, stopped, wanted) in rows {
+        assert_eq!(rt; pumped(&rt, rt.alloc(), packets, good, stopped), wanted);
+    }
 }
 
 /// How a station's refusal of a Drain ends the call.

@@ -10,6 +10,7 @@ pub encode_more : (packet : List ℕ) (i : ℕ) → i < length packet
 unfolding encode_with
 encode_more packet i h = rw (add-one, drop-cons packet i 0 h) refl
 
+-- a number from 10 to 99 is told by two digits: its tens and its ones
 pub two_digits : (n : ℕ) → 10 ≤ n → n < 100 → decimal n ≡ (48 + n / 10 % 10) ∷ (48 + n % 10) ∷ []
 two_digits n h k =
     let small : n / 10 < 10 = omega arith in
@@ -17,6 +18,7 @@ two_digits n h k =
     let same : n / 10 % 10 ≡ n / 10 = omega arith in
     decimal_step n h bounded ∙ rw (decimal_digit (n / 10) small, same) refl
 
+-- a number from 100 to 255 is told by three digits: its hundreds, its tens and its ones
 pub three_digits : (n : ℕ) → 100 ≤ n → n < 256 → decimal n ≡ (48 + n / 100) ∷ (48 + n / 10 % 10) ∷ (48 + n % 10) ∷ []
 three_digits n h k =
     let above : 10 ≤ n = omega arith in
@@ -33,6 +35,7 @@ pub pushed_two : (xs ys zs : List ℕ) (n : ℕ) → 10 ≤ n → n < 100
 pushed_two xs ys zs n h k p q =
     q ∙ rw p (append_assoc xs ((48 + n / 10 % 10) ∷ []) ((48 + n % 10) ∷ []) ∙ ap (λ (w : List ℕ). xs ++ w) (sym (two_digits n h k)))
 
+-- a list to which the three digits of a number from 100 to 255 are pushed grows by its decimal text
 pub pushed_three : (xs vs ys zs : List ℕ) (n : ℕ) → 100 ≤ n → n < 256
     → vs ≡ xs ++ (48 + n / 100) ∷ [] → ys ≡ vs ++ (48 + n / 10 % 10) ∷ [] → zs ≡ ys ++ (48 + n % 10) ∷ [] → zs ≡ xs ++ decimal n
 pushed_three xs vs ys zs n h k o p q =

@@ -117,10 +117,12 @@ no_drain e old new a b same put = record {
   counts = λ m is. absurd (no_ok is);
 }
 
+-- a station's refusal, as an error of serving, interrupts the call
 pub stops_so : (e : StationError) → IsInterruption (refused_with e)
 stops_so refusals.Memory = tt
 stops_so refusals.JournalFull = tt
 
+-- a station that is left as it was and may refuse a Drain has refused the Drain that comes next
 pub drain_refused : {S : Type 0} (exchanges_of : S → List Exchange) (refuses : S → Request → StationError → Type 0) (e : StationError) (state new : S)
     → new ≡ state → refuses new requests.Drain e → Refused exchanges_of refuses e DrainAgain (exchanges_of state) new
 drain_refused exchanges_of refuses e state new same may = record {
@@ -131,5 +133,6 @@ drain_refused exchanges_of refuses e state new same may = record {
   may = may;
 }
 
+-- a request that is one more Drain behind Drains is so with earlier Drains before them
 pub again : (xs ys : List Exchange) (q : Request) → AllDrains xs → DrainAgain ys q → DrainAgain (xs ++ ys) q
 again xs ys q h k = (drains_append xs ys h k.0, k.1)

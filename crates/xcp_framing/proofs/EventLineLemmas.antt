@@ -21,15 +21,18 @@ pub no_signals : (channel : Option ℕ) → event_with channel None ≡ Faulty
 no_signals None = refl
 no_signals (Some n) = refl
 
+-- no digits at all are no signals of an event
 pub no_hex : hex_bytes 64 [] ≡ None
 unfolding hex_bytes
 no_hex = refl
 
+-- an event's text without a space is faulty
 pub no_space : (text : List ℕ) → None ≡ position is_space text → Faulty ≡ event_of text
 no_space text h =
     let far : length text ≤ position_or_len is_space text + 1 = grind (arith, nat_tests, lost _ _ h) in
     sym (rw (drop_all (position_or_len is_space text + 1) text far, no_hex) (no_signals _))
 
+-- an event's text is cut at its first space: the channel stands before it, the signals' digits behind it
 pub cut_at : (text : List ℕ) (i : ℕ) → Some i ≡ position is_space text → event_of text ≡ event_with (channel_of (take i text)) (hex_bytes 64 (drop (i + 1) text))
 cut_at text i h = rw (found _ _ _ h) refl
 
@@ -43,12 +46,14 @@ pub too_great : (digits : List ℕ) → 65535 < digits_value 10 digits → None 
 unfolding channel_of
 too_great digits h = grind (arith, nat_tests)
 
+-- the value of a decimal digit is its code in ASCII less 48
 pub value_of_digit : (d : ℕ) → is_ascii_digit d ≡ true → digit_value d ≡ d - 48
 value_of_digit d h = grind (arith, nat_tests)
 
 next : (i : ℕ) (digits : List ℕ) → i < length digits → drop i digits ≡ slice_index digits i ∷ drop (i + 1) digits
 next i digits within = rw (add-one, drop-cons digits i 0 within) refl
 
+-- digits are no channel's where the value of the first ones with the next digit is above 65,535
 pub too_great_at : (value i : ℕ) (digits : List ℕ) → i < length digits → is_ascii_digit (slice_index digits i) ≡ true
     → digits_value_after 10 value (drop i digits) ≡ digits_value 10 digits
     → 65535 < value * 10 + (slice_index digits i - 48) → None ≡ channel_of digits

@@ -30,17 +30,21 @@ wire_from-append k (p ∷ ps) qs =
     ∙ sym (append_assoc (frame_bytes k p) (wire_from (k + 1) ps) (wire_from ((k + 1) + length ps) qs))
     ∙ ap (λ (n : ℕ). (frame_bytes k p ++ wire_from (k + 1) ps) ++ wire_from n qs) (omega arith)
 
+-- the packets of exchanges behind exchanges are those of the first, and then those of the others
 pub packets_of-append : (xs ys : List Exchange) → packets_of (xs ++ ys) ≡ packets_of xs ++ packets_of ys
 packets_of-append xs ys = flat_map-append (λ (x : Exchange). packet_of x.answer) xs ys
 
+-- a fact that holds where a call succeeded gives there what follows from it
 pub on_ok : {A P Q : Type 0} (r : Result A ServeError) → OnOk r P → (P → Q) → OnOk r Q
 on_ok (Ok v) h f = f h
 on_ok (Err e) h f = tt
 
+-- what holds anyway holds where a call succeeded
 pub on_any : {A P : Type 0} (r : Result A ServeError) → P → OnOk r P
 on_any (Ok v) h = h
 on_any (Err e) h = tt
 
+-- a list with a first element isn't empty
 pub cons≢nil : {A : Type 0} {x : A} {xs : List A} → ◌≡◌ {A = List A} (x ∷ xs) [] → ⊥
 cons≢nil h = cc
 
@@ -145,6 +149,7 @@ part_none packets = record {
   begun = tt;
 }
 
+-- no exchange at all is what was answered so far, where the station refused a request
 pub answers_none : (e : StationError) (packets : List (List ℕ)) → AnswersSoFar {A = Unit {0}} (Err (refused_with e)) packets []
 answers_none refusals.Memory packets = part_none packets
 answers_none refusals.JournalFull packets = part_none packets
@@ -162,6 +167,7 @@ part_one p x ys q d = record {
   begun = (q, d.0, d.1);
 }
 
+-- a command and the Drains behind it answer one packet, all of it or up to an interruption
 pub answers_one : {A : Type 0} (r : Result A ServeError) (p : List ℕ) (x : Exchange) → x.request ≡ requests.Command (record { items = p }) → IfErr r IsInterruption
     → (xs ys : List Exchange) → xs ≡ x ∷ [] → DrainsSoFar r ys → AnswersSoFar r (p ∷ []) (xs ++ ys)
 answers_one (Ok v) p x q i xs ys e d = rw e (x ∷ ys, [], sym (append-nil (x ∷ ys)), record { command = x; drains = ys; joined = refl; asked = q; drained = d }, refl)
@@ -180,6 +186,7 @@ answers_all_more (p ∷ ps) qs xs ys h k =
     let e : xs ++ ys ≡ h.0 ++ (h.1 ++ ys) = ap (λ (z : List Exchange). z ++ ys) h.2 ∙ append_assoc h.0 h.1 ys in
     (h.0, h.1 ++ ys, e, h.3, answers_all_more ps qs h.1 ys h.4 k)
 
+-- packets that were answered, and others answered in part, are answered in part together
 pub part_more : (ps qs : List (List ℕ)) (xs ys : List Exchange) → AnswersAll ps xs → AnswersPart qs ys → AnswersPart (ps ++ qs) (xs ++ ys)
 part_more ps qs xs ys h k = record {
   done = ps ++ k.done;
@@ -205,6 +212,7 @@ part_all packets xs h = record {
   begun = tt;
 }
 
+-- packets answered so far are answered in part, whatever the result
 pub part_of : {A : Type 0} (r : Result A ServeError) (packets : List (List ℕ)) (xs : List Exchange) → AnswersSoFar r packets xs → AnswersPart packets xs
 part_of (Ok v) packets xs h = part_all packets xs h
 part_of (Err errors.Write) packets xs h = h
@@ -244,6 +252,7 @@ start_before ps qs [] h = tt
 start_before [] qs (x ∷ xs) h = absurd h
 start_before (p ∷ ps) qs (x ∷ xs) h = h
 
+-- packets answered in part are so with later packets behind them
 pub part_before : (ps qs : List (List ℕ)) (xs : List Exchange) → AnswersPart ps xs → AnswersPart (ps ++ qs) xs
 part_before ps qs xs k = record {
   done = k.done;

@@ -17,9 +17,11 @@ len_of-append a b h =
 pub is_frame-true : (m : ℕ) (a : List ℕ) → is_frame m a ≡ true → (len_of a ≤ m) × (length a ≡ 4 + len_of a)
 is_frame-true m a h = (grind (arith, nat_tests, h), grind (arith, nat_tests, h))
 
+-- bytes are one whole frame where LEN is at most MAX_CTO and there are four more of them than LEN tells
 pub is_frame-is : (m : ℕ) (a : List ℕ) → len_of a ≤ m → length a ≡ 4 + len_of a → is_frame m a ≡ true
 is_frame-is m a h k = grind (arith, nat_tests, h, k)
 
+-- bytes are no whole frame where LEN is above MAX_CTO, or there aren't four more of them than LEN tells
 pub is_frame-false : (m : ℕ) (a : List ℕ) → (len_of a ≤ m → length a ≢ 4 + len_of a) → is_frame m a ≡ false
 is_frame-false m a h = grind (arith, nat_tests, h)
 
@@ -50,6 +52,7 @@ front_of_frame m x a b h = λ k.
           omega (arith, short)
     ] refl
 
+-- bytes with no whole frame at their head are no whole frame
 pub unfinished_is_no_frame : (m : ℕ) (a : List ℕ) → IsUnfinished m a → is_frame m a ≡ false
 unfinished_is_no_frame m a h = is_frame-false m a (λ k. omega (arith, h k))
 
@@ -112,6 +115,7 @@ frames_from-append m h (x ∷ a) b =
       | false ↦ frames_from-append m (h ++ x ∷ []) a b
     ]
 
+-- the bytes held after two pieces are those held after the second one, behind what the first one left
 pub rest_from-append : (m : ℕ) (h a b : List ℕ) → rest_from m h (a ++ b) ≡ rest_from m (rest_from m h a) b
 rest_from-append m h [] b = refl
 rest_from-append m h (x ∷ a) b =
@@ -128,6 +132,7 @@ frames-held m h b u =
     let s = stays m [] h u in
     frames_from-append m [] h b ∙ rw (s.0, s.1) refl
 
+-- the rest is the same where the held bytes, with no whole frame at their head, stand before the others
 pub rest-held : (m : ℕ) (h b : List ℕ) → IsUnfinished m h → rest m (h ++ b) ≡ rest_from m h b
 rest-held m h b u = rest_from-append m [] h b ∙ rw ((stays m [] h u).1) refl
 

@@ -35,6 +35,7 @@ front_behind a b c t u x y = record {
   front = record { rest = y.front.rest; joined = joined_behind a b t y.written y.front.rest u x y.front.joined };
 }
 
+-- a text that was gathered, and another one sent behind it, are sent as one text, whatever the result
 pub sends_more : {A : Type 0} (r : Result A ServeError) (a b c : Output) (t u : List ℕ) → Gathers a b t → Sends r b c u → Sends r a c (t ++ u)
 sends_more (Ok v) a b c t u h k = gathers_more a b c t u h k
 sends_more (Err errors.Write) a b c t u h k = front_behind a b c t u h k
@@ -103,6 +104,7 @@ front_of_none a b c t x y e =
       front = x.front;
     }
 
+-- where only a front of the held bytes gets written, a front of what was held before and the text was written
 pub sends_unflushed : {A : Type 0} (r : Result A ServeError) (a b c : Output) (t : List ℕ) → Sends r a b t → (r ≡ Err errors.Write → b.held ≡ [])
     → AppendsFront b.contents c.contents b.held → AppendsFront a.contents c.contents (a.held ++ t)
 sends_unflushed (Ok v) a b c t x n h = unflushed a b c t x h
@@ -120,6 +122,7 @@ all_written a b t x e f =
     let whole : x.written ≡ t = sym (append-nil x.written) ∙ ap (λ (z : List ℕ). x.written ++ z) (sym f) ∙ x.rest ∙ ap (λ (z : List ℕ). z ++ t) e in
     subst (λ (z : List ℕ). Appends a.contents b.contents z) whole x.grown
 
+-- a failed write wrote a front of what was sent, any other error all of it, with nothing held before and after
 pub writes_sent : (A B : Type 0) (e : ServeError) (a b : Output) (t : List ℕ) → Sends {A = A} (Err e) a b t → a.held ≡ [] → b.held ≡ [] → Writes {A = B} (Err e) a.contents b.contents t
 writes_sent A B errors.Write a b t h e f = subst (λ (z : List ℕ). AppendsFront a.contents b.contents (z ++ t)) e h
 writes_sent A B errors.Read a b t h e f = all_written a b t h e f

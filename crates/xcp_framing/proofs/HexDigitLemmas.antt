@@ -15,6 +15,7 @@ use Rattle.xcp_framing.specs.declared.slot.Slot.{Slot}
 use Rattle.xcp_framing.specs.private.LineInSlot.{line_in}
 use Rattle.xcp_framing.specs.ScriptLine.{bytes_if_ok, command_of, command_with, hex_bytes, is_space}
 
+-- the table of all 256 bytes tells of each its value as a hex digit, and 255 where it is none
 pub in_table : (digit : ℕ) → digit < 256 → slice_index (map value_or (range_with_len 0 256)) digit ≡ value_or digit
 in_table digit h = get_or-map-range_with_len value_or 0 256 digit digit 0 h (omega arith)
 

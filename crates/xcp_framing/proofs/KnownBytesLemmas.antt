@@ -56,5 +56,6 @@ written_front a b c before texts text whole h k p q = record {
 pub none_more : (text texts : List ℕ) → texts ≡ [] → text ++ texts ≡ text
 none_more text texts h = rw h (append-nil text)
 
+-- a text is a front of itself
 pub front_all : (text : List ℕ) → IsFront text text
 front_all text = record { rest = []; joined = append-nil text }

@@ -39,6 +39,7 @@ asked_more m line later old new f e =
     let asks : asked_before m (line ∷ later) ≡ asked_by (meaning m line) ++ asked_before m later = rw f refl in
     ap (λ (qs : List Request). qs ++ asked_before m later) e ∙ append_assoc old (asked_by (meaning m line)) (asked_before m later) ∙ ap (λ (qs : List Request). old ++ qs) (sym asks)
 
+-- the first faulty line has the same number where a line before it that isn't faulty is counted already
 pub fault_more : (m n : ℕ) (line : List ℕ) (later : List (List ℕ)) → is_faulty (meaning m line) ≡ false → faulty_from m (n + 1) later ≡ faulty_from m n (line ∷ later)
 fault_more m n line later f = rw f refl
 

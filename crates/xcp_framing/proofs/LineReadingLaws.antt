@@ -22,6 +22,7 @@ by_test : (b : Bool) (P : Type 0) → (b ≡ true → P) → (b ≡ false → P)
 by_test true P if_true if_false = if_true refl
 by_test false P if_true if_false = if_false refl
 
+-- the requests before the first faulty line are the same, taken line by line or of the whole list
 pub asked_is : (m : ℕ) (lines : List (List ℕ)) → asked_before m lines ≡ asked m lines
 asked_is m [] = refl
 asked_is m (l ∷ ls) =
@@ -39,6 +40,7 @@ faulty_from_is m n (l ∷ ls) =
     (λ h. rw h refl)
     (λ h. rw h (faulty_from_is m (n + 1) ls))
 
+-- the number of the first faulty line is the same, counted line by line or in the whole list
 pub faulty_is : (m : ℕ) (lines : List (List ℕ)) → faulty_from m 0 lines ≡ first_faulty m lines
 faulty_is m lines = faulty_from_is m 0 lines ∙ ap (λ (o : Option ℕ). option_map (λ i. i + 1) o) (sym (position_from-zero (λ line. is_faulty (meaning m line)) lines))
 
@@ -122,11 +124,13 @@ cut begun (b ∷ bs) h =
       are = rw k later.are;
     })
 
+-- the lines that are read of a text are its lines
 pub lines_of : (text : List ℕ) → Lines text (lines_from [] text)
 lines_of text =
     let read = cut [] text (All-nil (λ x. x ≢ 10)) in
     record { ended = read.ended; last = read.last; whole = read.whole; ended_once = read.ended_once; not_ended = read.not_ended; are = read.are }
 
+-- a text has one list of lines only
 pub one_list_only : (text : List ℕ) (lines others : List (List ℕ)) → Lines text lines → Lines text others → lines ≡ others
 one_list_only text lines others h k = lines_are_read text lines h ∙ sym (lines_are_read text others k)
 

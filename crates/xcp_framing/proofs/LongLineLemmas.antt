@@ -47,6 +47,7 @@ begun_stops m n begun (b ∷ bs) h =
 piece_stops : (m n : ℕ) (begun piece rest : List ℕ) → HasNoFeed piece → 1025 < length (begun ++ piece) → Stops m n (lines_from begun (piece ++ rest))
 piece_stops m n begun piece rest h k = subst (λ (ls : List (List ℕ)). Stops m n ls) (sym (none_ends begun piece rest h)) (begun_stops m n (begun ++ piece) rest k)
 
+-- where a line gets more than 1,025 bytes within a piece, nothing is asked, and it is the first faulty one
 pub too_long_stops : (m n : ℕ) (begun piece rest : List ℕ) → IsTooLong begun piece → Stops m n (lines_from begun (piece ++ rest))
 too_long_stops m n begun piece rest t =
     let parts : lines_from begun (piece ++ rest) ≡ lines_from begun (t.last ++ (t.behind ++ rest)) =

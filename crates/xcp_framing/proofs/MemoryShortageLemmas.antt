@@ -11,7 +11,7 @@ use Rattle.xcp_framing.specs.Prefix.{IsFront, AppendsFront}
 use Rattle.xcp_framing.specs.Lines.{unless_empty}
 use Rattle.xcp_framing.specs.private.LineReading.{asked_before, lines_from, OfRead, ShortOf}
 use Rattle.xcp_framing.specs.Replay.{asked, EndsShort, Tells}
-use Rattle.xcp_framing.specs.AnswerText.{told}
+use Rattle.xcp_framing.specs.AnswerText.{answers_text}
 use Rattle.xcp_framing.proofs.KnownBytesLemmas.{front_all}
 use Rattle.xcp_framing.proofs.ScriptProgressLemmas.{Midway}
 
@@ -22,17 +22,17 @@ front_taken old new x later e =
     record { rest = later; joined = ap (λ (qs : List Request). qs ++ later) more ∙ append_assoc (requests_of old) (x.request ∷ []) later }
 
 -- the same, told from an earlier place on
-pub short_since : (asks asks' : List Request) (old now new : List Exchange) → asks ≡ asks' → ((text : List ℕ) → IsFront text (told old) → IsFront text (told now)) → ShortOf asks now new → ShortOf asks' old new
+pub short_since : (asks asks' : List Request) (old now new : List Exchange) → asks ≡ asks' → ((text : List ℕ) → IsFront text (answers_text old) → IsFront text (answers_text now)) → ShortOf asks now new → ShortOf asks' old new
 short_since asks asks' old now new e k (inl h) = inl (record { next = h.next; more = h.more; joined = sym e ∙ h.joined })
 short_since asks asks' old now new e k (inr h) = inr (record { earlier = h.earlier; last = h.last; joined = h.joined; kept = λ text f. h.kept text (k text f) })
 
 -- what was written then
 abbrev pub Written : List Exchange → Option (List ℕ) → Option (List ℕ) → Type 0
-Written old a b = (text : List ℕ) → IsFront (told old) text → AppendsFront a b text
+Written old a b = (text : List ℕ) → IsFront (answers_text old) text → AppendsFront a b text
 
 short_ends : (asks asks' : List Request) (old new : List Exchange) (a b : Option (List ℕ)) → asks ≡ asks' → Written old a b → ShortOf asks old new → EndsShort asks' new a b
 short_ends asks asks' old new a b e f (inl h) = inl (record { next = h.next; more = h.more; joined = sym e ∙ h.joined })
-short_ends asks asks' old new a b e f (inr h) = inr (record { earlier = h.earlier; last = h.last; joined = h.joined; written = f (told h.earlier) (h.kept (told old) (front_all (told old))) })
+short_ends asks asks' old new a b e f (inr h) = inr (record { earlier = h.earlier; last = h.last; joined = h.joined; written = f (answers_text h.earlier) (h.kept (answers_text old) (front_all (answers_text old))) })
 
 -- in a piece of the input
 pub fed_short : (m limit : ℕ) (i o n : Option (List ℕ)) (chunk line : List ℕ) (count : ℕ) (old new : List Exchange) (a b : Option (List ℕ))

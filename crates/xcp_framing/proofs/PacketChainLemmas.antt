@@ -13,6 +13,7 @@ use Rattle.xcp_framing.specs.private.PacketChain.{Chain, Stopped, Answered, Ends
 use Rattle.xcp_framing.proofs.PieceLemmas.{ahead, ahead_none, bad_stays}
 use Rattle.xcp_framing.proofs.StreamLemmas.{read_none, read_kept, keeps_end, read_more}
 
+-- packets that were answered, and then more, are answered in order
 pub chain_more : {A : Type 0} (Step : A → A → List ℕ → Type 0) (ps qs : List (List ℕ)) (a b c : A) → Chain Step ps a b → Chain Step qs b c → Chain Step (ps ++ qs) a c
 chain_more Step [] qs a b c h k = subst (λ x. Chain Step qs x c) h k
 chain_more Step (p ∷ ps) qs a b c h k = (h.0, h.1, chain_more Step ps qs h.0 b c h.2 k)
@@ -33,6 +34,7 @@ stopped_more Step Ends ps qs a b c h k = record {
   ended = k.ended;
 }
 
+-- packets that were answered, and those of a call, are answered up to where the call ended
 pub answered_more : {A R : Type 0} (Step : A → A → List ℕ → Type 0) (Ends : A → A → List ℕ → Stop → Type 0) (r : Result R StreamError) (ps qs : List (List ℕ)) (a b c : A) → Chain Step ps a b → Answered Step Ends r qs b c → Answered Step Ends r (ps ++ qs) a c
 answered_more Step Ends (Ok v) ps qs a b c h k = chain_more Step ps qs a b c h k
 answered_more Step Ends (Err errors.Read) ps qs a b c h k = chain_more Step ps qs a b c h k
@@ -42,6 +44,7 @@ answered_more Step Ends (Err errors.NoBuffer) ps qs a b c h k = chain_more Step 
 answered_more Step Ends (Err errors.TurnsSpent) ps qs a b c h k = chain_more Step ps qs a b c h k
 answered_more Step Ends (Err (errors.Stopped stop)) ps qs a b c h k = stopped_more Step (λ x y p. Ends x y p stop) ps qs a b c h k
 
+-- what was answered up to an error is the same under another type of result
 pub answered_as : {A : Type 0} (R Q : Type 0) (Step : A → A → List ℕ → Type 0) (Ends : A → A → List ℕ → Stop → Type 0) (e : StreamError) (ps : List (List ℕ)) (a b : A) → Answered {R = R} Step Ends (Err e) ps a b → Answered {R = Q} Step Ends (Err e) ps a b
 answered_as R Q Step Ends errors.Read ps a b h = h
 answered_as R Q Step Ends (errors.BadLength n) ps a b h = h
@@ -58,6 +61,7 @@ pub record Uses {A : Type 0} (Step : A → A → List ℕ → Type 0) (m : ℕ) 
   pub behind : rest m (h ++ s) ≡ rest m (left ++ drop used s)
   pub counted : count ≡ first + length done
 
+-- before any byte of a piece is used, no packet of it is answered
 pub uses_none : {A : Type 0} (Step : A → A → List ℕ → Type 0) (m : ℕ) (h s : List ℕ) (old : A) (first : ℕ) → Uses Step m h s h 0 old old first first
 uses_none Step m h s old first = record { done = []; chain = refl; packets = refl; behind = refl; counted = omega arith }
 
@@ -122,6 +126,7 @@ pub record Along {A : Type 0} (Step : A → A → List ℕ → Type 0) (m : ℕ)
   pub counted : count ≡ length packets
   pub good : ¬ IsBadLength m held
 
+-- before the first read nothing is held, and no packet is answered
 pub along_start : {A : Type 0} (Step : A → A → List ℕ → Type 0) (m : ℕ) (i : Option (List ℕ)) (old : A) → Along Step m i i [] old old 0
 along_start Step m i old = record { packets = []; read = read_none m i; chain = refl; counted = refl; good = λ bad. omega (arith, bad.there) }
 

@@ -13,9 +13,11 @@ use Rattle.xcp_framing.proofs.FrameCutLaws.{stays, whole_frame, is_frame-is, len
 pub held_unfinished : (m : ℕ) (a : List ℕ) → IsUnfinished m a → (frames m a ≡ []) × (a ≡ rest m a)
 held_unfinished m a u = let s = stays m [] a u in (s.0, sym s.1)
 
+-- bytes that are fewer than a frame of their LEN has give no packet, and are the rest
 pub held_short : (m : ℕ) (a : List ℕ) → length a < 4 + len_of a → (frames m a ≡ []) × (a ≡ rest m a)
 held_short m a h = held_unfinished m a (λ k. h)
 
+-- bytes with a LEN above MAX_CTO at their head give no packet, and are the rest
 pub held_bad : (m : ℕ) (a : List ℕ) → m < len_of a → (frames m a ≡ []) × (a ≡ rest m a)
 held_bad m a h = held_unfinished m a (λ k. absurd (omega (arith, h, k)))
 
@@ -24,11 +26,13 @@ pub held_frame : (m : ℕ) (a : List ℕ) → is_frame m a ≡ true → (frames 
 held_frame m [] f = absurd (grind (arith, nat_tests, f))
 held_frame m (x ∷ a) f = let w = whole_frame m [] x a f in (w.0, sym w.1)
 
+-- a whole frame of LEN 0 gives no packet and leaves no rest
 pub held_empty : (m : ℕ) (a : List ℕ) → len_of a ≤ m → length a ≡ 4 + len_of a → length a ≡ 4 → (frames m a ≡ []) × ([] ≡ rest m a)
 held_empty m a h k e =
     let w = held_frame m a (is_frame-is m a h k) in
     (w.0 ∙ rw e refl, w.1)
 
+-- a whole frame of another LEN gives the packet behind its four bytes of LEN and CTR and leaves no rest
 pub held_packet : (m : ℕ) (a : List ℕ) → len_of a ≤ m → length a ≡ 4 + len_of a → length a ≢ 4 → (frames m a ≡ drop 4 a ∷ []) × ([] ≡ rest m a)
 held_packet m a h k e =
     let w = held_frame m a (is_frame-is m a h k) in
@@ -132,9 +136,11 @@ cut_at m i j h s r f =
     let cut = cuts_alike m (h ++ take i s) (take j (drop i s)) in
     (ap (frames m) parts ∙ cut.0 ∙ rw (f.brings, ← f.leaves) refl, ap (rest m) parts ∙ cut.1 ∙ rw (← f.leaves) refl)
 
+-- a front is quiet where its first part brings no packet and its last part is quiet behind what that left
 pub quiet_behind : (m i j : ℕ) (h s r : List ℕ) → Feeds m h s i [] r → IsQuiet m (r ++ take j (drop i s)) → IsQuiet m (h ++ take (i + j) s)
 quiet_behind m i j h s r f q = let c = cut_at m i j h s r f in record { no_packet = c.0 ∙ q.no_packet; no_fault = rw c.1 q.no_fault }
 
+-- a front that brings no packet and the front behind it are one front, which brings what the second does
 pub feeds_more : (m i j : ℕ) (h s r t : List ℕ) {packets : List (List ℕ)} {left : List ℕ} → Feeds m h s i [] r → t ≡ drop i s → Feeds m r t j packets left → Feeds m h s (i + j) packets left
 feeds_more m i j h s r t f e g =
     let g' = rw e at g in

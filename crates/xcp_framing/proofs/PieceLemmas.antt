@@ -46,6 +46,7 @@ pub record Consumes (m : ℕ) (h s left : List ℕ) (used : ℕ) (old now : List
   pub behind : rest m (h ++ s) ≡ rest m (left ++ drop used s)
   pub counted : count ≡ first + length done
 
+-- before any byte of a piece is used, no packet of it is answered and nothing is sent
 pub consumes_none : (m : ℕ) (h s : List ℕ) (old : List Exchange) (a : Output) (from first : ℕ) → Consumes m h s h 0 old old a a from from first first
 consumes_none m h s old a from first = record {
   done = [];

@@ -16,7 +16,7 @@ use Rattle.xcp_framing.specs.declared.passage.StreamError.TheVariants as faults
 use Rattle.xcp_framing.specs.Frames.{frames, rest}
 use Rattle.xcp_framing.specs.Serve.{packet_of, packets_of, OnRead, EndsStream, EndsReader}
 use Rattle.xcp_framing.specs.ServeRefusal.{OnRefusal, Refused}
-use Rattle.xcp_framing.specs.private.PacketChain.{Stand, Chain, Stopped, Streams, AtReaderEnd, told}
+use Rattle.xcp_framing.specs.private.PacketChain.{Stand, Chain, Stopped, Streams, AtReaderEnd, serve_error}
 use Rattle.xcp_framing.specs.ServeBy.{command, commands, PutsAll, PutsUpTo, PutsSome, ServesBy, CommandNext}
 use Rattle.xcp_framing.specs.private.ServeBy.{Exchanged, HandedBack, Declined, EndsAt}
 use Rattle.xcp_framing.proofs.ExchangeLemmas.{packets_of-append}
@@ -68,7 +68,7 @@ module _ {S O : Type 0} (exchanges_of : S → List Exchange) (refuses : S → Re
       (k.exchanges, ap exchanges_of h.ended.same ∙ k.grown, record { done = h.done; later = h.packet ∷ h.later; packets_are = h.packets_are; answered = record { asked = k.puts.asked; put = ap put_of h.ended.out ∙ k.puts.put } })
 
   pub by_err : (m : ℕ) (e : StreamError) (i o : Option (List ℕ)) (a b : Stand S O) → Streams (Exchanged exchanges_of put_of same_out) (EndsAt exchanges_of refuses put_of same_out) m (Err e) i o a b
-      → ServesBy m (Err (told e)) i o (exchanges_of a.station) (exchanges_of b.station) (put_of a.out) (put_of b.out)
+      → ServesBy m (Err (serve_error e)) i o (exchanges_of a.station) (exchanges_of b.station) (put_of a.out) (put_of b.out)
   by_err m faults.Read i o a b s = let k = sums s.packets a b s.answered in
       record { packets = s.packets; behind = s.behind; read = s.read; exchanges = k.exchanges; grown = k.grown; puts = k.puts; ends = s.ends; counts = tt }
   by_err m (faults.BadLength n) i o a b s = let k = sums s.packets a b s.answered in
@@ -132,7 +132,7 @@ module _ {S O : Type 0} (exchanges_of : S → List Exchange) (refuses : S → Re
 
   pub refused_by : {R : Type 0} (m : ℕ) (e : StreamError) (i o : Option (List ℕ)) (a b : Stand S O) → Streams (Exchanged exchanges_of put_of same_out) (EndsAt exchanges_of refuses put_of same_out) m (Err e) i o a b
       → (e ≡ faults.NoBuffer → R × (b.station ≡ a.station) × (b.out ≡ a.out))
-      → OnRefusal {A = Served} (Err (told e)) (λ x. ((x ≡ refusals.Memory) × R × (b.station ≡ a.station) × (b.out ≡ a.out)) ⊎ Refused exchanges_of refuses x (CommandNext m i o) (exchanges_of a.station) b.station)
+      → OnRefusal {A = Served} (Err (serve_error e)) (λ x. ((x ≡ refusals.Memory) × R × (b.station ≡ a.station) × (b.out ≡ a.out)) ⊎ Refused exchanges_of refuses x (CommandNext m i o) (exchanges_of a.station) b.station)
   refused_by m faults.Read i o a b s f = tt
   refused_by m (faults.BadLength n) i o a b s f = tt
   refused_by m faults.Truncated i o a b s f = tt
@@ -163,7 +163,8 @@ module _ {S O : Type 0} (exchanges_of : S → List Exchange) (refuses : S → Re
   err_kept m (faults.Stopped stops.Memory) i o a b s = declined_kept refusals.Memory s.packets a b s.answered
   err_kept m (faults.Stopped stops.JournalFull) i o a b s = declined_kept refusals.JournalFull s.packets a b s.answered
 
-pub reader_told : (e : StreamError) (after : Option (List ℕ)) → AtReaderEnd (Err e) after → EndsReader (Err (told e)) after
+-- what an error of a stream says of the reader's end, the error of serving that tells it says too
+pub reader_told : (e : StreamError) (after : Option (List ℕ)) → AtReaderEnd (Err e) after → EndsReader (Err (serve_error e)) after
 reader_told faults.Read after h = tt
 reader_told (faults.BadLength n) after h = tt
 reader_told faults.Truncated after h = h
@@ -174,7 +175,7 @@ reader_told (faults.Stopped stops.Memory) after h = tt
 reader_told (faults.Stopped stops.JournalFull) after h = tt
 
 -- what isn't told as a failed read was none
-pub read_told : (e : StreamError) → ◌≢◌ {A = Result Served ServeError} (Err (told e)) (Err errors.Read) → ◌≢◌ {A = Result ℕ StreamError} (Err e) (Err faults.Read)
+pub read_told : (e : StreamError) → ◌≢◌ {A = Result Served ServeError} (Err (serve_error e)) (Err errors.Read) → ◌≢◌ {A = Result ℕ StreamError} (Err e) (Err faults.Read)
 read_told faults.Read h = λ is. h refl
 read_told (faults.BadLength n) h = λ is. cc
 read_told faults.Truncated h = λ is. cc

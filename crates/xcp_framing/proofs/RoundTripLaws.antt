@@ -16,6 +16,7 @@ frame_comes_back m k p h some fits =
     let long : length f ≡ 4 + length p = omega arith in
     held_packet m f (omega (arith, told, fits)) (omega (arith, told, long)) (omega (arith, long, some))
 
+-- where LEN can tell MAX_CTO, packets of 1 to MAX_CTO bytes come back from frames numbered from k on, with no rest
 pub wire_comes_back_from : (m k : ℕ) (packets : List (List ℕ)) → m < 65536 → All (λ p. (0 < length p) × (length p ≤ m)) packets
     → (frames m (wire_from k packets) ≡ packets) × (rest m (wire_from k packets) ≡ [])
 wire_comes_back_from m k [] h a = (refl, refl)
@@ -27,5 +28,6 @@ wire_comes_back_from m k (p ∷ ps) h a =
     let cut = cuts_alike m f (wire_from (k + 1) ps) in
     (cut.0 ∙ rw (one.0, ← one.1, ih.0) refl, cut.1 ∙ rw (← one.1) ih.1)
 
+-- where LEN can tell MAX_CTO, packets of 1 to MAX_CTO bytes come back from the wire of a sender, with no rest
 pub wire_comes_back : WireComesBack
 wire_comes_back m packets h a = wire_comes_back_from m 0 packets h a

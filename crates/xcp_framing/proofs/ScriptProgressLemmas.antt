@@ -21,6 +21,7 @@ Midway m (Some input) (Some rest) line count requests =
     (requests ++ asked_before m (lines_from line rest) ≡ asked m (lines_from [] input))
     × (faulty_from m count (lines_from line rest) ≡ first_faulty m (lines_from [] input))
 
+-- before a script's first piece nothing was asked, and all of the input is left
 pub midway_init : (m : ℕ) (o : Option (List ℕ)) → Midway m o o [] 0 []
 midway_init m None = tt
 midway_init m (Some xs) = (asked_is m (lines_from [] xs), faulty_is m (lines_from [] xs))

@@ -41,6 +41,7 @@ read_kept (Some xs) None n Fact h k = absurd h
 read_kept (Some xs) (Some ys) None Fact h k = absurd k
 read_kept (Some xs) (Some ys) (Some zs) Fact h k = (h.0, h.1 ∙ ap (λ (z : List ℕ). h.0 ++ z) (sym k), h.2)
 
+-- a read that gives no bytes leaves the reader's bytes as they were
 pub keeps_end : (o n : Option (List ℕ)) → Consumes o n [] → Keeps o n
 keeps_end None n h = tt
 keeps_end (Some xs) None h = absurd h

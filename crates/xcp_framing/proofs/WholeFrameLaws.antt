@@ -20,6 +20,7 @@ framed_more m f s packets left h x = record {
   packets_of = ap (λ (t : List (List ℕ)). packet_in f ++ t) x.packets_of ∙ sym (flat_map-cons packet_in f x.whole);
 }
 
+-- held bytes with no whole frame at their head, and those behind them, are whole frames and a rest
 pub framed_from : (m : ℕ) (h s : List ℕ) → IsUnfinished m h → Framed m (h ++ s) (frames_from m h s) (rest_from m h s)
 framed_from m h [] u = record { whole = []; each = λ i d b. absurd (omega (arith, b)); joined = append-nil h; unfinished = u; packets_of = refl }
 framed_from m h (x ∷ s) u =
@@ -30,6 +31,7 @@ framed_from m h (x ∷ s) u =
       | false ↦ λ e. framed_from m (h ++ x ∷ []) s (unfinished_more m x h u e)
     ] refl)
 
+-- whole frames in a row have their stream's packets, and what follows, with no whole frame, is its rest
 pub whole_frames : (m : ℕ) (whole : List (List ℕ)) (left : List ℕ) → All (λ f. IsTrue (is_frame m f)) whole → IsUnfinished m left
     → (flat_map packet_in whole ≡ frames m (flat_map (λ f. f) whole ++ left)) × (left ≡ rest m (flat_map (λ f. f) whole ++ left))
 whole_frames m [] left a u = let w = held_unfinished m left u in (sym w.0, w.1)
@@ -43,11 +45,13 @@ whole_frames m (f ∷ fs) left a u =
       ih.1 ∙ sym (ap (rest m) joined ∙ cut.1 ∙ rw (← first.1) refl),
     )
 
+-- where a stream is whole frames and a rest, it has these frames' packets, and this is its rest
 pub framed_once : (m : ℕ) (stream : List ℕ) (packets : List (List ℕ)) (left : List ℕ) → Framed m stream packets left → (packets ≡ frames m stream) × (left ≡ rest m stream)
 framed_once m stream packets left x =
     let w = whole_frames m x.whole left x.each x.unfinished in
     (x.packets_of ∙ rw (x.joined) w.0, rw (x.joined) w.1)
 
+-- each stream is whole frames and a rest, in exactly one way
 pub frames_are_framed : FramesAreFramed
 frames_are_framed m stream packets left =
     (framed_once m stream packets left, λ h. rw (h.0, h.1) (framed_from m [] stream (unfinished_nil m)))
@@ -76,6 +80,7 @@ plain_end m at s t items inv behind e u =
     let all : items ≡ frames m s = sym (inv ∙ rw (w.0) (append-nil items)) in
     (frames_are_framed m s items (drop at s)).1 (all, w.1 ∙ sym behind)
 
+-- what holds where there is no value holds, if there can't be one
 pub no_some : {A : Type 0} {P : Type 0} (o : Option A) → IfNone o P → ((x : A) → o ≡ Some x → ⊥) → P
 no_some None h k = h
 no_some (Some x) h k = absurd (k x refl)

@@ -23,5 +23,5 @@ unfoldable pub text_of : Answer → List ℕ
 text_of answer = words_of answer ++ 10 ∷ []
 
 -- the lines of the exchanges' answers, in order
-abbrev pub told : List Exchange → List ℕ
-told exchanges = flat_map (λ x. text_of x.answer) exchanges
+abbrev pub answers_text : List Exchange → List ℕ
+answers_text exchanges = flat_map (λ x. text_of x.answer) exchanges

@@ -12,7 +12,7 @@ use Rattle.xcp_framing.specs.declared.fault.ReplayError.TheVariants as errors
 use Rattle.xcp_framing.specs.Prefix.{IsFront, AppendsFront}
 use Rattle.xcp_framing.specs.Lines.{Lines}
 use Rattle.xcp_framing.specs.ScriptLine.{meaning}
-use Rattle.xcp_framing.specs.AnswerText.{told}
+use Rattle.xcp_framing.specs.AnswerText.{answers_text}
 
 abbrev pub is_faulty : Line → Bool
 is_faulty Faulty = true
@@ -68,7 +68,7 @@ pub record NotTold (exchanges : List Exchange) (old new : Option (List ℕ)) : T
   pub earlier : List Exchange
   pub last : Exchange
   pub joined : exchanges ≡ earlier ++ last ∷ []
-  pub written : AppendsFront old new (told earlier)
+  pub written : AppendsFront old new (answers_text earlier)
 
 -- where memory is short: at a request that was not taken, or at the text of its answer
 abbrev pub EndsShort : List Request → List Exchange → Option (List ℕ) → Option (List ℕ) → Type 0

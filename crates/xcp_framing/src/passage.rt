@@ -3,12 +3,12 @@ ghost use Rattle.std.specs.Prelude.{◌≡◌, ◌≢◌, ◌<◌, ◌≤◌, �
 ghost use Rattle.xcp_framing.specs.declared.passage.Stop.{Stop};
 ghost use Rattle.xcp_framing.specs.Frames.{frames, rest};
 ghost use Rattle.xcp_framing.specs.private.Serve.{most_packets};
-ghost use Rattle.xcp_framing.specs.private.PacketChain.{Stand, Answered, EndsPart, Streams, AtReaderEnd, told};
+ghost use Rattle.xcp_framing.specs.private.PacketChain.{Stand, Answered, EndsPart, Streams, AtReaderEnd, serve_error};
 
-use crate::{Framer, Got, ServeError, Watched};
+use crate::lent::LentCommand;
+use crate::{Brought, Framer, ServeError, Watched};
 use std::alloc::Global;
 use std::io::Read;
-use xcp_packet::Packet;
 
 /// The most bytes that one read takes.
 const READ_SIZE: usize = 512;
@@ -43,15 +43,20 @@ pub(crate) trait Answerer<S, O> {
     /// What was done where it ended the call.
     ghost ends: { Stand S O → Stand S O → List ℕ → Stop → Type 0 };
 
-    /// Answers one packet.
-    fn answer(packet: Packet, station: &mut S, out: &mut O, sent: &mut u64) -> Result<(), Stop>
+    /// Answers a command that is lent.
+    fn answer(
+        command: &LentCommand,
+        station: &mut S,
+        out: &mut O,
+        sent: &mut u64,
+    ) -> Result<(), Stop>
         requires { sent.old + most_packets < 2 ^ 64 }
         ensures answers { OnOk result (answers
             (record { station = station.old; out = out.old; sent = sent.old })
-            (record { station = station.new; out = out.new; sent = sent.new }) packet.items) }
+            (record { station = station.new; out = out.new; sent = sent.new }) command.now.items) }
         ensures ends { IfErr result (λ stop. ends
             (record { station = station.old; out = out.old; sent = sent.old })
-            (record { station = station.new; out = out.new; sent = sent.new }) packet.items stop) }
+            (record { station = station.new; out = out.new; sent = sent.new }) command.now.items stop) }
         ensures bound { OnOk result (sent.new ≤ sent.old + most_packets) };
 }
 
@@ -59,6 +64,7 @@ pub(crate) trait Answerer<S, O> {
 fn answer_piece<A: Answerer<S, O>, S, O>(
     framer: &mut Framer,
     piece: &[u8],
+    command: &mut LentCommand,
     station: &mut S,
     out: &mut O,
     sent: &mut u64,
@@ -80,14 +86,14 @@ fn answer_piece<A: Answerer<S, O>, S, O>(
 {
     let mut used = 0;
     loop {
-        let fed = framer.feed(&piece[used..]);
-        used += fed.used;
-        match fed.got {
-            Got::More => return Ok(()),
-            Got::BadLength(length) => return Err(StreamError::BadLength(length)),
-            Got::Packet(packet) => {
+        let cut = command.cut(framer, &piece[used..]);
+        used += cut.used;
+        match cut.brought {
+            Brought::More => return Ok(()),
+            Brought::BadLength(length) => return Err(StreamError::BadLength(length)),
+            Brought::Packet => {
                 *count += 1;
-                match A::answer(packet, station, out, sent) {
+                match A::answer(command, station, out, sent) {
                     Ok(()) => {}
                     Err(stop) => return Err(StreamError::Stopped(stop)),
                 }
@@ -126,6 +132,7 @@ pub(crate) fn answer_stream<A: Answerer<S, O>, S, O, R: Read>(
         return Err(StreamError::NoBuffer);
     };
     let mut framer = Framer::new(max_cto);
+    let mut command = LentCommand::new();
     let mut count = 0;
     for _turn in 0..turns {
         let Ok(length) = reader.read(&mut buffer) else {
@@ -140,6 +147,7 @@ pub(crate) fn answer_stream<A: Answerer<S, O>, S, O, R: Read>(
         answer_piece::<A, S, O>(
             &mut framer,
             &buffer[..length],
+            &mut command,
             station,
             out,
             sent,
@@ -150,8 +158,8 @@ pub(crate) fn answer_stream<A: Answerer<S, O>, S, O, R: Read>(
 }
 
 /// The error of serving.
-pub(crate) fn told(error: StreamError) -> ServeError
-    ensures { result ≡ told error }
+pub(crate) fn serve_error(error: StreamError) -> ServeError
+    ensures { result ≡ serve_error error }
 {
     match error {
         StreamError::Read => ServeError::Read,

@@ -8,7 +8,8 @@ use crate::{End, ServeError, Station};
 use std::sync::atomic::{AtomicBool, Ordering};
 use std::thread;
 use std::time::{Clock, Duration};
-use xcp_slave::{Answer, Request};
+use xcp_packet::Packet;
+use xcp_slave::{Request, Told};
 
 /// Submits one `Drain`, and puts its packet. `Ok` is the number of packets put, none or one.
 fn pump_one<S: Station, E: End>(station: &mut S, end: &mut E) -> Result<u64, ServeError>
@@ -20,7 +21,8 @@ fn pump_one<S: Station, E: End>(station: &mut S, end: &mut E) -> Result<u64, Ser
     ensures refused { OnRefusal result (λ e. Refused S.exchanges S.refuses e DrainAgain
         (S.exchanges station.old) station.new) }
 {
-    let Answer::Packet(packet) = station.submit(Request::Drain)? else {
+    let mut packet = Packet::new();
+    let Told::Packet = station.submit_into(&Request::Drain, &mut packet)? else {
         return Ok(0);
     };
     if end.put(packet).is_err() {

@@ -6,7 +6,7 @@ ghost use Rattle.xcp_slave.specs.SlaveValue.{layout_of, opening};
 ghost use Rattle.xcp_framing.specs.Prefix.{IsFront};
 ghost use Rattle.xcp_framing.specs.private.LineReading.{OfRead};
 ghost use Rattle.xcp_framing.specs.Replay.{EndsShort, OfLines, Replayed, Tells, asked};
-ghost use Rattle.xcp_framing.specs.AnswerText.{told};
+ghost use Rattle.xcp_framing.specs.AnswerText.{answers_text};
 
 use crate::script::{LineError, Pending};
 use crate::{Desk, ReplayError, Watched};
@@ -79,7 +79,7 @@ fn run_script<R: Read, W: Write>(
     ensures replayed { OfRead (R.remaining reader.old.inner) (λ lines.
         Replayed (layout_of desk.old.slave).max_cto lines result (requests_of desk.new.exchanges)) }
     ensures told { Tells result
-        (W.contents writer.old.inner) (W.contents writer.new.inner) (told desk.new.exchanges) }
+        (W.contents writer.old.inner) (W.contents writer.new.inner) (answers_text desk.new.exchanges) }
     ensures ended { OnOk result (IsAtEnd (R.remaining reader.new.inner)) }
     ensures read { result ≡ Err ReplayError.Read
         → (reader.old.failures < reader.new.failures) ⊎ (reader.new.calls ≡ reader.old.calls + turns) }
@@ -135,7 +135,7 @@ pub fn replay_on<R: Read, W: Write>(
         Replayed (layout_of desk.old.slave).max_cto lines result (requests_of desk.new.exchanges)) }
     ensures run { Run (opening (layout_of desk.old.slave)) desk.new.exchanges desk.new.slave }
     ensures told { Tells result
-        (W.contents writer.old.inner) (W.contents writer.new.inner) (told desk.new.exchanges) }
+        (W.contents writer.old.inner) (W.contents writer.new.inner) (answers_text desk.new.exchanges) }
     ensures ended { OnOk result (IsAtEnd (R.remaining reader.new.inner)) }
 
     // A fault of a stream comes only where that stream failed, or the turns are spent.

@@ -8,7 +8,7 @@ ghost use Rattle.xcp_framing.specs.Lines.{unless_empty};
 ghost use Rattle.xcp_framing.specs.ScriptLine.{meaning};
 ghost use Rattle.xcp_framing.specs.private.LineReading.{asked_before, faulty_from, lines_from, ShortOf};
 ghost use Rattle.xcp_framing.specs.Replay.{asked_by, is_faulty};
-ghost use Rattle.xcp_framing.specs.AnswerText.{told};
+ghost use Rattle.xcp_framing.specs.AnswerText.{answers_text};
 
 use crate::liner::{Lined, Liner};
 use crate::parsing::parse_into;
@@ -78,10 +78,10 @@ impl Pending {
             desk.old.exchanges desk.new.exchanges }
         // Whatever was written before these texts: what it is with them.
         ensures told { result ≢ Err LineError.Memory → (before : List ℕ)
-            → before ++ texts.old.items ≡ told desk.old.exchanges
-            → before ++ texts.new.items ≡ told desk.new.exchanges }
+            → before ++ texts.old.items ≡ answers_text desk.old.exchanges
+            → before ++ texts.new.items ≡ answers_text desk.new.exchanges }
         ensures kept { (text : List ℕ)
-            → IsFront text (told desk.old.exchanges) → IsFront text (told desk.new.exchanges) }
+            → IsFront text (answers_text desk.old.exchanges) → IsFront text (answers_text desk.new.exchanges) }
         ensures layout { layout_of desk.new.slave ≡ layout_of desk.old.slave }
         ensures counted { self.new.count ≤ self.old.count + length piece.now }
     {
@@ -123,10 +123,10 @@ impl Pending {
             ++ asked_before max_cto (unless_empty self.now.liner.held.items))
             desk.old.exchanges desk.new.exchanges }
         ensures told { result ≢ Err LineError.Memory → (before : List ℕ)
-            → before ++ texts.old.items ≡ told desk.old.exchanges
-            → before ++ texts.new.items ≡ told desk.new.exchanges }
+            → before ++ texts.old.items ≡ answers_text desk.old.exchanges
+            → before ++ texts.new.items ≡ answers_text desk.new.exchanges }
         ensures kept { (text : List ℕ)
-            → IsFront text (told desk.old.exchanges) → IsFront text (told desk.new.exchanges) }
+            → IsFront text (answers_text desk.old.exchanges) → IsFront text (answers_text desk.new.exchanges) }
         ensures layout { layout_of desk.new.slave ≡ layout_of desk.old.slave }
     {
         if self.liner.held.is_empty() {
@@ -157,10 +157,10 @@ fn answer_line(
         → ShortOf (requests_of desk.old.exchanges ++ asked_before max_cto (line.now ∷ later))
         desk.old.exchanges desk.new.exchanges }
     ensures told { result ≢ Err LineError.Memory → (before : List ℕ)
-        → before ++ texts.old.items ≡ told desk.old.exchanges
-        → before ++ texts.new.items ≡ told desk.new.exchanges }
+        → before ++ texts.old.items ≡ answers_text desk.old.exchanges
+        → before ++ texts.new.items ≡ answers_text desk.new.exchanges }
     ensures kept { (text : List ℕ)
-        → IsFront text (told desk.old.exchanges) → IsFront text (told desk.new.exchanges) }
+        → IsFront text (answers_text desk.old.exchanges) → IsFront text (answers_text desk.new.exchanges) }
     ensures layout { layout_of desk.new.slave ≡ layout_of desk.old.slave }
 {
     match parse_into(max_cto, line, slot) {
@@ -192,10 +192,10 @@ fn answer_request(
         → ShortOf (requests_of desk.old.exchanges ++ request.now ∷ later)
         desk.old.exchanges desk.new.exchanges) }
     ensures told { OnOk result ((before : List ℕ)
-        → before ++ texts.old.items ≡ told desk.old.exchanges
-        → before ++ texts.new.items ≡ told desk.new.exchanges) }
+        → before ++ texts.old.items ≡ answers_text desk.old.exchanges
+        → before ++ texts.new.items ≡ answers_text desk.new.exchanges) }
     ensures kept { (text : List ℕ)
-        → IsFront text (told desk.old.exchanges) → IsFront text (told desk.new.exchanges) }
+        → IsFront text (answers_text desk.old.exchanges) → IsFront text (answers_text desk.new.exchanges) }
     ensures layout { layout_of desk.new.slave ≡ layout_of desk.old.slave }
 {
     let Ok(told) = desk.submit_into(request, packet) else {

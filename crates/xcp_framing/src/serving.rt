@@ -201,9 +201,8 @@ fn consume<W: Write, S: Station>(
 /// gathered, and written before the next read, before any return, and where the next one finds no
 /// room. A frame of LEN 0 is skipped, and the CTR of what is read is not looked at.
 ///
-/// Packets have at most `max_cto` bytes, a frame's LEN above it is `BadLength`. What comes first in
-/// the stream comes first: all whole frames before a fault in it have been answered, and nothing
-/// is written of the fault. A refusal of the station ends the call with `Memory` or `JournalFull`.
+/// Packets have at most `max_cto` bytes, a frame's LEN above it is `BadLength`. All whole frames
+/// before a fault of the stream have been answered, and nothing is written of the fault. A refusal of the station ends the call with `Memory` or `JournalFull`.
 pub fn serve<R: Read, W: Write, S: Station>(
     alloc: Global,
     reader: &mut Watched<R>,

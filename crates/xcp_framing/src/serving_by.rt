@@ -3,14 +3,15 @@ ghost use Rattle.std.specs.Prelude.{◌≡◌, ◌≢◌, ◌<◌, ◌≤◌, �
 ghost use Rattle.xcp_framing.specs.Serve.{EndsReader};
 ghost use Rattle.xcp_framing.specs.ServeRefusal.{OnRefusal, Refused};
 ghost use Rattle.xcp_framing.specs.ServeBy.{CommandNext, ServesBy};
-ghost use Rattle.xcp_framing.specs.private.PacketChain.{told};
+ghost use Rattle.xcp_framing.specs.private.PacketChain.{serve_error};
 
-use crate::passage::{Answerer, Stop, answer_stream, told};
+use crate::lent::LentCommand;
+use crate::passage::{Answerer, Stop, answer_stream, serve_error};
 use crate::{End, ServeError, Served, Station, StationError, Watched};
 use std::alloc::Global;
 use std::io::Read;
 use xcp_packet::Packet;
-use xcp_slave::{Answer, Request};
+use xcp_slave::Told;
 
 /// A packet is answered by its command alone, and the packet of the answer is put.
 struct ByCommand;
@@ -22,9 +23,15 @@ impl<S: Station, E: End> Answerer<S, E> for ByCommand {
 
     ghost ends = { EndsAt S.exchanges S.refuses E.put_so_far E.same };
 
-    fn answer(packet: Packet, station: &mut S, end: &mut E, sent: &mut u64) -> Result<(), Stop> {
-        match station.submit(Request::Command(packet)) {
-            Ok(Answer::Packet(reply)) => {
+    fn answer(
+        command: &LentCommand,
+        station: &mut S,
+        end: &mut E,
+        sent: &mut u64,
+    ) -> Result<(), Stop> {
+        let mut reply = Packet::new();
+        match station.submit_into(command.request(), &mut reply) {
+            Ok(Told::Packet) => {
                 if end.put(reply).is_err() {
                     return Err(Stop::Write);
                 }
@@ -73,6 +80,6 @@ pub fn serve_by<R: Read, S: Station, E: End>(
         alloc, reader, station, end, &mut sent, max_cto, turns,
     ) {
         Ok(frames) => Ok(Served { frames, sent }),
-        Err(error) => Err(told(error)),
+        Err(error) => Err(serve_error(error)),
     }
 }

@@ -9,7 +9,7 @@ use Rattle.xcp_framing.specs.declared.liner.Lined.{Lined}
 use Rattle.xcp_framing.specs.declared.liner.Lined.TheVariants as lineds
 use Rattle.xcp_framing.specs.ScriptLine.{meaning}
 use Rattle.xcp_framing.specs.Replay.{is_faulty, asked_by, NotTaken}
-use Rattle.xcp_framing.specs.AnswerText.{told}
+use Rattle.xcp_framing.specs.AnswerText.{answers_text}
 
 -- the lines of a text of whose first line the bytes in begun have come already
 abbrev pub lines_from : List ℕ → List ℕ → List (List ℕ)
@@ -64,7 +64,7 @@ pub record LastUntold (old new : List Exchange) : Type 0 where
   pub earlier : List Exchange
   pub last : Exchange
   pub joined : new ≡ earlier ++ last ∷ []
-  pub kept : (text : List ℕ) → IsFront text (told old) → IsFront text (told earlier)
+  pub kept : (text : List ℕ) → IsFront text (answers_text old) → IsFront text (answers_text earlier)
 
 -- where memory is short, in some lines of a script
 abbrev pub ShortOf : List Request → List Exchange → List Exchange → Type 0

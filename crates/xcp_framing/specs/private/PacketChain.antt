@@ -18,13 +18,13 @@ halt stops.Memory = serving.Memory
 halt stops.JournalFull = serving.JournalFull
 
 -- why the answering ended, as an error of serving
-abbrev pub told : StreamError → ServeError
-told errors.Read = serving.Read
-told (errors.BadLength n) = serving.BadLength n
-told errors.Truncated = serving.Truncated
-told errors.NoBuffer = serving.Memory
-told errors.TurnsSpent = serving.TurnsSpent
-told (errors.Stopped stop) = halt stop
+abbrev pub serve_error : StreamError → ServeError
+serve_error errors.Read = serving.Read
+serve_error (errors.BadLength n) = serving.BadLength n
+serve_error errors.Truncated = serving.Truncated
+serve_error errors.NoBuffer = serving.Memory
+serve_error errors.TurnsSpent = serving.TurnsSpent
+serve_error (errors.Stopped stop) = halt stop
 
 -- a station, what takes the packets of its answers, and how many it took
 pub record Stand (S O : Type 0) : Type 0 where

@@ -1,6 +1,5 @@
 use Rattle.std.proofs.Common.{◌≡◌, ◌-◌, ℕ, length, take, drop, ap, ◌∙◌, List, arith, length-drop}
 use Rattle.std.proofs.lemmas.List.{take_all}
-use Rattle.xcp_framing.proofs.ExchangeLemmas.{cons≢nil}
 use Rattle.xcp_framing.proofs.PacketChainLemmas.{uses_more, uses_all, uses_bad, uses_part}
 use Rattle.xcp_framing.proofs.passage.answer_piece.Goals as goal
 
@@ -10,8 +9,8 @@ returns-in-BadLength-clause-answered g c =
     let i = c.loop-length.used in
     let t = take (length s - i) (drop i s) in
     let all : t ≡ drop i s = take_all (length s - i) (drop i s) (omega (arith, length-drop i s)) in
-    let fed = rw (c.in-BadLength.is, c.loop-length.invariant.kept) at c.feed-fed.ensures.feeds in
-    let bad = rw (c.feed-fed.ensures.kept, c.loop-length.invariant.kept) at c.feed-fed.ensures.bad _ c.in-BadLength.is in
+    let fed = rw (c.in-BadLength.is, c.loop-length.invariant.kept) at c.cut-cut.ensures.feeds in
+    let bad = rw (c.cut-cut.ensures.kept, c.loop-length.invariant.kept) at c.cut-cut.ensures.bad _ c.in-BadLength.is in
     (uses_bad g.A.Answerer.answers _ _ _ _ s t _ _ _ _ c.loop-length.invariant.uses all fed bad.0 bad.1).0
 
 pub returns-in-BadLength-clause-ends : goal.returns-in-BadLength-clause-ends
@@ -20,8 +19,8 @@ returns-in-BadLength-clause-ends g c =
     let i = c.loop-length.used in
     let t = take (length s - i) (drop i s) in
     let all : t ≡ drop i s = take_all (length s - i) (drop i s) (omega (arith, length-drop i s)) in
-    let fed = rw (c.in-BadLength.is, c.loop-length.invariant.kept) at c.feed-fed.ensures.feeds in
-    let bad = rw (c.feed-fed.ensures.kept, c.loop-length.invariant.kept) at c.feed-fed.ensures.bad _ c.in-BadLength.is in
+    let fed = rw (c.in-BadLength.is, c.loop-length.invariant.kept) at c.cut-cut.ensures.feeds in
+    let bad = rw (c.cut-cut.ensures.kept, c.loop-length.invariant.kept) at c.cut-cut.ensures.bad _ c.in-BadLength.is in
     let ends = uses_bad g.A.Answerer.answers _ _ _ _ s t _ _ _ _ c.loop-length.invariant.uses all fed bad.0 bad.1 in
     (ends.1, ends.2)
 
@@ -31,8 +30,8 @@ returns-in-More-clause-ends g c =
     let i = c.loop-length.used in
     let t = take (length s - i) (drop i s) in
     let all : t ≡ drop i s = take_all (length s - i) (drop i s) (omega (arith, length-drop i s)) in
-    let fed = rw (c.in-More.is, c.loop-length.invariant.kept) at c.feed-fed.ensures.feeds in
-    let more = rw (c.feed-fed.ensures.kept, c.loop-length.invariant.kept) at c.feed-fed.ensures.more c.in-More.is in
+    let fed = rw (c.in-More.is, c.loop-length.invariant.kept) at c.cut-cut.ensures.feeds in
+    let more = rw (c.cut-cut.ensures.kept, c.loop-length.invariant.kept) at c.cut-cut.ensures.more c.in-More.is in
     let behind = (uses_all g.A.Answerer.answers _ _ _ s t _ _ _ _ c.loop-length.invariant.uses all fed more.0).1 in
     (behind, rw behind at more.1)
 
@@ -40,12 +39,12 @@ pub loop-length-preserved : goal.loop-length-preserved
 loop-length-preserved g c =
     let s = c.args.piece.now in
     let i = c.loop-length.used in
-    let j = c.feed-fed.result.used in
+    let j = c.cut-cut.result.used in
     let t = take (length s - i) (drop i s) in
     let all : t ≡ drop i s = take_all (length s - i) (drop i s) (omega (arith, length-drop i s)) in
-    let fed = rw (c.in-Packet.is, c.loop-length.invariant.kept) at c.feed-fed.ensures.feeds in
-    let answered = rw (c.in-Packet.packet-is) at c.in-Ok.ensures.answers in
-    let some = c.feed-fed.ensures.moves (λ e. cons≢nil (rw (c.in-Packet.is) at e)) in
+    let fed = rw (c.in-Packet.is, c.loop-length.invariant.kept) at c.cut-cut.ensures.feeds in
+    let answered = c.in-Ok.ensures.answers in
+    let some = c.cut-cut.ensures.moves c.in-Packet.is in
     let left : length t ≡ length s - i = ap (λ (z : List ℕ). length z) all ∙ length-drop i s in
     let limit = c.loop-length.invariant.within in
     let front = fed.front in
@@ -54,7 +53,7 @@ loop-length-preserved g c =
       within = omega (arith, front, left, limit);
       bound = omega (arith, c.in-Ok.ensures.bound, c.loop-length.invariant.bound, some);
       few = omega (arith, c.loop-length.invariant.few, some);
-      kept = c.feed-fed.ensures.kept ∙ c.loop-length.invariant.kept;
+      kept = c.cut-cut.ensures.kept ∙ c.loop-length.invariant.kept;
     }
 
 pub returns-in-Err-clause-answered : goal.returns-in-Err-clause-answered
@@ -63,6 +62,6 @@ returns-in-Err-clause-answered g c =
     let i = c.loop-length.used in
     let t = take (length s - i) (drop i s) in
     let all : t ≡ drop i s = take_all (length s - i) (drop i s) (omega (arith, length-drop i s)) in
-    let fed = rw (c.in-Packet.is, c.loop-length.invariant.kept) at c.feed-fed.ensures.feeds in
-    let ended = rw (c.in-Packet.packet-is) at c.in-Err.ensures.ends in
+    let fed = rw (c.in-Packet.is, c.loop-length.invariant.kept) at c.cut-cut.ensures.feeds in
+    let ended = c.in-Err.ensures.ends in
     uses_part g.A.Answerer.answers _ _ _ _ s t _ _ _ _ _ _ c.loop-length.invariant.uses all fed ended
