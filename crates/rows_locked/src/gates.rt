@@ -86,32 +86,34 @@ fn workers_run_at_one_time(rt: HostRuntime) -> Result<(), Fail> {
     Ok(())
 }
 
-// Ends one task after one of its cycles.
+// Ends one task before or after one of its cycles.
 #[derive(Drop)]
 struct Spent {
     task: u8,
     cycle: u32,
+    is_before: bool,
 }
 
 impl Gate for Spent {
-    fn before(&self, _task: u8, _cycle: u32) -> bool {
-        true
+    fn before(&self, task: u8, cycle: u32) -> bool {
+        !self.is_before || task != self.task || cycle != self.cycle
     }
 
     fn after(&self, task: u8, cycle: u32) -> bool {
-        task != self.task || cycle != self.cycle
+        self.is_before || task != self.task || cycle != self.cycle
     }
 }
 
 // The tasks' fault, how many workers came back and settle, and how many calls there were.
 type Ended = (Option<TaskError>, usize, u64);
 
-// Three tasks of six cycles, of which one is ended after cycle 3.
+// Three tasks of six cycles, of which one is ended before or after cycle 3.
 fn run_spent<N: Name + Send + Sync, R: Threads + Wait + Abort + Sync>(
     rt: &R,
     alloc: Global,
     unnamed: Unnamed,
     task: u8,
+    is_before: bool,
 ) -> Result<Ended, Fail>
     requires { (unnamed.name ≡ N.name) × (unnamed.callers ≡ N.parts)
         × (unnamed.layout ≡ N.layout) × (unnamed.bank ≡ N.bank) }
@@ -127,7 +129,11 @@ fn run_spent<N: Name + Send + Sync, R: Threads + Wait + Abort + Sync>(
     let three = worker(&mut callers, &mut readers)?;
     let workers = Vec::from_array(alloc, [one, two, three])?;
     let lock = Mutex::new(locked);
-    let gate = Spent { task, cycle: 3 };
+    let gate = Spent {
+        task,
+        cycle: 3,
+        is_before,
+    };
     let mut ran = run_tasks(rt, alloc, &lock, workers, 6, &gate)?;
     let mut locked = lock.into_inner();
     let back = settling(&mut locked, &mut ran.workers);
@@ -148,14 +154,18 @@ fn settling<N: Name>(locked: &mut Locked<N>, workers: &mut [Worker<N>]) -> usize
     count
 }
 
-// Tasks 0, 1 and 2 of six cycles make 12, 6 and 6 calls; the one that is ended makes those of four.
+// Tasks 0, 1 and 2 of six cycles make 12, 6 and 6 calls; the one that is ended makes those of four, or of three where it ends
+// before the fourth.
 #[test]
 fn spent_gate_ends_one_task(rt: HostRuntime) -> Result<(), Fail> {
     let first = unnamed(rt.alloc(), 3)?;
-    let first = run_spent::<Brand, _>(&rt, rt.alloc(), first, 1)?;
+    let first = run_spent::<Brand, _>(&rt, rt.alloc(), first, 1, false)?;
     let second = unnamed(rt.alloc(), 3)?;
-    let second = run_spent::<Brand, _>(&rt, rt.alloc(), second, 0)?;
+    let second = run_spent::<Brand, _>(&rt, rt.alloc(), second, 0, false)?;
+    let third = unnamed(rt.alloc(), 3)?;
+    let third = run_spent::<Brand, _>(&rt, rt.alloc(), third, 1, true)?;
     assert!(rt; first == (Some(TaskError::GateSpent(1)), 3, 22));
     assert!(rt; second == (Some(TaskError::GateSpent(0)), 3, 20));
+    assert!(rt; third == (Some(TaskError::GateSpent(1)), 3, 21));
     Ok(())
 }

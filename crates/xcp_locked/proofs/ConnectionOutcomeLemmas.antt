@@ -24,5 +24,6 @@ serves_by_none m i old put = record {
 pub each_of_one : {A : Type 0} (P : A → Type 0) (xs more : List A) (x : A) → Each P xs → xs ≡ x ∷ more → P x
 each_of_one P xs more x h is = (rw is at h).0
 
+-- what holds of each element of a list holds of each one behind the first
 pub each_of_others : {A : Type 0} (P : A → Type 0) (xs more : List A) (x : A) → Each P xs → xs ≡ x ∷ more → Each P more
 each_of_others P xs more x h is = (rw is at h).1

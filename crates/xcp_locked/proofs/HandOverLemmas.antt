@@ -7,6 +7,7 @@ use Rattle.std.specs.List.{AllByRecursion}
 use Rattle.std.specs.Array.{list_steps}
 use Rattle.std.specs.Iterator.{Yields}
 
+-- what holds of each element holds of those that are left when some were handed over
 pub all_left : {A : Type 0} (P : A → Type 0) (s xs t : List A) → AllByRecursion P s → Yields list_steps s xs t → AllByRecursion P t
 all_left P s [] t all h = subst (AllByRecursion P) h all
 all_left P s (x ∷ xs) t all h = all_left P h.0 xs t (subst (AllByRecursion P) h.1 all).1 h.2

@@ -10,6 +10,7 @@ use Rattle.xcp_slave.proofs.RunLaws.{run-extended}
 use Rattle.xcp_trace.specs.declared.Entry.{Entry}
 use Rattle.xcp_locked.specs.Journal.{entry, exchanges}
 
+-- the exchanges of a journal with one more entry are those before, and then the entry's
 pub exchanges_snoc : (es : List Entry) (e : Entry) → exchanges (es ++ e ∷ []) ≡ exchanges es ++ e.exchange ∷ []
 exchanges_snoc [] e = refl
 exchanges_snoc (x ∷ es) e = ap (λ (z : List Exchange). x.exchange ∷ z) (exchanges_snoc es e)

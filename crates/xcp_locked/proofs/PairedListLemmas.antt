@@ -14,18 +14,21 @@ nothing_left (x ∷ xs) h = absurd (omega arith)
 pub finish : {X : Type 0} (done rest first given : List X) (n : ℕ) → done ++ rest ≡ first → n ≡ length rest → n ≡ 0 → first ≡ given → done ≡ given
 finish done rest first given n was len none is = sym (append-nil done) ∙ (ap (λ z. done ++ z) (sym (nothing_left rest (sym len ∙ none))) ∙ (was ∙ is))
 
+-- lists that belong together still do with one more element each, where these two are related at their place
 pub each_more : {A B : Type 0} (R : ℕ → A → B → Type 0) (k : ℕ) (xs : List A) (ys : List B) (x : A) (y : B) → EachFrom R k xs ys → R (k + length xs) x y → EachFrom R k (xs ++ x ∷ []) (ys ++ y ∷ [])
 each_more R k [] [] x y h r = let e : k + 0 ≡ k = omega arith in (subst (λ n. R n x y) e r, tt)
 each_more R k (a ∷ xs) (b ∷ ys) x y h r = let e : k + length (a ∷ xs) ≡ (k + 1) + length xs = omega arith in (h.0, each_more R (k + 1) xs ys x y h.1 (subst (λ n. R n x y) e r))
 each_more R k [] (b ∷ ys) x y h r = absurd h
 each_more R k (a ∷ xs) [] x y h r = absurd h
 
+-- lists as long as each other belong together where the two elements at each place are related
 pub each_of : {A B : Type 0} (R : A → B → Type 0) (k : ℕ) (xs : List A) (ys : List B) → length ys ≡ length xs → ((i : ℕ) (x : A) (y : B) → i < length xs → R (slice_index_or xs i x) (slice_index_or ys i y)) → EachFrom (λ n x y. R x y) k xs ys
 each_of R k [] [] l h = tt
 each_of R k (x ∷ xs) (y ∷ ys) l h = (h 0 x y (omega arith), each_of R (k + 1) xs ys (omega (arith, l)) (λ i a b low. h (suc i) a b (omega (arith, low))))
 each_of R k [] (y ∷ ys) l h = absurd (omega (arith, l))
 each_of R k (x ∷ xs) [] l h = absurd (omega (arith, l))
 
+-- two lists belong together through one between them, where the relations at each place give theirs
 pub each_through : {A B C : Type 0} (R : ℕ → A → B → Type 0) (S : ℕ → B → C → Type 0) (T : ℕ → A → C → Type 0) → ((n : ℕ) (a : A) (b : B) (c : C) → R n a b → S n b c → T n a c) → (k : ℕ) (xs : List A) (ys : List B) (zs : List C) → EachFrom R k xs ys → EachFrom S k ys zs → EachFrom T k xs zs
 each_through R S T f k [] [] [] r s = tt
 each_through R S T f k [] [] (z ∷ zs) r s = absurd s
@@ -34,6 +37,7 @@ each_through R S T f k (x ∷ xs) [] zs r s = absurd r
 each_through R S T f k (x ∷ xs) (y ∷ ys) [] r s = absurd s
 each_through R S T f k (x ∷ xs) (y ∷ ys) (z ∷ zs) r s = (f k x y z r.0 s.0, each_through R S T f (k + 1) xs ys zs r.1 s.1)
 
+-- lists that belong together are as long as each other
 pub each_length : {A B : Type 0} (R : ℕ → A → B → Type 0) (k : ℕ) (xs : List A) (ys : List B) → EachFrom R k xs ys → length ys ≡ length xs
 each_length R k [] [] h = refl
 each_length R k (x ∷ xs) (y ∷ ys) h = let e = each_length R (k + 1) xs ys h.1 in omega (arith, e)
@@ -45,6 +49,7 @@ map_snoc : {A B : Type 0} (f : A → B) (xs : List A) (x : A) → map f (xs ++ x
 map_snoc f [] x = refl
 map_snoc f (y ∷ xs) x = ap (λ z. f y ∷ z) (map_snoc f xs x)
 
+-- a list that is made of another one still is where both are one element longer
 pub map_more : {A B : Type 0} (f : A → B) (xs : List A) (x : A) (ys more : List B) → ys ≡ map f xs → more ≡ ys ++ f x ∷ [] → more ≡ map f (xs ++ x ∷ [])
 map_more f xs x ys more was is = is ∙ (ap (λ z. z ++ f x ∷ []) was ∙ sym (map_snoc f xs x))
 

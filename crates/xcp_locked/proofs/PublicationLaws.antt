@@ -32,6 +32,7 @@ changes_once before at (v ∷ later) list others (inl h) (inr g) = absurd (g.0 h
 changes_once before at (v ∷ later) list others (inr h) (inl g) = absurd (h.0 g.0)
 changes_once before at (v ∷ later) list others (inr h) (inr g) = h.3 ∙ (ap (λ (l : List Publication). publication at (image_of v) ∷ l) (changes_once (image_of v) (suc at) later h.1 g.1 h.2 g.2) ∙ sym g.3)
 
+-- one list only is what is published of a slave's exchanges
 pub published_once : (v : SlaveValue) (xs : List Exchange) (list others : List Publication) → Published v xs list → Published v xs others → list ≡ others
 published_once v xs list others p q =
     let states = leads_once v xs p.states q.states p.run q.run in
@@ -48,6 +49,7 @@ changes_end p at (v ∷ later) list (inr h) =
     let e = changes_end (publication at (image_of v)) (suc at) later h.1 h.2 in
     (p ∷ e.0, e.1, ap (λ (l : List Publication). p ∷ l) (h.3 ∙ e.2))
 
+-- the newest publication has the image of the slave that the run leads to
 pub published_end : (v : SlaveValue) (xs : List Exchange) (w : SlaveValue) (list : List Publication) → Published v xs list → Run v xs w → (front : List Publication) × (place : ℕ) × (list ≡ front ++ publication place (image_of w) ∷ [])
 published_end v xs w list p r =
     let e = changes_end (publication 0 (image_of v)) 1 p.states p.changed p.changes in

@@ -54,6 +54,7 @@ one_each : (v : SlaveValue) (xs : List Exchange) (states : List SlaveValue) → 
 one_each v [] states h = ap length h
 one_each v (x ∷ xs) states h = ap length h.4 ∙ ap suc (one_each h.0 xs h.1 h.3)
 
+-- one more exchange that leaves the image as it was publishes nothing more
 pub published_same : (v : SlaveValue) (xs : List Exchange) (w : SlaveValue) (x : Exchange) (u : SlaveValue) (list : List Publication) → Run v xs w → Answers w x.request x.answer u → image_of u ≡ image_of w → Published v xs list → Published v (xs ++ x ∷ []) list
 published_same v xs w x u list r a same p = record {
   states = p.states ++ u ∷ [];
@@ -63,6 +64,7 @@ published_same v xs w x u list r a same p = record {
   is = p.is;
 }
 
+-- one more exchange that gives another image publishes it, with the number of exchanges as its place
 pub published_other : (v : SlaveValue) (xs : List Exchange) (w : SlaveValue) (x : Exchange) (u : SlaveValue) (n : ℕ) (list : List Publication) → Run v xs w → Answers w x.request x.answer u → n ≡ length xs + 1 → image_of u ≢ image_of w → Published v xs list → Published v (xs ++ x ∷ []) (list ++ publication n (image_of u) ∷ [])
 published_other v xs w x u n list r a is other p =
     let k = one_each v xs p.states p.run in
@@ -90,6 +92,7 @@ kept_first bank l es v p none is writer places last = record {
   named = ap (λ z. z.bank) writer;
 }
 
+-- a journal has as many exchanges as entries
 pub exchanges_length : (es : List Entry) → length (exchanges es) ≡ length es
 exchanges_length es = length-map es (λ (e : Entry). e.exchange)
 

@@ -26,14 +26,17 @@ use Rattle.xcp_locked.specs.private.ServerOutcome.{IsConnectionOf}
 use Rattle.xcp_locked.proofs.PairedListLemmas.{each_length, each_through}
 use Rattle.xcp_locked.proofs.TaskOutcomeLemmas.{worked_as}
 
+-- the list of n callers that have made no call has n of them
 pub length-callers_of : (l : LayoutValue) (n : ℕ) → length (callers_of l n) ≡ n
 length-callers_of l zero = refl
 length-callers_of l (suc n) = let e = length-callers_of l n in let m = length-append (callers_of l n) (fresh_caller l n ∷ []) in omega (arith, e, m)
 
+-- a list that is made of another one, element by element, is as long
 pub length_map : {A B : Type 0} (f : A → B) (xs : List A) → length (map f xs) ≡ length xs
 length_map f [] = refl
 length_map f (x ∷ xs) = let e = length_map f xs in omega (arith, e)
 
+-- to map a list by one function and then by another is to map it once by both
 pub map_map : {A B C : Type 0} (f : A → B) (g : B → C) (xs : List A) → map g (map f xs) ≡ map (λ x. g (f x)) xs
 map_map f g [] = refl
 map_map f g (x ∷ xs) = ap (λ z. g (f x) ∷ z) (map_map f g xs)
@@ -57,6 +60,7 @@ each_at_place {A} {B} {X} R f front rest (x ∷ xs) (y ∷ ys) h =
           (subst (λ n. EachFrom (λ i a b. R i a b × (slice_get ((front ++ f y ∷ []) ++ (map f ys ++ rest)) i ≡ Some (f b))) n xs ys) longer next),
     )
 
+-- of lists that belong together, what is read off the second one's elements stands at their places
 pub each_also : {A B X : Type 0} (R : ℕ → A → B → Type 0) (f : B → X) (xs : List A) (ys : List B) → EachFrom R 0 xs ys → EachFrom (λ i x y. R i x y × (slice_get (map f ys) i ≡ Some (f y))) 0 xs ys
 each_also R f xs ys h = subst (λ zs. EachFrom (λ i x y. R i x y × (slice_get zs i ≡ Some (f y))) 0 xs ys) (append-nil (map f ys)) (each_at_place R f [] [] xs ys h)
 
@@ -96,8 +100,12 @@ module _ {I O N C : Type 0} (remaining : I → Option (List ℕ)) (contents : O 
       replies = k_is.replies;
       samples = k_is.samples;
       end = k_is.end;
+      ends = rw (k_is.heard, k_is.reader) h.heard.ends;
       read = rw (k_is.heard, sym is.reader, k_is.reader) h.heard.read;
+      quiet = rw (k_is.heard, sym is.reader, k_is.reader) h.heard.quiet;
+      reads = rw (sym is.reader, sym is.reads, k_is.reader) h.heard.reads;
       spent = rw (k_is.heard, sym is.reader, sym is.reads, k_is.reader) h.heard.spent;
+      refused = rw (sym is.max_cto, sym is.reader, k_is.heard, k_is.reader, k_is.tool, k_is.replies_are) (rw (ap (λ (x : EndSeen). x.put) is.replies) at h.heard.refused);
       tool_number = ap (λ (x : CallerValue). x.number) k_is.tool ∙ h.heard.number;
       pump_number = ap (λ (x : CallerValue). x.number) k_is.pump ∙ h.pumped.number;
     };
@@ -192,9 +200,11 @@ dealt_as m m' turns pumps cycles tasks opened opened' readers readers' ends d e 
 pub left_behind : {A : Type 0} (first rest all : List A) → first ++ rest ≡ all → length first + length rest ≡ length all
 left_behind first rest all whole = sym (length-append first rest) ∙ ap length whole
 
+-- what the last Hangup did, said of an equal fault before it and of equal callers
 pub hung_up_as : (before before' after : Option TaskError) (old old' new : List CallerValue) → before ≡ before' → old ≡ old' → HungUp before after old new → HungUp before' after old' new
 hung_up_as before before' after old old' new e f h = subst (λ b. HungUp b after old' new) e (subst (λ cs. HungUp before after cs new) f h)
 
+-- room for so many callers and connections is room for fewer
 pub room_for_fewer : {N I O : Type 0} (k k' e e' : ℕ) (r : Ended N I O) → k' ≤ k → e' ≤ e → IsEndedRoom k e r → IsEndedRoom k' e' r
 room_for_fewer k k' e e' r a b h =
     let callers = h.for_callers in let pumps = h.for_pumps in let ends = h.for_ends in let left = h.for_left in

@@ -1,10 +1,13 @@
 -- Which member a reader holds.
-use Rattle.std.proofs.Common.{◌≡◌, ◌≢◌, ℕ, zero, suc, ◌+◌, ◌<◌, ◌≤◌, ◌%◌, List, [], ◌∷◌, length, slice_index_or, refl, ap, ◌∙◌, arith, Option, Some, None}
+use Rattle.std.proofs.Common.{◌≡◌, ◌≢◌, ℕ, zero, suc, ◌+◌, ◌<◌, ◌≤◌, ◌%◌, List, [], ◌∷◌, ◌++◌, length, slice_index_or, refl, ap, ◌∙◌, arith, Option, Some, None, subst, sym}
 use Rattle.std.proofs.lemmas.List.{length-map}
 use Rattle.std.specs.List.{slice_get}
+use Rattle.xcp_bank.specs.BankEnds.{ReaderEnd, image_at, image_held}
+use Rattle.xcp_bank.specs.SeatKnowledge.{Begins, AllBegin}
 use Rattle.xcp_locked.specs.Publications.{Publication, publication, images_of}
 use Rattle.xcp_locked.specs.private.Publications.{places_of}
 
+-- an option of two numbers that isn't None has them
 pub some_of : (o : Option (ℕ × ℕ)) → o ≢ None → (b : ℕ) × (p : ℕ) × (o ≡ Some (b, p))
 some_of None ne = absurd (ne refl)
 some_of (Some h) ne = (h.0, h.1, refl)
@@ -18,6 +21,7 @@ member_at (p ∷ list) (suc n) d low = member_at list n d (omega arith)
 images_length : (list : List Publication) → length (images_of list) ≡ length list
 images_length list = length-map list (λ (p : Publication). p.image)
 
+-- there are as many places as publications
 pub places_length : (list : List Publication) → length (places_of list) ≡ length list
 places_length list = length-map list (λ (p : Publication). p.place)
 
@@ -27,3 +31,18 @@ same_number p r n seen list low is number few limit =
     let l : length seen ≡ length list = ap length is ∙ images_length list in
     let e : r ≡ p = omega (arith, low, number, few, limit, l) in
     (e, omega (arith, e, low, l))
+
+-- an image that stands in a list stands at the same index of a longer one
+stays_at : (xs rest : List (List ℕ)) (i : ℕ) → 0 < length (slice_index_or xs i []) → slice_index_or (xs ++ rest) i [] ≡ slice_index_or xs i []
+stays_at [] rest i some = absurd (omega (arith, some))
+stays_at (x ∷ xs) rest zero some = refl
+stays_at (x ∷ xs) rest (suc i) some = stays_at xs rest i some
+
+-- what is held of a list is held of one that begins with it
+held_stays : (held : Option (ℕ × ℕ)) (old new : List (List ℕ)) → Begins old new → 0 < length (image_at held old) → image_at held new ≡ image_at held old
+held_stays None old new b some = refl
+held_stays (Some h) old new b some = ap (λ (z : List (List ℕ)). slice_index_or z h.1 []) b.1 ∙ stays_at old b.0 h.1 some
+
+-- a reader that holds what it held, and has seen the same first, holds the same image
+pub settled_image : (old new : ReaderEnd) → new.held ≡ old.held → AllBegin (old.seen ∷ old.past) new.seen → 0 < length (image_held old) → image_held new ≡ image_held old
+settled_image old new same begins some = ap (λ (z : Option (ℕ × ℕ)). image_at z new.seen) same ∙ held_stays old.held old.seen new.seen begins.0 some

@@ -69,6 +69,7 @@ places_rise who at (e ∷ es) i r s g h = rise_either who at e es i r s (e.calle
 
 -- the same of a caller that is settled
 
+-- the entry at the place of a settled caller's receipt is the caller's, with its request and answer
 pub each_settled : (journal : List Entry) (who : ℕ) (receipts : List Receipt) (i : ℕ) (r : Receipt) → receipts ≡ tally who 0 journal → slice_get receipts i ≡ Some r → slice_get journal r.at ≡ Some (entry who r.request r.answer)
 each_settled journal who receipts i r settled h =
     let g = each_stands who 0 journal i r (ap (λ (z : List Receipt). slice_get z i) (sym settled) ∙ h) in
@@ -76,12 +77,14 @@ each_settled journal who receipts i r settled h =
     let n : r.at ≡ g.0 = omega (arith, place) in
     ap (λ (p : ℕ). slice_get journal p) n ∙ g.2
 
+-- each entry of a settled caller has a receipt with the entry's place, request and answer
 pub all_settled : (journal : List Entry) (who : ℕ) (receipts : List Receipt) (place : ℕ) (request : Request) (answer : Answer) → receipts ≡ tally who 0 journal → slice_get journal place ≡ Some (entry who request answer) → (i : ℕ) × (slice_get receipts i ≡ Some (receipt place request answer))
 all_settled journal who receipts place request answer settled h =
     let g = all_have who 0 journal place request answer h in
     let n : 0 + place ≡ place = omega arith in
     (g.0, ap (λ (z : List Receipt). slice_get z g.0) settled ∙ (g.1 ∙ ap (λ (k : ℕ). Some (receipt k request answer)) n))
 
+-- the places of a settled caller's receipts rise
 pub rise_settled : (journal : List Entry) (who : ℕ) (receipts : List Receipt) (i : ℕ) (r s : Receipt) → receipts ≡ tally who 0 journal → slice_get receipts i ≡ Some r → slice_get receipts (suc i) ≡ Some s → r.at < s.at
 rise_settled journal who receipts i r s settled g h =
     places_rise who 0 journal i r s (ap (λ (z : List Receipt). slice_get z i) (sym settled) ∙ g) (ap (λ (z : List Receipt). slice_get z (suc i)) (sym settled) ∙ h)

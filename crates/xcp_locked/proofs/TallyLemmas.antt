@@ -7,9 +7,11 @@ use Rattle.xcp_locked.specs.declared.receipt.Receipt.{Receipt}
 use Rattle.xcp_locked.specs.Receipts.{receipt_of}
 use Rattle.xcp_locked.specs.SettledReceipts.{tally, DifferAt}
 
+-- None is no Some
 pub none≢some : {X : Type 0} (x : X) → None ≡ Some x → ⊥
 none≢some x e = cc
 
+-- where two Somes are equal, their values are
 pub some_same : {X : Type 0} (x y : X) → Some x ≡ Some y → x ≡ y
 some_same x y e = cc
 
@@ -40,11 +42,13 @@ tally_other who at rest more e is other =
 abbrev pub Agrees : ℕ → ℕ → ℕ → List Entry → List Receipt → List Entry → Type 0
 Agrees who at k js xs rest = tally who 0 js ≡ take k xs ++ tally who at rest
 
+-- receipts that agree with a tally still do behind an entry of another caller
 pub skips : (who at k : ℕ) (js : List Entry) (xs : List Receipt) (rest more : List Entry) (e : Entry) → Agrees who at k js xs rest → rest ≡ e ∷ more → ¬ (e.caller ≡ who) → Agrees who (at + 1) k js xs more
 skips who at k js xs rest more e so is other =
     let n : suc at ≡ at + 1 = omega arith in
     subst (λ (m : ℕ). Agrees who m k js xs more) n (so ∙ ap (λ (z : List Receipt). take k xs ++ z) (tally_other who at rest more e is other))
 
+-- receipts that agree with a tally agree by one more behind an entry whose receipt is the next of them
 pub meets : (who at k : ℕ) (js : List Entry) (xs : List Receipt) (rest more : List Entry) (e : Entry) → Agrees who at k js xs rest → rest ≡ e ∷ more → e.caller ≡ who → slice_get xs k ≡ Some (receipt_of at e) → Agrees who (at + 1) (k + 1) js xs more
 meets who at k js xs rest more e so is mine same =
     let n : suc at ≡ at + 1 = omega arith in

@@ -42,9 +42,11 @@ pub heard_crosses : (N I : RattleType) (g : Name.Ghosts N.Denot) (l : Ledger.Gho
 heard_crosses N I g l =
     struct_crosses (Heard.the_type N I g l) (caller.the_send N g l, (search (sendable, crosses, error.the_send, served.the_send) depth 20, (search (sendable, crosses) depth 20, (put.the_send, tt))))
 
+-- what comes of a pump may cross to another thread
 pub pumped_crosses : (N : RattleType) (g : Name.Ghosts N.Denot) (l : Ledger.Ghosts N.Denot) → IsSend (Pumped.the_row N g l)
 pumped_crosses N g l = struct_crosses (Pumped.the_type N g l) (caller.the_send N g l, (search (sendable, crosses, error.the_send) depth 20, (put.the_send, tt)))
 
+-- what comes of sending may cross to another thread, whatever the writer
 pub wrote_crosses : (O : RattleType) → IsSend (Wrote.the_row O)
 wrote_crosses O = struct_crosses (Wrote.the_type O) (sent.the_field_send, (search (sendable, crosses) depth 20, tt))
 
@@ -54,10 +56,12 @@ hearing_crosses κ N I g l i =
     struct_crosses (Hearing.the_type κ N I g l)
     (search (sendable, crosses, locked.the_send) depth 20, (caller.the_send N g l, (watched_crosses I i, (replies.the_send, (search (sendable, crosses) depth 20, (search (sendable, crosses) depth 20, (search sendable, (search sendable, tt))))))))
 
+-- a connection's pump may cross to another thread, where threads may share its clock
 pub pumping_crosses : (κ : NamedLft) (N C : RattleType) (g : Name.Ghosts N.Denot) (l : Ledger.Ghosts N.Denot) → IsSync C → IsSend (Pumping.the_row κ N C g l)
 pumping_crosses κ N C g l s =
     struct_crosses (Pumping.the_type κ N C g l)
     (search (sendable, crosses, locked.the_send) depth 20, (caller.the_send N g l, (search (sendable, crosses, s) depth 20, (samples.the_send, (search (sendable, crosses) depth 20, (search sendable, tt))))))
 
+-- a connection's sending may cross to another thread, where its writer may
 pub sending_crosses : (O : RattleType) → IsSend O → IsSend (Sending.the_row O)
 sending_crosses O o = struct_crosses (Sending.the_type O) (sender.the_send, (watched_crosses O o, tt))

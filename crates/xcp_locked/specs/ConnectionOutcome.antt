@@ -1,12 +1,17 @@
 -- What comes of a connection to a shared slave: of its reading, of its pump and of its sending, and of all three.
-use Rattle.std.specs.Prelude.{◌≡◌, ◌+◌, ◌<◌, ℕ, Bool, true, false, List, [], Option, Result, Ok, Err}
+use Rattle.std.specs.Prelude.{◌≡◌, ◌≢◌, ◌⊎◌, ◌+◌, ◌<◌, ◌≤◌, ℕ, Bool, true, false, List, [], ◌++◌, Option, Result, Ok, Err}
+use Rattle.xcp_slave.specs.declared.Exchange.{Exchange}
+use Rattle.xcp_slave.specs.declared.Request.{Request}
 use Rattle.xcp_framing.specs.Prefix.{IsFront}
 use Rattle.xcp_framing.specs.Pump.{Pumps}
-use Rattle.xcp_framing.specs.ServeBy.{ServesBy}
+use Rattle.xcp_framing.specs.Serve.{EndsReader}
+use Rattle.xcp_framing.specs.ServeBy.{CommandNext, ServesBy}
+use Rattle.xcp_framing.specs.ServeRefusal.{OnRefusal}
 use Rattle.xcp_framing.specs.CountedCalls.{Watched}
 use Rattle.xcp_framing.specs.declared.serving.ServeError.{ServeError}
 use Rattle.xcp_framing.specs.declared.serving.ServeError.TheVariants as errors
 use Rattle.xcp_framing.specs.declared.serving.Served.{Served}
+use Rattle.xcp_framing.specs.declared.station.StationError.TheVariants as refusals
 use Rattle.xcp_outlet.specs.OutletEnds.{EndSeen, Outlet, has_mark, packets}
 use Rattle.xcp_outlet.specs.ChannelRule.{of}
 use Rattle.xcp_outlet.specs.Sending.{Sends}
@@ -38,14 +43,32 @@ pub record PumpedFor {N : Type 0} (caller : CallerValue) (samples : EndSeen) (d 
   pub outlet : d.put.outlet ≡ samples.outlet
   pub side : d.put.side ≡ samples.side
 
+-- A command of the stream was refused: the commands before it were executed, and it is the next one.
+pub record StopsAt (m : ℕ) (input left : Option (List ℕ)) (old new : List Exchange) : Type 0 where
+  pub exchanges : List Exchange
+  pub grown : new ≡ old ++ exchanges
+  pub request : Request
+  pub next : CommandNext m input left exchanges request
+
+-- Memory and JournalFull come where a command was refused, of which `Stops` tells; Memory also before anything was done, of which
+-- `Before` tells.
+abbrev pub RefusedWhere : Result Served ServeError → Type 0 → Type 0 → Type 0
+RefusedWhere result Before Stops = OnRefusal result (λ e. ((e ≡ refusals.Memory) × Before) ⊎ Stops)
+
 -- of readers that tell their bytes
 module _ {I : Type 0} (remaining : I → Option (List ℕ)) where
   -- The stream was answered with MAX_CTO m, by so many reads at most, for this caller, and the packets of the answers were put.
-  -- Read comes only where a read failed, TurnsSpent where all reads were made.
+  -- Ok and Truncated come at the reader's end, Read only where a read failed, TurnsSpent where all reads were made, Memory and
+  -- JournalFull where a command was refused.
   pub record HeardFor {N : Type 0} (m turns : ℕ) (reader : Watched I) (caller : CallerValue) (replies : EndSeen) (d : Heard N I) : Type 0 where
     pub serves : ServesBy m d.end (remaining reader.inner) (remaining d.reader.value.inner) (exchanges_of caller.receipts) (exchanges_of d.caller.receipts) replies.put d.put.put
+    pub ends : EndsReader d.end (remaining d.reader.value.inner)
     pub read : d.end ≡ Err errors.Read → reader.failures < d.reader.value.failures
+    pub quiet : d.end ≢ Err errors.Read → d.reader.value.failures ≡ reader.failures
+    pub reads : d.reader.value.calls ≤ reader.calls + turns
     pub spent : d.end ≡ Err errors.TurnsSpent → d.reader.value.calls ≡ reader.calls + turns
+    pub refused : RefusedWhere d.end ((d.reader.value ≡ reader) × (exchanges_of d.caller.receipts ≡ exchanges_of caller.receipts) × (d.put.put ≡ replies.put))
+        (StopsAt m (remaining reader.inner) (remaining d.reader.value.inner) (exchanges_of caller.receipts) (exchanges_of d.caller.receipts))
     pub number : d.caller.number ≡ caller.number
     pub outlet : d.put.outlet ≡ replies.outlet
     pub side : d.put.side ≡ replies.side
@@ -68,7 +91,12 @@ module _ {I O : Type 0} (remaining : I → Option (List ℕ)) (contents : O → 
     pub replies : Delivered false d.left.took.value.taken d.left.replies.value.put
     pub samples : Delivered true d.left.took.value.taken d.left.samples.value.put
     pub end : d.end ≡ end_of d.heard d.pumped d.sent
+    pub ends : EndsReader d.heard (remaining d.left.reader.value.inner)
     pub read : d.heard ≡ Err errors.Read → reader.failures < d.left.reader.value.failures
+    pub quiet : d.heard ≢ Err errors.Read → d.left.reader.value.failures ≡ reader.failures
+    pub reads : d.left.reader.value.calls ≤ reader.calls + turns
     pub spent : d.heard ≡ Err errors.TurnsSpent → d.left.reader.value.calls ≡ reader.calls + turns
+    pub refused : RefusedWhere d.heard ((d.left.reader.value ≡ reader) × (exchanges_of d.tool.receipts ≡ exchanges_of tool.receipts) × (d.left.replies.value.put ≡ []))
+        (StopsAt m (remaining reader.inner) (remaining d.left.reader.value.inner) (exchanges_of tool.receipts) (exchanges_of d.tool.receipts))
     pub tool_number : d.tool.number ≡ tool.number
     pub pump_number : d.pump.number ≡ pump.number

@@ -8,8 +8,8 @@ use Rattle.xcp_locked.specs.Publications.{Publication, Published, image_of, imag
 -- The call published the new image where it differs from the one before, and else nothing.
 abbrev pub Publishes : LockedValue → LockedValue → Type 0
 Publishes old new =
-    ((image_of new.slave ≡ image_of old.slave) × (new.publications ≡ old.publications))
-    ⊎ ((image_of new.slave ≢ image_of old.slave) × (new.publications ≡ old.publications ++ image_of new.slave ∷ []))
+    ((image_of new.slave ≡ image_of old.slave) × (new.writer.publications ≡ old.writer.publications))
+    ⊎ ((image_of new.slave ≢ image_of old.slave) × (new.writer.publications ≡ old.writer.publications ++ image_of new.slave ∷ []))
 
 -- The images are those published of these exchanges of a slave that was v.
 abbrev pub AreImages : SlaveValue → List Exchange → List (List ℕ) → Type 0

@@ -178,6 +178,7 @@ pub fn settle_all<N: Name, I: Read + Drop, O: Write + Drop>(
         closing.old.callers.items u) }
     ensures same { (closing.new.locked ≡ closing.old.locked)
         × (closing.new.callers.items ≡ closing.old.callers.items) }
+    ensures left { closing.new.left ≡ closing.old.left }
 {
     closing.locked.gather(&mut closing.callers);
     closing.locked.settle_each(&closing.callers)

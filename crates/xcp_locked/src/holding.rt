@@ -1,6 +1,6 @@
 //! How many buffers of the bank readers hold.
 ghost use Rattle.std.specs.Prelude.{◌≡◌, ◌≤◌};
-ghost use Rattle.xcp_bank.specs.BankEnds.{HeldDoes, WriterEnd};
+ghost use Rattle.xcp_bank.specs.BankEnds.{HeldDoes};
 
 use crate::{Locked, Name};
 
@@ -9,9 +9,9 @@ impl<N: Name> Locked<N> {
     /// dropped while they held one: at most six. Nothing is executed or published.
     pub fn held(&mut self) -> u8
         ensures most { result ≤ 6 }
-        ensures same { self.new ≡ self.old }
-        ensures does { (old : WriterEnd) × (new : WriterEnd) × (old.bank ≡ N.bank)
-            × (old.publications ≡ self.old.publications) × HeldDoes result old new }
+        ensures same { (self.new.slave ≡ self.old.slave) × (self.new.journal ≡ self.old.journal)
+            × (self.new.writer.publications ≡ self.old.writer.publications) }
+        ensures does { HeldDoes result self.old.writer self.new.writer }
     {
         self.publisher.writer.held()
     }

@@ -6,7 +6,8 @@ ghost use Rattle.xcp_slave.specs.declared.exchange.Exchange.{Exchange};
 ghost use Rattle.xcp_slave.specs.declared.Request.{Request};
 ghost use Rattle.xcp_slave.specs.declared.Answer.{Answer};
 ghost use Rattle.xcp_bank.specs.PinHistory.{reads_of};
-ghost use Rattle.xcp_bank.specs.BankEnds.{AcquireDoes, ReaderEnd};
+ghost use Rattle.xcp_bank.specs.BankEnds.{AcquireDoes, ReaderEnd, image_held};
+ghost use Rattle.xcp_bank.specs.SeatKnowledge.{AllBegin};
 ghost use Rattle.xcp_bank.specs.declared.taken.Taken.{Taken};
 ghost use Rattle.xcp_framing.specs.declared.serving.ServeError.{ServeError};
 ghost use Rattle.xcp_framing.specs.declared.serving.ServeError.TheVariants as errors;
@@ -54,6 +55,12 @@ pub fn a_connection_ends_as_its_parts()
     ensures well { (heard : Result Served ServeError) (pumped : Result ℕ ServeError) (sent : Result ℕ SendError) (s : Served) → (end_of heard pumped sent ≡ Ok s) ↔ ((heard ≡ Ok s) × IsOk pumped × IsOk sent) }
     ensures fault { (heard : Result Served ServeError) (pumped : Result ℕ ServeError) (sent : Result ℕ SendError) (e : ServeError) → end_of heard pumped sent ≡ Err e → (heard ≡ Err e) ⊎ ((pumped ≡ Err e) ⊎ ((e ≡ errors.Write) × IsErr sent)) }
     ensures reading { (heard : Result Served ServeError) (pumped : Result ℕ ServeError) (sent : Result ℕ SendError) (e : ServeError) → heard ≡ Err e → end_of heard pumped sent ≡ Err e }
+{}
+
+/// A reader that is settled has the image that it held before: where what it had seen begins what it sees then, the publication that
+/// it holds is the same one.
+pub fn a_settled_image_is_the_one_held()
+    ensures { (old new : ReaderEnd) → new.held ≡ old.held → AllBegin (old.seen ∷ old.past) new.seen → 0 < length (image_held old) → image_held new ≡ image_held old }
 {}
 
 /// What counts as looking for the current image: each acquire does, and no read does.

@@ -38,8 +38,8 @@ pub use errors::LockedError;
 pub use gate::Gate;
 pub use hearing::{Heard, Hearing};
 pub use laws::{
-    a_connection_ends_as_its_parts, acquiring_is_looking, places_are_the_least,
-    publications_follow_the_run, receipts_are_entries,
+    a_connection_ends_as_its_parts, a_settled_image_is_the_one_held, acquiring_is_looking,
+    places_are_the_least, publications_follow_the_run, receipts_are_entries,
 };
 pub use ledger::Unsettled;
 pub use locked::{JOURNAL, Locked};

@@ -56,7 +56,7 @@ impl<N: Name> Model for Locked<N> {
 
     ghost Value = { LockedValue };
 
-    ghost view = { λ l. record { slave = l.slave; journal = l.journal.entries; publications = l.publisher.writer.publications } };
+    ghost view = { λ l. record { slave = l.slave; journal = l.journal.entries; writer = l.publisher.writer } };
 
     ghost invariant = { λ l. Run (opening (layout_of l.slave)) (exchanges l.journal.entries) l.slave × (l.book.total ≡ length l.journal.entries) × (length l.journal.entries ≤ journal_limit) × (layout_of l.slave ≡ N.layout) × IsKept N.bank (opening N.layout) (exchanges l.journal.entries) l.slave l.publisher };
 }
@@ -180,7 +180,7 @@ impl<N: Name> Locked<N> {
         ensures layout { layout_of self.now.slave ≡ N.layout }
         ensures few { length self.now.journal ≤ journal_limit }
         ensures published { AreImages (opening N.layout) (exchanges self.now.journal)
-            self.now.publications }
+            self.now.writer.publications }
     {
         let _ = &self.slave;
     }

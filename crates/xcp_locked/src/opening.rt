@@ -1,7 +1,7 @@
 //! A slave that no type names yet, and its opening.
 ghost use Rattle.std.specs.Prelude.{◌≡◌, ◌≤◌, [], ◌∷◌, IfOk};
 ghost use Rattle.std.specs.List.{AllByRecursion};
-ghost use Rattle.xcp_bank.specs.BankEnds.{six_readers};
+ghost use Rattle.xcp_bank.specs.BankEnds.{new_writer, six_readers};
 ghost use Rattle.xcp_slave.specs.SlaveValue.{layout_of, opening};
 ghost use Rattle.xcp_locked.specs.Caller.{callers_of, fresh_caller};
 ghost use Rattle.xcp_locked.specs.Publications.{image_of};
@@ -90,7 +90,7 @@ impl<N: Name> Locked<N> {
             o.locked ≡ record {
               slave = opening unnamed.layout;
               journal = [];
-              publications = image_of (opening unnamed.layout) ∷ [];
+              writer = new_writer N.bank (image_of (opening unnamed.layout));
             }) }
         ensures callers { IfOk result (λ o.
             o.callers.items ≡ callers_of unnamed.layout unnamed.callers) }

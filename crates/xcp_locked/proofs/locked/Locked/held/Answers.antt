@@ -1,4 +1,4 @@
-use Rattle.std.proofs.Common.{◌∙◌, List, ap, ℕ}
+use Rattle.std.proofs.Common.{◌∙◌, ap}
 use Rattle.xcp_locked.specs.LockedSlave.{LockedValue}
 use Rattle.xcp_locked.proofs.locked.Locked.held.Goals as goal
 
@@ -21,7 +21,11 @@ invariant_of-self g c =
     )
 
 pub returns-clause-same : goal.returns-clause-same
-returns-clause-same g c = ap (λ (images : List (List ℕ)). record { slave = c.self.inside.slave; journal = c.self.inside.journal.entries; publications = images }) c.held.ensures.same_publications ∙ c.self.view_is
+returns-clause-same g c = (
+  ap (λ (l : LockedValue). l.slave) c.self.view_is,
+  ap (λ (l : LockedValue). l.journal) c.self.view_is,
+  c.held.ensures.same_publications ∙ ap (λ (l : LockedValue). l.writer.publications) c.self.view_is,
+)
 
 pub returns-clause-does : goal.returns-clause-does
-returns-clause-does g c = (c.self.inside.publisher.writer, c.held.new.self, c.self.invariant.4.named, ap (λ (l : LockedValue). l.publications) c.self.view_is, c.held.ensures.does)
+returns-clause-does g c = rw (ap (λ (l : LockedValue). l.writer) c.self.view_is) at c.held.ensures.does
