@@ -33,11 +33,10 @@ fn served<R: Threads + Wait + Clock + Sync>(
     let unnamed = small(alloc, 2 + tasks).ok_or("a slave")?;
     let writer: Vec<u8> = Vec::new(alloc);
     let ends = Vec::from_array(alloc, [(Watched::new(sent), Watched::new(writer))])?;
-    Ok(
-        serve_ends(rt, alloc, unnamed, ends, tasks, cycles, period)
-            .ok()
-            .ok_or("a report")?,
-    )
+    let ending = serve_ends(rt, alloc, unnamed, ends, tasks, cycles, period)
+        .ok()
+        .ok_or("an end")?;
+    Ok(ending.told.ok().ok_or("a report")?)
 }
 
 #[test]

@@ -36,7 +36,10 @@ fn serve_one<R: Threads + Wait + Clock + Sync>(
 ) -> Option<Report> {
     let unnamed = small(alloc, 4)?;
     let ends = accept_tools(alloc, listener, 1).ok()?;
-    serve_ends(rt, alloc, unnamed, ends, 2, 2, 0).ok()
+    serve_ends(rt, alloc, unnamed, ends, 2, 2, 0)
+        .ok()?
+        .told
+        .ok()
 }
 
 #[test]

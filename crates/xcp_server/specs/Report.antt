@@ -23,25 +23,26 @@ use Rattle.xcp_locked.specs.declared.tasks.TaskError.{TaskError}
 use Rattle.xcp_locked.specs.declared.tasks.TaskError.TheVariants as tasks
 use Rattle.xcp_program.specs.declared.fault.Fault.{Fault}
 use Rattle.xcp_program.specs.declared.fault.Fault.TheVariants.{Memory, Mismatch, Stream}
+use Rattle.xcp_server.specs.declared.report.Ending.{Ending}
 use Rattle.xcp_server.specs.declared.report.Report.{Report}
 
 -- the fault that is told where a connection ended so
-abbrev pub told_end : ServeError → Fault
-told_end errors.Memory = Memory
-told_end e = Stream (number_of e)
+abbrev pub fault_of_end : ServeError → Fault
+fault_of_end errors.Memory = Memory
+fault_of_end e = Stream (number_of e)
 
 -- the fault of the first faulty connection
-abbrev pub told_ends : List (Result Served ServeError) → Option Fault
-told_ends [] = None
-told_ends (Ok _ ∷ ends) = told_ends ends
-told_ends (Err e ∷ ends) = Some (told_end e)
+abbrev pub fault_of_ends : List (Result Served ServeError) → Option Fault
+fault_of_ends [] = None
+fault_of_ends (Ok _ ∷ ends) = fault_of_ends ends
+fault_of_ends (Err e ∷ ends) = Some (fault_of_end e)
 
 -- the fault that is told where this ended the tasks, or the last Hangup; a gate that ends a task is none
-abbrev pub told_task : Option TaskError → Option Fault
-told_task None = None
-told_task (Some tasks.Memory) = Some Memory
-told_task (Some tasks.JournalFull) = Some (Stream (number_of errors.JournalFull))
-told_task (Some (tasks.GateSpent _)) = None
+abbrev pub fault_of_tasks : Option TaskError → Option Fault
+fault_of_tasks None = None
+fault_of_tasks (Some tasks.Memory) = Some Memory
+fault_of_tasks (Some tasks.JournalFull) = Some (Stream (number_of errors.JournalFull))
+fault_of_tasks (Some (tasks.GateSpent _)) = None
 
 abbrev pub first_of : Option Fault → Option Fault → Option Fault
 first_of None other = other
@@ -61,13 +62,15 @@ pub record IsMismatch (journal : List Entry) (callers : List CallerValue) (f : F
 pub record IsReport {N I O : Type 0} (c : Closing N I O) (r : Report) : Type 0 where
   pub calls : r.calls ≡ length c.locked.journal
   pub settled : AreSettled c.locked.journal (vec_len c.callers) c.callers.items
-  pub fault : r.fault ≡ first_of (told_ends c.ends.items) (told_task c.fault)
+  pub fault : r.fault ≡ first_of (fault_of_ends c.ends.items) (fault_of_tasks c.fault)
 
--- A server's work was done on a slave of this layout, and this is what is told of it: its journal is a run from the slave's opening.
-pub record IsServed {I O : Type 0} (N : Type 0) (remaining : I → Option (List ℕ)) (contents : O → Option (List ℕ)) (layout : LayoutValue) (turns cycles tasks callers : ℕ) (bank : BankId) (ends : List (Watched I × Watched O)) (result : Result Report Fault) : Type 0 where
+-- A server's work was done on a slave of this layout, and this is what it gives back: what is told of the work, whose journal is a
+-- run from the slave's opening, and its connections as the work left them.
+pub record IsServed {I O : Type 0} (N : Type 0) (remaining : I → Option (List ℕ)) (contents : O → Option (List ℕ)) (layout : LayoutValue) (turns cycles tasks callers : ℕ) (bank : BankId) (ends : List (Watched I × Watched O)) (ending : Ending I O) : Type 0 where
   pub closing : Closing N I O
   pub closes : Closes remaining contents layout.max_cto turns cycles tasks (callers_of layout callers) (six_readers bank (image_of (opening layout))) ends closing
   pub frames : CountTheirCommands closing.ends.items closing.callers.items
   pub hangup : EndsSession closing.fault closing.callers.items
   pub run : Run (opening layout) (exchanges closing.locked.journal) closing.locked.slave
-  pub told : MatchResult result (IsReport closing) (IsMismatch closing.locked.journal closing.callers.items)
+  pub told : MatchResult ending.told (IsReport closing) (IsMismatch closing.locked.journal closing.callers.items)
+  pub left : ending.left.items ≡ closing.left.items

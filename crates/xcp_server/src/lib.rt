@@ -9,6 +9,6 @@ mod serving;
 mod timetable;
 mod tools;
 
-pub use report::{Report, conclude};
+pub use report::{Ending, Report, conclude};
 pub use serving::serve_ends;
 pub use tools::{Tools, accept_tools};

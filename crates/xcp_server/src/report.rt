@@ -1,11 +1,11 @@
 //! What is told at the end of a server.
 ghost use Rattle.std.specs.Prelude.{◌≡◌, ◌<◌, IfOk, MatchResult, sum_by, vec_len};
 ghost use Rattle.xcp_locked.specs.Caller.{accepted_by};
-ghost use Rattle.xcp_server.specs.Report.{IsMismatch, IsReport, first_of, told_end, told_ends, told_task};
+ghost use Rattle.xcp_server.specs.Report.{IsMismatch, IsReport, fault_of_end, fault_of_ends, fault_of_tasks, first_of};
 
 use std::io::{Read, Write};
 use xcp_framing::{ServeError, Served};
-use xcp_locked::{Closing, Name, TaskError, settle_all};
+use xcp_locked::{Closing, Left, Name, TaskError, settle_all};
 use xcp_program::Fault;
 
 /// What is told of a server whose callers are all settled.
@@ -18,6 +18,15 @@ pub struct Report {
     pub fault: Option<Fault>,
 }
 
+/// What a server gives back: what is told of it, and its connections, in the order of accepting, as
+/// they were left. Contracts alone see the latter.
+#[derive(Drop)]
+pub struct Ending<I: Read + Drop, O: Write + Drop> {
+    /// What is told, or `Mismatch` where the receipts of a caller aren't the journal's.
+    pub told: Result<Report, Fault>,
+    pub left: Vec<Left<I, O>>,
+}
+
 /// Settles all callers of a server, one after another, and tells how many calls there were.
 /// `Mismatch` comes where the receipts of a caller aren't the journal's, and no other fault does.
 pub fn conclude<N: Name, I: Read + Drop, O: Write + Drop>(
@@ -27,6 +36,7 @@ pub fn conclude<N: Name, I: Read + Drop, O: Write + Drop>(
     ensures told { MatchResult result (IsReport closing.old)
         (IsMismatch closing.old.locked.journal closing.old.callers.items) }
     ensures sum { IfOk result (λ r. r.calls ≡ sum_by accepted_by closing.old.callers.items) }
+    ensures left { closing.new.left ≡ closing.old.left }
 {
     let fault = told_fault(&closing.ends, closing.fault);
     match settle_all(closing) {
@@ -40,11 +50,11 @@ pub fn conclude<N: Name, I: Read + Drop, O: Write + Drop>(
 
 /// The fault that is told, of the ends of the connections and of what ended the tasks.
 fn told_fault(ends: &[Result<Served, ServeError>], tasks: Option<TaskError>) -> Option<Fault>
-    ensures { result ≡ first_of (told_ends ends.now) (told_task tasks) }
+    ensures { result ≡ first_of (fault_of_ends ends.now) (fault_of_tasks tasks) }
 {
     for end in ends {
         if let Err(error) = end {
-            return Some(told_end(error));
+            return Some(fault_of_end(error));
         }
     }
     match tasks {
@@ -55,8 +65,8 @@ fn told_fault(ends: &[Result<Served, ServeError>], tasks: Option<TaskError>) -> 
 }
 
 /// The fault that is told where a connection ended so.
-fn told_end(error: &ServeError) -> Fault
-    ensures { result ≡ told_end error.now }
+fn fault_of_end(error: &ServeError) -> Fault
+    ensures { result ≡ fault_of_end error.now }
 {
     match error {
         ServeError::Memory => Fault::Memory,

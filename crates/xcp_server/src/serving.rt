@@ -1,8 +1,8 @@
 //! Connections and tasks, up to what is told of them.
-ghost use Rattle.std.specs.Prelude.{◌≡◌, ◌⊎◌, ◌<◌, ◌≤◌, ◌+◌, Err, vec_len};
+ghost use Rattle.std.specs.Prelude.{◌≡◌, ◌<◌, ◌≤◌, ◌+◌, MatchResult, vec_len};
 ghost use Rattle.xcp_server.specs.Report.{IsServed};
 
-use crate::report::{Report, conclude};
+use crate::report::{Ending, conclude};
 use crate::timetable::Timetable;
 use std::alloc::Global;
 use std::io::{Read, Write};
@@ -22,9 +22,9 @@ const PUMP_TURNS: u32 = 4_000_000_000;
 
 /// Serves each reader and writer by frames on this slave, and runs so many tasks of so many cycles,
 /// all at the same time; joins them, ends the session, settles all callers and tells how many calls
-/// there were. A task begins its cycle n once n periods, in milliseconds, have passed since the call.
-/// `Memory` comes where memory or a thread is refused, before anybody has begun, `Mismatch` where a
-/// caller's receipts aren't the journal's.
+/// there were, or `Mismatch` where a caller's receipts aren't the journal's. A task begins its cycle n
+/// once n periods, in milliseconds, have passed since the call. `Memory`, and no other fault, is the
+/// call's own: it comes where memory or a thread is refused, before anybody has begun.
 pub fn serve_ends<I: Read + Send + Drop, O: Write + Send + Drop, R: Threads + Wait + Clock + Sync>(
     rt: &R,
     alloc: Global,
@@ -33,12 +33,12 @@ pub fn serve_ends<I: Read + Send + Drop, O: Write + Send + Drop, R: Threads + Wa
     tasks: u8,
     cycles: u32,
     period: u32,
-) -> Result<Report, Fault>
+) -> Result<Ending<I, O>, Fault>
     requires some { 0 < vec_len ends }
     requires callers { vec_len ends + tasks + vec_len ends ≤ unnamed.callers }
     requires readers { tasks ≤ 6 }
-    ensures served { (result ≡ Err Fault.Memory) ⊎ IsServed Brand I.remaining O.contents unnamed.layout 1000000
-        cycles tasks unnamed.callers unnamed.bank ends.items result }
+    ensures served { MatchResult result (IsServed Brand I.remaining O.contents unnamed.layout 1000000
+        cycles tasks unnamed.callers unnamed.bank ends.items) (λ f. f ≡ Fault.Memory) }
 {
     serve_named::<Brand, I, O, R>(rt, alloc, unnamed, ends, tasks, cycles, period)
 }
@@ -57,14 +57,14 @@ fn serve_named<
     tasks: u8,
     cycles: u32,
     period: u32,
-) -> Result<Report, Fault>
+) -> Result<Ending<I, O>, Fault>
     requires name { (unnamed.name ≡ N.name) × (unnamed.callers ≡ N.parts)
         × (unnamed.layout ≡ N.layout) × (unnamed.bank ≡ N.bank) }
     requires some { 0 < vec_len ends }
     requires callers { vec_len ends + tasks + vec_len ends ≤ unnamed.callers }
     requires readers { tasks ≤ 6 }
-    ensures served { (result ≡ Err Fault.Memory) ⊎ IsServed N I.remaining O.contents unnamed.layout 1000000
-        cycles tasks unnamed.callers unnamed.bank ends.items result }
+    ensures served { MatchResult result (IsServed N I.remaining O.contents unnamed.layout 1000000
+        cycles tasks unnamed.callers unnamed.bank ends.items) (λ f. f ≡ Fault.Memory) }
 {
     let gate = Timetable::new(rt, period);
     let Ok(mut closing) = run_server::<N, _, _, _, _>(
@@ -72,5 +72,7 @@ fn serve_named<
     ) else {
         return Err(Fault::Memory);
     };
-    conclude(&mut closing)
+    let told = conclude(&mut closing);
+    let left = closing.left;
+    Ok(Ending { told, left })
 }

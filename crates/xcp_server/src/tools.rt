@@ -11,8 +11,8 @@ use xcp_program::Fault;
 pub type Tools = Vec<(Watched<TcpStream>, Watched<TcpStream>)>;
 
 /// Accepts so many tools, one after another: the reader and the writer of each, in the order in
-/// which they connected. `Stream(0)` comes where one can't be accepted, `Memory` where memory is
-/// wanting.
+/// which they connected. `Stream(0)` comes where one can't be accepted, `Memory` where an allocation
+/// fails.
 pub fn accept_tools(alloc: Global, listener: &TcpListener, tools: u8) -> Result<Tools, Fault>
     ensures count { IfOk result (λ ends. vec_len ends ≡ tools) }
     ensures refused { IfErr result (λ f. (f ≡ Fault.Memory) ⊎ (f ≡ Fault.Stream 0)) }

@@ -57,8 +57,8 @@ fn admit(
 }
 
 /// Tells what came of a server: once its callers are settled its calls, and then its fault.
-fn print_end(rt: &HostRuntime, ended: Result<Report, Fault>) -> Option<Fault> {
-    match ended {
+fn print_end(rt: &HostRuntime, told: Result<Report, Fault>) -> Option<Fault> {
+    match told {
         Ok(report) => {
             let _ = println!(rt; "calls {}\nsettled", report.calls);
             report.fault
@@ -91,10 +91,12 @@ fn main(rt: HostRuntime) -> ExitCode {
                 period,
             },
         ) => match admit(&rt, config.as_str(), port, tools, tasks) {
-            Ok((unnamed, ends)) => print_end(
-                &rt,
-                serve_ends(&rt, rt.alloc(), unnamed, ends, tasks, cycles, period),
-            ),
+            Ok((unnamed, ends)) => {
+                match serve_ends(&rt, rt.alloc(), unnamed, ends, tasks, cycles, period) {
+                    Ok(ending) => print_end(&rt, ending.told),
+                    Err(fault) => Some(fault),
+                }
+            }
             Err(fault) => Some(fault),
         },
         Err(unasked) => return tell(&rt, &unasked),
