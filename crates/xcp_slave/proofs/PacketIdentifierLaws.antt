@@ -37,6 +37,23 @@ identified v i j k l h g e =
     let s : i ≡ k = omega arith in
     (s, same-odt v.daq i j k l s e)
 
+-- the first list's first ODT has PID 0
+pub first-zero : (v : SlaveValue) → first_pid 0 v.daq ≡ 0
+first-zero v = refl
+
+more-odts : (lists : List DaqList) (i : ℕ) → i < length lists → length (all_odts (take (suc i) lists)) ≡ length (all_odts (take i lists)) + length (get_or lists i no_list).odts
+more-odts [] i h = omega (arith, h)
+more-odts (x ∷ lists) zero h = let e = length-append x.odts [] in omega arith
+more-odts (x ∷ lists) (suc i) h =
+    let r = more-odts lists i (omega (arith, h)) in
+    let a = length-append x.odts (all_odts (take (suc i) lists)) in
+    let b = length-append x.odts (all_odts (take i lists)) in
+    omega arith
+
+-- the PIDs of a list's ODTs are followed by those of the next list's
+pub next-pid : (v : SlaveValue) (i : ℕ) → i < length v.daq.lists → first_pid (i + 1) v.daq ≡ first_pid i v.daq + length (list_at v.daq i).odts
+next-pid v i h = ap (λ n. length (all_odts (take n v.daq.lists))) (let e : i + 1 ≡ suc i = omega arith in e) ∙ more-odts v.daq.lists i h
+
 tail-of : List ℕ → List ℕ
 tail-of [] = []
 tail-of (x ∷ xs) = xs

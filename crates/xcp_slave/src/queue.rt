@@ -53,9 +53,12 @@ pub fn a_list_is_due_by_its_prescaler()
     ensures runs { (l : DaqList) (channel : ℕ) → due channel l ≡ true → (l.running ≡ true) × (l.event ≡ channel) }
 {}
 
-/// A packet identifier (PID) names one ODT: two ODTs, of one list or of two, have different ones. And
-/// START_STOP_DAQ_LIST answers that of the list's first ODT.
+/// A packet identifier (PID) names one ODT: two ODTs, of one list or of two, have different ones. PIDs
+/// are counted from 0, list by list, without a gap, and START_STOP_DAQ_LIST answers that of the list's
+/// first ODT.
 pub fn a_pid_names_one_odt()
     ensures one { (v : SlaveValue) (i j k l : ℕ) → j < length (list_at v.daq i).odts → l < length (list_at v.daq k).odts → first_pid i v.daq + j ≡ first_pid k v.daq + l → (i ≡ k) × (j ≡ l) }
+    ensures zero { (v : SlaveValue) → first_pid 0 v.daq ≡ 0 }
+    ensures next { (v : SlaveValue) (i : ℕ) → i < length v.daq.lists → first_pid (i + 1) v.daq ≡ first_pid i v.daq + length (list_at v.daq i).odts }
     ensures told { (v w : SlaveValue) (mode i : ℕ) (bytes : List ℕ) → Accepts v (Command.StartStopDaqList mode i) bytes w → bytes ≡ first_pid i v.daq ∷ [] }
 {}
