@@ -21,10 +21,33 @@ fn answered(alloc: Global, text: &str) -> Result<u32, Fail> {
     Ok(count)
 }
 
+/// The nine that are executed.
+const EXECUTED: [&str; 9] = [
+    "FE > FF",
+    "FD > FF 00 00 00 00 00",
+    "FC > FE 00",
+    "FB > FF 00 01 00 08 00 00 10",
+    "E9 > FF 02 01",
+    "DB > FE 2A",
+    "DA > FF 03 00 00 01 00 00 00",
+    "D9 > FF 01 3F 01 00 00 00 00",
+    "D6 > FF",
+];
+
+/// The first row that a slave of its own, behind CONNECT, answers otherwise.
+fn first_wrong_alone(alloc: Global) -> Result<Option<&'static str>, Fail> {
+    for row in EXECUTED {
+        if first_wrong_of(alloc, USUAL, row)?.is_some() {
+            return Ok(Some(row));
+        }
+    }
+    Ok(None)
+}
+
 #[test]
 fn packets_of_one_byte(rt: HostRuntime) -> Result<(), Fail> {
     assert_eq!(rt; answered(rt.alloc(), "FE 20")?, 217);
     assert_eq!(rt; answered(rt.alloc(), "FE 21")?, 30);
-    assert_eq!(rt; first_wrong_of(rt.alloc(), USUAL, "DB > FE 2A")?, None);
+    assert_eq!(rt; first_wrong_alone(rt.alloc())?, None);
     Ok(())
 }

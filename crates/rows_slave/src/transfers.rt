@@ -118,6 +118,12 @@ fn blocks(rt: HostRuntime) -> Result<(), Fail> {
         F0 08 01 02 03 04 05 06 > -
         FD > FF 00 00 00 00 00
         EF 02 07 08 > FE 29 00
+        # So does a DOWNLOAD of one packet, which is written where the MTA stands.
+        F6 00 00 00 00 10 00 00 > FF
+        F0 08 01 02 03 04 05 06 > -
+        F0 02 A1 A2 > FF
+        EF 02 07 08 > FE 29 00
+        F4 02 00 00 00 10 00 00 > FF A1 A2
         # A packet of no bytes is no command.
         F6 00 00 00 00 10 00 00 > FF
         F0 08 01 02 03 04 05 06 > -

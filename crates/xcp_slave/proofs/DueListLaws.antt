@@ -218,12 +218,38 @@ run-still v (x ∷ xs) w i r b k =
     let one : list_at k.0.daq i ≡ list_at v.daq i = step-still v x.request x.answer k.0 i r (b zero x (omega arith)) k.1 in
     run-still k.0 xs w i (ap (λ (l : DaqList). l.running) one ∙ r) (λ j d short. b (suc j) d (omega arith)) k.2 ∙ one
 
+-- a list that doesn't run is due at no event
+still-due : (u : SlaveValue) (i channel : ℕ) (xs : List Exchange) (w : SlaveValue) → (list_at u.daq i).running ≡ false → All (λ (x : Exchange). KeepsLists x.request) xs → Run u xs w → due channel (list_at w.daq i) ≡ false
+still-due u i channel xs w off b k =
+    let l = list_at w.daq i in
+    ap (λ (r : Bool). (r && (l.event == channel)) && (l.since == 0)) (ap (λ (m : DaqList). m.running) (run-still u xs w i off b k) ∙ off)
+
 -- a list that START_STOP_DAQ_LIST stops is due at no event
 pub stopped-due : (v u : SlaveValue) (i channel : ℕ) (bytes : List ℕ) (xs : List Exchange) (w : SlaveValue) → Accepts v (commands.StartStopDaqList 0 i) bytes u → All (λ (x : Exchange). KeepsLists x.request) xs → Run u xs w → due channel (list_at w.daq i) ≡ false
 stopped-due v u i channel bytes xs w a b k =
-    let off : (list_at u.daq i).running ≡ false = ap (λ (l : DaqList). l.running) (switch-after v u 0 i bytes a) in
-    let l = list_at w.daq i in
-    ap (λ (r : Bool). (r && (l.event == channel)) && (l.since == 0)) (ap (λ (m : DaqList). m.running) (run-still u xs w i off b k) ∙ off)
+    still-due u i channel xs w (ap (λ (l : DaqList). l.running) (switch-after v u 0 i bytes a)) b k
+
+chosen-ends : (l : DaqList) (s : Bool) → s ≡ true → (record (if not s then l else record l { running = false; since = 0 }) { selected = false }).running ≡ false
+chosen-ends l true e = refl
+chosen-ends l false e = cc
+
+-- START_STOP_SYNCH of mode 2 stops each list that is selected
+pub chosen-stopped : (v u : SlaveValue) (i channel : ℕ) (bytes : List ℕ) (xs : List Exchange) (w : SlaveValue) → (list_at v.daq i).selected ≡ true → Accepts v (commands.StartStopSynch 2) bytes u → All (λ (x : Exchange). KeepsLists x.request) xs → Run u xs w → due channel (list_at w.daq i) ≡ false
+chosen-stopped v u i channel bytes xs w s a b k =
+    let l = list_at v.daq i in
+    let now : list_at u.daq i ≡ record (synchronised 2 l) { selected = false } =
+    ap (λ (x : SlaveValue). list_at x.daq i) (accepted (commands.StartStopSynch 2) v bytes u a).after
+    ∙ mapped (λ (x : DaqList). record (synchronised 2 x) { selected = false }) v.daq i (chosen-there v.daq i s) in
+    still-due u i channel xs w (ap (λ (m : DaqList). m.running) now ∙ chosen-ends l l.selected s) b k
+
+all-end : (xs : List DaqList) (i : ℕ) → (get_or (map (λ (x : DaqList). record (synchronised 0 x) { selected = false }) xs) i no_list).running ≡ false
+all-end [] i = refl
+all-end (x ∷ xs) zero = refl
+all-end (x ∷ xs) (suc i) = all-end xs i
+
+-- START_STOP_SYNCH of mode 0 stops all lists
+pub all-stopped : (v u : SlaveValue) (i channel : ℕ) (bytes : List ℕ) (xs : List Exchange) (w : SlaveValue) → Accepts v (commands.StartStopSynch 0) bytes u → All (λ (x : Exchange). KeepsLists x.request) xs → Run u xs w → due channel (list_at w.daq i) ≡ false
+all-stopped v u i channel bytes xs w a b k = still-due u i channel xs w (ap (λ (x : SlaveValue). (list_at x.daq i).running) (accepted (commands.StartStopSynch 0) v bytes u a).after ∙ all-end v.daq.lists i) b k
 
 both : (a b c : Bool) → ((a && b) && c) ≡ true → (a ≡ true) × (b ≡ true)
 both true true c h = (refl, refl)

@@ -7,6 +7,7 @@ use Rattle.xcp_packet.specs.ReplyPacket.{layout, number_of}
 use Rattle.xcp_packet.specs.CommandForms.{code}
 use Rattle.xcp_packet.specs.CommandSpelling.{spells}
 use Rattle.xcp_packet.specs.Decoding.{Decodes}
+use Rattle.xcp_packet.proofs.DecodingLaws.{decodes_once}
 use Rattle.xcp_packet.specs.Rows.{Meets}
 use Rattle.xcp_packet.specs.declared.Order.{Order}
 use Rattle.xcp_packet.specs.declared.Command.{Command}
@@ -24,13 +25,14 @@ use Rattle.xcp_slave.specs.declared.request.Request.TheVariants as requests
 use Rattle.xcp_slave.specs.declared.answer.Answer.{Answer}
 use Rattle.xcp_slave.specs.declared.answer.Answer.TheVariants as answers
 use Rattle.xcp_slave.specs.SlaveValue.{SlaveValue, layout_of, noblock}
+use Rattle.xcp_slave.specs.RefusalCodes.{is_code_of}
 use Rattle.xcp_slave.specs.RefusingAnswers.{IsErrorPacket, IsRefusing, is_refusal_code}
 use Rattle.xcp_slave.specs.Rows.{row}
 use Rattle.xcp_slave.specs.Step.{Answers, Heeds, Executes, Drains, Samples, outbox_size, with_signals, found_by, answer_of, sent_reply, is_connect}
 use Rattle.xcp_slave.specs.SlaveInvariant.{IsSlave, IsWaiting}
 use Rattle.xcp_slave.proofs.StepLaws.{either}
 use Rattle.xcp_slave.proofs.RefusalLaws.{items_of, error-leaves, row-synch}
-use Rattle.xcp_slave.proofs.RefusalCodeLemmas.{is_error, refusal-error}
+use Rattle.xcp_slave.proofs.RefusalCodeLemmas.{both-true, is_error, is_error_of, refusal-error, refusal-of}
 
 -- what waits is no response
 no-response : (l : LayoutValue) (p : ArrayVec ℕ) → IsWaiting l p → (slice_index p.items 0 ≢ 0xFF) × (slice_index p.items 0 ≢ 0xFE)
@@ -85,7 +87,8 @@ shown order (Some reply) p e = (reply, refl, ap items_of e)
 refusing : (order : Order) (reply : Reply) → is_error reply ≡ true → IsRefusing (layout order reply)
 refusing order (replies.Error code) h = record { code = number_of code; known = h; shape = inl refl }
 refusing order (replies.ErrorCount code count) h =
-    let same : number_of code ≡ 0x29 = grind (arith, nat_tests, h) in
+    let last : (number_of code == 0x29) ≡ true = (both-true (is_refusal_code (number_of code)) (number_of code == 0x29) h).1 in
+    let same : number_of code ≡ 0x29 = grind (arith, nat_tests, last) in
     record { code = number_of code; known = ap is_refusal_code same; shape = inr (count, same, ap (λ (n : ℕ). 0xFE ∷ n ∷ count ∷ []) same) }
 refusing order _ h = cc
 
@@ -138,3 +141,31 @@ heeds-codes v packet (Err refuses.Short) p w rest s h e = either v.connected _ _
 -- a command's answer that begins with FE is FE 00, to SYNCH (FC), or an error packet with a refusal's code
 pub error-codes : (v : SlaveValue) (q p : ArrayVec ℕ) (w : SlaveValue) (rest : List ℕ) → Answers v (requests.Command q) (answers.Packet p) w → p.items ≡ 0xFE ∷ rest → ((slice_index q.items 0 ≡ 0xFC) × (p.items ≡ 0xFE ∷ 0x00 ∷ [])) ⊎ IsRefusing p.items
 error-codes v q p w rest h e = heeds-codes v q.items h.0 p w rest h.1 h.2 e
+
+-- the code of a command's error packet
+
+told-code : (known : ℕ → Bool) (order : Order) (reply : Reply) (code : ℕ) (rest : List ℕ) → is_error_of known reply ≡ true → layout order reply ≡ 0xFE ∷ code ∷ rest → known code ≡ true
+told-code known order (replies.Error k) code rest h e = subst (λ (n : ℕ). known n ≡ true) (ap (λ (xs : List ℕ). slice_index xs 1) e) h
+told-code known order (replies.ErrorCount k count) code rest h e = subst (λ (n : ℕ). known n ≡ true) (ap (λ (xs : List ℕ). slice_index xs 1) e) (both-true (known (number_of k)) (number_of k == 0x29) h).0
+told-code known order _ code rest h e = cc
+
+meets-code : (c : Command) (v : SlaveValue) (x : Result (Option Reply) Reply) (w : SlaveValue) (reply : Reply) (code : ℕ) (rest : List ℕ) → Meets (row c (found_by c v)) (noblock v) x w → sent_reply x ≡ Some reply → layout (layout_of v).order reply ≡ 0xFE ∷ code ∷ rest → code ≢ 0x00 → is_code_of c code ≡ true
+meets-code c v (Ok o) w reply code rest m s e other =
+    let y = row-synch c v reply (code ∷ rest) (sym m.1 ∙ s) e in
+    let synch = synch-bytes c v reply y (sym m.1 ∙ s) in
+    absurd (other (ap (λ (xs : List ℕ). slice_index xs 1) (sym e ∙ synch)))
+meets-code c v (Err f) w reply code rest m s e other =
+    let same : f ≡ reply = cc in
+    told-code (is_code_of c) (layout_of v).order f code rest (refusal-of c (found_by c v) f m.0) (ap (layout (layout_of v).order) same ∙ e)
+
+executes-code : (c : Command) (v : SlaveValue) (p : ArrayVec ℕ) (w : SlaveValue) (code : ℕ) (rest : List ℕ) → Executes c v (answers.Packet p) w → p.items ≡ 0xFE ∷ code ∷ rest → code ≢ 0x00 → is_code_of c code ≡ true
+executes-code c v p w code rest k e other =
+    let s = shown (layout_of v).order (sent_reply k.0) p k.2 in
+    meets-code c v k.0 w s.0 code rest k.1 s.1 (sym s.2 ∙ e) other
+
+-- a packet that spells a command is answered by an error packet with one of that command's codes, but for SYNCH's FE 00
+pub command-codes : (v : SlaveValue) (c : Command) (q p : ArrayVec ℕ) (w : SlaveValue) (code : ℕ) (rest : List ℕ) → spells (layout_of v).order c q.items → Answers v (requests.Command q) (answers.Packet p) w → p.items ≡ 0xFE ∷ code ∷ rest → code ≢ 0x00 → is_code_of c code ≡ true
+command-codes v c q p w code rest s h e other =
+    let same : h.0 ≡ Ok c = decodes_once (layout_of v).order q.items h.0 (Ok c) h.1 s in
+    let heeds : Heeds v (Ok c) (answers.Packet p) w = subst (λ (d : Result Command Refuse). Heeds v d (answers.Packet p) w) same h.2 in
+    either (v.connected || is_connect c) _ _ _ heeds (λ k. executes-code c v p w code rest k e other) (λ k. ignored-packet p _ k.0)

@@ -21,6 +21,7 @@ pub mod RunMemoryLaws
 pub mod MemoryLaws
 pub mod BlockLaws
 pub mod UnaffectedPartLaws
+pub mod PagePartLaws
 pub mod PacketQueueLaws
 pub mod SampledByteLaws
 pub mod DueListLaws

@@ -68,6 +68,14 @@ download-both v w n a items bytes h e k0 =
     let led : w.transfer ≡ downloaded v.transfer v.transfer.mta (take n items.items) = ap (λ (x : SlaveValue). x.transfer) k.after ∙ ap (λ (b : Bool). if b then downloaded v.transfer v.transfer.mta (take n items.items) else record v.transfer { block = block_begun v.transfer.mta (n - room) (take room items.items) }) one in
     at-address v w v.transfer.mta a n (take n items.items) h e (none-behind (write_refusal_at v.transfer.pages v.transfer.mta n) t.1.1) (length-take-le n items.items (enough (length items.items) n room t.1.0 one)) led
 
+-- an accepted DOWNLOAD leaves no block
+pub whole-done : (v w : SlaveValue) (n : ℕ) (items : ArrayVec ℕ) (bytes : List ℕ) → Accepts v (commands.Download n items) bytes w → w.transfer.block ≡ None
+whole-done v w n items bytes h =
+    let k = accepted (commands.Download n items) v bytes w h in
+    let room : ℕ = packet_room (layout_of v) in
+    let one : nat_le n room ≡ true = is_sent (nat_le n room) k.reply k.replied in
+    ap (λ (x : SlaveValue). x.transfer.block) k.after ∙ ap (λ (b : Bool). (if b then downloaded v.transfer v.transfer.mta (take n items.items) else record v.transfer { block = block_begun v.transfer.mta (n - room) (take room items.items) }).block) one
+
 -- an accepted DOWNLOAD of n bytes with the MTA at an address writes these n bytes there
 pub download-writes : (v w : SlaveValue) (n a : ℕ) (items : ArrayVec ℕ) (bytes : List ℕ) → IsSlave v → v.transfer.mta ≡ Memory a → Accepts v (commands.Download n items) bytes w → Writes v.transfer.pages a (take n items.items) w.transfer.pages
 download-writes v w n a items bytes h e k = (download-both v w n a items bytes h e k).0
@@ -153,6 +161,10 @@ block-writes v w remaining items bytes b h e k = (block-both v w remaining items
 -- an accepted DOWNLOAD_NEXT leaves the MTA behind the whole block
 pub block-mta : (v w : SlaveValue) (remaining : ℕ) (items : ArrayVec ℕ) (bytes : List ℕ) (b : BlockValue) → IsSlave v → v.transfer.block ≡ Some b → Accepts v (commands.DownloadNext remaining items) bytes w → w.transfer.mta ≡ Memory (b.address + (length b.bytes + b.expected))
 block-mta v w remaining items bytes b h e k = (block-both v w remaining items bytes b h e k).1
+
+-- an accepted DOWNLOAD_NEXT leaves no block
+pub block-done : (v w : SlaveValue) (remaining : ℕ) (items : ArrayVec ℕ) (bytes : List ℕ) (b : BlockValue) → IsSlave v → v.transfer.block ≡ Some b → Accepts v (commands.DownloadNext remaining items) bytes w → w.transfer.block ≡ None
+block-done v w remaining items bytes b h e k = (block-both v w remaining items bytes b h e k).3
 
 -- requests that write nothing
 

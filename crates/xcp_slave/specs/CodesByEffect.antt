@@ -23,6 +23,14 @@ list_codes = 0xFE ∷ 0xE3 ∷ 0xE2 ∷ 0xE1 ∷ 0xE0 ∷ 0xDE ∷ 0xDD ∷ 0xDB
 abbrev pub store_codes : List ℕ
 store_codes = 0xF9 ∷ []
 
+-- SET_CAL_PAGE
+abbrev pub switch_codes : List ℕ
+switch_codes = 0xEB ∷ []
+
+-- SET_SEGMENT_MODE
+abbrev pub mode_codes : List ℕ
+mode_codes = 0xE6 ∷ []
+
 -- a packet with this first byte has none of these codes
 abbrev pub IsNone : List ℕ → ℕ → Type 0
 IsNone codes n = list_any (λ c. c == n) codes ≡ false

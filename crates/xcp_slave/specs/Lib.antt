@@ -5,6 +5,7 @@ pub mod Rows
 pub mod Step
 pub mod Run
 pub mod RefusingAnswers
+pub mod RefusalCodes
 pub mod AnswerInBytes
 pub mod SlaveInvariant
 pub mod AcceptedCommands

@@ -1,4 +1,4 @@
--- Requests that leave this and that alone, and what they keep.
+-- Which requests write, switch, copy or store, and what the others keep of the memory.
 use Rattle.std.specs.Prelude.{◌≡◌, ◌≢◌, ◌↔◌, ◌⊎◌, ℕ, ◌+◌, ◌-◌, ◌&&◌, nat_le, nat_lt, List, [], ◌∷◌, ◌++◌, take, length, slice_index, Option, Some, None, if◌then◌else◌}
 use Rattle.xcp_packet.specs.ByteOrder.{double_at, double_bytes}
 use Rattle.xcp_packet.specs.CommandSpelling.{spells}

@@ -1,5 +1,5 @@
 //! Laws of commands that are accepted. Each is the contract of a function with an empty body.
-ghost use Rattle.std.specs.Prelude.{◌≡◌, ◌≢◌, ◌⊎◌, ◌+◌, ◌<◌, ◌≤◌, ◌∷◌, ◌++◌, ◌-◌, ℕ, List, Some, [], bit_and, drop, get_or, length, take, true};
+ghost use Rattle.std.specs.Prelude.{◌≡◌, ◌≢◌, ◌⊎◌, ◌+◌, ◌<◌, ◌≤◌, ◌∷◌, ◌++◌, ◌-◌, ◌==◌, ℕ, List, Some, [], bit_and, drop, get_or, length, take, true};
 ghost use Rattle.arrayvec.specs.ArrayVec.{ArrayVec};
 ghost use Rattle.xcp_memory.specs.Checksum.{checksum_number, summed};
 ghost use Rattle.xcp_memory.specs.Memory.{Reads, Tool, Writes};
@@ -72,6 +72,14 @@ pub fn a_switch_gives_what_it_names()
     ensures xcp_kept { (v w : SlaveValue) (mode segment page i : ℕ) (bytes : List ℕ) → Accepts v (Command.SetCalPage mode segment page) bytes w → i < length v.transfer.pages.segments → Concerns mode segment i → bit_and mode 0x02 ≢ 0x02 → (segment_at w.transfer.pages i).xcp ≡ (segment_at v.transfer.pages i).xcp }
     ensures bytes { (v w : SlaveValue) (mode segment page i : ℕ) (bytes : List ℕ) → Accepts v (Command.SetCalPage mode segment page) bytes w → i < length v.transfer.pages.segments → Concerns mode segment i → (segment_at w.transfer.pages i).pages ≡ (segment_at v.transfer.pages i).pages }
     ensures others { (v w : SlaveValue) (mode segment page i : ℕ) (bytes : List ℕ) → Accepts v (Command.SetCalPage mode segment page) bytes w → bit_and mode 0x80 ≢ 0x80 → i ≢ segment → segment_at w.transfer.pages i ≡ segment_at v.transfer.pages i }
+{}
+
+/// SET_SEGMENT_MODE gives exactly its segment FREEZE mode, or takes it away, by bit 0 of its mode, and
+/// changes no byte.
+pub fn a_mode_is_of_its_segment()
+    ensures freeze { (v w : SlaveValue) (mode segment : ℕ) (bytes : List ℕ) → Accepts v (Command.SetSegmentMode mode segment) bytes w → (segment_at w.transfer.pages segment).freeze ≡ (bit_and mode 0x01 == 0x01) }
+    ensures others { (v w : SlaveValue) (mode segment i : ℕ) (bytes : List ℕ) → Accepts v (Command.SetSegmentMode mode segment) bytes w → i ≢ segment → segment_at w.transfer.pages i ≡ segment_at v.transfer.pages i }
+    ensures bytes { (v w : SlaveValue) (mode segment i : ℕ) (bytes : List ℕ) → Accepts v (Command.SetSegmentMode mode segment) bytes w → (segment_at w.transfer.pages i).pages ≡ (segment_at v.transfer.pages i).pages }
 {}
 
 /// COPY_CAL_PAGE never has the reference page as its target, whose content becomes the source's. It

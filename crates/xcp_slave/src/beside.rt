@@ -3,9 +3,10 @@
 ghost use Rattle.std.specs.Prelude.{◌≡◌, ◌≢◌, ℕ, List, None, [], false, length, true};
 ghost use Rattle.xcp_daq.specs.DaqLists.{DaqValue};
 ghost use Rattle.xcp_memory.specs.Memory.{Writes};
+ghost use Rattle.xcp_memory.specs.Pages.{segment_at};
 ghost use Rattle.xcp_packet.specs.declared.Command.{Command};
 ghost use Rattle.xcp_slave.specs.AcceptedCommands.{Accepts};
-ghost use Rattle.xcp_slave.specs.CodesByEffect.{IsBeside, IsNoEvent, list_codes, mta_codes, session_codes, store_codes};
+ghost use Rattle.xcp_slave.specs.CodesByEffect.{IsBeside, IsNoEvent, list_codes, mode_codes, mta_codes, session_codes, store_codes, switch_codes};
 ghost use Rattle.xcp_slave.specs.SlaveInvariant.{IsSlave};
 ghost use Rattle.xcp_slave.specs.Step.{Answers};
 ghost use Rattle.xcp_slave.specs.SlaveValue.{SlaveValue};
@@ -18,7 +19,8 @@ ghost use Rattle.xcp_transfer.specs.declared.TextId.{TextId};
 /// that isn't there not even the MTA; MODIFY_BITS is a write of four bytes and changes nothing else. A
 /// block under way is given up by each of them. And a request that moves no MTA, that ends or begins
 /// no session, that changes no list, or that asks for no store keeps the MTA, the session, the lists,
-/// or the store request.
+/// or the store request; SET_CAL_PAGE alone changes page numbers, SET_SEGMENT_MODE alone FREEZE modes,
+/// and an event alone the signals.
 pub fn requests_beside_change_their_own()
     ensures id { (v w : SlaveValue) (bytes : List ℕ) → Accepts v (Command.GetId 0) bytes w → w ≡ record v { transfer = record v.transfer { mta = Mta.Text TextId.Id 0; block = None } } }
     ensures no_id { (v w : SlaveValue) (kind : ℕ) (bytes : List ℕ) → kind ≢ 0 → Accepts v (Command.GetId kind) bytes w → w ≡ record v { transfer = record v.transfer { block = None } } }
@@ -28,6 +30,9 @@ pub fn requests_beside_change_their_own()
     ensures session { (v : SlaveValue) (q : Request) (a : Answer) (w : SlaveValue) → IsBeside session_codes q → q ≢ Request.Hangup → Answers v q a w → w.connected ≡ v.connected }
     ensures lists { (v : SlaveValue) (q : Request) (a : Answer) (w : SlaveValue) → IsBeside list_codes q → IsNoEvent q → q ≢ Request.Hangup → Answers v q a w → w.daq ≡ v.daq }
     ensures store { (v : SlaveValue) (q : Request) (a : Answer) (w : SlaveValue) → IsBeside store_codes q → q ≢ Request.FinishStore → Answers v q a w → w.store ≡ v.store }
+    ensures numbers { (v : SlaveValue) (q : Request) (a : Answer) (w : SlaveValue) (i : ℕ) → IsBeside switch_codes q → Answers v q a w → ((segment_at w.transfer.pages i).ecu ≡ (segment_at v.transfer.pages i).ecu) × ((segment_at w.transfer.pages i).xcp ≡ (segment_at v.transfer.pages i).xcp) }
+    ensures modes { (v : SlaveValue) (q : Request) (a : Answer) (w : SlaveValue) (i : ℕ) → IsBeside mode_codes q → Answers v q a w → (segment_at w.transfer.pages i).freeze ≡ (segment_at v.transfer.pages i).freeze }
+    ensures signals { (v : SlaveValue) (q : Request) (a : Answer) (w : SlaveValue) → IsNoEvent q → Answers v q a w → w.transfer.pages.signals ≡ v.transfer.pages.signals }
 {}
 
 /// CONNECT begins a session with the MTA nowhere and no block under way, and changes nothing else, also

@@ -50,6 +50,8 @@ pub fn a_list_is_due_by_its_prescaler()
     ensures started { (v u : SlaveValue) (i : ℕ) (bytes : List ℕ) (xs : List Exchange) (w : SlaveValue) → IsSlave v → Accepts v (Command.StartStopDaqList 1 i) bytes u → All (λ (x : Exchange). KeepsLists x.request) xs → Run u xs w → due (list_at v.daq i).event (list_at w.daq i) ≡ (events_of (list_at v.daq i).event xs % (list_at v.daq i).prescaler == 0) }
     ensures selected { (v u : SlaveValue) (i : ℕ) (bytes : List ℕ) (xs : List Exchange) (w : SlaveValue) → IsSlave v → (list_at v.daq i).selected ≡ true → Accepts v (Command.StartStopSynch 1) bytes u → All (λ (x : Exchange). KeepsLists x.request) xs → Run u xs w → due (list_at v.daq i).event (list_at w.daq i) ≡ (events_of (list_at v.daq i).event xs % (list_at v.daq i).prescaler == 0) }
     ensures stopped { (v u : SlaveValue) (i channel : ℕ) (bytes : List ℕ) (xs : List Exchange) (w : SlaveValue) → Accepts v (Command.StartStopDaqList 0 i) bytes u → All (λ (x : Exchange). KeepsLists x.request) xs → Run u xs w → due channel (list_at w.daq i) ≡ false }
+    ensures stopped_selected { (v u : SlaveValue) (i channel : ℕ) (bytes : List ℕ) (xs : List Exchange) (w : SlaveValue) → (list_at v.daq i).selected ≡ true → Accepts v (Command.StartStopSynch 2) bytes u → All (λ (x : Exchange). KeepsLists x.request) xs → Run u xs w → due channel (list_at w.daq i) ≡ false }
+    ensures stopped_all { (v u : SlaveValue) (i channel : ℕ) (bytes : List ℕ) (xs : List Exchange) (w : SlaveValue) → Accepts v (Command.StartStopSynch 0) bytes u → All (λ (x : Exchange). KeepsLists x.request) xs → Run u xs w → due channel (list_at w.daq i) ≡ false }
     ensures runs { (l : DaqList) (channel : ℕ) → due channel l ≡ true → (l.running ≡ true) × (l.event ≡ channel) }
 {}
 

@@ -6,9 +6,11 @@ ghost use Rattle.xcp_memory.specs.Freeze.{frozen_count};
 ghost use Rattle.xcp_memory.specs.Layout.{IsLayout, LayoutValue};
 ghost use Rattle.xcp_memory.specs.Pages.{PagesValue, ecu_page, no_segment, segment_at, xcp_page};
 ghost use Rattle.xcp_memory.specs.ComputedAccess.{Located};
+ghost use Rattle.xcp_packet.specs.CommandSpelling.{spells};
 ghost use Rattle.xcp_packet.specs.declared.Command.{Command};
 ghost use Rattle.xcp_slave.specs.AcceptedCommands.{Accepts};
 ghost use Rattle.xcp_slave.specs.SlaveInvariant.{IsOfBytes, IsSlave};
+ghost use Rattle.xcp_slave.specs.RefusalCodes.{is_code_of};
 ghost use Rattle.xcp_slave.specs.RefusingAnswers.{IsErrorPacket, IsRefusing};
 ghost use Rattle.xcp_slave.specs.Run.{Run};
 ghost use Rattle.xcp_slave.specs.MemoryEffects.{Follows, IsLeft, IsQuiet, IsReading, IsSteady, IsStill, IsWrite, Puts, SameMemory, Write, last_at};
@@ -34,16 +36,19 @@ pub fn what_waits_is_no_response()
 {}
 
 /// A command's answer that begins with FE is FE 00, to SYNCH (FC) alone, or it has the code of a
-/// refusal.
+/// refusal; and where the packet spells a command, it is a code that this command may be refused with.
 pub fn error_packets_have_codes()
-    ensures { (v : SlaveValue) (q p : ArrayVec ℕ) (w : SlaveValue) (rest : List ℕ) → Answers v (Request.Command q) (Answer.Packet p) w → p.items ≡ 0xFE ∷ rest → ((slice_index q.items 0 ≡ 0xFC) × (p.items ≡ 0xFE ∷ 0x00 ∷ [])) ⊎ IsRefusing p.items }
+    ensures all { (v : SlaveValue) (q p : ArrayVec ℕ) (w : SlaveValue) (rest : List ℕ) → Answers v (Request.Command q) (Answer.Packet p) w → p.items ≡ 0xFE ∷ rest → ((slice_index q.items 0 ≡ 0xFC) × (p.items ≡ 0xFE ∷ 0x00 ∷ [])) ⊎ IsRefusing p.items }
+    ensures of_commands { (v : SlaveValue) (c : Command) (q p : ArrayVec ℕ) (w : SlaveValue) (code : ℕ) (rest : List ℕ) → spells (layout_of v).order c q.items → Answers v (Request.Command q) (Answer.Packet p) w → p.items ≡ 0xFE ∷ code ∷ rest → code ≢ 0x00 → is_code_of c code ≡ true }
 {}
 
 /// A block under way lies in one segment, of which the tool has another page than the reference page;
-/// and each command packet but DOWNLOAD's and DOWNLOAD_NEXT's leaves no block.
+/// and each command packet leaves no block, but a DOWNLOAD or a DOWNLOAD_NEXT that isn't answered.
 pub fn a_block_may_be_written()
     ensures range { (v : SlaveValue) (b : BlockValue) → IsSlave v → v.transfer.block ≡ Some b → (i : ℕ) × Located (layout_of v) b.address (length b.bytes + b.expected) i × ((segment_at v.transfer.pages i).xcp ≢ 0) }
     ensures given_up { (v : SlaveValue) (p : ArrayVec ℕ) (a : Answer) (w : SlaveValue) → v.connected ≡ true → p.items ≢ [] → slice_index p.items 0 ≢ 0xEF → slice_index p.items 0 ≢ 0xF0 → Answers v (Request.Command p) a w → w.transfer.block ≡ None }
+    ensures whole { (v w : SlaveValue) (n : ℕ) (items : ArrayVec ℕ) (bytes : List ℕ) → Accepts v (Command.Download n items) bytes w → w.transfer.block ≡ None }
+    ensures last { (v w : SlaveValue) (remaining : ℕ) (items : ArrayVec ℕ) (bytes : List ℕ) (b : BlockValue) → IsSlave v → v.transfer.block ≡ Some b → Accepts v (Command.DownloadNext remaining items) bytes w → w.transfer.block ≡ None }
 {}
 
 /// A store request goes only when the pages are stored: no session's end takes it away.

@@ -1,4 +1,5 @@
 use Rattle.xcp_slave.proofs.UnaffectedPartLaws.{id-alone, id-none, event-alone, bits-alone, mta-kept, session-kept, lists-kept, store-kept}
+use Rattle.xcp_slave.proofs.PagePartLaws.{mode-kept, numbers-kept, signals-kept}
 use Rattle.xcp_slave.proofs.beside.requests_beside_change_their_own.Goals as goal
 
 pub returns-clause-id : goal.returns-clause-id
@@ -24,3 +25,12 @@ returns-clause-lists c = lists-kept
 
 pub returns-clause-store : goal.returns-clause-store
 returns-clause-store c = store-kept
+
+pub returns-clause-numbers : goal.returns-clause-numbers
+returns-clause-numbers c = numbers-kept
+
+pub returns-clause-modes : goal.returns-clause-modes
+returns-clause-modes c = mode-kept
+
+pub returns-clause-signals : goal.returns-clause-signals
+returns-clause-signals c = signals-kept
