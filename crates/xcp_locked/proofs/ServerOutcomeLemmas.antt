@@ -6,6 +6,7 @@ use Rattle.std.specs.Vec.Iter.{into_iter_items}
 use Rattle.xcp_bank.specs.BankEnds.{ReaderEnd}
 use Rattle.xcp_framing.specs.CountedCalls.{Watched}
 use Rattle.xcp_memory.specs.Layout.{LayoutValue}
+use Rattle.xcp_trace.specs.declared.Entry.{Entry}
 use Rattle.xcp_locked.specs.declared.connection.Closed.{Closed}
 use Rattle.xcp_locked.specs.declared.dealing.Ended.{Ended}
 use Rattle.xcp_locked.specs.declared.dealing.Duties.{Duties}
@@ -201,8 +202,8 @@ pub left_behind : {A : Type 0} (first rest all : List A) → first ++ rest ≡ a
 left_behind first rest all whole = sym (length-append first rest) ∙ ap length whole
 
 -- what the last Hangup did, said of an equal fault before it and of equal callers
-pub hung_up_as : (before before' after : Option TaskError) (old old' new : List CallerValue) → before ≡ before' → old ≡ old' → HungUp before after old new → HungUp before' after old' new
-hung_up_as before before' after old old' new e f h = subst (λ b. HungUp b after old' new) e (subst (λ cs. HungUp before after cs new) f h)
+pub hung_up_as : (before before' after : Option TaskError) (old old' new : List CallerValue) (journal : List Entry) → before ≡ before' → old ≡ old' → HungUp before after old new journal → HungUp before' after old' new journal
+hung_up_as before before' after old old' new journal e f h = subst (λ b. HungUp b after old' new journal) e (subst (λ cs. HungUp before after cs new journal) f h)
 
 -- room for so many callers and connections is room for fewer
 pub room_for_fewer : {N I O : Type 0} (k k' e e' : ℕ) (r : Ended N I O) → k' ≤ k → e' ≤ e → IsEndedRoom k e r → IsEndedRoom k' e' r
@@ -220,5 +221,5 @@ room_for_fewer k k' e e' r a b h =
     }
 
 -- as many callers as before the last Hangup
-pub all_come_back : (before after : Option TaskError) (old new : List CallerValue) → HungUp before after old new → length new ≡ length old
-all_come_back before after old new h = ⊎_elim (λ accepted. ap length accepted.2 ∙ length-set old 0 _) (λ refused. ap length refused.1) h.outcome
+pub all_come_back : (before after : Option TaskError) (old new : List CallerValue) (journal : List Entry) → HungUp before after old new journal → length new ≡ length old
+all_come_back before after old new journal h = ⊎_elim (λ accepted. ap length accepted.3 ∙ length-set old 0 _) (λ refused. ap length refused.1) h.outcome

@@ -55,7 +55,7 @@ pub record StopsAt (m : ℕ) (input left : Option (List ℕ)) (old new : List Ex
 abbrev pub RefusedWhere : Result Served ServeError → Type 0 → Type 0 → Type 0
 RefusedWhere result Before Stops = OnRefusal result (λ e. ((e ≡ refusals.Memory) × Before) ⊎ Stops)
 
--- of readers that tell their bytes
+-- of readers whose bytes a contract can see
 module _ {I : Type 0} (remaining : I → Option (List ℕ)) where
   -- The stream was answered with MAX_CTO m, by so many reads at most, for this caller, and the packets of the answers were put.
   -- Ok and Truncated come at the reader's end, Read only where a read failed, TurnsSpent where all reads were made, Memory and
@@ -73,14 +73,14 @@ module _ {I : Type 0} (remaining : I → Option (List ℕ)) where
     pub outlet : d.put.outlet ≡ replies.outlet
     pub side : d.put.side ≡ replies.side
 
--- of writers that tell their bytes
+-- of writers whose bytes a contract can see
 module _ {O : Type 0} (contents : O → Option (List ℕ)) where
   -- What the sender of this outlet took, and what it wrote of it.
   pub record WroteFor (outlet : Outlet) (writer : Watched O) (d : Wrote O) : Type 0 where
     pub same : d.sent.took.outlet ≡ outlet
     pub sends : Sends d.sent.count d.sent.took.taken (contents writer.inner) (contents d.writer.value.inner) writer.failures d.writer.value.failures
 
--- of readers and writers that tell their bytes: what a reader has left, and what a writer contains
+-- of readers and writers whose bytes a contract can see: what a reader has left, and what a writer contains
 module _ {I O : Type 0} (remaining : I → Option (List ℕ)) (contents : O → Option (List ℕ)) where
   -- The stream was served with MAX_CTO m, by so many reads at most, for this caller of a tool and this one of a pump: the answers'
   -- packets and those of the pump were put, and of what was put the sender wrote what it took.

@@ -1,24 +1,35 @@
 -- The end of a server's session.
-use Rattle.std.specs.Prelude.{◌≡◌, ◌⊎◌, List, [], ◌∷◌, ◌++◌, Option, Some, None, slice_set}
+use Rattle.std.specs.Prelude.{◌≡◌, ◌⊎◌, List, [], ◌∷◌, ◌++◌, Option, Some, None, length, slice_set}
 use Rattle.std.specs.List.{slice_get}
+use Rattle.xcp_slave.specs.declared.Answer.{Answer}
 use Rattle.xcp_slave.specs.declared.Request.TheVariants as requests
+use Rattle.xcp_trace.specs.declared.Entry.{Entry}
 use Rattle.xcp_locked.specs.declared.receipt.Receipt.{Receipt}
 use Rattle.xcp_locked.specs.declared.errors.LockedError.{LockedError}
 use Rattle.xcp_locked.specs.declared.tasks.TaskError.{TaskError}
 use Rattle.xcp_locked.specs.Caller.{CallerValue, accepting}
+use Rattle.xcp_locked.specs.Journal.{entry}
+use Rattle.xcp_locked.specs.Receipts.{receipt}
 use Rattle.xcp_locked.specs.TaskOutcome.{or_else}
 use Rattle.xcp_locked.specs.Tasks.{refused_with}
 
--- The last Hangup, by the first caller: it was accepted, or it was refused and is the fault where there was none before.
-pub record HungUp (before after : Option TaskError) (old new : List CallerValue) : Type 0 where
+-- The last Hangup, by the first caller: it was accepted as the journal's last call, or it was refused and is the fault where
+-- there was none before.
+pub record HungUp (before after : Option TaskError) (old new : List CallerValue) (journal : List Entry) : Type 0 where
   pub caller : CallerValue
   pub first : slice_get old 0 ≡ Some caller
-  pub outcome : ((r : Receipt) × (r.request ≡ requests.Hangup) × (new ≡ slice_set old 0 (accepting caller r)) × (after ≡ before)) ⊎ ((e : LockedError) × (new ≡ old) × (after ≡ or_else before (Some (refused_with e))))
+  pub outcome :
+      ((earlier : List Entry) × (answer : Answer) × (journal ≡ earlier ++ entry caller.number requests.Hangup answer ∷ []) × (new ≡ slice_set old 0 (accepting caller (receipt (length earlier) requests.Hangup answer))) × (after ≡ before))
+      ⊎ ((e : LockedError) × (new ≡ old) × (after ≡ or_else before (Some (refused_with e))))
 
--- the last of the receipts is that of a Hangup
-abbrev pub EndWithHangup : List Receipt → Type 0
-EndWithHangup receipts = (before : List Receipt) × (last : Receipt) × (receipts ≡ before ++ last ∷ []) × (last.request ≡ requests.Hangup)
+-- The journal's last call is a Hangup of this caller, whose last receipt is of it.
+pub record EndsWithHangup (journal : List Entry) (caller : CallerValue) : Type 0 where
+  pub earlier : List Entry
+  pub answer : Answer
+  pub last : journal ≡ earlier ++ entry caller.number requests.Hangup answer ∷ []
+  pub receipts : List Receipt
+  pub told : caller.receipts ≡ receipts ++ receipt (length earlier) requests.Hangup answer ∷ []
 
--- Without a fault the first caller's last call was Hangup.
-abbrev pub EndsSession : Option TaskError → List CallerValue → Type 0
-EndsSession fault callers = fault ≡ None → (first : CallerValue) × (slice_get callers 0 ≡ Some first) × EndWithHangup first.receipts
+-- Without a fault the journal ends with a Hangup of the first caller.
+abbrev pub EndsSession : Option TaskError → List CallerValue → List Entry → Type 0
+EndsSession fault callers journal = fault ≡ None → (first : CallerValue) × (slice_get callers 0 ≡ Some first) × EndsWithHangup journal first

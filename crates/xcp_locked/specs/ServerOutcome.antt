@@ -24,6 +24,15 @@ use Rattle.xcp_locked.specs.LastHangup.{HungUp}
 use Rattle.xcp_locked.specs.PairedLists.{EachFrom}
 use Rattle.xcp_locked.specs.TaskOutcome.{WorkedAs, first_fault}
 
+-- nothing of what a server left has changed
+pub record SameClosing {N I O : Type 0} (old new : Closing N I O) : Type 0 where
+  pub locked : new.locked ≡ old.locked
+  pub callers : new.callers.items ≡ old.callers.items
+  pub readers : new.readers ≡ old.readers
+  pub ends : new.ends ≡ old.ends
+  pub left : new.left ≡ old.left
+  pub fault : new.fault ≡ old.fault
+
 -- the three parts of a connection
 abbrev pub Connection : Type 0 → Type 0 → Type 0 → Type 0 → Type 0
 Connection N I O C = Hearing N I × Pumping N C × Sending O
@@ -85,7 +94,7 @@ module _ {I O : Type 0} (remaining : I → Option (List ℕ)) (contents : O → 
     -- the tasks
     pub done : List (Done N)
     pub worked : EachFrom (WorkedAs cycles) 0 workers done
-    pub hung_up : HungUp (first_fault done) r.fault (map (λ d. d.tool) closed ++ map (λ d. d.worker.caller) done ++ map (λ d. d.pump) closed ++ spare) r.callers.items
+    pub hung_up : HungUp (first_fault done) r.fault (map (λ d. d.tool) closed ++ map (λ d. d.worker.caller) done ++ map (λ d. d.pump) closed ++ spare) r.callers.items r.locked.journal
     -- the readers
     pub unused : List ReaderEnd
     pub lent : readers ≡ map (λ w. w.reader) workers ++ unused

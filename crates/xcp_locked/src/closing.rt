@@ -4,6 +4,7 @@ ghost use Rattle.std.specs.Vec.Iter.{into_iter_items};
 ghost use Rattle.xcp_locked.specs.Caller.{accepted_by};
 ghost use Rattle.xcp_locked.specs.private.ServerRoom.{IsEndedRoom, IsRoom};
 ghost use Rattle.xcp_locked.specs.LastHangup.{HungUp};
+ghost use Rattle.xcp_locked.specs.ServerOutcome.{SameClosing};
 ghost use Rattle.xcp_locked.specs.TaskOutcome.{first_fault};
 ghost use Rattle.xcp_locked.specs.Journal.{exchanges};
 ghost use Rattle.xcp_slave.specs.Run.{Run};
@@ -93,7 +94,8 @@ pub(crate) fn close_all<N: Name, I: Read + Drop, O: Write + Drop>(
     requires readers { (readers.items ≡ []) × (vec_len done + length (into_iter_items unused) ≤ vec_capacity readers) }
     ensures hung_up { HungUp (first_fault done.items) result.fault
         (map (λ d. d.tool) closed.items ++ map (λ d. d.worker.caller) done.items
-        ++ map (λ d. d.pump) closed.items ++ into_iter_items spare) result.callers.items }
+        ++ map (λ d. d.pump) closed.items ++ into_iter_items spare) result.callers.items
+        result.locked.journal }
     ensures ends { result.ends.items ≡ map (λ d. d.end) closed.items }
     ensures left { result.left.items ≡ map (λ d. d.left) closed.items }
     ensures readers { result.readers.items
@@ -122,7 +124,7 @@ fn put_together<N: Name, I: Read + Drop, O: Write + Drop>(
         ≤ vec_capacity readers) }
     ensures hung_up { HungUp ran.fault result.fault
         (ended.callers.items ++ map (λ w. w.caller) ran.workers.items
-        ++ ended.pumps.items ++ into_iter_items spare) result.callers.items }
+        ++ ended.pumps.items ++ into_iter_items spare) result.callers.items result.locked.journal }
     ensures ends { result.ends.items ≡ ended.ends.items }
     ensures left { result.left.items ≡ ended.left.items }
     ensures readers { result.readers.items
@@ -153,7 +155,7 @@ fn hang_up<N: Name>(
     fault: Option<TaskError>,
 ) -> Option<TaskError>
     requires { 0 < length callers.old }
-    ensures { HungUp fault result callers.old callers.new }
+    ensures { HungUp fault result callers.old callers.new locked.new.journal }
 {
     match locked.submit(&mut callers[0], Request::Hangup) {
         Ok(_) => fault,
@@ -176,9 +178,7 @@ pub fn settle_all<N: Name, I: Read + Drop, O: Write + Drop>(
         (vec_len closing.old.callers) closing.old.callers.items) }
     ensures first { IfErr result (λ u. FirstUnsettled closing.old.locked.journal
         closing.old.callers.items u) }
-    ensures same { (closing.new.locked ≡ closing.old.locked)
-        × (closing.new.callers.items ≡ closing.old.callers.items) }
-    ensures left { closing.new.left ≡ closing.old.left }
+    ensures same { SameClosing closing.old closing.new }
 {
     closing.locked.gather(&mut closing.callers);
     closing.locked.settle_each(&closing.callers)

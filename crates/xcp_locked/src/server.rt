@@ -60,7 +60,7 @@ pub fn run_server<
         (six_readers unnamed.bank (image_of (opening unnamed.layout))) ends.items r) }
     ensures callers { IfOk result (λ r. vec_len r.callers ≡ unnamed.callers) }
     ensures frames { IfOk result (λ r. CountTheirCommands r.ends.items r.callers.items) }
-    ensures hangup { IfOk result (λ r. EndsSession r.fault r.callers.items) }
+    ensures hangup { IfOk result (λ r. EndsSession r.fault r.callers.items r.locked.journal) }
     ensures run { IfOk result (λ r.
         Run (opening unnamed.layout) (exchanges r.locked.journal) r.locked.slave) }
 {

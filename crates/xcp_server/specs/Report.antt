@@ -70,7 +70,7 @@ pub record IsServed {I O : Type 0} (N : Type 0) (remaining : I → Option (List 
   pub closing : Closing N I O
   pub closes : Closes remaining contents layout.max_cto turns cycles tasks (callers_of layout callers) (six_readers bank (image_of (opening layout))) ends closing
   pub frames : CountTheirCommands closing.ends.items closing.callers.items
-  pub hangup : EndsSession closing.fault closing.callers.items
+  pub hangup : EndsSession closing.fault closing.callers.items closing.locked.journal
   pub run : Run (opening layout) (exchanges closing.locked.journal) closing.locked.slave
   pub told : MatchResult ending.told (IsReport closing) (IsMismatch closing.locked.journal closing.callers.items)
   pub left : ending.left.items ≡ closing.left.items

@@ -1,6 +1,7 @@
 //! What is told at the end of a server.
 ghost use Rattle.std.specs.Prelude.{◌≡◌, ◌<◌, IfOk, MatchResult, sum_by, vec_len};
 ghost use Rattle.xcp_locked.specs.Caller.{accepted_by};
+ghost use Rattle.xcp_locked.specs.ServerOutcome.{SameClosing};
 ghost use Rattle.xcp_server.specs.Report.{IsMismatch, IsReport, fault_of_end, fault_of_ends, fault_of_tasks, first_of};
 
 use std::io::{Read, Write};
@@ -36,7 +37,7 @@ pub fn conclude<N: Name, I: Read + Drop, O: Write + Drop>(
     ensures told { MatchResult result (IsReport closing.old)
         (IsMismatch closing.old.locked.journal closing.old.callers.items) }
     ensures sum { IfOk result (λ r. r.calls ≡ sum_by accepted_by closing.old.callers.items) }
-    ensures left { closing.new.left ≡ closing.old.left }
+    ensures same { SameClosing closing.old closing.new }
 {
     let fault = told_fault(&closing.ends, closing.fault);
     match settle_all(closing) {

@@ -9,7 +9,7 @@ returns-clause-hung_up g c =
     let pumps = c.take_apart-ended.ensures.pumps in
     let workers = ap (λ ws. map (λ w. w.caller) ws) c.collect-ran.ensures.workers ∙ map_map (λ d. d.worker) (λ w. w.caller) c.args.done.items in
     let tools = c.take_apart-ended.ensures.callers in
-    hung_up_as _ _ c.put_together.result.fault _ _ c.put_together.result.callers.items c.collect-ran.ensures.fault (λ i. ((tools i ++ workers i) ++ pumps i) ++ spare) c.put_together.ensures.hung_up
+    hung_up_as _ _ c.put_together.result.fault _ _ c.put_together.result.callers.items c.put_together.result.locked.journal c.collect-ran.ensures.fault (λ i. ((tools i ++ workers i) ++ pumps i) ++ spare) c.put_together.ensures.hung_up
 
 pub returns-clause-readers : goal.returns-clause-readers
 returns-clause-readers g c =

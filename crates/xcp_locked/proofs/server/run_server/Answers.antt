@@ -127,7 +127,7 @@ returns-clause-callers g c =
     let all = each_length (PartedAs g.I.Read.remaining g.O.Write.contents) 0 d.connections.items c.in_ok-parted.parted.items c.in_ok-parted.ensures.parted in
     let tasks = each_length DoneAs 0 d.tasks.items c.in_ok-parted.done.items c.in_ok-parted.ensures.worked in
     let there = back_in_order _ _ _ _ _ _ _ _ _ c.in_ok-connections.ensures c.close_each-closed.result.items c.in_ok-parted.done.items (put ∙ all) tasks in
-    back ∙ (all_come_back _ _ _ _ c.close_all.ensures.hung_up ∙ (there ∙ opened))
+    back ∙ (all_come_back _ _ _ _ _ c.close_all.ensures.hung_up ∙ (there ∙ opened))
 
 pub returns-clause-frames : goal.returns-clause-frames
 returns-clause-frames g c =
@@ -140,8 +140,8 @@ returns-clause-frames g c =
     let closed = c.close_each-closed.result.items in
     let readers = c.in_ok-readers.readers.items in
     let deal : Dealt m turns pumps c.args.cycles c.args.tasks opened readers ends d = dealt_as _ m turns pumps c.args.cycles c.args.tasks _ opened _ readers ends d c.max_cto.ensures c.in_ok-locked.ensures.callers refl c.in_ok-connections.ensures in
-    all_count g.I.Read.remaining g.O.Write.contents m turns c.args.unnamed.layout c.args.unnamed.callers ends closed _ _ _ _ _ _ _ _ _ _ deal.in_order
+    all_count g.I.Read.remaining g.O.Write.contents m turns c.args.unnamed.layout c.args.unnamed.callers ends closed _ _ _ _ _ _ _ _ _ _ _ deal.in_order
     (all_served m turns pumps c.args.cycles c.args.tasks opened readers ends d deal g.I.Read.remaining g.O.Write.contents c.in_ok-parted.parted.items closed c.in_ok-parted.ensures.parted c.close_each-closed.ensures) c.close_all.ensures.ends c.close_all.ensures.hung_up
 
 pub returns-clause-hangup : goal.returns-clause-hangup
-returns-clause-hangup g c = ends_session _ _ _ _ c.close_all.ensures.hung_up
+returns-clause-hangup g c = ends_session _ _ _ _ _ c.close_all.ensures.hung_up

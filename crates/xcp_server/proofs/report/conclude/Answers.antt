@@ -9,7 +9,7 @@ pub returns-in-Err-clause-told : goal.returns-in-Err-clause-told
 returns-in-Err-clause-told g c =
     let place = c.in-Err.unsettled.caller in
     let first = c.in-Err.ensures.first in
-    let there = subst (λ cs. slice_get cs place ≡ Some first.caller) (sym (c.settle_all.ensures.same.1)) first.at_place in
+    let there = subst (λ cs. slice_get cs place ≡ Some first.caller) (sym c.settle_all.ensures.same.callers) first.at_place in
     let told = c.index.ensures ∙ get_or_from_slice_get _ place first.caller _ there in
     record {
       place = place;
