@@ -16,6 +16,8 @@ mod journals;
 #[cfg(test)]
 mod meetings;
 #[cfg(test)]
+mod numbers;
+#[cfg(test)]
 mod openings;
 #[cfg(test)]
 mod readers;

@@ -174,3 +174,11 @@ fn packets_come_back_where_nothing_takes_them(rt: HostRuntime) -> Result<(), Fai
     assert!(&rt; data.put_data(&rt, numbered(DATA, 8)) == Err(sample));
     Ok(())
 }
+
+#[test]
+fn faults_have_numbers(rt: HostRuntime) {
+    assert_eq!(rt;
+        [SendError::Write(7).number(), SendError::Cut(7).number()],
+        [1, 2]
+    );
+}

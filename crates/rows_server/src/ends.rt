@@ -1,4 +1,5 @@
 // Streams over memory.
+use crate::flaky::{Given, Hole};
 use crate::slaves::small;
 use std::alloc::Global;
 use std::sync::Wait;
@@ -52,6 +53,57 @@ fn a_server_tells_its_calls(rt: HostRuntime) -> Result<(), Fail> {
         let found = served(&rt, rt.alloc(), sent, tasks, cycles, 0)?;
         assert_eq!(rt; found, Report { calls, fault });
     }
+    Ok(())
+}
+
+// A connection that fails after so many reads, or whose writer takes so many bytes, beside a good one.
+fn one_fails<R: Threads + Wait + Clock + Sync>(
+    rt: &R,
+    alloc: Global,
+    good_reads: u32,
+    room: usize,
+) -> Result<Report, Fail> {
+    let unnamed = small(alloc, 4).ok_or("a slave")?;
+    let failing = Given {
+        text: CONNECT,
+        good_reads,
+    };
+    let good = Given {
+        text: CONNECT,
+        good_reads: 2,
+    };
+    let ends = Vec::from_array(
+        alloc,
+        [
+            (Watched::new(good), Watched::new(Hole { room: 1_000 })),
+            (Watched::new(failing), Watched::new(Hole { room })),
+        ],
+    )?;
+    let ending = serve_ends(rt, alloc, unnamed, ends, 0, 1, 0)
+        .ok()
+        .ok_or("an end")?;
+    Ok(ending.told.ok().ok_or("a report")?)
+}
+
+// Both CONNECTs are answered and the last Hangup is the third call; the fault is told once all settled.
+#[test]
+fn one_connection_of_two_fails(rt: HostRuntime) -> Result<(), Fail> {
+    let read = one_fails(&rt, rt.alloc(), 1, 1_000)?;
+    let write = one_fails(&rt, rt.alloc(), 2, 11)?;
+    assert_eq!(rt;
+        read,
+        Report {
+            calls: 3,
+            fault: Some(Fault::Stream(1))
+        }
+    );
+    assert_eq!(rt;
+        write,
+        Report {
+            calls: 3,
+            fault: Some(Fault::Stream(2))
+        }
+    );
     Ok(())
 }
 

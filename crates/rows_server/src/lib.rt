@@ -4,7 +4,11 @@
 #[cfg(test)]
 mod ends;
 #[cfg(test)]
+mod flaky;
+#[cfg(test)]
 mod loopback;
+#[cfg(test)]
+mod mismatches;
 #[cfg(test)]
 mod sessions;
 #[cfg(test)]
