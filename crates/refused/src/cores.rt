@@ -70,7 +70,7 @@ pub fn run_events(alloc: Global) -> Result<Outcome, Outcome> {
     }
 }
 
-// Does the events from this one on, of which one was refused for want of memory.
+// Does the events from this one on, of which one was refused because an allocation failed.
 fn go_on(alloc: Global, core: &mut Core, index: usize) -> Outcome {
     let (Some(events), Some(wanted)) = (EVENTS.get(index..), SEEN.get(index..)) else {
         return Outcome::Wrong("no event is at the index");

@@ -11,25 +11,29 @@ use xcp_locked::{Caller, Locked, LockedError, Name, Opening, Receipt, Unnamed};
 use xcp_slave::{Request, Slave};
 
 // Each row is another caller's, so that there is a receipt to be made room for at each. A session that
-// switches pages and writes, of which a list samples four bytes.
+// switches pages and writes, of which a list samples four bytes, and that asks for a store: a data packet
+// and an event packet wait at one time.
 const ROWS: [&str; 16] = [
     "FF00",
     "EB030001",
-    "F600000000100000",
-    "F002ABCD",
+    "ED02000000100000ABCD",
     "EB030000",
+    "D6",
     "D5000100",
     "D400000001",
     "D30000000001",
     "E20000000000",
     "E1FF040000100000",
-    "E000000000000100",
     "DE010000",
     "event 0 0102030405060708",
-    "drain",
+    "F9010000",
     "store",
+    "drain",
     "hangup",
 ];
+
+// The most packets that wait at one time.
+const MOST_PENDING: u8 = 2;
 
 /// `Locked::submit`, row by row and round by round.
 pub fn submit_rows(alloc: Global) -> Result<Outcome, Outcome> {
@@ -56,12 +60,19 @@ fn submit_named<N: Name>(alloc: Global, unnamed: Unnamed, plain: Slave) -> Resul
     } = Locked::<N>::new(alloc, unnamed)?;
     let mut beside = Beside { locked, plain };
     let mut outcome = Outcome::Ample;
+    let mut most_pending = 0;
     for _ in 0..ROUNDS {
         for (row, caller) in ROWS.iter().zip(callers.iter_mut()) {
             if beside.submit_row(caller, row)? {
                 outcome = Outcome::Memory;
             }
+            if beside.locked.pending() > most_pending {
+                most_pending = beside.locked.pending();
+            }
         }
+    }
+    if most_pending != MOST_PENDING {
+        return Err(Outcome::Wrong("other packets wait than the rows ask for"));
     }
     Ok(outcome)
 }

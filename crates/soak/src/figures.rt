@@ -4,16 +4,16 @@ use std::fmt;
 use xcp_locked::{Caller, Name, Settled};
 use xcp_slave::Request;
 
-/// How many calls there were, how many images all tasks took and how many were published, the opening's
-/// too, and how many packets of each kind callers were answered.
+/// How many calls there were, how many cycles all tasks had, how many images were published, the
+/// opening's too, and how many packets of each kind callers were answered.
 #[derive(Clone, Copy)]
 pub struct Figures {
     calls: u64,
-    taken: u64,
+    cycles: u64,
     published: u64,
     answers: u64,
     refusals: u64,
-    data: u64,
+    sampled: u64,
 }
 
 impl Figures {
@@ -21,11 +21,11 @@ impl Figures {
     pub fn of<N: Name>(callers: &[Caller<N>], calls: u64, last: Option<Settled>) -> Figures {
         let mut figures = Figures {
             calls,
-            taken: 0,
+            cycles: 0,
             published: last.map_or(0, |last| last.number.saturating_add(1)),
             answers: 0,
             refusals: 0,
-            data: 0,
+            sampled: 0,
         };
         for caller in callers {
             figures.add(caller);
@@ -33,13 +33,13 @@ impl Figures {
         figures
     }
 
-    // (A task takes an image behind each of its events.)
+    // (A task submits one event in each of its cycles.)
     fn add<N: Name>(&mut self, caller: &Caller<N>) {
-        let [answers, refusals, data] = kinds_of(caller);
-        self.taken = self.taken.saturating_add(events_of(caller));
+        let [answers, refusals, sampled] = kinds_of(caller);
+        self.cycles = self.cycles.saturating_add(events_of(caller));
         self.answers = self.answers.saturating_add(u64::from(answers));
         self.refusals = self.refusals.saturating_add(u64::from(refusals));
-        self.data = self.data.saturating_add(u64::from(data));
+        self.sampled = self.sampled.saturating_add(u64::from(sampled));
     }
 }
 
@@ -57,10 +57,10 @@ fn events_of<N: Name>(caller: &Caller<N>) -> u64 {
 impl fmt::Display for Figures {
     fn fmt<W: fmt::Write>(&self, f: &mut fmt::Formatter<W>) -> fmt::Result {
         write!(f, "calls {}, ", self.calls)?;
-        write!(f, "images taken {}, ", self.taken)?;
+        write!(f, "cycles {}, ", self.cycles)?;
         write!(f, "images published {}, ", self.published)?;
         write!(f, "answers {}, ", self.answers)?;
         write!(f, "refusals {}, ", self.refusals)?;
-        write!(f, "data packets {}", self.data)
+        write!(f, "data and event packets {}", self.sampled)
     }
 }
