@@ -44,7 +44,8 @@ pub record KeepsItsPublication (s : PinState) (b p : ℕ) : Type 0 where
   pub unbuilt : s.writer.building ≢ Some b
   pub unquiet : s.writer.quiet ≢ Some b
 
--- The count is the holders of the current buffer and its leavings; these leavings are at most the readers that are gone; so the count is at most six.
+-- The count is the holders of the current buffer and its leavings; these leavings are at most the readers that are gone;
+-- so the count is at most six.
 pub record CountsTheCurrent (s : PinState) : Type 0 where
   pub exact : s.count ≡ holders s.index s.readers + leavings_of s s.index
   pub left : leavings_of s s.index ≤ departed s.readers

@@ -62,7 +62,7 @@ memory_as A B errors.Read h = absurd (cc)
 memory_as A B errors.Write h = absurd (cc)
 memory_as A B errors.Memory h = refl
 
--- for want of memory a front was written
+-- where an allocation failed a front was written
 pub memory_tells : (A B : Type 0) (e : ReplayError) (a b : Option (List ℕ)) (t : List ℕ) → ◌≡◌ {A = Result B ReplayError} (Err e) (Err errors.Memory) → Tells {A = A} (Err e) a b t → AppendsFront a b t
 memory_tells A B (errors.Line k) a b t h f = absurd (cc)
 memory_tells A B errors.Read a b t h f = absurd (cc)

@@ -50,7 +50,7 @@ OfLines None Holds = Unit {0}
 OfLines (Some input) Holds = (lines : List (List ℕ)) → Lines input lines → Holds lines
 
 -- What was written of the text of the answers, by what the replay returned: all of it, or after a
--- failed write and for want of memory a front of it.
+-- failed write, or where an allocation fails, a front of it.
 abbrev pub Tells : {A : Type 0} → Result A ReplayError → Option (List ℕ) → Option (List ℕ) → List ℕ → Type 0
 Tells (Ok value) old new text = Appends old new text
 Tells (Err (errors.Line k)) old new text = Appends old new text

@@ -90,7 +90,7 @@ abbrev pub Writes : {A : Type 0} → Result A ServeError → Option (List ℕ) �
 Writes (Err errors.Write) before after text = AppendsFront before after text
 Writes _ before after text = Appends before after text
 
--- a fact about the bytes read, where the reader tells its bytes: those that it had, without those that are left
+-- a fact about the bytes read, where a contract can see the reader's: those that it had, without those that are left
 abbrev pub OnRead : Option (List ℕ) → Option (List ℕ) → (List ℕ → Type 0) → Type 0
 OnRead None after Fact = ⊤
 OnRead (Some input) None Fact = ⊥

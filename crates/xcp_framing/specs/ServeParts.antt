@@ -1,4 +1,4 @@
--- The parts of a call of `serve`: what its private functions promise to it.
+-- The parts of a call of `serve`, and the faults that end a call by the way.
 use Rattle.std.specs.Prelude.{⊤}
 use Rattle.xcp_framing.specs.declared.serving.ServeError.{ServeError}
 use Rattle.xcp_framing.specs.declared.serving.ServeError.TheVariants as errors

@@ -34,7 +34,7 @@ fn write_texts<W: Write>(writer: &mut Watched<W>, texts: &mut Vec<u8>) -> Result
 }
 
 /// Writes out the answers of some lines, by what became of these: at a faulty line, which is the
-/// next after `count` lines, the answers before it; for want of memory none.
+/// next after `count` lines, the answers before it; none where an allocation fails.
 fn write_out<W: Write>(
     writer: &mut Watched<W>,
     texts: &mut Vec<u8>,

@@ -202,7 +202,9 @@ fn consume<W: Write, S: Station>(
 /// room. A frame of LEN 0 is skipped, and the CTR of what is read is not looked at.
 ///
 /// Packets have at most `max_cto` bytes, a frame's LEN above it is `BadLength`. All whole frames
-/// before a fault of the stream have been answered, and nothing is written of the fault. A refusal of the station ends the call with `Memory` or `JournalFull`.
+/// before a fault of the stream have been answered, and nothing is written of the fault.
+///
+/// A refusal of the station ends the call with `Memory` or `JournalFull`.
 pub fn serve<R: Read, W: Write, S: Station>(
     alloc: Global,
     reader: &mut Watched<R>,
