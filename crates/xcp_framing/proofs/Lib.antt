@@ -1,6 +1,7 @@
 pub mod ExchangeLemmas
 pub mod KnownBytesLemmas
-pub mod PacketChainLemmas
+pub mod AnsweredStreamLemmas
+pub mod ServeAnswerLemmas
 pub mod RoundTripLaws
 pub mod PieceLemmas
 pub mod FrameCutLaws

@@ -1,6 +1,6 @@
--- What is put, from how each packet is answered.
-use Rattle.std.proofs.Common.{◌≡◌, ◌≢◌, ◌+◌, ℕ, List, [], ◌∷◌, ◌++◌, map, length, Option, Some, None, Result, Ok, Err, inl, inr, ◌⊎◌, refl, sym, ap, ◌∙◌, subst, arith, append_assoc, length-append}
-use Rattle.std.proofs.lemmas.List.{append-nil}
+-- What `serve_by` does, from how its packets are answered and put.
+use Rattle.std.proofs.Common.{◌≡◌, ◌+◌, ℕ, List, [], ◌∷◌, ◌++◌, length, OnOk, IfOk, Option, Result, Ok, Err, ◌⊎◌, inr, refl, sym, ap, ◌∙◌, subst, arith, append_assoc, length-append}
+use Rattle.std.proofs.lemmas.List.{append-nil, map-append}
 use Rattle.xcp_slave.specs.declared.Exchange.{Exchange}
 use Rattle.xcp_slave.specs.declared.Request.{Request}
 use Rattle.xcp_slave.specs.Run.{requests_of}
@@ -9,176 +9,268 @@ use Rattle.xcp_framing.specs.declared.station.StationError.TheVariants as refusa
 use Rattle.xcp_framing.specs.declared.serving.Served.{Served}
 use Rattle.xcp_framing.specs.declared.serving.ServeError.{ServeError}
 use Rattle.xcp_framing.specs.declared.serving.ServeError.TheVariants as errors
-use Rattle.xcp_framing.specs.declared.passage.Stop.{Stop}
-use Rattle.xcp_framing.specs.declared.passage.Stop.TheVariants as stops
-use Rattle.xcp_framing.specs.declared.passage.StreamError.{StreamError}
-use Rattle.xcp_framing.specs.declared.passage.StreamError.TheVariants as faults
-use Rattle.xcp_framing.specs.Frames.{frames, rest}
-use Rattle.xcp_framing.specs.Serve.{packet_of, packets_of, OnRead, EndsStream, EndsReader}
+use Rattle.xcp_framing.specs.Serve.{packet_of, packets_of, Counts, refused_with}
 use Rattle.xcp_framing.specs.ServeRefusal.{OnRefusal, Refused}
-use Rattle.xcp_framing.specs.private.PacketChain.{Stand, Chain, Stopped, Streams, AtReaderEnd, serve_error}
-use Rattle.xcp_framing.specs.ServeBy.{command, commands, PutsAll, PutsUpTo, PutsSome, ServesBy, CommandNext}
-use Rattle.xcp_framing.specs.private.ServeBy.{Exchanged, HandedBack, Declined, EndsAt}
+use Rattle.xcp_framing.specs.ServeParts.{IsInterruption}
+use Rattle.xcp_framing.specs.ServeBy.{command, commands, PutsAll, PutsUpTo, PutsSome, PutsSoFar, ServesBy, CommandNext}
+use Rattle.xcp_framing.specs.private.AnsweredStream.{Stand, Streams, outcome}
+use Rattle.xcp_framing.specs.private.ServeBy.{NextCommand, AnswersByPut, HandsNothingOn}
 use Rattle.xcp_framing.proofs.ExchangeLemmas.{packets_of-append}
-use Rattle.xcp_framing.proofs.ServeRefusalLemmas.{read_packets}
+use Rattle.xcp_framing.proofs.StreamLemmas.{read_none}
+use Rattle.xcp_framing.proofs.ServeRefusalLemmas.{on_refusal, on_refusal_all, refused_more, read_packets}
+use Rattle.xcp_framing.proofs.ServeAnswerLemmas.{refusal_of, refused_as}
 
-module _ {S O : Type 0} (exchanges_of : S → List Exchange) (refuses : S → Request → StationError → Type 0) (put_of : O → List (List ℕ)) (same_out : O → O → Type 0) where
-  -- what a chain of answered packets comes to
-  record Sums (packets : List (List ℕ)) (old new : Stand S O) : Type 0 where
-    pub exchanges : List Exchange
-    pub grown : exchanges_of new.station ≡ exchanges_of old.station ++ exchanges
-    pub puts : PutsAll packets exchanges (put_of old.out) (put_of new.out)
-    pub counted : new.sent ≡ old.sent + length (packets_of exchanges)
+asked_more : (ps qs : List (List ℕ)) (xs ys : List Exchange) → requests_of xs ≡ commands ps → requests_of ys ≡ commands qs → requests_of (xs ++ ys) ≡ commands (ps ++ qs)
+asked_more ps qs xs ys h k =
+    map-append (λ (x : Exchange). x.request) xs ys ∙ ap (λ (z : List Request). z ++ requests_of ys) h ∙ ap (λ (z : List Request). commands ps ++ z) k ∙ sym (map-append command ps qs)
 
-  sums : (packets : List (List ℕ)) (old new : Stand S O) → Chain (Exchanged exchanges_of put_of same_out) packets old new → Sums packets old new
-  sums [] old new h = record {
+-- packets whose answers were put, and then more
+all_more : (ps qs : List (List ℕ)) (xs ys : List Exchange) (a b c : List (List ℕ)) → PutsAll ps xs a b → PutsAll qs ys b c → PutsAll (ps ++ qs) (xs ++ ys) a c
+all_more ps qs xs ys a b c h k = record {
+  asked = asked_more ps qs xs ys h.asked k.asked;
+  put = k.put ∙ (ap (λ (z : List (List ℕ)). z ++ packets_of ys) h.put ∙ (append_assoc a (packets_of xs) (packets_of ys) ∙ ap (λ (z : List (List ℕ)). a ++ z) (sym (packets_of-append xs ys))));
+}
+
+up_to_more : (ps qs : List (List ℕ)) (xs ys : List Exchange) (a b c : List (List ℕ)) → PutsAll ps xs a b → PutsUpTo qs ys b c → PutsUpTo (ps ++ qs) (xs ++ ys) a c
+up_to_more ps qs xs ys a b c h k = record {
+  done = ps ++ k.done;
+  packet = k.packet;
+  later = k.later;
+  full = xs ++ k.full;
+  last = k.last;
+  packets_are = ap (λ (z : List (List ℕ)). ps ++ z) k.packets_are ∙ sym (append_assoc ps k.done (k.packet ∷ k.later));
+  joined = ap (λ (z : List Exchange). xs ++ z) k.joined ∙ sym (append_assoc xs k.full (k.last ∷ []));
+  answered = all_more ps k.done xs k.full a b c h k.answered;
+  asked = k.asked;
+  gave = k.gave;
+}
+
+some_more : (ps qs : List (List ℕ)) (xs ys : List Exchange) (a b c : List (List ℕ)) → PutsAll ps xs a b → PutsSome qs ys b c → PutsSome (ps ++ qs) (xs ++ ys) a c
+some_more ps qs xs ys a b c h k = record {
+  done = ps ++ k.done;
+  later = k.later;
+  packets_are = ap (λ (z : List (List ℕ)). ps ++ z) k.packets_are ∙ sym (append_assoc ps k.done k.later);
+  answered = all_more ps k.done xs ys a b c h k.answered;
+}
+
+so_far_more : {A : Type 0} (r : Result A ServeError) (ps qs : List (List ℕ)) (xs ys : List Exchange) (a b c : List (List ℕ)) → PutsAll ps xs a b → PutsSoFar r qs ys b c → PutsSoFar r (ps ++ qs) (xs ++ ys) a c
+so_far_more (Ok v) ps qs xs ys a b c h k = all_more ps qs xs ys a b c h k
+so_far_more (Err errors.Write) ps qs xs ys a b c h k = up_to_more ps qs xs ys a b c h k
+so_far_more (Err errors.Memory) ps qs xs ys a b c h k = some_more ps qs xs ys a b c h k
+so_far_more (Err errors.JournalFull) ps qs xs ys a b c h k = some_more ps qs xs ys a b c h k
+so_far_more (Err errors.Read) ps qs xs ys a b c h k = all_more ps qs xs ys a b c h k
+so_far_more (Err (errors.BadLength n)) ps qs xs ys a b c h k = all_more ps qs xs ys a b c h k
+so_far_more (Err errors.Truncated) ps qs xs ys a b c h k = all_more ps qs xs ys a b c h k
+so_far_more (Err errors.TurnsSpent) ps qs xs ys a b c h k = all_more ps qs xs ys a b c h k
+
+-- packets that come later don't matter to an interruption
+up_to_before : (ps qs : List (List ℕ)) (xs : List Exchange) (a b : List (List ℕ)) → PutsUpTo ps xs a b → PutsUpTo (ps ++ qs) xs a b
+up_to_before ps qs xs a b k = record {
+  done = k.done;
+  packet = k.packet;
+  later = k.later ++ qs;
+  full = k.full;
+  last = k.last;
+  packets_are = ap (λ (z : List (List ℕ)). z ++ qs) k.packets_are ∙ append_assoc k.done (k.packet ∷ k.later) qs;
+  joined = k.joined;
+  answered = k.answered;
+  asked = k.asked;
+  gave = k.gave;
+}
+
+some_before : (ps qs : List (List ℕ)) (xs : List Exchange) (a b : List (List ℕ)) → PutsSome ps xs a b → PutsSome (ps ++ qs) xs a b
+some_before ps qs xs a b k = record {
+  done = k.done;
+  later = k.later ++ qs;
+  packets_are = ap (λ (z : List (List ℕ)). z ++ qs) k.packets_are ∙ append_assoc k.done k.later qs;
+  answered = k.answered;
+}
+
+so_far_before : (e : ServeError) (ps qs : List (List ℕ)) (xs : List Exchange) (a b : List (List ℕ)) → IsInterruption e → PutsSoFar {R = Unit {0}} (Err e) ps xs a b → PutsSoFar {R = Unit {0}} (Err e) (ps ++ qs) xs a b
+so_far_before errors.Write ps qs xs a b i k = up_to_before ps qs xs a b k
+so_far_before errors.Memory ps qs xs a b i k = some_before ps qs xs a b k
+so_far_before errors.JournalFull ps qs xs a b i k = some_before ps qs xs a b k
+so_far_before errors.Read ps qs xs a b i k = absurd i
+so_far_before (errors.BadLength n) ps qs xs a b i k = absurd i
+so_far_before errors.Truncated ps qs xs a b i k = absurd i
+so_far_before errors.TurnsSpent ps qs xs a b i k = absurd i
+
+next_more : (ps qs : List (List ℕ)) (xs ys : List Exchange) (q : Request) → requests_of xs ≡ commands ps → NextCommand qs ys q → NextCommand (ps ++ qs) (xs ++ ys) q
+next_more ps qs xs ys q h k = record {
+  done = ps ++ k.done;
+  packet = k.packet;
+  later = k.later;
+  packets_are = ap (λ (z : List (List ℕ)). ps ++ z) k.packets_are ∙ sym (append_assoc ps k.done (k.packet ∷ k.later));
+  asked = asked_more ps k.done xs ys h k.asked;
+  next = k.next;
+}
+
+next_before : (ps qs : List (List ℕ)) (xs : List Exchange) (q : Request) → NextCommand ps xs q → NextCommand (ps ++ qs) xs q
+next_before ps qs xs q k = record {
+  done = k.done;
+  packet = k.packet;
+  later = k.later ++ qs;
+  packets_are = ap (λ (z : List (List ℕ)). z ++ qs) k.packets_are ∙ append_assoc k.done (k.packet ∷ k.later) qs;
+  asked = k.asked;
+  next = k.next;
+}
+
+counted_more : {A : Type 0} (r : Result A ServeError) (xs ys : List Exchange) (from at to : ℕ) → at ≡ from + length (packets_of xs) → OnOk r (to ≡ at + length (packets_of ys)) → OnOk r (to ≡ from + length (packets_of (xs ++ ys)))
+counted_more (Ok v) xs ys from at to h k = omega (arith, h, k, ap (λ (z : List (List ℕ)). length z) (packets_of-append xs ys), length-append (packets_of xs) (packets_of ys))
+counted_more (Err e) xs ys from at to h k = tt
+
+-- nothing was put of a packet whose command was refused
+none_put : (e : StationError) (p : List ℕ) (a b : List (List ℕ)) → b ≡ a → PutsSoFar {R = Unit {0}} (Err (refused_with e)) (p ∷ []) [] a b
+none_put refusals.Memory p a b h = record { done = []; later = p ∷ []; packets_are = refl; answered = record { asked = refl; put = h ∙ sym (append-nil a) } }
+none_put refusals.JournalFull p a b h = record { done = []; later = p ∷ []; packets_are = refl; answered = record { asked = refl; put = h ∙ sym (append-nil a) } }
+
+module _ {S K O : Type 0} (exchanges_of : S → List Exchange) (refuses : S → Request → StationError → Type 0) (put_of : O → List (List ℕ)) (same_out : O → O → Type 0) where
+  -- no packet
+  pub puts_none : ((x : O) → same_out x x) → (sent_of : K → ℕ) (a : Stand S K O) → AnswersByPut exchanges_of refuses put_of same_out sent_of (Ok tt) [] a a
+  puts_none same_refl sent_of a = record {
     exchanges = [];
-    grown = ap (λ (z : Stand S O). exchanges_of z.station) h ∙ sym (append-nil (exchanges_of old.station));
-    puts = record { asked = refl; put = ap (λ (z : Stand S O). put_of z.out) h ∙ sym (append-nil (put_of old.out)) };
-    counted = omega (arith, ap (λ (z : Stand S O). z.sent) h);
+    grown = sym (append-nil (exchanges_of a.station));
+    puts = record { asked = refl; put = sym (append-nil (put_of a.out)) };
+    kept = same_refl a.out;
+    counted = omega arith;
+    refused = tt;
   }
-  sums (p ∷ ps) old new h =
-      let mid : Stand S O = h.0 in
-      let x : Exchanged exchanges_of put_of same_out old mid p = h.1 in
-      let k : Sums ps mid new = sums ps mid new h.2 in
+
+  -- packets, and then more
+  pub puts_behind : ((x y z : O) → same_out x y → same_out y z → same_out x z) → (sent_of : K → ℕ) (r : Result (Unit {0}) ServeError) (ps qs : List (List ℕ)) (a b c : Stand S K O)
+      → AnswersByPut exchanges_of refuses put_of same_out sent_of (Ok tt) ps a b → AnswersByPut exchanges_of refuses put_of same_out sent_of r qs b c → AnswersByPut exchanges_of refuses put_of same_out sent_of r (ps ++ qs) a c
+  puts_behind same_trans sent_of r ps qs a b c x y = record {
+    exchanges = x.exchanges ++ y.exchanges;
+    grown = y.grown ∙ (ap (λ (z : List Exchange). z ++ y.exchanges) x.grown ∙ append_assoc (exchanges_of a.station) x.exchanges y.exchanges);
+    puts = so_far_more r ps qs x.exchanges y.exchanges (put_of a.out) (put_of b.out) (put_of c.out) x.puts y.puts;
+    kept = same_trans a.out b.out c.out x.kept y.kept;
+    counted = counted_more r x.exchanges y.exchanges (sent_of a.state) (sent_of b.state) (sent_of c.state) x.counted y.counted;
+    refused = on_refusal_all (Unit {0}) r _ _ (λ e k. refused_more exchanges_of refuses e (NextCommand qs) (NextCommand (ps ++ qs)) x.exchanges x.grown (λ ys q n. next_more ps qs x.exchanges ys q x.puts.asked n) k) y.refused;
+  }
+
+  -- an interruption leaves the packets that come later
+  pub puts_before : (sent_of : K → ℕ) (e : ServeError) (ps qs : List (List ℕ)) (a b : Stand S K O) → IsInterruption e
+      → AnswersByPut exchanges_of refuses put_of same_out sent_of (Err e) ps a b → AnswersByPut exchanges_of refuses put_of same_out sent_of (Err e) (ps ++ qs) a b
+  puts_before sent_of e ps qs a b i x = record {
+    exchanges = x.exchanges;
+    grown = x.grown;
+    puts = so_far_before e ps qs x.exchanges (put_of a.out) (put_of b.out) i x.puts;
+    kept = x.kept;
+    counted = tt;
+    refused = on_refusal_all (Unit {0}) (Err e) _ _ (λ f k. refused_as exchanges_of refuses f (NextCommand ps) (NextCommand (ps ++ qs)) (exchanges_of a.station) b.station (λ xs q n. next_before ps qs xs q n) k) x.refused;
+  }
+
+  -- nothing was handed on
+  pub puts_handed : (sent_of : K → ℕ) (r : Result (Unit {0}) ServeError) (ps : List (List ℕ)) (a b : Stand S K O) (k : K) (o : O)
+      → AnswersByPut exchanges_of refuses put_of same_out sent_of r ps a b → HandsNothingOn (Ok tt) b.state b.out k o
+      → AnswersByPut exchanges_of refuses put_of same_out sent_of r ps a (record { station = b.station; state = k; out = o })
+  puts_handed sent_of r ps a b k o x h = rw (h.state_kept, h.out_kept) x
+
+  -- what isn't held can't fail to be handed on
+  pub puts_held : (sent_of : K → ℕ) (r : Result (Unit {0}) ServeError) (e : ServeError) (ps : List (List ℕ)) (a b : Stand S K O) (k : K) (o : O)
+      → AnswersByPut exchanges_of refuses put_of same_out sent_of r ps a b → HandsNothingOn (Err e) b.state b.out k o
+      → AnswersByPut exchanges_of refuses put_of same_out sent_of (Err e) ps a (record { station = b.station; state = k; out = o })
+  puts_held sent_of r e ps a b k o x h = absurd h.fine
+
+  -- one packet whose answer is none, or was put
+  pub one_answer : (sent_of : K → ℕ) (x : Exchange) (p : List ℕ) (a b : Stand S K O) → x.request ≡ command p → exchanges_of b.station ≡ exchanges_of a.station ++ x ∷ []
+      → put_of b.out ≡ put_of a.out ++ packet_of x.answer → same_out a.out b.out → sent_of b.state ≡ sent_of a.state + length (packet_of x.answer)
+      → AnswersByPut exchanges_of refuses put_of same_out sent_of (Ok tt) (p ∷ []) a b
+  one_answer sent_of x p a b asked grown put kept counted =
+      let all : packets_of (x ∷ []) ≡ packet_of x.answer = append-nil (packet_of x.answer) in
       record {
-        exchanges = x.exchange ∷ k.exchanges;
-        grown = k.grown ∙ (ap (λ (z : List Exchange). z ++ k.exchanges) x.grown ∙ append_assoc (exchanges_of old.station) (x.exchange ∷ []) k.exchanges);
-        puts = record {
-          asked = λ i. x.asked i ∷ k.puts.asked i;
-          put = k.puts.put ∙ (ap (λ (z : List (List ℕ)). z ++ packets_of k.exchanges) x.put ∙ append_assoc (put_of old.out) (packet_of x.exchange.answer) (packets_of k.exchanges));
-        };
-        counted = omega (arith, k.counted, x.counted, length-append (packet_of x.exchange.answer) (packets_of k.exchanges));
+        exchanges = x ∷ [];
+        grown = grown;
+        puts = record { asked = λ i. asked i ∷ []; put = put ∙ ap (λ (z : List (List ℕ)). put_of a.out ++ z) (sym all) };
+        kept = kept;
+        counted = counted ∙ ap (λ (z : List (List ℕ)). sent_of a.state + length z) (sym all);
+        refused = tt;
       }
 
-  Result-of : (m : ℕ) → Result ℕ StreamError → Option (List ℕ) → Option (List ℕ) → Stand S O → Stand S O → Type 0
-  Result-of m r i o a b = Streams (Exchanged exchanges_of put_of same_out) (EndsAt exchanges_of refuses put_of same_out) m r i o a b
+  -- one packet whose answer was handed back
+  pub one_back : (sent_of : K → ℕ) (x : Exchange) (p : List ℕ) (a b : Stand S K O) → x.request ≡ command p → exchanges_of b.station ≡ exchanges_of a.station ++ x ∷ []
+      → put_of b.out ≡ put_of a.out → same_out a.out b.out → (packet_of x.answer ≡ [] → ⊥)
+      → AnswersByPut exchanges_of refuses put_of same_out sent_of (Err errors.Write) (p ∷ []) a b
+  one_back sent_of x p a b asked grown put kept gave = record {
+    exchanges = x ∷ [];
+    grown = grown;
+    puts = record { done = []; packet = p; later = []; full = []; last = x; packets_are = refl; joined = refl; answered = record { asked = refl; put = put ∙ sym (append-nil (put_of a.out)) }; asked = asked; gave = gave };
+    kept = kept;
+    counted = tt;
+    refused = tt;
+  }
 
-  pub by_ok : (m n : ℕ) (i o : Option (List ℕ)) (a b : Stand S O) → a.sent ≡ 0 → Streams (Exchanged exchanges_of put_of same_out) (EndsAt exchanges_of refuses put_of same_out) m (Ok n) i o a b
-      → ServesBy m (Ok (record { frames = n; sent = b.sent })) i o (exchanges_of a.station) (exchanges_of b.station) (put_of a.out) (put_of b.out)
-  by_ok m n i o a b none s =
-      let k = sums s.packets a b s.answered in
-      record { packets = s.packets; behind = s.behind; read = s.read; exchanges = k.exchanges; grown = k.grown; puts = k.puts; ends = s.ends; counts = (s.counts n refl, omega (arith, k.counted, none)) }
+  -- one packet whose command was refused
+  pub one_refused : ((x : O) → same_out x x) → (sent_of : K → ℕ) (e : StationError) (p : List ℕ) (a b : Stand S K O) → b.station ≡ a.station → b.out ≡ a.out → refuses b.station (command p) e
+      → AnswersByPut exchanges_of refuses put_of same_out sent_of (Err (refused_with e)) (p ∷ []) a b
+  one_refused same_refl sent_of e p a b same out may =
+      let grown : exchanges_of b.station ≡ exchanges_of a.station ++ [] = ap exchanges_of same ∙ sym (append-nil (exchanges_of a.station)) in
+      record {
+        exchanges = [];
+        grown = grown;
+        puts = none_put e p (put_of a.out) (put_of b.out) (ap put_of out);
+        kept = subst (λ (z : O). same_out a.out z) (sym out) (same_refl a.out);
+        counted = tt;
+        refused = on_refusal (Unit {0}) e _ (record {
+          exchanges = [];
+          grown = grown;
+          request = command p;
+          next = record { done = []; packet = p; later = []; packets_are = refl; asked = refl; next = refl };
+          may = may;
+        });
+      }
 
-  -- the first packets, where the station refused the next one's command
-  declined : (e : StationError) (packets : List (List ℕ)) (a b : Stand S O) → Stopped (Exchanged exchanges_of put_of same_out) (Declined exchanges_of refuses e) packets a b
-      → (xs : List Exchange) × (exchanges_of b.station ≡ exchanges_of a.station ++ xs) × PutsSome packets xs (put_of a.out) (put_of b.out)
-  declined e packets a b h =
-      let k = sums h.done a h.mid h.answered in
-      (k.exchanges, ap exchanges_of h.ended.same ∙ k.grown, record { done = h.done; later = h.packet ∷ h.later; packets_are = h.packets_are; answered = record { asked = k.puts.asked; put = ap put_of h.ended.out ∙ k.puts.put } })
+-- what became of the packets, told of a call that gives more
+puts_of : (r : Result Served ServeError) (ps : List (List ℕ)) (xs : List Exchange) (a b : List (List ℕ)) → PutsSoFar (outcome r) ps xs a b → PutsSoFar r ps xs a b
+puts_of (Ok served) ps xs a b h = h
+puts_of (Err errors.Write) ps xs a b h = h
+puts_of (Err errors.Memory) ps xs a b h = h
+puts_of (Err errors.JournalFull) ps xs a b h = h
+puts_of (Err errors.Read) ps xs a b h = h
+puts_of (Err (errors.BadLength n)) ps xs a b h = h
+puts_of (Err errors.Truncated) ps xs a b h = h
+puts_of (Err errors.TurnsSpent) ps xs a b h = h
 
-  pub by_err : (m : ℕ) (e : StreamError) (i o : Option (List ℕ)) (a b : Stand S O) → Streams (Exchanged exchanges_of put_of same_out) (EndsAt exchanges_of refuses put_of same_out) m (Err e) i o a b
-      → ServesBy m (Err (serve_error e)) i o (exchanges_of a.station) (exchanges_of b.station) (put_of a.out) (put_of b.out)
-  by_err m faults.Read i o a b s = let k = sums s.packets a b s.answered in
-      record { packets = s.packets; behind = s.behind; read = s.read; exchanges = k.exchanges; grown = k.grown; puts = k.puts; ends = s.ends; counts = tt }
-  by_err m (faults.BadLength n) i o a b s = let k = sums s.packets a b s.answered in
-      record { packets = s.packets; behind = s.behind; read = s.read; exchanges = k.exchanges; grown = k.grown; puts = k.puts; ends = s.ends; counts = tt }
-  by_err m faults.Truncated i o a b s = let k = sums s.packets a b s.answered in
-      record { packets = s.packets; behind = s.behind; read = s.read; exchanges = k.exchanges; grown = k.grown; puts = k.puts; ends = s.ends; counts = tt }
-  by_err m faults.TurnsSpent i o a b s = let k = sums s.packets a b s.answered in
-      record { packets = s.packets; behind = s.behind; read = s.read; exchanges = k.exchanges; grown = k.grown; puts = k.puts; ends = s.ends; counts = tt }
-  by_err m faults.NoBuffer i o a b s = let k = sums s.packets a b s.answered in
-      record { packets = s.packets; behind = s.behind; read = s.read; exchanges = k.exchanges; grown = k.grown; puts = record { done = s.packets; later = []; packets_are = sym (append-nil s.packets); answered = k.puts }; ends = tt; counts = tt }
-  by_err m (faults.Stopped stops.Memory) i o a b s = let k = declined refusals.Memory s.packets a b s.answered in
-      record { packets = s.packets; behind = s.behind; read = s.read; exchanges = k.0; grown = k.1; puts = k.2; ends = tt; counts = tt }
-  by_err m (faults.Stopped stops.JournalFull) i o a b s = let k = declined refusals.JournalFull s.packets a b s.answered in
-      record { packets = s.packets; behind = s.behind; read = s.read; exchanges = k.0; grown = k.1; puts = k.2; ends = tt; counts = tt }
-  by_err m (faults.Stopped stops.Write) i o a b s =
-      let h = s.answered in
-      let k = sums h.done a h.mid h.answered in
+counts_by : (r : Result Served ServeError) (ps : List (List ℕ)) (xs : List Exchange) (from to : ℕ) → from ≡ 0 → IfOk r (λ served. served.frames ≡ length ps) → IfOk r (λ served. served.sent ≡ to)
+    → OnOk (outcome r) (to ≡ from + length (packets_of xs)) → Counts r ps (packets_of xs)
+counts_by (Ok served) ps xs from to z h k l = (h, omega (arith, z, k, l))
+counts_by (Err e) ps xs from to z h k l = tt
+
+-- there was no buffer
+pub by_memory : (m : ℕ) (i : Option (List ℕ)) (old : List Exchange) (a : List (List ℕ)) → ServesBy m (Err errors.Memory) i i old old a a
+by_memory m i old a = record {
+  packets = [];
+  behind = [];
+  read = read_none m i;
+  exchanges = [];
+  grown = sym (append-nil old);
+  puts = record { done = []; later = []; packets_are = refl; answered = record { asked = refl; put = sym (append-nil a) } };
+  ends = tt;
+  counts = tt;
+}
+
+module _ {S K O : Type 0} (exchanges_of : S → List Exchange) (refuses : S → Request → StationError → Type 0) (put_of : O → List (List ℕ)) (same_out : O → O → Type 0) (sent_of : K → ℕ) where
+  -- a call whose packets were answered so
+  pub by_of : (m : ℕ) (r : Result Served ServeError) (i o : Option (List ℕ)) (a b : Stand S K O) → Streams (AnswersByPut exchanges_of refuses put_of same_out sent_of) m r i o a b
+      → sent_of a.state ≡ 0 → IfOk r (λ served. served.sent ≡ sent_of b.state)
+      → ServesBy m r i o (exchanges_of a.station) (exchanges_of b.station) (put_of a.out) (put_of b.out)
+  by_of m r i o a b s none sent =
+      let x = s.answered in
       record {
         packets = s.packets;
         behind = s.behind;
         read = s.read;
-        exchanges = k.exchanges ++ h.ended.exchange ∷ [];
-        grown = h.ended.grown ∙ (ap (λ (z : List Exchange). z ++ h.ended.exchange ∷ []) k.grown ∙ append_assoc (exchanges_of a.station) k.exchanges (h.ended.exchange ∷ []));
-        puts = record {
-          done = h.done;
-          packet = h.packet;
-          later = h.later;
-          full = k.exchanges;
-          last = h.ended.exchange;
-          packets_are = h.packets_are;
-          joined = refl;
-          answered = record { asked = k.puts.asked; put = h.ended.put ∙ k.puts.put };
-          asked = h.ended.asked;
-          gave = h.ended.gave;
-        };
-        ends = tt;
-        counts = tt;
+        exchanges = x.exchanges;
+        grown = x.grown;
+        puts = puts_of r s.packets x.exchanges (put_of a.out) (put_of b.out) x.puts;
+        ends = s.ends;
+        counts = counts_by r s.packets x.exchanges (sent_of a.state) (sent_of b.state) none s.counts sent x.counted;
       }
 
-  -- the command that the station refused
-  refused_at : (m : ℕ) (e : StationError) (i o : Option (List ℕ)) (packets : List (List ℕ)) (behind : List ℕ) (a b : Stand S O) → OnRead i o (λ stream. (packets ≡ frames m stream) × (behind ≡ rest m stream))
-      → Stopped (Exchanged exchanges_of put_of same_out) (Declined exchanges_of refuses e) packets a b → Refused exchanges_of refuses e (CommandNext m i o) (exchanges_of a.station) b.station
-  refused_at m e i o packets behind a b read h =
-      let k = sums h.done a h.mid h.answered in
-      record {
-        exchanges = k.exchanges;
-        grown = ap exchanges_of h.ended.same ∙ k.grown;
-        request = command h.packet;
-        next = record {
-          packets = packets;
-          read = read_packets m i o packets behind read;
-          done = h.done;
-          packet = h.packet;
-          later = h.later;
-          packets_are = h.packets_are;
-          asked = k.puts.asked;
-          next = refl;
-        };
-        may = h.ended.may;
-      }
-
-  pub refused_by : {R : Type 0} (m : ℕ) (e : StreamError) (i o : Option (List ℕ)) (a b : Stand S O) → Streams (Exchanged exchanges_of put_of same_out) (EndsAt exchanges_of refuses put_of same_out) m (Err e) i o a b
-      → (e ≡ faults.NoBuffer → R × (b.station ≡ a.station) × (b.out ≡ a.out))
-      → OnRefusal {A = Served} (Err (serve_error e)) (λ x. ((x ≡ refusals.Memory) × R × (b.station ≡ a.station) × (b.out ≡ a.out)) ⊎ Refused exchanges_of refuses x (CommandNext m i o) (exchanges_of a.station) b.station)
-  refused_by m faults.Read i o a b s f = tt
-  refused_by m (faults.BadLength n) i o a b s f = tt
-  refused_by m faults.Truncated i o a b s f = tt
-  refused_by m faults.TurnsSpent i o a b s f = tt
-  refused_by m faults.NoBuffer i o a b s f = (let k = f refl in inl (refl, k.0, k.1, k.2))
-  refused_by m (faults.Stopped stops.Write) i o a b s f = tt
-  refused_by m (faults.Stopped stops.Memory) i o a b s f = inr (refused_at m refusals.Memory i o s.packets s.behind a b s.read s.answered)
-  refused_by m (faults.Stopped stops.JournalFull) i o a b s f = inr (refused_at m refusals.JournalFull i o s.packets s.behind a b s.read s.answered)
-
-module _ {S O : Type 0} (exchanges_of : S → List Exchange) (refuses : S → Request → StationError → Type 0) (put_of : O → List (List ℕ)) (same_out : O → O → Type 0) (same_refl : (x : O) → same_out x x) (same_trans : (x y z : O) → same_out x y → same_out y z → same_out x z) where
-  chain_kept : (packets : List (List ℕ)) (a b : Stand S O) → Chain (Exchanged exchanges_of put_of same_out) packets a b → same_out a.out b.out
-  chain_kept [] a b h = subst (λ (z : Stand S O). same_out a.out z.out) (sym h) (same_refl a.out)
-  chain_kept (p ∷ ps) a b h = same_trans a.out h.0.out b.out h.1.kept (chain_kept ps h.0 b h.2)
-
-  declined_kept : (e : StationError) (packets : List (List ℕ)) (a b : Stand S O) → Stopped (Exchanged exchanges_of put_of same_out) (Declined exchanges_of refuses e) packets a b → same_out a.out b.out
-  declined_kept e packets a b h = subst (λ (z : O). same_out a.out z) (sym h.ended.out) (chain_kept h.done a h.mid h.answered)
-
-  pub ok_kept : (m n : ℕ) (i o : Option (List ℕ)) (a b : Stand S O) → Streams (Exchanged exchanges_of put_of same_out) (EndsAt exchanges_of refuses put_of same_out) m (Ok n) i o a b → same_out a.out b.out
-  ok_kept m n i o a b s = chain_kept s.packets a b s.answered
-
-  pub err_kept : (m : ℕ) (e : StreamError) (i o : Option (List ℕ)) (a b : Stand S O) → Streams (Exchanged exchanges_of put_of same_out) (EndsAt exchanges_of refuses put_of same_out) m (Err e) i o a b → same_out a.out b.out
-  err_kept m faults.Read i o a b s = chain_kept s.packets a b s.answered
-  err_kept m (faults.BadLength n) i o a b s = chain_kept s.packets a b s.answered
-  err_kept m faults.Truncated i o a b s = chain_kept s.packets a b s.answered
-  err_kept m faults.NoBuffer i o a b s = chain_kept s.packets a b s.answered
-  err_kept m faults.TurnsSpent i o a b s = chain_kept s.packets a b s.answered
-  err_kept m (faults.Stopped stops.Write) i o a b s = let h = s.answered in same_trans a.out h.mid.out b.out (chain_kept h.done a h.mid h.answered) h.ended.kept
-  err_kept m (faults.Stopped stops.Memory) i o a b s = declined_kept refusals.Memory s.packets a b s.answered
-  err_kept m (faults.Stopped stops.JournalFull) i o a b s = declined_kept refusals.JournalFull s.packets a b s.answered
-
--- what an error of a stream says of the reader's end, the error of serving that tells it says too
-pub reader_told : (e : StreamError) (after : Option (List ℕ)) → AtReaderEnd (Err e) after → EndsReader (Err (serve_error e)) after
-reader_told faults.Read after h = tt
-reader_told (faults.BadLength n) after h = tt
-reader_told faults.Truncated after h = h
-reader_told faults.NoBuffer after h = tt
-reader_told faults.TurnsSpent after h = tt
-reader_told (faults.Stopped stops.Write) after h = tt
-reader_told (faults.Stopped stops.Memory) after h = tt
-reader_told (faults.Stopped stops.JournalFull) after h = tt
-
--- what isn't told as a failed read was none
-pub read_told : (e : StreamError) → ◌≢◌ {A = Result Served ServeError} (Err (serve_error e)) (Err errors.Read) → ◌≢◌ {A = Result ℕ StreamError} (Err e) (Err faults.Read)
-read_told faults.Read h = λ is. h refl
-read_told (faults.BadLength n) h = λ is. cc
-read_told faults.Truncated h = λ is. cc
-read_told faults.NoBuffer h = λ is. cc
-read_told faults.TurnsSpent h = λ is. cc
-read_told (faults.Stopped stop) h = λ is. cc
+  -- the request that the station refused
+  pub refused_by : (F : StationError → Type 0) (m : ℕ) (r : Result Served ServeError) (i o : Option (List ℕ)) (a b : Stand S K O) → Streams (AnswersByPut exchanges_of refuses put_of same_out sent_of) m r i o a b
+      → OnRefusal r (λ e. F e ⊎ Refused exchanges_of refuses e (CommandNext m i o) (exchanges_of a.station) b.station)
+  refused_by F m r i o a b s =
+      refusal_of r _ (on_refusal_all (Unit {0}) (outcome r) _ _
+      (λ e k. inr (refused_as exchanges_of refuses e (NextCommand s.packets) (CommandNext m i o) (exchanges_of a.station) b.station
+      (λ xs q n. record { packets = s.packets; read = read_packets m i o s.packets s.behind s.read; done = n.done; packet = n.packet; later = n.later; packets_are = n.packets_are; asked = n.asked; next = n.next }) k)) s.answered.refused)

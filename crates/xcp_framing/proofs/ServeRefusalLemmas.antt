@@ -1,7 +1,6 @@
 -- Refusals that end a call, passed on from what answers less to what answers more.
-use Rattle.std.proofs.Common.{◌≡◌, ℕ, List, [], ◌∷◌, ◌++◌, drop, Option, Some, None, Result, Ok, Err, refl, sym, ap, ◌∙◌, append_assoc}
+use Rattle.std.proofs.Common.{◌≡◌, ℕ, List, [], ◌∷◌, ◌++◌, Option, Some, None, Result, Ok, Err, refl, sym, ap, ◌∙◌, append_assoc}
 use Rattle.std.proofs.lemmas.List.{append-nil}
-use Rattle.std.specs.Io.KnownBytes.{Consumes as Takes}
 use Rattle.xcp_slave.specs.declared.Exchange.{Exchange}
 use Rattle.xcp_slave.specs.declared.Request.{Request}
 use Rattle.xcp_slave.specs.declared.Request.TheVariants as requests
@@ -10,13 +9,9 @@ use Rattle.xcp_framing.specs.declared.station.StationError.TheVariants as refusa
 use Rattle.xcp_framing.specs.declared.serving.ServeError.{ServeError}
 use Rattle.xcp_framing.specs.declared.serving.ServeError.TheVariants as errors
 use Rattle.xcp_framing.specs.Frames.{frames, rest}
-use Rattle.xcp_framing.specs.FramerInput.{Feeds}
-use Rattle.xcp_framing.specs.private.FrameOutput.{Output}
 use Rattle.xcp_framing.specs.Serve.{AnswersAll, OnRead, refused_with}
-use Rattle.xcp_framing.specs.ServeRefusal.{OnRefusal, DrainsNext, AsksNext, ReadsNext, Refused}
+use Rattle.xcp_framing.specs.ServeRefusal.{OnRefusal, DrainsNext, AsksNext, Refused}
 use Rattle.xcp_framing.proofs.ExchangeLemmas.{answers_all_more}
-use Rattle.xcp_framing.proofs.PieceLemmas.{Consumes, ahead}
-use Rattle.xcp_framing.proofs.StreamLemmas.{Midway, read_more}
 
 -- the station's error, as the call's
 pub on_refusal : (A : Type 0) (e : StationError) (F : StationError → Type 0) → F e → OnRefusal {A = A} (Err (refused_with e)) F
@@ -96,32 +91,8 @@ asks_before ps qs xs q k = record {
   asks = k.asks;
 }
 
--- a refusal in a piece of the stream, of which packets were answered
-pub refused_in_piece : {S : Type 0} (exchanges_of : S → List Exchange) (refuses : S → Request → StationError → Type 0) (m j : ℕ) (h s t r left : List ℕ) (p : List ℕ) {used : ℕ} {old now : List Exchange} {new : S} {a b : Output} {from at first count : ℕ}
-    → Consumes m h s r used old now a b from at first count → t ≡ drop used s → Feeds m r t j (p ∷ []) left
-    → (e : StationError) → Refused exchanges_of refuses e (AsksNext (p ∷ [])) now new → Refused exchanges_of refuses e (AsksNext (frames m (h ++ s))) old new
-refused_in_piece exchanges_of refuses m j h s t r left p x d f e k =
-    let step = ahead m j r t left f in
-    let later = frames m (left ++ drop j t) in
-    let all : frames m (h ++ s) ≡ (x.done ++ p ∷ []) ++ later = x.packets ∙ rw (← d, step.0) (sym (append_assoc x.done (p ∷ []) later)) in
-    rw all (refused_more exchanges_of refuses e (AsksNext (p ∷ [])) (AsksNext ((x.done ++ p ∷ []) ++ later)) x.grows.exchanges x.grows.grown
-    (λ ys q n. asks_before (x.done ++ p ∷ []) later (x.grows.exchanges ++ ys) q (asks_more x.done (p ∷ []) x.grows.exchanges ys q x.grows.fact n)) k)
-
 -- the packets alone of what was read
 pub read_packets : (m : ℕ) (i n : Option (List ℕ)) (packets : List (List ℕ)) (behind : List ℕ) → OnRead i n (λ stream. (packets ≡ frames m stream) × (behind ≡ rest m stream)) → OnRead i n (λ stream. packets ≡ frames m stream)
 read_packets m None n packets behind h = tt
 read_packets m (Some xs) None packets behind h = absurd h
 read_packets m (Some xs) (Some ys) packets behind h = (h.0, h.1, h.2.0)
-
--- a refusal in the piece of the stream that was read last
-pub refused_midway : {S : Type 0} (exchanges_of : S → List Exchange) (refuses : S → Request → StationError → Type 0) (m : ℕ) {i o n : Option (List ℕ)} {held : List ℕ} (chunk : List ℕ) {old now : List Exchange} {new : S} {a b : Output} {sent count : ℕ}
-    → Midway m i o held old now a b sent count → Takes o n chunk
-    → (e : StationError) → Refused exchanges_of refuses e (AsksNext (frames m (held ++ chunk))) now new → Refused exchanges_of refuses e (ReadsNext m i n) old new
-refused_midway exchanges_of refuses m {i = i} {o = o} {n = n} {held = held} chunk x t e k =
-    let more = frames m (held ++ chunk) in
-    refused_more exchanges_of refuses e (AsksNext more) (ReadsNext m i n) x.grows.exchanges x.grows.grown
-    (λ ys q next. record {
-      packets = x.packets ++ more;
-      read = read_packets m i n (x.packets ++ more) (rest m (held ++ chunk)) (read_more m i o n x.packets held chunk x.read t);
-      asks = asks_more x.packets more x.grows.exchanges ys q x.grows.fact next;
-    }) k

@@ -1,6 +1,6 @@
 -- What contracts see of a framer, and what a piece of the stream brings it (ASAM MCD-1 XCP, transport layer, XCP on
 -- Ethernet: TCP gives a stream in pieces of any size).
-use Rattle.std.specs.Prelude.{◌≡◌, ◌<◌, ◌≤◌, ◌+◌, ◌++◌, ℕ, List, [], ◌∷◌, length, take}
+use Rattle.std.specs.Prelude.{◌≡◌, ◌<◌, ◌≤◌, ◌++◌, ℕ, List, [], ◌∷◌, length, take}
 use Rattle.arrayvec.specs.ArrayVec.{ArrayVec}
 use Rattle.xcp_framing.specs.declared.framer.Got.{Got}
 use Rattle.xcp_framing.specs.declared.framer.Got.TheVariants as gots

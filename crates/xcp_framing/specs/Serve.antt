@@ -1,6 +1,6 @@
 -- What `serve` does with a stream: the exchanges that it makes, and what it writes (ASAM MCD-1 XCP, transport layer, XCP on
 -- Ethernet; CTO packets come in and go out, DTO packets go out between them).
-use Rattle.std.specs.Prelude.{◌≡◌, ◌≢◌, ◌<◌, ◌≤◌, ◌+◌, ℕ, List, [], ◌∷◌, ◌++◌, All, length, Option, Some, None, Result, Ok, Err, ⊤}
+use Rattle.std.specs.Prelude.{◌≡◌, ◌≢◌, ◌<◌, ◌≤◌, ℕ, List, [], ◌∷◌, ◌++◌, All, length, Option, Some, None, Result, Ok, Err, ⊤}
 use Rattle.std.specs.List.{flat_map}
 use Rattle.std.specs.Io.KnownBytes.{Appends, IsAtEnd}
 use Rattle.xcp_slave.specs.declared.Exchange.{Exchange}

@@ -90,10 +90,9 @@ impl LentDrain {
     }
 }
 
-/// The requests of a stream, and a packet for the answers.
+/// A Drain, and a packet for the answers.
 #[derive(Drop)]
 pub(crate) struct Lent {
-    pub(crate) command: LentCommand,
     pub(crate) drain: LentDrain,
     pub(crate) packet: Packet,
 }
@@ -101,7 +100,6 @@ pub(crate) struct Lent {
 impl Lent {
     pub(crate) fn new() -> Lent {
         Lent {
-            command: LentCommand::new(),
             drain: LentDrain::new(),
             packet: Packet::new(),
         }

@@ -1,86 +1,89 @@
 //! The packets of a stream, answered one after another, whatever answers them.
-ghost use Rattle.std.specs.Prelude.{◌≡◌, ◌≢◌, ◌<◌, ◌≤◌, ◌+◌, ◌*◌, ◌^◌, ◌++◌, [], ℕ, List, OnOk, IfErr, length, Err};
-ghost use Rattle.xcp_framing.specs.declared.passage.Stop.{Stop};
+ghost use Rattle.std.specs.Prelude.{◌≡◌, ◌≢◌, ◌<◌, ◌≤◌, ◌+◌, ◌*◌, ◌^◌, ◌++◌, [], ◌∷◌, ℕ, List, Result, OnOk, IfOk, IfErr, length, Ok, Err};
 ghost use Rattle.xcp_framing.specs.Frames.{frames, rest};
+ghost use Rattle.xcp_framing.specs.Serve.{EndsReader};
+ghost use Rattle.xcp_framing.specs.ServeParts.{IsInterruption};
 ghost use Rattle.xcp_framing.specs.private.Serve.{most_packets};
-ghost use Rattle.xcp_framing.specs.private.PacketChain.{Stand, Answered, EndsPart, Streams, AtReaderEnd, serve_error};
+ghost use Rattle.xcp_framing.specs.private.ServeParts.{EndsPiece};
+ghost use Rattle.xcp_framing.specs.private.AnsweredStream.{Stand, Streams, outcome};
 
 use crate::lent::LentCommand;
-use crate::{Brought, Framer, ServeError, Watched};
-use std::alloc::Global;
+use crate::{Brought, Framer, ServeError, Served, Watched};
 use std::io::Read;
 
 /// The most bytes that one read takes.
-const READ_SIZE: usize = 512;
+pub(crate) const READ_SIZE: usize = 512;
 
-/// Why a packet could not be answered.
-#[derive(Clone, Copy, Debug, PartialEq, Eq, Drop)]
-pub(crate) enum Stop {
-    /// The packet of an answer was not taken.
-    Write,
-    /// The station refused a request with `Memory`.
-    Memory,
-    /// The station refused a request with `JournalFull`.
-    JournalFull,
-}
+/// A way to answer packets with a station `S`. What it keeps from packet to packet is a `K`, and an
+/// `O` takes the packets of the answers.
+pub(crate) trait Answerer<S, K, O> {
+    ghost use Rattle.xcp_framing.specs.declared.serving.ServeError.{ServeError};
 
-/// Why the answering ended before the stream did.
-#[derive(Clone, Copy, Debug, PartialEq, Eq, Drop)]
-pub(crate) enum StreamError {
-    Read,
-    BadLength(u16),
-    Truncated,
-    NoBuffer,
-    TurnsSpent,
-    Stopped(Stop),
-}
+    /// How many packets were sent.
+    ghost sent_of: { K → ℕ };
 
-/// A way to answer packets with a station, whose answers' packets something takes.
-pub(crate) trait Answerer<S, O> {
-    /// What answering a packet does.
-    ghost answers: { Stand S O → Stand S O → List ℕ → Type 0 };
+    /// Nothing is held back.
+    ghost rests: { K → Type 0 };
 
-    /// What was done where it ended the call.
-    ghost ends: { Stand S O → Stand S O → List ℕ → Stop → Type 0 };
+    /// What answering packets does, one behind another, and the interruption that ended it.
+    ghost answers: { Result (Unit {0}) ServeError → List (List ℕ) → Stand S K O → Stand S K O → Type 0 };
 
-    /// Answers a command that is lent.
+    /// What handing on does.
+    ghost hands: { Result (Unit {0}) ServeError → K → O → K → O → Type 0 };
+
+    /// Answers a command that is lent. The packets of the answer may be held back.
     fn answer(
         command: &LentCommand,
         station: &mut S,
+        state: &mut K,
         out: &mut O,
-        sent: &mut u64,
-    ) -> Result<(), Stop>
-        requires { sent.old + most_packets < 2 ^ 64 }
-        ensures answers { OnOk result (answers
-            (record { station = station.old; out = out.old; sent = sent.old })
-            (record { station = station.new; out = out.new; sent = sent.new }) command.now.items) }
-        ensures ends { IfErr result (λ stop. ends
-            (record { station = station.old; out = out.old; sent = sent.old })
-            (record { station = station.new; out = out.new; sent = sent.new }) command.now.items stop) }
-        ensures bound { OnOk result (sent.new ≤ sent.old + most_packets) };
+    ) -> Result<(), ServeError>
+        requires { sent_of state.old + most_packets < 2 ^ 64 }
+        ensures answers { answers result (command.now.items ∷ [])
+            (record { station = station.old; state = state.old; out = out.old })
+            (record { station = station.new; state = state.new; out = out.new }) }
+        ensures stops { IfErr result IsInterruption }
+        ensures bound { OnOk result (sent_of state.new ≤ sent_of state.old + most_packets) };
+
+    /// Hands on what is held back.
+    fn hand_on(state: &mut K, out: &mut O) -> Result<(), ServeError>
+        ensures hands { hands result state.old out.old state.new out.new }
+        ensures rests { rests state.new }
+        ensures stops { IfErr result IsInterruption }
+        ensures sent { sent_of state.new ≡ sent_of state.old };
+
+    /// How many packets were sent.
+    fn sent(state: &K) -> u64
+        ensures { result ≡ sent_of state.now };
 }
 
 /// Answers the packets that are whole with the bytes of one read.
-fn answer_piece<A: Answerer<S, O>, S, O>(
+fn answer_piece<A: Answerer<S, K, O>, S, K, O>(
     framer: &mut Framer,
     piece: &[u8],
     command: &mut LentCommand,
     station: &mut S,
+    state: &mut K,
     out: &mut O,
-    sent: &mut u64,
     count: &mut u64,
-) -> Result<(), StreamError>
-    requires sent { sent.old + most_packets * length piece.now < 2 ^ 64 }
+) -> Result<(), ServeError>
+    requires sent { A.sent_of state.old + most_packets * length piece.now < 2 ^ 64 }
     requires count { count.old + length piece.now < 2 ^ 64 }
-    ensures answered { Answered A.answers A.ends result
+    requires none { (a : Stand S K O) → A.answers (Ok tt) [] a a }
+    requires more { (r : Result (Unit {0}) ServeError) (ps qs : List (List ℕ)) (a b c : Stand S K O)
+        → A.answers (Ok tt) ps a b → A.answers r qs b c → A.answers r (ps ++ qs) a c }
+    requires before { (e : ServeError) (ps qs : List (List ℕ)) (a b : Stand S K O)
+        → IsInterruption e → A.answers (Err e) ps a b → A.answers (Err e) (ps ++ qs) a b }
+    ensures answered { A.answers (outcome result)
         (frames framer.old.max_cto (framer.old.held ++ piece.now))
-        (record { station = station.old; out = out.old; sent = sent.old })
-        (record { station = station.new; out = out.new; sent = sent.new }) }
-    ensures ends { EndsPart framer.old.max_cto result framer.new.held
+        (record { station = station.old; state = state.old; out = out.old })
+        (record { station = station.new; state = state.new; out = out.new }) }
+    ensures ends { EndsPiece framer.old.max_cto result framer.new.held
         (rest framer.old.max_cto (framer.old.held ++ piece.now)) }
     ensures counts { OnOk result (count.new
         ≡ count.old + length (frames framer.old.max_cto (framer.old.held ++ piece.now))) }
-    ensures bound { OnOk result (sent.new ≤ sent.old + most_packets * length piece.now) }
+    ensures bound { OnOk result
+        (A.sent_of state.new ≤ A.sent_of state.old + most_packets * length piece.now) }
     ensures few { OnOk result (count.new ≤ count.old + length piece.now) }
     ensures kept { framer.new.max_cto ≡ framer.old.max_cto }
 {
@@ -90,85 +93,81 @@ fn answer_piece<A: Answerer<S, O>, S, O>(
         used += cut.used;
         match cut.brought {
             Brought::More => return Ok(()),
-            Brought::BadLength(length) => return Err(StreamError::BadLength(length)),
+            Brought::BadLength(length) => return Err(ServeError::BadLength(length)),
             Brought::Packet => {
                 *count += 1;
-                match A::answer(command, station, out, sent) {
-                    Ok(()) => {}
-                    Err(stop) => return Err(StreamError::Stopped(stop)),
-                }
+                A::answer(command, station, state, out)?;
             }
         }
     }
 }
 
-/// Answers a stream of frames, packet by packet, until the reader ends. `Ok` is the number of its
-/// packets. Each turn is one read of up to 512 bytes.
-pub(crate) fn answer_stream<A: Answerer<S, O>, S, O, R: Read>(
-    alloc: Global,
+/// Answers a stream of frames, packet by packet, until the reader ends. Each turn is one read into
+/// the buffer that is lent, of at most `turns` turns. What is held back is handed on before the next
+/// read and before any return.
+pub(crate) fn answer_stream<A: Answerer<S, K, O>, S, K, O, R: Read>(
     reader: &mut Watched<R>,
+    buffer: &mut [u8],
     station: &mut S,
+    state: &mut K,
     out: &mut O,
-    sent: &mut u64,
     max_cto: u8,
     turns: u32,
-) -> Result<u64, StreamError>
-    requires { sent.old ≡ 0 }
-    ensures streams { Streams A.answers A.ends max_cto result
+) -> Result<Served, ServeError>
+    requires size { length buffer.old ≡ READ_SIZE }
+    requires sent { A.sent_of state.old ≡ 0 }
+    requires rests { A.rests state.old }
+    // What `answers` says of more packets, and behind a handing on.
+    requires none { (a : Stand S K O) → A.answers (Ok tt) [] a a }
+    requires more { (r : Result (Unit {0}) ServeError) (ps qs : List (List ℕ)) (a b c : Stand S K O)
+        → A.answers (Ok tt) ps a b → A.answers r qs b c → A.answers r (ps ++ qs) a c }
+    requires before { (e : ServeError) (ps qs : List (List ℕ)) (a b : Stand S K O)
+        → IsInterruption e → A.answers (Err e) ps a b → A.answers (Err e) (ps ++ qs) a b }
+    requires handed { (r : Result (Unit {0}) ServeError) (ps : List (List ℕ)) (a b : Stand S K O) (k : K) (o : O)
+        → A.answers r ps a b → A.hands (Ok tt) b.state b.out k o
+        → A.answers r ps a (record { station = b.station; state = k; out = o }) }
+    requires held { (r : Result (Unit {0}) ServeError) (e : ServeError) (ps : List (List ℕ)) (a b : Stand S K O) (k : K) (o : O)
+        → A.answers r ps a b → A.hands (Err e) b.state b.out k o
+        → A.answers (Err e) ps a (record { station = b.station; state = k; out = o }) }
+    ensures streams { Streams A.answers max_cto result
         (R.remaining reader.old.inner) (R.remaining reader.new.inner)
-        (record { station = station.old; out = out.old; sent = sent.old })
-        (record { station = station.new; out = out.new; sent = sent.new }) }
-    ensures ends { AtReaderEnd result (R.remaining reader.new.inner) }
-    ensures read { result ≡ Err StreamError.Read → reader.old.failures < reader.new.failures }
-    ensures read_quiet { result ≢ Err StreamError.Read
-        → reader.new.failures ≡ reader.old.failures }
+        (record { station = station.old; state = state.old; out = out.old })
+        (record { station = station.new; state = state.new; out = out.new }) }
+    ensures rests { A.rests state.new }
+    ensures sent { IfOk result (λ served. served.sent ≡ A.sent_of state.new) }
+    ensures ends { EndsReader result (R.remaining reader.new.inner) }
+    ensures read { result ≡ Err ServeError.Read → reader.old.failures < reader.new.failures }
+    ensures read_quiet { result ≢ Err ServeError.Read → reader.new.failures ≡ reader.old.failures }
     ensures reads { reader.new.calls ≤ reader.old.calls + turns }
-    ensures turns { result ≡ Err StreamError.TurnsSpent
-        → reader.new.calls ≡ reader.old.calls + turns }
-    ensures no_buffer { result ≡ Err StreamError.NoBuffer → (reader.new ≡ reader.old)
-        × (station.new ≡ station.old) × (out.new ≡ out.old) }
+    ensures turns { result ≡ Err ServeError.TurnsSpent → reader.new.calls ≡ reader.old.calls + turns }
 {
-    let Ok(mut buffer) = vec![in alloc; 0; READ_SIZE] else {
-        return Err(StreamError::NoBuffer);
-    };
     let mut framer = Framer::new(max_cto);
     let mut command = LentCommand::new();
     let mut count = 0;
     for _turn in 0..turns {
-        let Ok(length) = reader.read(&mut buffer) else {
-            return Err(StreamError::Read);
+        let Ok(length) = reader.read(buffer) else {
+            return Err(ServeError::Read);
         };
         if length == 0 {
             if framer.inside() {
-                return Err(StreamError::Truncated);
+                return Err(ServeError::Truncated);
             }
-            return Ok(count);
+            return Ok(Served {
+                frames: count,
+                sent: A::sent(state),
+            });
         }
-        answer_piece::<A, S, O>(
+        let answered = answer_piece::<A, S, K, O>(
             &mut framer,
             &buffer[..length],
             &mut command,
             station,
+            state,
             out,
-            sent,
             &mut count,
-        )?;
+        );
+        A::hand_on(state, out)?;
+        answered?;
     }
-    Err(StreamError::TurnsSpent)
-}
-
-/// The error of serving.
-pub(crate) fn serve_error(error: StreamError) -> ServeError
-    ensures { result ≡ serve_error error }
-{
-    match error {
-        StreamError::Read => ServeError::Read,
-        StreamError::BadLength(length) => ServeError::BadLength(length),
-        StreamError::Truncated => ServeError::Truncated,
-        StreamError::NoBuffer => ServeError::Memory,
-        StreamError::TurnsSpent => ServeError::TurnsSpent,
-        StreamError::Stopped(Stop::Write) => ServeError::Write,
-        StreamError::Stopped(Stop::Memory) => ServeError::Memory,
-        StreamError::Stopped(Stop::JournalFull) => ServeError::JournalFull,
-    }
+    Err(ServeError::TurnsSpent)
 }

@@ -1,23 +1,20 @@
 //! A station behind a stream: commands in frames from a reader, answers in frames to a writer.
 ghost use Rattle.std.specs.Prelude.{◌≡◌, ◌≢◌, ◌<◌, ◌≤◌, ◌+◌, ◌*◌, ◌^◌, [], ◌∷◌, ◌++◌, ◌⊎◌, OnOk, IfErr, length};
-ghost use Rattle.xcp_framing.specs.Frames.{frames, rest};
 ghost use Rattle.xcp_framing.specs.private.FrameOutput.{output};
 ghost use Rattle.xcp_framing.specs.Serve.{AnswersSoFar, EndsReader, Serves, most_drains, number_of};
 ghost use Rattle.xcp_framing.specs.private.Serve.{most_packets};
 ghost use Rattle.xcp_framing.specs.ServeRefusal.{AsksNext, DrainsNext, OnRefusal, ReadsNext, Refused};
 ghost use Rattle.xcp_framing.specs.ServeParts.{IsInterruption};
-ghost use Rattle.xcp_framing.specs.private.ServeParts.{Grows, DrainsSoFar, EndsPiece};
+ghost use Rattle.xcp_framing.specs.private.ServeParts.{Grows, DrainsSoFar};
 
 use crate::frame_writer::FrameWriter;
-use crate::lent::Lent;
-use crate::{Brought, Framer, Station, StationError, Watched};
+use crate::lent::{Lent, LentCommand};
+use crate::passage::{Answerer, READ_SIZE, answer_stream};
+use crate::{Station, StationError, Watched};
 use std::alloc::Global;
 use std::io::{Read, Write};
 use thiserror::Error;
 use xcp_slave::Told;
-
-/// The most bytes that one read takes.
-const READ_SIZE: usize = 512;
 
 /// The most Drains behind a command.
 const DRAINS: u8 = 64;
@@ -120,13 +117,14 @@ fn drain<W: Write, S: Station>(
 
 /// Submits the command that is lent, sends the packet of the answer, and drains the station.
 fn exchange<W: Write, S: Station>(
+    command: &LentCommand,
     station: &mut S,
     writer: &mut Watched<W>,
     sender: &mut FrameWriter,
     lent: &mut Lent,
 ) -> Result<(), ServeError>
     requires { sender.old.sent + most_packets < 2 ^ 64 }
-    ensures answers { Grows result (AnswersSoFar result (lent.old.command.items ∷ []))
+    ensures answers { Grows result (AnswersSoFar result (command.now.items ∷ []))
         (S.exchanges station.old) (S.exchanges station.new)
         (output (W.contents writer.old.inner) sender.old)
         (output (W.contents writer.new.inner) sender.new)
@@ -137,59 +135,51 @@ fn exchange<W: Write, S: Station>(
     ensures write { result ≡ Err ServeError.Write → writer.old.failures < writer.new.failures }
     ensures dropped { result ≡ Err ServeError.Write → sender.new.held ≡ [] }
     ensures refused { OnRefusal result (λ e.
-        Refused S.exchanges S.refuses e (AsksNext (lent.old.command.items ∷ []))
+        Refused S.exchanges S.refuses e (AsksNext (command.now.items ∷ []))
         (S.exchanges station.old) station.new) }
 {
-    if let Told::Packet = station.submit_into(lent.command.request(), &mut lent.packet)? {
+    if let Told::Packet = station.submit_into(command.request(), &mut lent.packet)? {
         sender.send(writer, &lent.packet)?;
     }
     drain(station, writer, sender, lent)
 }
 
-/// Answers the packets that are whole with the bytes of one read. Their frames may still be held.
-fn consume<W: Write, S: Station>(
-    framer: &mut Framer,
-    piece: &[u8],
-    station: &mut S,
-    writer: &mut Watched<W>,
-    sender: &mut FrameWriter,
-    received: &mut u64,
-    lent: &mut Lent,
-) -> Result<(), ServeError>
-    requires sent { sender.old.sent + most_packets * length piece.now < 2 ^ 64 }
-    requires received { received.old + length piece.now < 2 ^ 64 }
-    ensures answers { Grows result
-        (AnswersSoFar result (frames framer.old.max_cto (framer.old.held ++ piece.now)))
-        (S.exchanges station.old) (S.exchanges station.new)
-        (output (W.contents writer.old.inner) sender.old)
-        (output (W.contents writer.new.inner) sender.new)
-        sender.old.sent sender.new.sent }
-    ensures ends { EndsPiece framer.old.max_cto result framer.new.held
-        (rest framer.old.max_cto (framer.old.held ++ piece.now)) }
-    ensures received { OnOk result (received.new
-        ≡ received.old + length (frames framer.old.max_cto (framer.old.held ++ piece.now))) }
-    ensures bound { OnOk result (sender.new.sent ≤ sender.old.sent + most_packets * length piece.now) }
-    ensures few { OnOk result (received.new ≤ received.old + length piece.now) }
-    ensures quiet { result ≢ Err ServeError.Write → writer.new.failures ≡ writer.old.failures }
-    ensures write { result ≡ Err ServeError.Write → writer.old.failures < writer.new.failures }
-    ensures dropped { result ≡ Err ServeError.Write → sender.new.held ≡ [] }
-    ensures kept { framer.new.max_cto ≡ framer.old.max_cto }
-    ensures refused { OnRefusal result (λ e. Refused S.exchanges S.refuses e
-        (AsksNext (frames framer.old.max_cto (framer.old.held ++ piece.now)))
-        (S.exchanges station.old) station.new) }
-{
-    let mut used = 0;
-    loop {
-        let cut = lent.command.cut(framer, &piece[used..]);
-        used += cut.used;
-        match cut.brought {
-            Brought::More => return Ok(()),
-            Brought::BadLength(length) => return Err(ServeError::BadLength(length)),
-            Brought::Packet => {
-                *received += 1;
-                exchange(station, writer, sender, lent)?;
-            }
-        }
+/// What is kept from packet to packet where the answers go into frames.
+#[derive(Drop)]
+struct Sending {
+    frames: FrameWriter,
+    lent: Lent,
+}
+
+/// A packet is answered by its command and the Drains behind it, in frames that are gathered.
+struct InFrames;
+
+impl<S: Station, W: Write> Answerer<S, Sending, Watched<W>> for InFrames {
+    ghost use Rattle.xcp_framing.specs.private.FramesAnswered.{AnswersInFrames, HandsFramesOn};
+
+    ghost sent_of = { λ k. k.frames.sent };
+
+    ghost rests = { λ k. k.frames.held ≡ [] };
+
+    ghost answers = { AnswersInFrames S.exchanges S.refuses (λ k. k.frames) (λ o. W.contents o.inner) (λ o. o.failures) };
+
+    ghost hands = { HandsFramesOn (λ k. k.frames) (λ o. W.contents o.inner) (λ o. o.failures) };
+
+    fn answer(
+        command: &LentCommand,
+        station: &mut S,
+        state: &mut Sending,
+        writer: &mut Watched<W>,
+    ) -> Result<(), ServeError> {
+        exchange(command, station, writer, &mut state.frames, &mut state.lent)
+    }
+
+    fn hand_on(state: &mut Sending, writer: &mut Watched<W>) -> Result<(), ServeError> {
+        state.frames.flush(writer)
+    }
+
+    fn sent(state: &Sending) -> u64 {
+        state.frames.sent()
     }
 }
 
@@ -240,37 +230,20 @@ pub fn serve<R: Read, W: Write, S: Station>(
     let Ok(mut buffer) = vec![in alloc; 0; READ_SIZE] else {
         return Err(ServeError::Memory);
     };
-    let Ok(mut sender) = FrameWriter::new(alloc) else {
+    let Ok(frames) = FrameWriter::new(alloc) else {
         return Err(ServeError::Memory);
     };
-    let mut framer = Framer::new(max_cto);
-    let mut received = 0;
-    let mut lent = Lent::new();
-    for _turn in 0..turns {
-        let Ok(count) = reader.read(&mut buffer) else {
-            return Err(ServeError::Read);
-        };
-        if count == 0 {
-            if framer.inside() {
-                return Err(ServeError::Truncated);
-            }
-            return Ok(Served {
-                frames: received,
-                sent: sender.sent(),
-            });
-        }
-        let piece = &buffer[..count];
-        let consumed = consume(
-            &mut framer,
-            piece,
-            station,
-            writer,
-            &mut sender,
-            &mut received,
-            &mut lent,
-        );
-        sender.flush(writer)?;
-        consumed?;
-    }
-    Err(ServeError::TurnsSpent)
+    let mut state = Sending {
+        frames,
+        lent: Lent::new(),
+    };
+    answer_stream::<InFrames, S, Sending, Watched<W>, R>(
+        reader,
+        &mut buffer,
+        station,
+        &mut state,
+        writer,
+        max_cto,
+        turns,
+    )
 }

@@ -3,45 +3,58 @@ ghost use Rattle.std.specs.Prelude.{◌≡◌, ◌≢◌, ◌<◌, ◌≤◌, �
 ghost use Rattle.xcp_framing.specs.Serve.{EndsReader};
 ghost use Rattle.xcp_framing.specs.ServeRefusal.{OnRefusal, Refused};
 ghost use Rattle.xcp_framing.specs.ServeBy.{CommandNext, ServesBy};
-ghost use Rattle.xcp_framing.specs.private.PacketChain.{serve_error};
 
 use crate::lent::LentCommand;
-use crate::passage::{Answerer, Stop, answer_stream, serve_error};
+use crate::passage::{Answerer, READ_SIZE, answer_stream};
 use crate::{End, ServeError, Served, Station, StationError, Watched};
 use std::alloc::Global;
 use std::io::Read;
 use xcp_packet::Packet;
 use xcp_slave::Told;
 
+/// How many packets were put at an end.
+#[derive(Drop)]
+struct Putting {
+    sent: u64,
+}
+
 /// A packet is answered by its command alone, and the packet of the answer is put.
 struct ByCommand;
 
-impl<S: Station, E: End> Answerer<S, E> for ByCommand {
-    ghost use Rattle.xcp_framing.specs.private.ServeBy.{Exchanged, EndsAt};
+impl<S: Station, E: End> Answerer<S, Putting, E> for ByCommand {
+    ghost use Rattle.std.specs.Prelude.{⊤};
+    ghost use Rattle.xcp_framing.specs.private.ServeBy.{AnswersByPut, HandsNothingOn};
 
-    ghost answers = { Exchanged S.exchanges E.put_so_far E.same };
+    ghost sent_of = { λ k. k.sent };
 
-    ghost ends = { EndsAt S.exchanges S.refuses E.put_so_far E.same };
+    ghost rests = { λ k. ⊤ };
+
+    ghost answers = { AnswersByPut S.exchanges S.refuses E.put_so_far E.same (λ k. k.sent) };
+
+    ghost hands = { HandsNothingOn };
 
     fn answer(
         command: &LentCommand,
         station: &mut S,
+        state: &mut Putting,
         end: &mut E,
-        sent: &mut u64,
-    ) -> Result<(), Stop> {
+    ) -> Result<(), ServeError> {
         let mut reply = Packet::new();
-        match station.submit_into(command.request(), &mut reply) {
-            Ok(Told::Packet) => {
-                if end.put(reply).is_err() {
-                    return Err(Stop::Write);
-                }
-                *sent += 1;
-                Ok(())
-            }
-            Ok(_) => Ok(()),
-            Err(StationError::Memory) => Err(Stop::Memory),
-            Err(StationError::JournalFull) => Err(Stop::JournalFull),
+        if let Told::Packet = station.submit_into(command.request(), &mut reply)? {
+            let Ok(()) = end.put(reply) else {
+                return Err(ServeError::Write);
+            };
+            state.sent += 1;
         }
+        Ok(())
+    }
+
+    fn hand_on(_state: &mut Putting, _end: &mut E) -> Result<(), ServeError> {
+        Ok(())
+    }
+
+    fn sent(state: &Putting) -> u64 {
+        state.sent
     }
 }
 
@@ -75,11 +88,17 @@ pub fn serve_by<R: Read, S: Station, E: End>(
         (CommandNext max_cto (R.remaining reader.old.inner) (R.remaining reader.new.inner))
         (S.exchanges station.old) station.new) }
 {
-    let mut sent = 0;
-    match answer_stream::<ByCommand, S, E, R>(
-        alloc, reader, station, end, &mut sent, max_cto, turns,
-    ) {
-        Ok(frames) => Ok(Served { frames, sent }),
-        Err(error) => Err(serve_error(error)),
-    }
+    let Ok(mut buffer) = vec![in alloc; 0; READ_SIZE] else {
+        return Err(ServeError::Memory);
+    };
+    let mut state = Putting { sent: 0 };
+    answer_stream::<ByCommand, S, Putting, E, R>(
+        reader,
+        &mut buffer,
+        station,
+        &mut state,
+        end,
+        max_cto,
+        turns,
+    )
 }

@@ -1,40 +1,36 @@
--- What answering one packet through a station and an end does.
-use Rattle.std.specs.Prelude.{◌≡◌, ◌≢◌, ◌+◌, ℕ, List, [], ◌∷◌, ◌++◌, length}
+-- Packets that are answered by their commands alone, where the packets of the answers are put.
+use Rattle.std.specs.Prelude.{◌≡◌, ◌+◌, ℕ, List, ◌∷◌, ◌++◌, length, OnOk, IfErr, Result}
 use Rattle.xcp_slave.specs.declared.Exchange.{Exchange}
 use Rattle.xcp_slave.specs.declared.Request.{Request}
+use Rattle.xcp_slave.specs.Run.{requests_of}
 use Rattle.xcp_framing.specs.declared.station.StationError.{StationError}
-use Rattle.xcp_framing.specs.declared.station.StationError.TheVariants as refusals
-use Rattle.xcp_framing.specs.declared.passage.Stop.{Stop}
-use Rattle.xcp_framing.specs.declared.passage.Stop.TheVariants as stops
-use Rattle.xcp_framing.specs.Serve.{packet_of}
-use Rattle.xcp_framing.specs.private.PacketChain.{Stand}
-use Rattle.xcp_framing.specs.ServeBy.{command}
+use Rattle.xcp_framing.specs.declared.serving.ServeError.{ServeError}
+use Rattle.xcp_framing.specs.Serve.{packets_of}
+use Rattle.xcp_framing.specs.ServeBy.{command, commands, PutsSoFar}
+use Rattle.xcp_framing.specs.ServeRefusal.{OnRefusal, Refused}
+use Rattle.xcp_framing.specs.private.AnsweredStream.{Stand}
 
--- A packet was answered: its command was exchanged, and the packet of the answer, if it is one, was put.
-pub record Exchanged {S O : Type 0} (exchanges_of : S → List Exchange) (put_of : O → List (List ℕ)) (same_out : O → O → Type 0) (old new : Stand S O) (packet : List ℕ) : Type 0 where
-  pub exchange : Exchange
-  pub asked : exchange.request ≡ command packet
-  pub grown : exchanges_of new.station ≡ exchanges_of old.station ++ exchange ∷ []
-  pub put : put_of new.out ≡ put_of old.out ++ packet_of exchange.answer
+-- The request that comes next behind these exchanges: the command of the packet behind those that were answered.
+pub record NextCommand (packets : List (List ℕ)) (exchanges : List Exchange) (request : Request) : Type 0 where
+  pub done : List (List ℕ)
+  pub packet : List ℕ
+  pub later : List (List ℕ)
+  pub packets_are : packets ≡ done ++ packet ∷ later
+  pub asked : requests_of exchanges ≡ commands done
+  pub next : request ≡ command packet
+
+-- Packets were answered, up to the interruption that ended it: by which exchanges, whose packets were put at the same end; how
+-- many those are; and the request that the station refused, if it did.
+pub record AnswersByPut {S K O : Type 0} (exchanges_of : S → List Exchange) (refuses : S → Request → StationError → Type 0) (put_of : O → List (List ℕ)) (same_out : O → O → Type 0) (sent_of : K → ℕ) (result : Result (Unit {0}) ServeError) (packets : List (List ℕ)) (old new : Stand S K O) : Type 0 where
+  pub exchanges : List Exchange
+  pub grown : exchanges_of new.station ≡ exchanges_of old.station ++ exchanges
+  pub puts : PutsSoFar result packets exchanges (put_of old.out) (put_of new.out)
   pub kept : same_out old.out new.out
-  pub counted : new.sent ≡ old.sent + length (packet_of exchange.answer)
+  pub counted : OnOk result (sent_of new.state ≡ sent_of old.state + length (packets_of exchanges))
+  pub refused : OnRefusal result (λ e. Refused exchanges_of refuses e (NextCommand packets) (exchanges_of old.station) new.station)
 
--- the packet of the answer was handed back
-pub record HandedBack {S O : Type 0} (exchanges_of : S → List Exchange) (put_of : O → List (List ℕ)) (same_out : O → O → Type 0) (old new : Stand S O) (packet : List ℕ) : Type 0 where
-  pub exchange : Exchange
-  pub asked : exchange.request ≡ command packet
-  pub grown : exchanges_of new.station ≡ exchanges_of old.station ++ exchange ∷ []
-  pub gave : packet_of exchange.answer ≢ []
-  pub kept : same_out old.out new.out
-  pub put : put_of new.out ≡ put_of old.out
-
--- the station refused the command
-pub record Declined {S O : Type 0} (exchanges_of : S → List Exchange) (refuses : S → Request → StationError → Type 0) (error : StationError) (old new : Stand S O) (packet : List ℕ) : Type 0 where
-  pub same : new.station ≡ old.station
-  pub out : new.out ≡ old.out
-  pub may : refuses new.station (command packet) error
-
-abbrev pub EndsAt : {S O : Type 0} → (S → List Exchange) → (S → Request → StationError → Type 0) → (O → List (List ℕ)) → (O → O → Type 0) → Stand S O → Stand S O → List ℕ → Stop → Type 0
-EndsAt exchanges_of refuses put_of same_out old new packet stops.Write = HandedBack exchanges_of put_of same_out old new packet
-EndsAt exchanges_of refuses put_of same_out old new packet stops.Memory = Declined exchanges_of refuses refusals.Memory old new packet
-EndsAt exchanges_of refuses put_of same_out old new packet stops.JournalFull = Declined exchanges_of refuses refusals.JournalFull old new packet
+-- nothing is held back, so nothing is handed on
+pub record HandsNothingOn {K O : Type 0} (result : Result (Unit {0}) ServeError) (state : K) (out : O) (state' : K) (out' : O) : Type 0 where
+  pub state_kept : state' ≡ state
+  pub out_kept : out' ≡ out
+  pub fine : IfErr result (λ e. ⊥)

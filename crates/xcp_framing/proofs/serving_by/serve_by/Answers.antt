@@ -1,18 +1,18 @@
-use Rattle.std.proofs.Common.{Err, ap, refl}
-use Rattle.xcp_framing.proofs.PutPacketLemmas.{by_ok, by_err, ok_kept, err_kept, refused_by}
+use Rattle.std.proofs.Common.{refl}
+use Rattle.xcp_framing.proofs.PutPacketLemmas.{puts_behind, puts_before, by_memory, by_of, refused_by}
 use Rattle.xcp_framing.proofs.serving_by.serve_by.Goals as goal
 
-pub returns-in-Ok-clause-serves : goal.returns-in-Ok-clause-serves
-returns-in-Ok-clause-serves g c = by_ok g.S.Station.exchanges g.S.Station.refuses g.E.End.put_so_far g.E.End.same _ _ _ _ _ _ refl c.in-Ok.ensures.streams
+pub answer_stream-requires-clause-more : goal.answer_stream-requires-clause-more
+answer_stream-requires-clause-more g c = puts_behind _ _ _ _ g.met.E.End.same_trans _
 
-pub returns-in-Err-clause-serves : goal.returns-in-Err-clause-serves
-returns-in-Err-clause-serves g c = rw (c.serve_error.ensures) (by_err g.S.Station.exchanges g.S.Station.refuses g.E.End.put_so_far g.E.End.same _ _ _ _ _ _ c.in-Err.ensures.streams)
+pub answer_stream-requires-clause-before : goal.answer_stream-requires-clause-before
+answer_stream-requires-clause-before g c = puts_before _ _ _ _ _
 
-pub returns-in-Err-clause-refused : goal.returns-in-Err-clause-refused
-returns-in-Err-clause-refused g c = rw (c.serve_error.ensures) (refused_by g.S.Station.exchanges g.S.Station.refuses g.E.End.put_so_far g.E.End.same _ _ _ _ _ _ c.in-Err.ensures.streams (λ e. c.in-Err.ensures.no_buffer (ap Err e)))
+pub returns-in_default-clause-serves : goal.returns-in_default-clause-serves
+returns-in_default-clause-serves g c = by_memory _ _ _ _
 
-pub returns-in-Ok-clause-kept : goal.returns-in-Ok-clause-kept
-returns-in-Ok-clause-kept g c = ok_kept g.S.Station.exchanges g.S.Station.refuses g.E.End.put_so_far g.E.End.same g.met.E.End.same_refl g.met.E.End.same_trans _ _ _ _ _ _ c.in-Ok.ensures.streams
+pub returns-clause-serves : goal.returns-clause-serves
+returns-clause-serves g c = by_of _ _ _ _ _ _ _ _ _ _ _ c.answer_stream.ensures.streams refl c.answer_stream.ensures.sent
 
-pub returns-in-Err-clause-kept : goal.returns-in-Err-clause-kept
-returns-in-Err-clause-kept g c = err_kept g.S.Station.exchanges g.S.Station.refuses g.E.End.put_so_far g.E.End.same g.met.E.End.same_refl g.met.E.End.same_trans _ _ _ _ _ _ c.in-Err.ensures.streams
+pub returns-clause-refused : goal.returns-clause-refused
+returns-clause-refused g c = refused_by _ _ _ _ _ _ _ _ _ _ _ _ c.answer_stream.ensures.streams
