@@ -17,6 +17,10 @@ struct Crossing {
 }
 
 impl Gate for Crossing {
+    ghost use Rattle.std.specs.Prelude.{⊤};
+
+    ghost may_end = { ⊤ };
+
     fn before(&self, _task: u8, _cycle: u32) -> bool {
         seen(&self.read)
     }

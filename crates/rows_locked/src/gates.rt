@@ -35,6 +35,10 @@ struct Held {
 }
 
 impl Gate for Held {
+    ghost use Rattle.std.specs.Prelude.{⊤};
+
+    ghost may_end = { ⊤ };
+
     fn before(&self, task: u8, _cycle: u32) -> bool {
         task != self.held || seen(&self.done)
     }
@@ -95,6 +99,10 @@ struct Spent {
 }
 
 impl Gate for Spent {
+    ghost use Rattle.std.specs.Prelude.{⊤};
+
+    ghost may_end = { ⊤ };
+
     fn before(&self, task: u8, cycle: u32) -> bool {
         !self.is_before || task != self.task || cycle != self.cycle
     }

@@ -84,6 +84,10 @@ struct Writing<'r, 'l, N: Name, R: Wait> {
 }
 
 impl<'r, 'l, N: Name, R: Wait> Gate for Writing<'r, 'l, N, R> {
+    ghost use Rattle.std.specs.Prelude.{⊤};
+
+    ghost may_end = { ⊤ };
+
     fn before(&self, task: u8, cycle: u32) -> bool {
         if task != 0 {
             return true;

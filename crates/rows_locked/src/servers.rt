@@ -35,6 +35,10 @@ pub type Came = (
 pub struct Open;
 
 impl Gate for Open {
+    ghost use Rattle.std.specs.Prelude.{⊤};
+
+    ghost may_end = { ⊤ };
+
     fn before(&self, _task: u8, _cycle: u32) -> bool {
         true
     }

@@ -7,8 +7,10 @@ use std::test::Fail;
 use std::thread::Threads;
 use std::time::{Clock, Duration, Instant};
 use xcp_framing::Watched;
+use xcp_locked::Entry;
 use xcp_program::Fault;
-use xcp_server::{Report, serve_ends};
+use xcp_server::{Ending, Report, serve_ends};
+use xcp_slave::Request;
 
 // What a tool sends; how many tasks run beside it, and how many cycles; the calls and the fault that
 // are told.
@@ -22,6 +24,24 @@ const TOO_LONG: &[u8] = &[2, 0, 0, 0, 0xff, 0, 0x21, 0];
 // CONNECT, and half a frame.
 const HALF: &[u8] = &[2, 0, 0, 0, 0xff, 0, 2, 0, 0];
 
+fn ended<R: Threads + Wait + Clock + Sync>(
+    rt: &R,
+    alloc: Global,
+    sent: &'static [u8],
+    tasks: u8,
+    cycles: u32,
+    period: u32,
+) -> Result<Ending<&'static [u8], Vec<u8>>, Fail> {
+    let tasks = tasks.min(6);
+    let unnamed = small(alloc, 2 + tasks).ok_or("a slave")?;
+    let writer: Vec<u8> = Vec::new(alloc);
+    let ends = Vec::from_array(alloc, [(Watched::new(sent), Watched::new(writer))])?;
+    let ending = serve_ends(rt, alloc, unnamed, ends, tasks, cycles, period)
+        .ok()
+        .ok_or("an end")?;
+    Ok(ending)
+}
+
 fn served<R: Threads + Wait + Clock + Sync>(
     rt: &R,
     alloc: Global,
@@ -30,13 +50,7 @@ fn served<R: Threads + Wait + Clock + Sync>(
     cycles: u32,
     period: u32,
 ) -> Result<Report, Fail> {
-    let tasks = tasks.min(6);
-    let unnamed = small(alloc, 2 + tasks).ok_or("a slave")?;
-    let writer: Vec<u8> = Vec::new(alloc);
-    let ends = Vec::from_array(alloc, [(Watched::new(sent), Watched::new(writer))])?;
-    let ending = serve_ends(rt, alloc, unnamed, ends, tasks, cycles, period)
-        .ok()
-        .ok_or("an end")?;
+    let ending = ended(rt, alloc, sent, tasks, cycles, period)?;
     Ok(ending.told.ok().ok_or("a report")?)
 }
 
@@ -53,6 +67,24 @@ fn a_server_tells_its_calls(rt: HostRuntime) -> Result<(), Fail> {
         let found = served(&rt, rt.alloc(), sent, tasks, cycles, 0)?;
         assert_eq!(rt; found, Report { calls, fault });
     }
+    Ok(())
+}
+
+fn is_connect(entry: &Entry) -> bool {
+    match &entry.exchange.request {
+        Request::Command(packet) => packet.as_slice() == [0xff, 0].as_slice(),
+        _ => false,
+    }
+}
+
+// The tool's CONNECT, and the last Hangup, which the first caller submits too.
+#[test]
+fn a_journal_is_given_back(rt: HostRuntime) -> Result<(), Fail> {
+    let journal = ended(&rt, rt.alloc(), CONNECT, 0, 1, 0)?.journal;
+    let first = journal.get(0).ok_or("a first call")?;
+    let last = journal.get(1).ok_or("a last call")?;
+    assert!(rt; is_connect(&first) && last.exchange.request == Request::Hangup);
+    assert_eq!(rt; (journal.len(), first.caller, last.caller), (2, 0, 0));
     Ok(())
 }
 

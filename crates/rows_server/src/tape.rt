@@ -172,6 +172,10 @@ pub struct Behind<'a> {
 }
 
 impl Gate for Behind<'_> {
+    ghost use Rattle.std.specs.Prelude.{⊤};
+
+    ghost may_end = { ⊤ };
+
     fn before(&self, _task: u8, _cycle: u32) -> bool {
         is_set(self.begins) && self.tape.reaches(self.bytes)
     }

@@ -22,6 +22,10 @@ impl Read for Trickle<'_> {
 pub struct Yielding;
 
 impl Gate for Yielding {
+    ghost use Rattle.std.specs.Prelude.{⊤};
+
+    ghost may_end = { ⊤ };
+
     fn before(&self, _task: u8, _cycle: u32) -> bool {
         thread::yield_now();
         true

@@ -166,10 +166,10 @@ module _ {N G I O C : Type 0} (m turns pumps cycles tasks : ℕ) (opened : List 
       (each_through (PartedAs remaining contents) ClosedAs (Came remaining contents) (λ i c p k x y. (p, x, y)) 0 d.connections.items parted closed came put)
 
   -- each task was done for the worker of its place
-  pub all_worked : (done : List (Done N)) → EachFrom DoneAs 0 d.tasks.items done → EachFrom (WorkedAs cycles) 0 deal.workers done
-  all_worked done =
-      each_through (IsTaskOf cycles) DoneAs (WorkedAs cycles)
-      (λ i w t k is h. worked_as cycles t.cycles i t.task w t.worker k.worker k.fault is.number is.cycles_are is.worker h) 0 deal.workers d.tasks.items done deal.numbered
+  pub all_worked : (may_end : Type 0) (done : List (Done N)) → EachFrom (DoneAs may_end) 0 d.tasks.items done → EachFrom (WorkedAs may_end cycles) 0 deal.workers done
+  all_worked may_end done =
+      each_through (IsTaskOf cycles) (DoneAs may_end) (WorkedAs may_end cycles)
+      (λ i w t k is h. worked_as may_end cycles t.cycles i t.task w t.worker k.worker k.fault is.number is.cycles_are is.worker h) 0 deal.workers d.tasks.items done deal.numbered
 
   -- as many callers come back as were dealt out
   pub all_there : (closed : List (Closed N I O)) (done : List (Done N)) → length closed ≡ length d.connections.items → length done ≡ length d.tasks.items

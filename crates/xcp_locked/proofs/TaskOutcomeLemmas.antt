@@ -2,10 +2,11 @@
 use Rattle.std.proofs.Common.{◌≡◌, ℕ, List, [], ◌∷◌, ◌++◌, refl, ap, ◌∙◌, subst}
 use Rattle.std.specs.Prelude.{Option, Some, None, is_none, true}
 use Rattle.xcp_locked.specs.declared.tasks.TaskError.{TaskError}
+use Rattle.xcp_locked.specs.declared.tasks.TaskError.TheVariants as faults
 use Rattle.xcp_locked.specs.declared.tasks.Done.{Done}
 use Rattle.xcp_locked.specs.declared.worker.Worker.{Worker}
 use Rattle.xcp_locked.specs.TaskOutcome.{first_fault, or_else}
-use Rattle.xcp_locked.specs.Tasks.{Worked}
+use Rattle.xcp_locked.specs.Tasks.{IsOwn, Worked}
 
 or_else_assoc : (a b c : Option TaskError) → or_else a (or_else b c) ≡ or_else (or_else a b) c
 or_else_assoc None b c = refl
@@ -21,9 +22,15 @@ first_fault-more [] d = or_else_none d.fault
 first_fault-more (x ∷ done) d = ap (λ z. or_else x.fault z) (first_fault-more done d) ∙ or_else_assoc x.fault (first_fault done) d.fault
 
 -- what a task did, said of its worker
-pub worked_as : {N : Type 0} (cycles cycles' task task' : ℕ) (w w' new : Worker N) (fault : Option TaskError) → task' ≡ task → cycles' ≡ cycles → w' ≡ w → Worked cycles' task' w' new fault → Worked cycles task w new fault
-worked_as {N} cycles cycles' task task' w w' new fault t n e h =
-    subst (λ (x : Worker N). Worked cycles task x new fault) e (subst (λ (k : ℕ). Worked k task w' new fault) n (subst (λ (k : ℕ). Worked cycles' k w' new fault) t h))
+pub worked_as : {N : Type 0} (may_end : Type 0) (cycles cycles' task task' : ℕ) (w w' new : Worker N) (fault : Option TaskError) → task' ≡ task → cycles' ≡ cycles → w' ≡ w → Worked may_end cycles' task' w' new fault → Worked may_end cycles task w new fault
+worked_as {N} may_end cycles cycles' task task' w w' new fault t n e h =
+    subst (λ (x : Worker N). Worked may_end cycles task x new fault) e (subst (λ (k : ℕ). Worked may_end k task w' new fault) n (subst (λ (k : ℕ). Worked may_end cycles' k w' new fault) t h))
+
+-- a fault that no gate gave is the task's own, whatever its gate may do
+pub own_anyway : (may_end : Type 0) (task : ℕ) (f : TaskError) → IsOwn ⊥ task f → IsOwn may_end task f
+own_anyway may_end task faults.Memory h = tt
+own_anyway may_end task faults.JournalFull h = tt
+own_anyway may_end task (faults.GateSpent of) h = absurd h.1
 
 -- a fault that is there stays the first
 pub or_else_stays : (a b : Option TaskError) → ¬ (a ≡ None) → or_else a b ≡ a

@@ -75,8 +75,8 @@ module _ {I O : Type 0} (remaining : I → Option (List ℕ)) (contents : O → 
 
   -- A server's work, for the callers that were opened: the first of them served the connections, the next did the tasks' work,
   -- the next the connections' pumps, and all come back in order, the first one after a last Hangup. The readers that were opened
-  -- come back too: the first of them as the tasks left them.
-  pub record Closes {N : Type 0} (m turns cycles tasks : ℕ) (opened : List CallerValue) (readers : List ReaderEnd) (ends : List (Watched I × Watched O)) (r : Closing N I O) : Type 0 where
+  -- come back too: the first of them as the tasks left them. `may_end` says that the gate may end a task.
+  pub record Closes {N : Type 0} (may_end : Type 0) (m turns cycles tasks : ℕ) (opened : List CallerValue) (readers : List ReaderEnd) (ends : List (Watched I × Watched O)) (r : Closing N I O) : Type 0 where
     -- the callers
     pub tools : List CallerValue
     pub connected : length tools ≡ length ends
@@ -93,7 +93,7 @@ module _ {I O : Type 0} (remaining : I → Option (List ℕ)) (contents : O → 
     pub left_is : r.left.items ≡ map (λ d. d.left) closed
     -- the tasks
     pub done : List (Done N)
-    pub worked : EachFrom (WorkedAs cycles) 0 workers done
+    pub worked : EachFrom (WorkedAs may_end cycles) 0 workers done
     pub hung_up : HungUp (first_fault done) r.fault (map (λ d. d.tool) closed ++ map (λ d. d.worker.caller) done ++ map (λ d. d.pump) closed ++ spare) r.callers.items r.locked.journal
     -- the readers
     pub unused : List ReaderEnd

@@ -59,16 +59,16 @@ abbrev pub refused_with : LockedError → TaskError
 refused_with refusals.Memory = faults.Memory
 refused_with refusals.JournalFull = faults.JournalFull
 
--- a gate's end names its own task
-abbrev pub IsOwn : ℕ → TaskError → Type 0
-IsOwn task faults.Memory = ⊤
-IsOwn task faults.JournalFull = ⊤
-IsOwn task (faults.GateSpent of) = of ≡ task
+-- a gate's end names its own task, and comes only of a gate that may end one
+abbrev pub IsOwn : Type 0 → ℕ → TaskError → Type 0
+IsOwn may_end task faults.Memory = ⊤
+IsOwn may_end task faults.JournalFull = ⊤
+IsOwn may_end task (faults.GateSpent of) = (of ≡ task) × may_end
 
 -- what a task of so many cycles did: its caller's receipts grew by its plan, where it has a fault by a beginning of it, and
 -- without a fault its reader looked for an image in each cycle
-pub record Worked {N : Type 0} (cycles task : ℕ) (old new : Worker N) (fault : Option TaskError) : Type 0 where
+pub record Worked {N : Type 0} (may_end : Type 0) (cycles task : ℕ) (old new : Worker N) (fault : Option TaskError) : Type 0 where
   pub grew : Grew (duty old.caller task) cycles (is_none fault) old.caller.receipts new.caller.receipts
   pub same : Same old.caller new.caller
   pub took : Took cycles (is_none fault) old.reader new.reader old.last new.last
-  pub own : IfSome fault (IsOwn task)
+  pub own : IfSome fault (IsOwn may_end task)

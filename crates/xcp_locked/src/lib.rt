@@ -57,4 +57,4 @@ pub use telling::Settled;
 pub use tool::Tool;
 pub use worker::Worker;
 pub use xcp_bank::Taken;
-pub use xcp_trace::Entry;
+pub use xcp_trace::{Entry, Journal};

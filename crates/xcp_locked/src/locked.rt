@@ -173,6 +173,14 @@ impl<N: Name> Locked<N> {
         self.len()
     }
 
+    /// The journal, where no more is executed.
+    pub fn into_journal(self) -> Journal
+        ensures { result.entries ≡ self.journal }
+    {
+        let Locked { journal, .. } = self;
+        journal
+    }
+
     /// Does nothing: its contract says that the journal is a run from the opening of the layout that
     /// was named, and that what is published are the images of this run, which the type keeps.
     pub fn audit(&self)

@@ -54,7 +54,7 @@ pub fn run_server<
     requires some { 0 < vec_len ends }
     requires callers { vec_len ends + tasks + vec_len ends ≤ unnamed.callers }
     requires readers { tasks ≤ 6 }
-    ensures closes { IfOk result (λ r. Closes I.remaining O.contents
+    ensures closes { IfOk result (λ r. Closes I.remaining O.contents G.may_end
         unnamed.layout.max_cto turns cycles tasks
         (callers_of unnamed.layout unnamed.callers)
         (six_readers unnamed.bank (image_of (opening unnamed.layout))) ends.items r) }
@@ -131,7 +131,7 @@ fn run_all<
 ) -> Results<N, I, O>
     ensures parted { IfOk result (λ r.
         EachFrom (PartedAs I.remaining O.contents) 0 connections.entry.items r.0.items) }
-    ensures worked { IfOk result (λ r. EachFrom DoneAs 0 tasks.entry.items r.1.items) }
+    ensures worked { IfOk result (λ r. EachFrom (DoneAs G.may_end) 0 tasks.entry.items r.1.items) }
 {
     run_crews(rt, alloc, connections, tasks)
 }

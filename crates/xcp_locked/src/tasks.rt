@@ -91,7 +91,7 @@ pub struct Ran<N: Name> {
 impl<'a, N: Name + Send + Sync, G: Gate + Sync> Work<Done<N>> for Task<'a, N, G> {
     ghost use Rattle.xcp_locked.specs.Tasks.{Worked};
 
-    ghost gives = { λ t d. Worked t.cycles t.task t.worker d.worker d.fault };
+    ghost gives = { λ t d. Worked G.may_end t.cycles t.task t.worker d.worker d.fault };
 
     fn run<R: Wait>(self, rt: &R) -> Done<N> {
         let Task {
@@ -127,7 +127,7 @@ fn run_cycles<N: Name, G: Gate>(
     ensures same { Same worker.old.caller worker.new.caller }
     ensures took { Took cycles (is_none result) worker.old.reader worker.new.reader
         worker.old.last worker.new.last }
-    ensures own { IfSome result (IsOwn task) }
+    ensures own { IfSome result (IsOwn G.may_end task) }
 {
     for n in 0..cycles {
         if let Some(fault) = cycle(rt, lock, task, worker, n, gate) {
@@ -153,7 +153,7 @@ fn cycle<N: Name, G: Gate>(
     ensures same { Same worker.old.caller worker.new.caller }
     ensures took { Took 1 (is_none result) worker.old.reader worker.new.reader
         worker.old.last worker.new.last }
-    ensures own { IfSome result (IsOwn task) }
+    ensures own { IfSome result (IsOwn G.may_end task) }
 {
     if !gate.before(task, cycle) {
         return Some(TaskError::GateSpent(task));
@@ -209,7 +209,7 @@ fn step<N: Name>(
         (Adds (request ∷ []) caller.old.receipts caller.new.receipts)
         (caller.new.receipts ≡ caller.old.receipts) }
     ensures same { Same caller.old caller.new }
-    ensures own { (task : ℕ) → IfSome result (IsOwn task) }
+    ensures own { (task : ℕ) → IfSome result (IsOwn ⊥ task) }
 {
     match lock.lock(rt).submit(caller, request) {
         Ok(_) => None,
@@ -228,7 +228,7 @@ fn close<N: Name>(
         (Adds (closing_of (duty caller.old task)) caller.old.receipts caller.new.receipts)
         (caller.new.receipts ≡ caller.old.receipts) }
     ensures same { Same caller.old caller.new }
-    ensures own { (task : ℕ) → IfSome result (IsOwn task) }
+    ensures own { (task : ℕ) → IfSome result (IsOwn ⊥ task) }
 {
     if task != 0 {
         return None;

@@ -64,13 +64,14 @@ pub record IsReport {N I O : Type 0} (c : Closing N I O) (r : Report) : Type 0 w
   pub settled : AreSettled c.locked.journal (vec_len c.callers) c.callers.items
   pub fault : r.fault ≡ first_of (fault_of_ends c.ends.items) (fault_of_tasks c.fault)
 
--- A server's work was done on a slave of this layout, and this is what it gives back: what is told of the work, whose journal is a
--- run from the slave's opening, and its connections as the work left them.
+-- A server's work was done on a slave of this layout, by tasks that no gate ended, and this is what it gives back: what is told of
+-- the work, its journal, which is a run from the slave's opening, and its connections as the work left them.
 pub record IsServed {I O : Type 0} (N : Type 0) (remaining : I → Option (List ℕ)) (contents : O → Option (List ℕ)) (layout : LayoutValue) (turns cycles tasks callers : ℕ) (bank : BankId) (ends : List (Watched I × Watched O)) (ending : Ending I O) : Type 0 where
   pub closing : Closing N I O
-  pub closes : Closes remaining contents layout.max_cto turns cycles tasks (callers_of layout callers) (six_readers bank (image_of (opening layout))) ends closing
+  pub closes : Closes remaining contents ⊥ layout.max_cto turns cycles tasks (callers_of layout callers) (six_readers bank (image_of (opening layout))) ends closing
   pub frames : CountTheirCommands closing.ends.items closing.callers.items
   pub hangup : EndsSession closing.fault closing.callers.items closing.locked.journal
   pub run : Run (opening layout) (exchanges closing.locked.journal) closing.locked.slave
   pub told : MatchResult ending.told (IsReport closing) (IsMismatch closing.locked.journal closing.callers.items)
+  pub journal : ending.journal.entries ≡ closing.locked.journal
   pub left : ending.left.items ≡ closing.left.items

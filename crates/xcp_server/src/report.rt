@@ -6,7 +6,7 @@ ghost use Rattle.xcp_server.specs.Report.{IsMismatch, IsReport, fault_of_end, fa
 
 use std::io::{Read, Write};
 use xcp_framing::{ServeError, Served};
-use xcp_locked::{Closing, Left, Name, TaskError, settle_all};
+use xcp_locked::{Closing, Journal, Left, Name, TaskError, settle_all};
 use xcp_program::Fault;
 
 /// What is told of a server whose callers are all settled.
@@ -19,12 +19,14 @@ pub struct Report {
     pub fault: Option<Fault>,
 }
 
-/// What a server gives back: what is told of it, and its connections, in the order of accepting, as
-/// they were left. Contracts alone see the latter.
+/// What a server gives back: what is told of it, its journal, and its connections, in the order of
+/// accepting, as they were left. Contracts alone see the latter.
 #[derive(Drop)]
 pub struct Ending<I: Read + Drop, O: Write + Drop> {
     /// What is told, or `Mismatch` where the receipts of a caller aren't the journal's.
     pub told: Result<Report, Fault>,
+    /// All calls that were accepted, in order, with their callers' numbers.
+    pub journal: Journal,
     pub left: Vec<Left<I, O>>,
 }
 

@@ -73,6 +73,11 @@ fn serve_named<
         return Err(Fault::Memory);
     };
     let told = conclude(&mut closing);
+    let journal = closing.locked.into_journal();
     let left = closing.left;
-    Ok(Ending { told, left })
+    Ok(Ending {
+        told,
+        journal,
+        left,
+    })
 }

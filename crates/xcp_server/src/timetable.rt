@@ -41,6 +41,8 @@ impl<'a, R: Clock> Timetable<'a, R> {
 }
 
 impl<R: Clock> Gate for Timetable<'_, R> {
+    ghost may_end = { ⊥ };
+
     fn before(&self, _task: u8, cycle: u32) -> bool {
         if self.period > 0 {
             thread::sleep(self.clock, self.left(cycle));

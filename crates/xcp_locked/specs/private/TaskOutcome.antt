@@ -12,5 +12,5 @@ pub record IsTaskOf {N G : Type 0} (cycles task : ℕ) (w : Worker N) (t : Task 
   pub worker : t.worker ≡ w
 
 -- what came of a task, at whichever place
-abbrev pub DoneAs : {N G : Type 0} → ℕ → Task N G → Done N → Type 0
-DoneAs place t d = Worked t.cycles t.task t.worker d.worker d.fault
+abbrev pub DoneAs : {N G : Type 0} → Type 0 → ℕ → Task N G → Done N → Type 0
+DoneAs may_end place t d = Worked may_end t.cycles t.task t.worker d.worker d.fault

@@ -1,7 +1,6 @@
 -- What a cycle adds.
 use Rattle.std.specs.Prelude.{◌≡◌, List, ◌++◌}
 use Rattle.xcp_slave.specs.declared.Request.{Request}
-use Rattle.xcp_slave.specs.declared.Request.TheVariants as requests
 use Rattle.xcp_locked.specs.declared.receipt.Receipt.{Receipt}
 use Rattle.xcp_locked.specs.Tasks.{requests_of}
 

@@ -54,7 +54,7 @@ close_all-requires-clause-ended g c =
     let d = c.in_ok-connections.field-0 in
     let put = each_length ClosedAs 0 c.in_ok-parted.parted.items c.close_each-closed.result.items c.close_each-closed.ensures in
     let all = each_length (PartedAs g.I.Read.remaining g.O.Write.contents) 0 d.connections.items c.in_ok-parted.parted.items c.in_ok-parted.ensures.parted in
-    let tasks = each_length DoneAs 0 d.tasks.items c.in_ok-parted.done.items c.in_ok-parted.ensures.worked in
+    let tasks = each_length (DoneAs g.G.Gate.may_end) 0 d.tasks.items c.in_ok-parted.done.items c.in_ok-parted.ensures.worked in
     let connected = as_many_connections _ _ _ _ _ _ _ _ _ c.in_ok-connections.ensures in
     let there = all_there _ _ _ _ _ _ _ _ _ c.in_ok-connections.ensures c.close_each-closed.result.items c.in_ok-parted.done.items (put ∙ all) tasks in
     let asked = c.len.ensures in
@@ -65,7 +65,7 @@ pub close_all-requires-clause-workers : goal.close_all-requires-clause-workers
 close_all-requires-clause-workers g c =
     let done : vec_len c.in_ok-parted.done ≡ length c.in_ok-parted.done.items = search rules in
     let d = c.in_ok-connections.field-0 in
-    let tasks = each_length DoneAs 0 d.tasks.items c.in_ok-parted.done.items c.in_ok-parted.ensures.worked in
+    let tasks = each_length (DoneAs g.G.Gate.may_end) 0 d.tasks.items c.in_ok-parted.done.items c.in_ok-parted.ensures.worked in
     let hired = as_many_tasks _ _ _ _ _ _ _ _ _ c.in_ok-connections.ensures in
     let room = c.in_ok-rooms.ensures.for_workers in
     (c.in_ok-rooms.ensures.no_worker, omega (arith, done, tasks, hired, room))
@@ -74,7 +74,7 @@ pub close_all-requires-clause-readers : goal.close_all-requires-clause-readers
 close_all-requires-clause-readers g c =
     let done : vec_len c.in_ok-parted.done ≡ length c.in_ok-parted.done.items = search rules in
     let d = c.in_ok-connections.field-0 in
-    let tasks = each_length DoneAs 0 d.tasks.items c.in_ok-parted.done.items c.in_ok-parted.ensures.worked in
+    let tasks = each_length (DoneAs g.G.Gate.may_end) 0 d.tasks.items c.in_ok-parted.done.items c.in_ok-parted.ensures.worked in
     let hired = as_many_tasks _ _ _ _ _ _ _ _ _ c.in_ok-connections.ensures in
     let lent = as_many_readers _ _ _ _ _ _ _ _ _ c.in_ok-connections.ensures in
     let readers = c.in_ok-readers.readers.ok.0 in
@@ -111,7 +111,7 @@ returns-clause-closes g c =
       ends_are = c.close_all.ensures.ends;
       left_is = c.close_all.ensures.left;
       done = done;
-      worked = all_worked m turns pumps c.args.cycles c.args.tasks opened readers ends d deal done came.worked;
+      worked = all_worked m turns pumps c.args.cycles c.args.tasks opened readers ends d deal g.G.Gate.may_end done came.worked;
       hung_up = c.close_all.ensures.hung_up;
       unused = into_iter_items d.unused;
       lent = deal.readers_in_order;
@@ -125,7 +125,7 @@ returns-clause-callers g c =
     let d = c.in_ok-connections.field-0 in
     let put = each_length ClosedAs 0 c.in_ok-parted.parted.items c.close_each-closed.result.items c.close_each-closed.ensures in
     let all = each_length (PartedAs g.I.Read.remaining g.O.Write.contents) 0 d.connections.items c.in_ok-parted.parted.items c.in_ok-parted.ensures.parted in
-    let tasks = each_length DoneAs 0 d.tasks.items c.in_ok-parted.done.items c.in_ok-parted.ensures.worked in
+    let tasks = each_length (DoneAs g.G.Gate.may_end) 0 d.tasks.items c.in_ok-parted.done.items c.in_ok-parted.ensures.worked in
     let there = back_in_order _ _ _ _ _ _ _ _ _ c.in_ok-connections.ensures c.close_each-closed.result.items c.in_ok-parted.done.items (put ∙ all) tasks in
     back ∙ (all_come_back _ _ _ _ _ c.close_all.ensures.hung_up ∙ (there ∙ opened))
 

@@ -4,6 +4,7 @@ use Rattle.xcp_locked.specs.private.Tasks.{Adds}
 use Rattle.xcp_locked.specs.declared.receipt.Receipt.{Receipt}
 use Rattle.xcp_locked.proofs.TaskPlanLemmas.{nothing_done, event_done, all_done}
 use Rattle.xcp_locked.proofs.TaskImageLaws.{took_it, took_nothing}
+use Rattle.xcp_locked.proofs.TaskOutcomeLemmas.{own_anyway}
 use Rattle.xcp_locked.proofs.tasks.cycle.Goals as goal
 
 pub returns-then-not-before-clause-grew : goal.returns-then-not-before-clause-grew
@@ -43,10 +44,10 @@ returns-clause-grew g c old n is gr =
     whole_cycle p c.args.cycle n true old _ _ _ is gr a b
 
 pub returns-in-Some-clause-own : goal.returns-in-Some-clause-own
-returns-in-Some-clause-own g c = c.in-Some.ensures.own c.args.task
+returns-in-Some-clause-own g c = own_anyway g.G.Gate.may_end c.args.task _ (c.in-Some.ensures.own c.args.task)
 
 pub returns-in-Some-close-clause-own : goal.returns-in-Some-close-clause-own
-returns-in-Some-close-clause-own g c = c.in-Some-close.ensures.own c.args.task
+returns-in-Some-close-clause-own g c = own_anyway g.G.Gate.may_end c.args.task _ (c.in-Some-close.ensures.own c.args.task)
 
 pub returns-then-not-before-clause-took : goal.returns-then-not-before-clause-took
 returns-then-not-before-clause-took g c = took_nothing 1 false _ _ (λ e. absurd (true≢false (sym e)))
