@@ -249,7 +249,7 @@ fn the_words_of_the_command_line(rt: HostRuntime) -> Result<(), Fail> {
         (&b"xcpd|replay|--help"[..], REPLAY_HELP),
         (
             &b"xcpd|--version"[..],
-            "0 xcpd 0.1.0, proved with rattle-kit-13b\n",
+            "0 xcpd 0.1.0, proved with rattle-kit-13f\n",
         ),
         (
             &b"xcpd|replay|--config|Steuerger\xE4t.toml"[..],

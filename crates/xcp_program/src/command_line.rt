@@ -15,7 +15,7 @@ use clap::{Arg, ArgAction, ArgMatches, Command, Error};
 use std::alloc::{AllocError, Global};
 
 /// What `--version` says behind the program's name: its version, and the toolchain that proves it.
-const VERSION: &str = "0.1.0, proved with rattle-kit-13b";
+const VERSION: &str = "0.1.0, proved with rattle-kit-13f";
 
 /// What help says below the options of the program.
 const STATUS: &str =
