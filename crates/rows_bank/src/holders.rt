@@ -25,30 +25,39 @@ fn take(reader: &mut Reader) -> (Taken, u64, u8)
     (taken, reader.number(), bytes[0])
 }
 
-// Six readers hold the first six images, and 100 newer ones are published. One reader leaves, another is
-// dropped while it holds, and a third moves on to the newest image.
-#[test]
-fn held_buffers_are_counted(rt: HostRuntime) -> Result<(), Fail> {
-    let (mut writer, readers) = Bank::new(rt.alloc(), &all(0))?;
-    let mut readers = Vec::from_array(rt.alloc(), readers)?;
-    let none = writer.held();
+// The first four readers, and the other two.
+fn parted(readers: [Reader; 6]) -> (Reader, Reader, Reader, Reader, [Reader; 2]) {
+    let [zero, one, two, three, four, five] = readers;
+    (zero, one, two, three, [four, five])
+}
+
+// Lets six readers take an image each: the first takes the one that stands, before each other one a new
+// image is published.
+fn hold_in_turn(writer: &mut Writer, readers: [Reader; 6]) -> [Reader; 6] {
+    let mut readers = readers;
     for (n, reader) in readers.iter_mut().enumerate() {
         if n > 0 {
             writer.publish(&all((n % 256) as u8));
         }
         reader.acquire();
     }
+    readers
+}
+
+// Six readers hold the first six images, and 100 newer ones are published. One reader leaves, another is
+// dropped while it holds, and a third moves on to the newest image.
+#[test]
+fn held_buffers_are_counted(rt: HostRuntime) -> Result<(), Fail> {
+    let (mut writer, readers) = Bank::new(rt.alloc(), &all(0))?;
+    let none = writer.held();
+    let (zero, mut one, _two, three, _others) = parted(hold_in_turn(&mut writer, readers));
     let five_held = writer.held();
     publish_all(&mut writer, 6, 106);
     let all_held = writer.held();
     assert!(rt; [none, five_held, all_held] == [0, 5, 6] && writer.count() == 106);
-    let _five = readers.pop().ok_or("reader 5")?;
-    let _four = readers.pop().ok_or("reader 4")?;
-    readers.pop().ok_or("reader 3")?.leave();
+    three.leave();
     let left = writer.held();
-    let _two = readers.pop().ok_or("reader 2")?;
-    let mut one = readers.pop().ok_or("reader 1")?;
-    drop(readers.pop().ok_or("reader 0")?);
+    drop(zero);
     let dropped = writer.held();
     let newest = take(&mut one);
     let moved = writer.held();
@@ -62,9 +71,7 @@ fn held_buffers_are_counted(rt: HostRuntime) -> Result<(), Fail> {
 #[test]
 fn lost_reader_keeps_its_image(rt: HostRuntime) -> Result<(), Fail> {
     let (mut writer, readers) = Bank::new(rt.alloc(), &all(9))?;
-    let mut readers = Vec::from_array(rt.alloc(), readers)?;
-    let mut other = readers.pop().ok_or("a reader")?;
-    let mut lost = readers.pop().ok_or("another")?;
+    let (mut lost, mut other, _two, _three, _others) = parted(readers);
     let first = take(&mut lost);
     let mut good = first == (Taken::Newer, 0, 9);
     for byte in 101..105u8 {
@@ -84,29 +91,37 @@ fn lost_reader_keeps_its_image(rt: HostRuntime) -> Result<(), Fail> {
 #[test]
 fn readers_take_the_same_again(rt: HostRuntime) -> Result<(), Fail> {
     let (mut writer, readers) = Bank::new(rt.alloc(), &all(3))?;
-    let mut readers = Vec::from_array(rt.alloc(), readers)?;
-    let mut zero = readers.pop().ok_or("a reader")?;
-    let mut one = readers.pop().ok_or("another")?;
-    let mut two = readers.pop().ok_or("a third")?;
-    let mut three = readers.pop().ok_or("a fourth")?;
-    let mut good = take(&mut zero) == (Taken::Newer, 0, 3);
-    good = good && take(&mut zero) == (Taken::Same, 0, 3);
-    good = good && take(&mut one) == (Taken::Newer, 0, 3);
+    let (mut zero, mut one, mut two, mut three, _others) = parted(readers);
+    let first = [take(&mut zero), take(&mut zero), take(&mut one)];
     writer.publish(&all(4));
-    good = good && take(&mut one) == (Taken::Newer, 1, 4);
-    good = good && take(&mut one) == (Taken::Same, 1, 4);
-    good = good && take(&mut two) == (Taken::Newer, 1, 4);
-    good = good && writer.held() == 1;
+    let second = [take(&mut one), take(&mut one), take(&mut two)];
+    let before = writer.held();
     two.leave();
     writer.publish(&all(5));
-    good = good && writer.held() == 2;
-    good = good && take(&mut zero) == (Taken::Newer, 2, 5);
-    good = good && take(&mut three) == (Taken::Newer, 2, 5);
+    let behind = writer.held();
+    let third = [take(&mut zero), take(&mut three), take(&mut one)];
     three.leave();
-    good = good && take(&mut one) == (Taken::Newer, 2, 5);
-    good = good && writer.held() == 0;
+    let none = writer.held();
     writer.publish(&all(6));
-    good = good && take(&mut zero) == (Taken::Newer, 3, 6);
-    assert!(rt; good && writer.held() == 1 && writer.count() == 4);
+    let last = take(&mut zero);
+    assert!(rt; [before, behind, none, writer.held()] == [1, 2, 0, 1]);
+    assert!(rt;
+        first
+            == [
+                (Taken::Newer, 0, 3),
+                (Taken::Same, 0, 3),
+                (Taken::Newer, 0, 3)
+            ]
+    );
+    assert!(rt;
+        second
+            == [
+                (Taken::Newer, 1, 4),
+                (Taken::Same, 1, 4),
+                (Taken::Newer, 1, 4)
+            ]
+    );
+    assert!(rt; third == [(Taken::Newer, 2, 5); 3]);
+    assert!(rt; last == (Taken::Newer, 3, 6) && writer.count() == 4);
     Ok(())
 }

@@ -1,7 +1,7 @@
 // Tasks that wait for one another: one after another they would spend their gate.
 ghost use Rattle.std.specs.Prelude.{◌≡◌};
 
-use crate::images::worker;
+use crate::images::workers;
 use crate::openings::unnamed;
 use std::alloc::Global;
 use std::marker::Brand;
@@ -63,13 +63,10 @@ fn run_held<N: Name + Send + Sync, R: Threads + Wait + Abort + Sync>(
 {
     let Opening {
         locked,
-        mut callers,
+        callers,
         readers,
     } = Locked::<N>::new(alloc, unnamed)?;
-    let mut readers = Vec::from_array(alloc, readers)?;
-    let one = worker(&mut callers, &mut readers)?;
-    let other = worker(&mut callers, &mut readers)?;
-    let workers = Vec::from_array(alloc, [one, other])?;
+    let workers = workers(alloc, callers, readers)?;
     let lock = Mutex::new(locked);
     let gate = Held {
         held: task,
@@ -128,14 +125,10 @@ fn run_spent<N: Name + Send + Sync, R: Threads + Wait + Abort + Sync>(
 {
     let Opening {
         locked,
-        mut callers,
+        callers,
         readers,
     } = Locked::<N>::new(alloc, unnamed)?;
-    let mut readers = Vec::from_array(alloc, readers)?;
-    let one = worker(&mut callers, &mut readers)?;
-    let two = worker(&mut callers, &mut readers)?;
-    let three = worker(&mut callers, &mut readers)?;
-    let workers = Vec::from_array(alloc, [one, two, three])?;
+    let workers = workers(alloc, callers, readers)?;
     let lock = Mutex::new(locked);
     let gate = Spent {
         task,

@@ -1,5 +1,5 @@
 // Images that are taken while the slave is locked, and the image that a task took last.
-ghost use Rattle.std.specs.Prelude.{◌≡◌, ◌≤◌, vec_len};
+ghost use Rattle.std.specs.Prelude.{◌≡◌, ◌≤◌, IfOk, vec_len};
 
 use crate::asking::asks;
 use crate::openings::unnamed;
@@ -40,7 +40,18 @@ fn begins(bytes: [u8; 4]) -> [u8; 2040] {
 }
 
 // Whether a reader takes the image at the opening, keeps it while the controller's image changes, and
-// then takes that one: all this while one guard of the slave is kept.
+// then takes that one.
+fn takes<N: Name>(locked: &mut Locked<N>, worker: &mut Worker<N>) -> bool {
+    let Worker { caller, reader, .. } = worker;
+    let mut good = reader.acquire() == Taken::Newer;
+    for command in [CONNECT.as_slice(), WORK.as_slice(), fill(7).as_slice()] {
+        good = good && asks(locked, caller, command);
+    }
+    good = good && held(reader) == Some(begins([0, 1, 2, 3]));
+    good && reader.acquire() == Taken::Newer && held(reader) == Some(begins([7; 4]))
+}
+
+// The same while one guard of the slave is kept.
 fn takes_under_guard<N: Name, R: Wait>(
     rt: &R,
     alloc: Global,
@@ -51,21 +62,14 @@ fn takes_under_guard<N: Name, R: Wait>(
 {
     let Opening {
         locked,
-        mut callers,
+        callers,
         readers,
     } = Locked::<N>::new(alloc, unnamed)?;
-    let mut reader = Vec::from_array(alloc, readers)?.pop().ok_or("a reader")?;
-    let mut caller = callers.pop().ok_or("a caller")?;
+    let mut workers = workers(alloc, callers, readers)?;
+    let worker = workers.first_mut().ok_or("a worker")?;
     let lock = Mutex::new(locked);
     let mut guard = lock.lock(rt);
-    let mut good = reader.acquire() == Taken::Newer;
-    for command in [CONNECT.as_slice(), WORK.as_slice(), fill(7).as_slice()] {
-        good = good && asks(&mut guard, &mut caller, command);
-    }
-    good = good && held(&mut reader) == Some(begins([0, 1, 2, 3]));
-    good = good && reader.acquire() == Taken::Newer && held(&mut reader) == Some(begins([7; 4]));
-    drop(guard);
-    Ok(good)
+    Ok(takes(&mut guard, worker))
 }
 
 #[test]
@@ -123,14 +127,37 @@ fn run_beside<'r, 'l, N: Name + Send + Sync, R: Threads + Wait + Sync>(
     Ok(run_tasks(rt, alloc, lock, workers, 5, &gate)?)
 }
 
-// A worker of the last caller and the last reader.
-pub fn worker<N: Name>(
-    callers: &mut Vec<Caller<N>>,
-    readers: &mut Vec<Reader<N>>,
-) -> Result<Worker<N>, Fail> {
-    let caller = callers.pop().ok_or("a caller")?;
-    let reader = readers.pop().ok_or("a reader")?;
-    Ok(Worker::new(caller, reader))
+// A worker for each of these callers, at most six: each has a reader.
+pub fn workers<N: Name>(
+    alloc: Global,
+    callers: Vec<Caller<N>>,
+    readers: [Reader<N>; 6],
+) -> Result<Vec<Worker<N>>, Fail>
+    ensures { IfOk result (λ workers. vec_len workers ≤ 6) }
+{
+    let mut workers = Vec::new(alloc);
+    let mut readers = Vec::from_array(alloc, readers)?;
+    for caller in callers {
+        let reader = readers.pop().ok_or("a reader")?;
+        workers.push(Worker::new(caller, reader))?;
+    }
+    if workers.len() > 6 {
+        return Err("more than six workers".into());
+    }
+    Ok(workers)
+}
+
+// The last of these callers for a tool, and a worker for each other one.
+fn tool_and_workers<N: Name>(
+    alloc: Global,
+    mut callers: Vec<Caller<N>>,
+    readers: [Reader<N>; 6],
+) -> Result<(Caller<N>, Vec<Worker<N>>), Fail>
+    ensures { IfOk result (λ both. vec_len both.1 ≤ 6) }
+{
+    let tool = callers.pop().ok_or("a caller")?;
+    let workers = workers(alloc, callers, readers)?;
+    Ok((tool, workers))
 }
 
 // What comes of three tasks of five cycles: whether none has a fault, and each one's last image is that
@@ -148,25 +175,27 @@ fn run_three<N: Name + Send + Sync, R: Threads + Wait + Sync>(
 {
     let Opening {
         mut locked,
-        mut callers,
+        callers,
         readers,
     } = Locked::<N>::new(alloc, unnamed)?;
-    let mut tool = callers.pop().ok_or("a caller")?;
+    let (mut tool, workers) = tool_and_workers(alloc, callers, readers)?;
     let ready = asks(&mut locked, &mut tool, &CONNECT) && asks(&mut locked, &mut tool, &WORK);
-    let mut readers = Vec::from_array(alloc, readers)?;
-    let one = worker(&mut callers, &mut readers)?;
-    let two = worker(&mut callers, &mut readers)?;
-    let three = worker(&mut callers, &mut readers)?;
-    let workers = Vec::from_array(alloc, [one, two, three])?;
     let lock = Mutex::new(locked);
     let mut ran = run_beside(rt, alloc, &lock, tool, workers)?;
     let good = ready && ran.fault.is_none() && hold_their_last(&mut ran.workers);
-    let first = ran.workers.get_mut(0).ok_or("a worker")?;
-    let mut locked = lock.lock(rt);
-    let settled = locked
-        .settle_reader(&mut first.reader)
-        .ok_or("a publication")?;
-    Ok((good, first.last, settled.number, locked.len()))
+    let mut locked = lock.into_inner();
+    let (last, number) = first_settled(&mut locked, &mut ran.workers).unwrap_or(([0xEE; 2040], 0));
+    Ok((good, last, number, locked.len()))
+}
+
+// The last image of the first of these workers, and which publication its reader holds.
+fn first_settled<N: Name>(
+    locked: &mut Locked<N>,
+    workers: &mut [Worker<N>],
+) -> Option<([u8; 2040], u64)> {
+    let first = workers.first_mut()?;
+    let settled = locked.settle_reader(&mut first.reader)?;
+    Some((first.last, settled.number))
 }
 
 // Whether each worker's last image is the one that its reader holds.

@@ -7,13 +7,13 @@ ghost use Rattle.std.specs.Prelude.{◌≡◌};
 use crate::images::held;
 use crate::openings::unnamed;
 use arrayvec::ArrayVec;
-use std::alloc::{AllocError, Global};
+use std::alloc::Global;
 use std::marker::Brand;
 use std::test::Fail;
 use xcp_locked::{Caller, Locked, Name, Opening, Reader, Settled, Taken, Unnamed};
 use xcp_slave::{Answer, Request};
 
-pub type Row = (&'static str, &'static str);
+type Row = (&'static str, &'static str);
 
 // The bytes of a text, if all its words are bytes.
 fn bytes<const N: usize>(text: &str) -> Option<ArrayVec<u8, N>> {
@@ -98,14 +98,18 @@ fn follows<N: Name>(
 }
 
 // Readers, each at its place: none where it is gone.
-type Seats<N> = Vec<Option<Reader<N>>>;
+type Seats<N> = [Option<Reader<N>>; 6];
 
-fn seats<N: Name>(alloc: Global, readers: [Reader<N>; 6]) -> Result<Seats<N>, AllocError> {
-    let mut seats = Vec::new(alloc);
-    for reader in Vec::from_array(alloc, readers)? {
-        seats.push(Some(reader))?;
-    }
-    Ok(seats)
+fn seats<N: Name>(readers: [Reader<N>; 6]) -> Seats<N> {
+    let [zero, one, two, three, four, five] = readers;
+    [
+        Some(zero),
+        Some(one),
+        Some(two),
+        Some(three),
+        Some(four),
+        Some(five),
+    ]
 }
 
 // Whether what a reader does comes out so, of which it is gone or not.
@@ -160,28 +164,36 @@ fn first_wrong_of<N: Name>(
         mut callers,
         readers,
     } = Locked::<N>::new(alloc, unnamed)?;
-    let caller = callers.get_mut(0).ok_or("a caller")?;
-    let mut seats = seats(alloc, readers)?;
+    let mut seats = seats(readers);
+    Ok(first_wrong_here(&mut locked, &mut callers, &mut seats, rows))
+}
+
+// The same of this slave, whose first caller asks.
+fn first_wrong_here<N: Name>(
+    locked: &mut Locked<N>,
+    callers: &mut [Caller<N>],
+    seats: &mut Seats<N>,
+    rows: &[Row],
+) -> Option<usize> {
     for (number, row) in rows.iter().enumerate() {
-        if holds(&mut locked, caller, &mut seats, *row) != Some(true) {
-            return Ok(Some(number));
+        let Some(caller) = callers.first_mut() else {
+            return Some(number);
+        };
+        if holds(locked, caller, seats, *row) != Some(true) {
+            return Some(number);
         }
     }
-    Ok(None)
+    None
 }
 
-// The first row, counted from 0, that doesn't come out as it says, of a slave that was just opened.
-pub fn first_wrong(alloc: Global, rows: &[Row]) -> Result<Option<usize>, Fail> {
-    let unnamed = unnamed(alloc, 1)?;
-    first_wrong_of::<Brand>(alloc, unnamed, rows)
-}
-
-// The same of a text, each of whose lines is a row: a `>` stands between what is asked and what comes.
-pub fn first_wrong_line(alloc: Global, text: &'static str) -> Result<Option<usize>, Fail> {
+// The first line of a text, counted from 0, that doesn't come out as it says, of a slave that was just
+// opened. Each line is a row: a `>` stands between what is asked and what comes.
+pub fn first_wrong(alloc: Global, text: &'static str) -> Result<Option<usize>, Fail> {
     let mut rows = Vec::new(alloc);
     for line in text.lines() {
         let (question, said) = line.split_once('>').ok_or("a row")?;
         rows.push((question.trim(), said.trim()))?;
     }
-    first_wrong(alloc, &rows)
+    let unnamed = unnamed(alloc, 1)?;
+    first_wrong_of::<Brand>(alloc, unnamed, &rows)
 }
