@@ -135,14 +135,13 @@ fn measure_named<N: Name + Send + Sync, R: Clock + Threads + Wait + Sync>(
     let Some(caller) = callers.pop() else {
         return Ok(0);
     };
-    let alone = Alone { locked, caller };
+    let mut alone = Alone { locked, caller };
+    let mut readers = readers;
     match plan {
-        Plan::SlaveSeats(look) => measure_seats(rt, alone, readers, look, times),
-        Plan::Submit(call) => measure_submits(rt, alone, readers, call, times),
+        Plan::SlaveSeats(look) => measure_seats(rt, &mut alone, &mut readers, look, times),
+        Plan::Submit(call) => time_submits(rt, &mut alone, &mut readers[0], call, times),
         Plan::Beside(talk, count, pause) => {
-            let mut some = Vec::from_array(alloc, readers)?;
-            some.truncate(count);
-            measure_beside(rt, alloc, alone, some, talk, pause, times)
+            measure_beside(rt, alloc, alone, readers, count, talk, pause, times)
         }
         _ => Ok(0),
     }
@@ -150,28 +149,14 @@ fn measure_named<N: Name + Send + Sync, R: Clock + Threads + Wait + Sync>(
 
 fn measure_seats<N: Name, C: Clock>(
     rt: &C,
-    alone: Alone<N>,
-    readers: [Reader<N>; 6],
+    alone: &mut Alone<N>,
+    readers: &mut [Reader<N>; 6],
     look: Look,
     times: &mut Times,
 ) -> io::Result<u64> {
-    let mut alone = alone;
-    let mut readers = readers;
     alone.begin(true)?;
-    time_seats(rt, &mut alone, &mut readers, look, times)?;
+    time_seats(rt, alone, readers, look, times)?;
     Ok(0)
-}
-
-fn measure_submits<N: Name, C: Clock>(
-    rt: &C,
-    alone: Alone<N>,
-    readers: [Reader<N>; 6],
-    call: Call,
-    times: &mut Times,
-) -> io::Result<u64> {
-    let mut alone = alone;
-    let mut readers = readers;
-    time_submits(rt, &mut alone, &mut readers[0], call, times)
 }
 
 // A tool beside so many readers, each in a thread of its own.
@@ -179,16 +164,17 @@ fn measure_beside<N: Name + Send + Sync, R: Clock + Threads + Wait + Sync>(
     rt: &R,
     alloc: Global,
     alone: Alone<N>,
-    readers: Vec<Reader<N>>,
+    readers: [Reader<N>; 6],
+    count: usize,
     talk: Talk,
     pause: Pause,
     times: &mut Times,
 ) -> io::Result<u64> {
     let Alone { locked, caller } = alone;
     let lock = Mutex::new(locked);
-    let pace = Pace::new(readers.len() as u64);
+    let pace = Pace::new(count as u64);
     let tools = tool_of(rt, alloc, &lock, caller, talk, &pace)?;
-    let others = followers(rt, alloc, readers, pause, &pace)?;
+    let others = followers(rt, alloc, readers, count, pause, &pace)?;
     let (tools, images) = run_all(rt, alloc, tools, others)?;
     for told in tools {
         times.append(&told?)?;
@@ -222,12 +208,13 @@ fn tool_of<'a, N: Name, C: Clock>(
 fn followers<'a, N: Name, C: Clock>(
     clock: &'a C,
     alloc: Global,
-    readers: Vec<Reader<N>>,
+    readers: [Reader<N>; 6],
+    count: usize,
     pause: Pause,
     pace: &'a Pace,
 ) -> Result<Vec<Following<'a, N, C>>, AllocError> {
     let mut all = Vec::new(alloc);
-    for reader in readers {
+    for reader in readers.into_iter().take(count) {
         all.push(Following {
             clock,
             reader,

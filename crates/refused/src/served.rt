@@ -8,7 +8,7 @@ use std::alloc::Global;
 use std::marker::Brand;
 use std::sync::{Mutex, Wait};
 use xcp_framing::{Desk, ServeError, Served, Station, Watched, serve};
-use xcp_locked::{Locked, Name, Opening, Tool, Unnamed};
+use xcp_locked::{Caller, Locked, Name, Opening, Tool, Unnamed};
 use xcp_slave::Slave;
 
 const TURNS: u32 = 100;
@@ -73,15 +73,27 @@ fn serve_named<N: Name, R: Wait>(
         mut callers,
         ..
     } = Locked::<N>::new(alloc, unnamed)?;
-    let caller = callers.pop().ok_or(Outcome::Wrong("there is no caller"))?;
     let lock = Mutex::new(locked);
-    let mut tool = Tool::new(rt, &lock, caller);
+    match callers.pop() {
+        Some(caller) => Ok(serve_caller(rt, alloc, &lock, caller)),
+        None => Err(Outcome::Wrong("there is no caller")),
+    }
+}
+
+// What comes of the frames by this caller.
+fn serve_caller<N: Name, R: Wait>(
+    rt: &R,
+    alloc: Global,
+    lock: &Mutex<Locked<N>>,
+    caller: Caller<N>,
+) -> Outcome {
+    let mut tool = Tool::new(rt, lock, caller);
     let (end, sheet) = serve_frames(alloc, &mut tool);
     let caller = tool.into_caller();
-    let mut locked = lock.into_inner();
+    let mut locked = lock.lock(rt);
     let exchanges = caller.receipts.len();
     if locked.settle(&caller).is_err() || locked.len() != exchanges as u64 {
-        return Ok(Outcome::Wrong("the receipts are not the journal's"));
+        return Outcome::Wrong("the receipts are not the journal's");
     }
-    Ok(outcome(end, &sheet, exchanges))
+    outcome(end, &sheet, exchanges)
 }

@@ -94,22 +94,25 @@ fn soak_named<N: Name + Send + Sync, R: Threads + Wait + Clock + Sync>(
     )?;
     let calls = closing.locked.len();
     let settled = settle_all(&mut closing) == Ok(calls);
-    let Closing {
-        mut locked,
-        callers,
-        mut readers,
-        ends,
-        left: _left,
-        fault,
-    } = closing;
-    let last = last_publication(&mut locked, &mut readers);
+    soaked_of(alloc, sides, &mut closing, settled)
+}
+
+// What is checked of a server that has ended, whose callers settle or don't.
+fn soaked_of<N: Name>(
+    alloc: Global,
+    sides: &[Side; 2],
+    closing: &mut Closing<N, Trickle<'_>, Counted<'_>>,
+    settled: bool,
+) -> io::Result<Soaked> {
+    let calls = closing.locked.len();
+    let last = last_publication(&mut closing.locked, &mut closing.readers);
     let checks = Checks {
-        tasks: fault.is_none(),
+        tasks: closing.fault.is_none(),
         callers: settled,
-        tools: are_told_all(sides, &ends, &callers) == Some(true),
-        replay: replays(alloc, layout(alloc)?, &locked, &callers)?,
+        tools: are_told_all(sides, &closing.ends, &closing.callers) == Some(true),
+        replay: replays(alloc, layout(alloc)?, &closing.locked, &closing.callers)?,
         readers: last.is_some(),
     };
-    let figures = Figures::of(&callers, calls, last);
+    let figures = Figures::of(&closing.callers, calls, last);
     Ok(Soaked { checks, figures })
 }
