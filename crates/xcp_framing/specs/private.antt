@@ -4,7 +4,7 @@ pub mod HexDigits
 pub mod FramerInput
 pub mod FrameOutput
 pub mod FramesAnswered
-pub mod CommandPacket
+pub mod LentRequests
 pub mod LineInSlot
 pub mod LineReading
 pub mod Serve

@@ -5,16 +5,12 @@ ghost use Rattle.xcp_framing.specs.private.LineInSlot.{line_in};
 
 use crate::Line;
 use crate::digits::{GREATEST_VALUE, digit_value};
-use crate::slot::{Parsed, Slot, Word};
+use crate::lent::Word;
+use crate::slot::{Parsed, Slot};
 use arrayvec::ArrayVec;
-use xcp_packet::Packet;
-use xcp_slave::Request;
 
 /// The most bytes of a line, without its line feed and the carriage return before that.
 pub const LINE_BYTES: usize = 1024;
-
-/// The most bytes of an event's signals.
-const SIGNAL_BYTES: usize = 64;
 
 /// What a line says, where packets have at most `max_cto` bytes (MAX_CTO).
 ///
@@ -88,20 +84,8 @@ fn first_space(text: &[u8]) -> Option<usize>
 fn read_event(channel: u16, digits: &[u8], slot: &mut Slot) -> Parsed
     ensures { line_in result slot.new ≡ event_with (Some channel) (hex_bytes 64 digits.now) }
 {
-    match &mut slot.event {
-        Request::Event(number, signals) => {
-            *number = channel;
-            if !read_hex(SIGNAL_BYTES, digits, signals) {
-                return Parsed::Faulty;
-            }
-        }
-        other => {
-            let mut signals = ArrayVec::new();
-            if !read_hex(SIGNAL_BYTES, digits, &mut signals) {
-                return Parsed::Faulty;
-            }
-            *other = Request::Event(channel, signals);
-        }
+    if !slot.event.read(channel, digits) {
+        return Parsed::Faulty;
     }
     Parsed::Event
 }
@@ -148,19 +132,8 @@ fn parse_spaced(max_cto: u8, line: &[u8], slot: &mut Slot) -> Parsed
 fn read_command(max_cto: u8, digits: &[u8], slot: &mut Slot) -> Parsed
     ensures { line_in result slot.new ≡ command_with (hex_bytes max_cto digits.now) }
 {
-    match &mut slot.command {
-        Request::Command(packet) => {
-            if !read_hex(max_cto as usize, digits, packet) {
-                return Parsed::Faulty;
-            }
-        }
-        other => {
-            let mut packet = Packet::new();
-            if !read_hex(max_cto as usize, digits, &mut packet) {
-                return Parsed::Faulty;
-            }
-            *other = Request::Command(packet);
-        }
+    if !slot.command.read(max_cto, digits) {
+        return Parsed::Faulty;
     }
     Parsed::Command
 }
@@ -168,7 +141,11 @@ fn read_command(max_cto: u8, digits: &[u8], slot: &mut Slot) -> Parsed
 /// Reads the bytes that hex digits write, if they are 1 to `most` bytes. If they are not, any may
 /// stand there.
 #[tactic(auto, unfolding(crate::specs::ScriptLine::hex_bytes))]
-fn read_hex<const N: usize>(most: usize, digits: &[u8], read: &mut ArrayVec<u8, N>) -> bool
+pub(crate) fn read_hex<const N: usize>(
+    most: usize,
+    digits: &[u8],
+    read: &mut ArrayVec<u8, N>,
+) -> bool
     requires bounded { most ≤ 255 }
     requires room { most ≤ N }
     ensures { MatchBool result (hex_bytes most digits.now ≡ Some read.new.items)

@@ -12,7 +12,7 @@ ghost use Rattle.xcp_framing.specs.AnswerText.{answers_text};
 
 use crate::liner::{Lined, Liner};
 use crate::parsing::parse_into;
-use crate::slot::{Parsed, Slot, say};
+use crate::slot::{Parsed, Slot};
 use crate::telling::push_text;
 use crate::{Desk, Station};
 use xcp_packet::Packet;
@@ -166,11 +166,10 @@ fn answer_line(
     match parse_into(max_cto, line, slot) {
         Parsed::Skip => Ok(()),
         Parsed::Faulty => Err(LineError::Faulty),
-        Parsed::Command => answer_request(desk, &slot.command, &mut slot.packet, texts),
-        Parsed::Event => answer_request(desk, &slot.event, &mut slot.packet, texts),
+        Parsed::Command => answer_request(desk, slot.command.request(), &mut slot.packet, texts),
+        Parsed::Event => answer_request(desk, slot.event.request(), &mut slot.packet, texts),
         Parsed::Word(word) => {
-            say(&mut slot.word, word);
-            answer_request(desk, &slot.word, &mut slot.packet, texts)
+            answer_request(desk, slot.words.request(word), &mut slot.packet, texts)
         }
     }
 }
