@@ -1,7 +1,8 @@
 #!/usr/bin/env bash
 # Measures `xcpd replay` beside a plain Rust program: mixed scripts of 100,000, 1,000,000 and 10,000,000 lines, and a script of
-# 1,000,000 lines for each kind of line.
-# Use: docs/measurements/replay.sh      from any folder; wants the built program, rustc and GNU time.
+# 1,000,000 lines for each kind of line. The two programs run in turn, and the best turn of each counts. With the word
+# `count` it counts instructions instead, of the first 20,000 lines of each script.
+# Use: docs/measurements/replay.sh [count]      from any folder; wants the toolchain, rustc, GNU time, and to count valgrind.
 set -eu
 here=$(cd "$(dirname "$0")" && pwd)
 top=$(cd "$here/../.." && pwd)
@@ -27,26 +28,45 @@ script set_cal_page 1000000 EB010001
 script event 1000000 'event 0 0102030405060708'
 script drain 1000000 drain
 
-run() { # program, script, how often, words: the best of so many runs in microseconds, and the most memory in kB
-  local name=$1 lines=$2 times=$3 best=999999999 begun took
-  shift 3
-  for ((i = 0; i < times; i++)); do
-    begun=${EPOCHREALTIME/./}
-    "$@" <"$work/$lines" >"$work/out.$name"
-    took=$((${EPOCHREALTIME/./} - begun))
-    [ "$took" -lt "$best" ] && best=$took
-  done
-  /usr/bin/time -f %M -o "$work/memory" "$@" <"$work/$lines" >/dev/null
-  echo "$best $(cat "$work/memory")"
-}
+ours=("$top/out/xcpd" replay --config "$top/crates/xcpd/data/L.toml")
+theirs=("$work/plain")
+names=(mixed.1000000 set_mta upload download short_upload get_status set_cal_page event drain)
 "$top/bin/xcpd" replay --config "$top/crates/xcpd/data/L.toml" </dev/null
+
+count() { # script, words: the instructions of the program for the script's first 20,000 lines
+  head -n 20000 "$work/$1" >"$work/first"
+  valgrind --tool=callgrind --callgrind-out-file=/dev/null "${@:2}" <"$work/first" 2>&1 >/dev/null | sed -n 's/.*Collected : //p'
+}
+if [ "${1:-}" = count ]; then
+  printf '%-16s | %12s | %12s | %s\n' script 'xcpd' 'plain' ratio
+  for name in "${names[@]}"; do
+    awk -v n="${name%.*}" -v a="$(count "$name" "${ours[@]}")" -v b="$(count "$name" "${theirs[@]}")" \
+      'BEGIN { printf "%-16s | %12d | %12d | %.2f\n", n, a, b, a / b }'
+  done
+  exit
+fi
+
+once() { # script, where its answers go, words: the microseconds that the program takes
+  local begun=${EPOCHREALTIME/./}
+  "${@:3}" <"$work/$1" >"$work/out.$2"
+  echo $((${EPOCHREALTIME/./} - begun))
+}
+memory() { # script, words: the most memory of the program in kB
+  /usr/bin/time -f %M -o "$work/memory" "${@:2}" <"$work/$1" >/dev/null
+  cat "$work/memory"
+}
 printf '%-16s %10s | %10s %8s | %10s %8s | %s\n' script lines 'xcpd, ms' kB 'plain, ms' kB ratio
-for name in mixed.100000 mixed.1000000 mixed.10000000 set_mta upload download short_upload get_status set_cal_page event drain; do
-  times=9
-  [ "$name" = mixed.10000000 ] && times=3
-  read -r ours memory <<<"$(run xcpd "$name" "$times" "$top/out/xcpd" replay --config "$top/crates/xcpd/data/L.toml")"
-  read -r theirs kept <<<"$(run plain "$name" "$times" "$work/plain")"
+for name in mixed.100000 mixed.10000000 "${names[@]}"; do
+  turns=9
+  [ "$name" = mixed.10000000 ] && turns=3
+  a=999999999 b=999999999
+  for ((i = 0; i < turns; i++)); do
+    took=$(once "$name" xcpd "${ours[@]}")
+    [ "$took" -lt "$a" ] && a=$took
+    took=$(once "$name" plain "${theirs[@]}")
+    [ "$took" -lt "$b" ] && b=$took
+  done
   cmp "$work/out.xcpd" "$work/out.plain"
-  awk -v n="$name" -v l="$(wc -l <"$work/$name")" -v a="$ours" -v m="$memory" -v b="$theirs" -v k="$kept" \
+  awk -v n="$name" -v l="$(wc -l <"$work/$name")" -v a="$a" -v m="$(memory "$name" "${ours[@]}")" -v b="$b" -v k="$(memory "$name" "${theirs[@]}")" \
     'BEGIN { printf "%-16s %10d | %10.1f %8d | %10.1f %8d | %.2f\n", n, l, a / 1000, m, b / 1000, k, a / b }'
 done
