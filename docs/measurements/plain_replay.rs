@@ -37,7 +37,7 @@ impl Slave {
             [0xFF, _, ..] => {
                 self.connected = true;
                 self.mta = None;
-                answer.extend_from_slice(&[0xFF, 5, 0x80, 32, 64, 0, 1, 1]);
+                answer.extend_from_slice(&[0xFF, 5, 0xC0, 32, 64, 0, 1, 1]);
             }
             _ if !self.connected => return false,
             [0xFD, ..] => answer.extend_from_slice(&[0xFF, 0, 0, 0, 0, 0]),

@@ -47,7 +47,7 @@ fn answer(mut stream: TcpStream) -> std::io::Result<()> {
             }
             let packet = &held[from + 4..from + length];
             let told: &[u8] = match packet {
-                [0xff, _, ..] => &[0xff, 5, 0x80, 32, 64, 0, 1, 1],
+                [0xff, _, ..] => &[0xff, 5, 0xc0, 32, 64, 0, 1, 1],
                 [0xfd, ..] => &[0xff, 0, 0, 0, 0, 0],
                 _ => &[0xfe, 0x20],
             };

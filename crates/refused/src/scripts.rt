@@ -17,7 +17,7 @@ drain
 hangup
 ";
 
-const ANSWERS: &[u8] = b"FF05802040000101
+const ANSWERS: &[u8] = b"FF05C02040000101
 FF
 FF00010203
 sampled 0

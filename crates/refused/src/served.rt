@@ -19,7 +19,7 @@ const COMMANDS: [u8; 24] = [
 ];
 
 const ANSWERS: [u8; 26] = [
-    8, 0, 0, 0, 0xFF, 5, 0x80, 0x20, 0x40, 0, 1, 1, 1, 0, 1, 0, 0xFF, 5, 0, 2, 0, 0xFF, 0, 1, 2, 3,
+    8, 0, 0, 0, 0xFF, 5, 0xC0, 0x20, 0x40, 0, 1, 1, 1, 0, 1, 0, 0xFF, 5, 0, 2, 0, 0xFF, 0, 1, 2, 3,
 ];
 
 // How many bytes the first answers have.

@@ -39,14 +39,14 @@ static SCRIPTS: [(&[u8], Ends); 4] = [
         b"FF00\r\n\n\r\nF600000000100000\n# F504\r\nF504\nevent 1 00\r\n\ndrain",
         Ends {
             result: Ok(5),
-            written: b"FF05802040000101\nFF\nFF00010203\nno channel\nnothing\n",
+            written: b"FF05C02040000101\nFF\nFF00010203\nno channel\nnothing\n",
         },
     ),
     (
         b"FF00\n\nF5 0\nFF00\n",
         Ends {
             result: Err(ReplayError::Line(3)),
-            written: b"FF05802040000101\n",
+            written: b"FF05C02040000101\n",
         },
     ),
     (
@@ -60,7 +60,7 @@ static SCRIPTS: [(&[u8], Ends); 4] = [
         b"FF00\r\nFF00\r",
         Ends {
             result: Err(ReplayError::Line(2)),
-            written: b"FF05802040000101\n",
+            written: b"FF05C02040000101\n",
         },
     ),
 ];
@@ -89,12 +89,12 @@ fn with_comment(alloc: Global, length: usize, end: &[u8]) -> Result<Vec<u8>, All
 
 const BOTH: Ends = Ends {
     result: Ok(2),
-    written: b"FF05802040000101\nFF05802040000101\n",
+    written: b"FF05C02040000101\nFF05C02040000101\n",
 };
 
 const FIRST: Ends = Ends {
     result: Err(ReplayError::Line(2)),
-    written: b"FF05802040000101\n",
+    written: b"FF05C02040000101\n",
 };
 
 /// Before its line feed a line has at most 1,024 bytes, or 1,025 with a carriage return.

@@ -24,9 +24,9 @@ fn segments(alloc: Global) -> Result<Vec<SegmentPart>, AllocError> {
     Ok(segments)
 }
 
-/// MAX_CTO 32 and MAX_DTO 64, segment 0 at 0x1000 with the bytes 00 to 0F, segment 1 at 0x2000 with
+/// Such a MAX_CTO, and MAX_DTO 64, segment 0 at 0x1000 with the bytes 00 to 0F, segment 1 at 0x2000 with
 /// 8 bytes AA, 8 bytes of signals at 0x8000, and one event channel.
-fn layout(alloc: Global) -> Result<Layout, Fail> {
+fn layout(alloc: Global, max_cto: i64) -> Result<Layout, Fail> {
     let event = EventPart {
         name: b"10ms".to_vec(alloc)?,
         cycle: 10,
@@ -35,7 +35,7 @@ fn layout(alloc: Global) -> Result<Layout, Fail> {
     };
     Ok(Layout::new(Parts {
         id: b"ECU1".to_vec(alloc)?,
-        max_cto: 32,
+        max_cto,
         max_dto: 64,
         checksum: 3,
         order: Order::Intel,
@@ -46,11 +46,18 @@ fn layout(alloc: Global) -> Result<Layout, Fail> {
     })?)
 }
 
-/// A desk over a slave of this layout.
+/// A desk over a slave of this layout, whose MAX_CTO is 32.
 pub(crate) fn desk(alloc: Global) -> Result<Desk, Fail>
     ensures { IfOk result (λ d. d.exchanges ≡ []) }
 {
-    let slave = Slave::new(alloc, layout(alloc)?)?;
+    desk_of(alloc, 32)
+}
+
+/// One with such a MAX_CTO.
+pub(crate) fn desk_of(alloc: Global, max_cto: i64) -> Result<Desk, Fail>
+    ensures { IfOk result (λ d. d.exchanges ≡ []) }
+{
+    let slave = Slave::new(alloc, layout(alloc, max_cto)?)?;
     Ok(Desk::new(alloc, slave))
 }
 

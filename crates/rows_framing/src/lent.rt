@@ -1,11 +1,11 @@
 //! Requests and packets that are lent to a station, and its answers as values.
-use crate::fakes::desk;
+use crate::fakes::desk_of;
 use crate::stations::Pending;
 use arrayvec::ArrayVec;
 use std::alloc::Global;
 use std::test::Fail;
 use xcp_framing::{Station, StationError, told_of};
-use xcp_packet::Packet;
+use xcp_packet::{Packet, Train, Width};
 use xcp_slave::{Answer, Request};
 
 /// These bytes, in place.
@@ -40,6 +40,8 @@ fn request(asks: Asks) -> Request {
 enum Gives {
     Silent,
     Packet(&'static [u8]),
+    /// Bytes, seven in each packet.
+    Block(&'static [u8]),
     Sampled(u8),
     Overrun,
     NoChannel,
@@ -50,10 +52,15 @@ enum Gives {
     Later,
 }
 
+fn block_of(bytes: &Packet) -> Answer {
+    Answer::Packets(Train::cut(bytes, Width::new(7)))
+}
+
 fn answer(gives: Gives) -> Answer {
     match gives {
         Gives::Silent => Answer::Silent,
-        Gives::Packet(packet) => Answer::Packet(bytes(packet)),
+        Gives::Packet(packet) => Answer::Packets(Train::one(bytes(packet))),
+        Gives::Block(block) => block_of(&bytes(block)),
         Gives::Sampled(count) => Answer::Sampled(count),
         Gives::Overrun => Answer::Overrun,
         Gives::NoChannel => Answer::NoChannel,
@@ -65,11 +72,14 @@ fn answer(gives: Gives) -> Answer {
     }
 }
 
-/// Answers of each kind, the shortest packet and one that is shorter than the one before it.
-static ANSWERS: [Gives; 13] = [
-    Gives::Packet(&[0xFF, 5, 0x80, 0x20, 0x40, 0, 1, 1]),
+/// Answers of each kind, the shortest packet and one that is shorter than the one before it, and bytes of
+/// which each packet has some, or one has all.
+static ANSWERS: [Gives; 15] = [
+    Gives::Packet(&[0xFF, 5, 0xC0, 0x20, 0x40, 0, 1, 1]),
     Gives::Silent,
     Gives::Packet(&[0xFF]),
+    Gives::Block(&[4, 5, 6, 7, 8, 9, 10, 11, 12]),
+    Gives::Block(&[4, 5, 6, 7, 8, 9, 10]),
     Gives::Sampled(0),
     Gives::Sampled(64),
     Gives::Overrun,
@@ -96,12 +106,12 @@ fn answers_are_laid_into_a_packet(rt: HostRuntime) {
     }
 }
 
-/// A script, and what the small slave answers to each of its requests.
-static SCRIPT: [(Asks, Gives); 14] = [
+/// A script, and what the small slave with MAX_CTO 8 answers to each of its requests.
+static SCRIPT: [(Asks, Gives); 15] = [
     (Asks::Command(&[0xFC]), Gives::Silent),
     (
         Asks::Command(&[0xFF, 0]),
-        Gives::Packet(&[0xFF, 5, 0x80, 0x20, 0x40, 0, 1, 1]),
+        Gives::Packet(&[0xFF, 5, 0xC0, 8, 0x40, 0, 1, 1]),
     ),
     (Asks::Drain, Gives::Nothing),
     (
@@ -112,6 +122,10 @@ static SCRIPT: [(Asks, Gives); 14] = [
         Asks::Command(&[0xF5, 4]),
         Gives::Packet(&[0xFF, 0, 1, 2, 3]),
     ),
+    (
+        Asks::Command(&[0xF5, 9]),
+        Gives::Block(&[4, 5, 6, 7, 8, 9, 10, 11, 12]),
+    ),
     (Asks::Command(&[0xFC]), Gives::Packet(&[0xFE, 0])),
     (Asks::Event(0, &[1, 2, 3, 4, 5, 6, 7, 8]), Gives::Sampled(0)),
     (Asks::Event(0, &[1, 2]), Gives::BadSignals),
@@ -121,7 +135,7 @@ static SCRIPT: [(Asks, Gives); 14] = [
     (Asks::Command(&[0xF5, 4]), Gives::Silent),
     (
         Asks::Command(&[0xFF, 0]),
-        Gives::Packet(&[0xFF, 5, 0x80, 0x20, 0x40, 0, 1, 1]),
+        Gives::Packet(&[0xFF, 5, 0xC0, 8, 0x40, 0, 1, 1]),
     ),
     (Asks::Hangup, Gives::Silent),
 ];
@@ -136,8 +150,8 @@ fn lent<S: Station>(station: &mut S, asks: Asks) -> Result<Answer, StationError>
 /// The first request of the script that isn't answered so by both of two desks, one of which is lent
 /// its requests, or that these don't store alike.
 fn first_wrong(alloc: Global) -> Result<Option<usize>, Fail> {
-    let mut lender = desk(alloc)?;
-    let mut giver = desk(alloc)?;
+    let mut lender = desk_of(alloc, 8)?;
+    let mut giver = desk_of(alloc, 8)?;
     for (number, (asks, gives)) in SCRIPT.iter().enumerate() {
         let by_lender = lent(&mut lender, *asks);
         let by_giver = giver.submit(request(*asks));
@@ -170,6 +184,7 @@ fn first_wrong_value(alloc: Global) -> (Option<usize>, usize) {
     let mut station = Pending {
         exchanges: Vec::new(alloc),
         packets: 1,
+        blocks: false,
     };
     for (number, (asks, gives)) in DRAINED.iter().enumerate() {
         if station.submit(request(*asks)) != Ok(answer(*gives)) {

@@ -59,18 +59,20 @@ fn events_are_put_in_order(rt: HostRuntime) -> Result<(), Fail> {
     Ok(())
 }
 
-/// Ten turns over so many packets and an end that hands one back: how it ended, how many were put,
-/// and how many Drains there were.
+/// Ten turns over a station that answers so many Drains with packets, and an end that hands one back:
+/// how it ended, how many were put, and how many Drains there were.
 fn pumped<R: Clock>(
     rt: &R,
     alloc: Global,
     packets: u32,
+    blocks: bool,
     good: u32,
     stopped: bool,
 ) -> (Result<u64, ServeError>, usize, usize) {
     let mut station = Pending {
         exchanges: Vec::new(alloc),
         packets,
+        blocks,
     };
     let mut data = shelf(alloc, good);
     let stop = AtomicBool::new(stopped);
@@ -79,18 +81,23 @@ fn pumped<R: Clock>(
 }
 
 /// Nothing is drained where nothing waits, what waits is put as far as the turns go, and a packet
-/// that is handed back ends the call.
+/// that is handed back ends the call, also in the middle of a block.
 #[test]
 fn turns(rt: HostRuntime) {
     let rows = [
-        (0, 1000, false, (Ok(0), 0, 0)),
-        (3, 1000, false, (Ok(3), 3, 3)),
-        (12, 1000, false, (Ok(10), 10, 10)),
-        (3, 1000, true, (Ok(0), 0, 0)),
-        (3, 2, false, (Err(ServeError::Write), 2, 3)),
+        (0, false, 1000, false, (Ok(0), 0, 0)),
+        (3, false, 1000, false, (Ok(3), 3, 3)),
+        (12, false, 1000, false, (Ok(10), 10, 10)),
+        (3, false, 1000, true, (Ok(0), 0, 0)),
+        (3, false, 2, false, (Err(ServeError::Write), 2, 3)),
+        (3, true, 1000, false, (Ok(9), 9, 3)),
+        (3, true, 3, false, (Err(ServeError::Write), 3, 2)),
+        (3, true, 4, false, (Err(ServeError::Write), 4, 2)),
+        (3, true, 5, false, (Err(ServeError::Write), 5, 2)),
     ];
-    for (packets, good, stopped, wanted) in rows {
-        assert_eq!(rt; pumped(&rt, rt.alloc(), packets, good, stopped), wanted);
+    for (packets, blocks, good, stopped, wanted) in rows {
+        let came = pumped(&rt, rt.alloc(), packets, blocks, good, stopped);
+        assert_eq!(rt; came, wanted);
     }
 }
 

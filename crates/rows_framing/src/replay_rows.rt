@@ -4,7 +4,7 @@ use xcp_framing::ReplayError;
 
 const SCRIPT: &[u8] = b"FF00\nF600000000100000\nF504\n";
 
-const ANSWERS: &[u8] = b"FF05802040000101\nFF\nFF00010203\n";
+const ANSWERS: &[u8] = b"FF05C02040000101\nFF\nFF00010203\n";
 
 /// A script, the streams it runs over, and what is wanted of it.
 #[derive(Drop)]
@@ -47,7 +47,7 @@ pub static ROWS: [(&str, Row); 11] = [
         Row {
             script: b"# start\n\nFF00\nFG",
             result: Err(ReplayError::Line(4)),
-            written: b"FF05802040000101\n",
+            written: b"FF05C02040000101\n",
             ..GOOD
         },
     ),
@@ -56,7 +56,7 @@ pub static ROWS: [(&str, Row); 11] = [
         Row {
             script: b"FF00\r\nhangup\r\nevent 1 00\nevent 0 00\ndrain\nstore",
             result: Ok(6),
-            written: b"FF05802040000101\n-\nno channel\nbad signals\nnothing\nno store\n",
+            written: b"FF05C02040000101\n-\nno channel\nbad signals\nnothing\nno store\n",
             ..GOOD
         },
     ),
@@ -65,7 +65,7 @@ pub static ROWS: [(&str, Row); 11] = [
         Row {
             script: b"FF00\r\nFF00\r",
             result: Err(ReplayError::Line(2)),
-            written: b"FF05802040000101\n",
+            written: b"FF05C02040000101\n",
             ..GOOD
         },
     ),
@@ -84,7 +84,7 @@ pub static ROWS: [(&str, Row); 11] = [
             most: 5,
             good_reads: 2,
             result: Err(ReplayError::Read),
-            written: b"FF05802040000101\n",
+            written: b"FF05C02040000101\n",
             ..GOOD
         },
     ),
@@ -94,7 +94,7 @@ pub static ROWS: [(&str, Row); 11] = [
             most: 5,
             turns: 2,
             result: Err(ReplayError::Read),
-            written: b"FF05802040000101\n",
+            written: b"FF05C02040000101\n",
             ..GOOD
         },
     ),
@@ -103,7 +103,7 @@ pub static ROWS: [(&str, Row); 11] = [
         Row {
             room: 18,
             result: Err(ReplayError::Write),
-            written: b"FF05802040000101\nF",
+            written: b"FF05C02040000101\nF",
             ..GOOD
         },
     ),

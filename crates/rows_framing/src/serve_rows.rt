@@ -6,11 +6,12 @@ use xcp_framing::{ServeError, Served};
 pub const CONNECT: &[u8] = &[0, 0, 7, 0, 2, 0, 8, 0, 0xFF, 0];
 
 /// The answer to CONNECT, in its frame.
-pub const CONNECTED: &[u8] = &[8, 0, 0, 0, 0xFF, 5, 0x80, 0x20, 0x40, 0, 1, 1];
+pub const CONNECTED: &[u8] = &[8, 0, 0, 0, 0xFF, 5, 0xC0, 0x20, 0x40, 0, 1, 1];
 
 /// A stream, what it runs over, and what is wanted of it.
-#[derive(Drop)]
+#[derive(Clone, Copy)]
 pub struct Row<'a> {
+    pub max_cto: u8,
     pub stream: &'a [u8],
     pub most: usize,
     pub good_reads: usize,
@@ -22,6 +23,7 @@ pub struct Row<'a> {
 }
 
 pub const GOOD: Row = Row {
+    max_cto: 32,
     stream: CONNECT,
     most: 512,
     good_reads: 1000,
@@ -32,9 +34,31 @@ pub const GOOD: Row = Row {
     written: CONNECTED,
 };
 
-pub static ROWS: [(&str, Row); 11] = [
+/// CONNECT, SET_MTA, an UPLOAD of 16 bytes, which seven to a packet are three packets, and one that is
+/// refused behind it.
+pub const BLOCK: Row = Row {
+    max_cto: 8,
+    stream: &[
+        2, 0, 0, 0, 0xFF, 0, 8, 0, 1, 0, 0xF6, 0, 0, 0, 0, 0x10, 0, 0, 2, 0, 2, 0, 0xF5, 16, 2, 0,
+        3, 0, 0xF5, 1,
+    ],
+    result: Ok(Served { frames: 4, sent: 6 }),
+    written: &[
+        8, 0, 0, 0, 0xFF, 5, 0xC0, 8, 0x40, 0, 1, 1, // the answer to CONNECT
+        1, 0, 1, 0, 0xFF, // that to SET_MTA
+        8, 0, 2, 0, 0xFF, 0, 1, 2, 3, 4, 5, 6, // the block
+        8, 0, 3, 0, 0xFF, 7, 8, 9, 10, 11, 12, 13, //
+        3, 0, 4, 0, 0xFF, 14, 15, //
+        2, 0, 5, 0, 0xFE, 0x24, // the refusal
+    ],
+    ..GOOD
+};
+
+pub static ROWS: [(&str, Row); 13] = [
     ("the worked row", GOOD),
     ("byte by byte", Row { most: 1, ..GOOD }),
+    ("a block", BLOCK),
+    ("a block, byte by byte", Row { most: 1, ..BLOCK }),
     (
         "a LEN above MAX_CTO behind it",
         Row {
@@ -94,7 +118,7 @@ pub static ROWS: [(&str, Row); 11] = [
             stream: &[1, 0, 0, 0, 0xFC, 2, 0, 0, 0, 0xFF, 0, 1, 0, 9, 9, 0xFC],
             result: Ok(Served { frames: 3, sent: 2 }),
             written: &[
-                8, 0, 0, 0, 0xFF, 5, 0x80, 0x20, 0x40, 0, 1, 1, 2, 0, 1, 0, 0xFE, 0,
+                8, 0, 0, 0, 0xFF, 5, 0xC0, 0x20, 0x40, 0, 1, 1, 2, 0, 1, 0, 0xFE, 0,
             ],
             ..GOOD
         },

@@ -1,8 +1,8 @@
 //! Streams that are served.
 ghost use Rattle.std.specs.Prelude.{◌≢◌, IfOk};
 
-use crate::fakes::{Narrow, Pieces, desk};
-use crate::serve_rows::{CONNECT, CONNECTED, GOOD, ROWS, Row};
+use crate::fakes::{Narrow, Pieces, desk, desk_of};
+use crate::serve_rows::{BLOCK, CONNECT, CONNECTED, GOOD, ROWS, Row};
 use crate::stations::{Pending, Refusing};
 use std::alloc::{AllocError, Global};
 use std::io::Read;
@@ -13,7 +13,7 @@ use xcp_framing::{ServeError, Served, StationError, Watched, a_desk_is_never_ful
 fn run(alloc: Global, row: &Row) -> Result<(Result<Served, ServeError>, Vec<u8>), Fail>
     ensures { IfOk result (λ served. served.0 ≢ Err ServeError.JournalFull) }
 {
-    let mut desk = desk(alloc)?;
+    let mut desk = desk_of(alloc, i64::from(row.max_cto))?;
     let mut reader = Watched::new(Pieces {
         text: row.stream,
         most: row.most,
@@ -24,7 +24,14 @@ fn run(alloc: Global, row: &Row) -> Result<(Result<Served, ServeError>, Vec<u8>)
         room: row.room,
         full: row.full,
     });
-    let result = serve(alloc, &mut reader, &mut writer, &mut desk, 32, row.turns);
+    let result = serve(
+        alloc,
+        &mut reader,
+        &mut writer,
+        &mut desk,
+        row.max_cto,
+        row.turns,
+    );
     Ok((result, writer.into_inner().bytes))
 }
 
@@ -42,21 +49,30 @@ fn streams(rt: HostRuntime) -> Result<(), Fail> {
     Ok(())
 }
 
-/// Whether CONNECT in two pieces, cut at this place, is answered as in one.
-fn is_cut(alloc: Global, cut: usize) -> Result<bool, Fail> {
-    let mut desk = desk(alloc)?;
-    let (front, rest) = CONNECT.split_at(cut.min(CONNECT.len()));
+/// Whether a row's stream in two pieces, cut at this place, is answered as in one.
+fn is_cut(alloc: Global, row: &Row, cut: usize) -> Result<bool, Fail> {
+    let mut desk = desk_of(alloc, i64::from(row.max_cto))?;
+    let (front, rest) = row.stream.split_at(cut.min(row.stream.len()));
     let mut reader = Watched::new(front.chain(rest));
     let mut writer = Watched::new(Vec::new(alloc));
-    let result = serve(alloc, &mut reader, &mut writer, &mut desk, 32, 1000);
-    Ok(result == GOOD.result && writer.into_inner().as_slice() == CONNECTED)
+    let result = serve(
+        alloc,
+        &mut reader,
+        &mut writer,
+        &mut desk,
+        row.max_cto,
+        1000,
+    );
+    Ok(result == row.result && writer.into_inner().as_slice() == row.written)
 }
 
 /// In two pieces, cut at each place.
 #[test]
 fn cuts(rt: HostRuntime) -> Result<(), Fail> {
-    for cut in 0..=CONNECT.len() {
-        assert!(rt; is_cut(rt.alloc(), cut)?, "{cut}");
+    for row in [GOOD, BLOCK] {
+        for cut in 0..=row.stream.len() {
+            assert!(rt; is_cut(rt.alloc(), &row, cut)?, "{cut}");
+        }
     }
     Ok(())
 }
@@ -78,13 +94,13 @@ fn fails_to_read(alloc: Global, good: usize) -> Result<bool, Fail> {
     holds(alloc, &row)
 }
 
-/// A writer that fails behind so many bytes.
-fn fails_to_write(alloc: Global, room: usize) -> Result<bool, Fail> {
+/// A row's stream over a writer that fails behind so many bytes: these are written.
+fn fails_to_write(alloc: Global, row: &Row, room: usize) -> Result<bool, Fail> {
     let row = Row {
         room,
         result: Err(ServeError::Write),
-        written: &CONNECTED[..room.min(CONNECTED.len())],
-        ..GOOD
+        written: &row.written[..room.min(row.written.len())],
+        ..*row
     };
     holds(alloc, &row)
 }
@@ -94,8 +110,10 @@ fn faults_in_mid_stream(rt: HostRuntime) -> Result<(), Fail> {
     for good in 0..=CONNECT.len() {
         assert!(rt; fails_to_read(rt.alloc(), good)?, "{good}");
     }
-    for room in 0..CONNECTED.len() {
-        assert!(rt; fails_to_write(rt.alloc(), room)?, "{room}");
+    for row in [GOOD, BLOCK] {
+        for room in 0..row.written.len() {
+            assert!(rt; fails_to_write(rt.alloc(), &row, room)?, "{room}");
+        }
     }
     Ok(())
 }
@@ -133,11 +151,12 @@ fn refusals(rt: HostRuntime) -> Result<(), Fail> {
     Ok(())
 }
 
-/// What is served of two commands where so many packets are pending, and how many exchanges it takes.
-fn drained(alloc: Global, packets: u32) -> (Result<Served, ServeError>, usize) {
+/// What is served of two commands where so many Drains give packets, and how many exchanges it takes.
+fn drained(alloc: Global, packets: u32, blocks: bool) -> (Result<Served, ServeError>, usize) {
     let mut station = Pending {
         exchanges: Vec::new(alloc),
         packets,
+        blocks,
     };
     let mut reader = Watched::new(&[1, 0, 0, 0, 0xFC, 1, 0, 0, 0, 0xFC][..]);
     let mut writer = Watched::new(Vec::new(alloc));
@@ -149,15 +168,17 @@ fn drained(alloc: Global, packets: u32) -> (Result<Served, ServeError>, usize) {
 #[test]
 fn drains(rt: HostRuntime) -> Result<(), Fail> {
     let rows = [
-        (0, 4, 0),
-        (63, 67, 63),
-        (64, 67, 64),
-        (70, 73, 70),
-        (200, 130, 128),
+        (0, false, 4, 0),
+        (63, false, 67, 63),
+        (64, false, 67, 64),
+        (70, false, 73, 70),
+        (200, false, 130, 128),
+        (2, true, 6, 6),
+        (70, true, 73, 210),
     ];
-    for (packets, exchanges, sent) in rows {
+    for (packets, blocks, exchanges, sent) in rows {
         let wanted = (Ok(Served { frames: 2, sent }), exchanges);
-        assert!(rt; drained(rt.alloc(), packets) == wanted, "{packets}");
+        assert!(rt; drained(rt.alloc(), packets, blocks) == wanted, "{packets}");
     }
     Ok(())
 }

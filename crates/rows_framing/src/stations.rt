@@ -5,7 +5,7 @@ ghost use Rattle.xcp_framing.specs.declared.station.StationError.TheVariants as 
 
 use std::marker::Model;
 use xcp_framing::{Desk, Station, StationError, told_of};
-use xcp_packet::Packet;
+use xcp_packet::{Packet, Train, Width};
 use xcp_slave::{Answer, Exchange, Request, Told};
 
 /// A desk that takes so many requests, and then refuses all with one error: a full journal is told
@@ -40,11 +40,13 @@ impl Station for Refusing {
     }
 }
 
-/// Has nothing for a command, and so many packets of one byte for Drains.
+/// Has nothing for a command, and answers so many Drains with packets: each with one of one byte, or
+/// with a block of three.
 #[derive(Drop)]
 pub struct Pending {
     pub exchanges: Vec<Exchange>,
     pub packets: u32,
+    pub blocks: bool,
 }
 
 impl Model for Pending {
@@ -67,11 +69,11 @@ impl Station for Pending {
             return Err(StationError::Memory);
         }
         let answer = match request {
-            Request::Drain if self.packets > 0 => Answer::Packet(one_byte()),
+            Request::Drain if self.packets > 0 => Answer::Packets(train(self.blocks)),
             Request::Drain => Answer::Nothing,
             _ => Answer::Silent,
         };
-        if let Answer::Packet(_) = &answer {
+        if let Answer::Packets(_) = &answer {
             self.packets -= 1;
         }
         let told = told_of(&answer, packet);
@@ -87,8 +89,14 @@ impl Station for Pending {
     }
 }
 
-fn one_byte() -> Packet {
+fn train(block: bool) -> Train {
+    if block {
+        return Train::cut(
+            &[1, 2, 3, 4, 5, 6, 7, 8, 9, 10, 11, 12, 13, 14, 15],
+            Width::new(7),
+        );
+    }
     let mut packet = Packet::new();
     let _ = packet.try_push(0xFD);
-    packet
+    Train::one(packet)
 }

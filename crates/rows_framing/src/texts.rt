@@ -2,13 +2,14 @@
 use std::alloc::{AllocError, Global};
 use std::test::Fail;
 use xcp_framing::push_text;
-use xcp_packet::Packet;
+use xcp_packet::{Packet, Width};
 use xcp_slave::Told;
 
-/// Whether an answer has this text, where its packet is FF 0A B0 01 if it is one.
+/// Whether an answer has this text, where FF 0A B0 01 05 06 07 08 are its packet if it is one, and its
+/// bytes if it is a block.
 fn is_told(alloc: Global, told: Told, wanted: &[u8]) -> Result<bool, AllocError> {
     let mut packet = Packet::new();
-    let _ = packet.try_extend_from_slice(&[0xFF, 0x0A, 0xB0, 0x01]);
+    let _ = packet.try_extend_from_slice(&[0xFF, 0x0A, 0xB0, 1, 5, 6, 7, 8]);
     let mut texts = Vec::new(alloc);
     push_text(&mut texts, told, &packet)?;
     Ok(texts.as_slice() == wanted)
@@ -18,7 +19,9 @@ fn is_told(alloc: Global, told: Told, wanted: &[u8]) -> Result<bool, AllocError>
 fn texts_of_answers(rt: HostRuntime) -> Result<(), Fail> {
     let rows = [
         (Told::Silent, &b"-\n"[..]),
-        (Told::Packet, &b"FF0AB001\n"[..]),
+        (Told::Packet, &b"FF0AB00105060708\n"[..]),
+        (Told::Block(Width::new(7)), &b"FFFF0AB001050607 FF08\n"[..]),
+        (Told::Block(Width::new(8)), &b"FFFF0AB00105060708\n"[..]),
         (Told::Sampled(0), &b"sampled 0\n"[..]),
         (Told::Sampled(64), &b"sampled 64\n"[..]),
         (Told::Sampled(205), &b"sampled 205\n"[..]),

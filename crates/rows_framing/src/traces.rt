@@ -3,7 +3,7 @@
 use arrayvec::ArrayVec;
 use std::alloc::{AllocError, Global};
 use std::test::Fail;
-use xcp_packet::Packet;
+use xcp_packet::{Packet, Train, Width};
 use xcp_slave::{Answer, Exchange, Request};
 use xcp_trace::{Entry, Journal, Tape, Trace, what_is_written_is_read_again};
 
@@ -15,11 +15,15 @@ fn bytes<const N: usize>(bytes: &[u8]) -> ArrayVec<u8, N> {
 }
 
 /// Each answer, and the requests in turn; the longest packets, and the least and the greatest numbers.
-fn exchanges() -> [(Request, Answer); 12] {
+fn exchanges() -> [(Request, Answer); 13] {
     [
         (
             Request::Command(bytes(&[0xF5; 255])),
-            Answer::Packet(bytes(&[0xFF; 255])),
+            Answer::Packets(Train::one(bytes(&[0xFF; 255]))),
+        ),
+        (
+            Request::Command(bytes(&[0xF5, 255])),
+            Answer::Packets(Train::cut(&[0xAB; 255], Width::new(7))),
         ),
         (Request::Command(bytes(&[0xFD, 0])), Answer::Silent),
         (Request::Event(0xABCD, bytes(&[9; 64])), Answer::Sampled(64)),
@@ -27,7 +31,10 @@ fn exchanges() -> [(Request, Answer); 12] {
         (Request::Event(65_535, bytes(&[])), Answer::BadSignals),
         (Request::Event(256, bytes(&[1, 2])), Answer::NoChannel),
         (Request::Event(255, bytes(&[1, 2])), Answer::Overrun),
-        (Request::Drain, Answer::Packet(bytes(&[0, 1, 2]))),
+        (
+            Request::Drain,
+            Answer::Packets(Train::one(bytes(&[0, 1, 2]))),
+        ),
         (Request::Drain, Answer::Nothing),
         (Request::FinishStore, Answer::Stored(4)),
         (Request::FinishStore, Answer::NoStore),
@@ -43,7 +50,7 @@ fn is_traced(alloc: Global) -> Result<bool, AllocError> {
         trace.push(request, answer);
     }
     let mut left = trace.exchanges();
-    let mut same = trace.len() == 12 && trace.get(12).is_none();
+    let mut same = trace.len() == 13 && trace.get(13).is_none();
     for (index, (request, answer)) in exchanges().into_iter().enumerate() {
         let wanted = Some(Exchange { request, answer });
         same = same && left.next() == wanted && trace.get(index) == wanted;
@@ -63,13 +70,13 @@ fn is_entered(alloc: Global) -> Result<bool, AllocError> {
     let mut journal = Journal::new(alloc);
     for (index, (request, answer)) in exchanges().iter().enumerate() {
         journal.reserve()?;
-        journal.push(244 + index as u8, request, answer);
+        journal.push(243 + index as u8, request, answer);
     }
     let mut left = journal.entries();
-    let mut same = journal.len() == 12 && journal.get(12).is_none();
+    let mut same = journal.len() == 13 && journal.get(13).is_none();
     for (index, (request, answer)) in exchanges().into_iter().enumerate() {
         let wanted = Some(Entry {
-            caller: 244 + index as u8,
+            caller: 243 + index as u8,
             exchange: Exchange { request, answer },
         });
         same = same && left.next() == wanted && journal.get(index) == wanted;

@@ -2,6 +2,7 @@
 
 use arrayvec::ArrayVec;
 use xcp_locked::{Caller, Locked, Name};
+use xcp_packet::Train;
 use xcp_slave::{Answer, Request};
 
 // Whether the slave answers the command, and not by an error.
@@ -18,7 +19,16 @@ pub fn asks<N: Name>(locked: &mut Locked<N>, caller: &mut Caller<N>, command: &[
 
 fn is_positive(answer: &Answer) -> bool {
     match answer {
-        Answer::Packet(packet) => packet.first() == Some(&0xFF),
+        Answer::Packets(train) => are_positive(train),
         _ => false,
     }
+}
+
+fn are_positive(train: &Train) -> bool {
+    for i in 0..train.count() {
+        if train.at(i).first() != Some(&0xFF) {
+            return false;
+        }
+    }
+    true
 }

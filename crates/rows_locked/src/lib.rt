@@ -4,6 +4,8 @@
 #[cfg(test)]
 mod asking;
 #[cfg(test)]
+mod blocks;
+#[cfg(test)]
 mod crossings;
 #[cfg(test)]
 mod crowds;

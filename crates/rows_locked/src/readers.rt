@@ -6,7 +6,7 @@ use std::test::Fail;
 
 const PUBLISHED: &str = "reader 0 acquires > newer
 reader 0 settles > 0 from 0
-FF 00 > FF 05 80 20 40 00 01 01
+FF 00 > FF 05 C0 20 40 00 01 01
 EB 02 00 01 > FF
 F6 00 00 00 00 10 00 00 > FF
 F0 02 AB CD > FF
@@ -31,7 +31,7 @@ fn readers_hold_what_was_published(rt: HostRuntime) -> Result<(), Fail> {
 
 // The tool's own page isn't published; the controller's is, as often as it is another one.
 const SWITCHED: &str = "reader 0 acquires > newer
-FF 00 > FF 05 80 20 40 00 01 01
+FF 00 > FF 05 C0 20 40 00 01 01
 EB 02 00 01 > FF
 ED 02 00 00 00 10 00 00 AB CD > FF
 reader 0 acquires > same
@@ -57,7 +57,7 @@ fn page_switch_is_published_once(rt: HostRuntime) -> Result<(), Fail> {
 }
 
 // Nothing is published by a call behind which the image is the same.
-const CHANGED: &str = "FF 00 > FF 05 80 20 40 00 01 01
+const CHANGED: &str = "FF 00 > FF 05 C0 20 40 00 01 01
 EB 03 00 01 > FF
 ED 02 00 00 00 10 00 00 AB CD > FF
 reader 0 acquires > newer
@@ -80,7 +80,7 @@ fn only_changes_are_published(rt: HostRuntime) -> Result<(), Fail> {
 }
 
 // Each holds its own, while more is published than there are buffers.
-const SIX: &str = "FF 00 > FF 05 80 20 40 00 01 01
+const SIX: &str = "FF 00 > FF 05 C0 20 40 00 01 01
 EB 03 00 01 > FF
 reader 0 acquires > newer
 ED 04 00 00 00 10 00 00 11 11 11 11 > FF
@@ -120,7 +120,7 @@ fn six_readers_hold_six_images(rt: HostRuntime) -> Result<(), Fail> {
 
 // Being told changes nothing that a reader holds; where it holds nothing, it settles to nothing.
 const TOLD: &str = "reader 2 acquires > newer
-FF 00 > FF 05 80 20 40 00 01 01
+FF 00 > FF 05 C0 20 40 00 01 01
 EB 03 00 01 > FF
 ED 02 00 00 00 10 00 00 AB CD > FF
 reader 2 is told > -
@@ -144,7 +144,7 @@ fn told_reader_keeps_its_image(rt: HostRuntime) -> Result<(), Fail> {
 // by those alone that still have it; what isn't published changes nothing.
 const HELD: &str = "held > 0
 reader 0 acquires > newer
-FF 00 > FF 05 80 20 40 00 01 01
+FF 00 > FF 05 C0 20 40 00 01 01
 EB 03 00 01 > FF
 held > 0
 ED 01 00 00 00 10 00 00 11 > FF

@@ -11,6 +11,7 @@ use std::alloc::Global;
 use std::marker::Brand;
 use std::test::Fail;
 use xcp_locked::{Caller, Locked, Name, Opening, Reader, Settled, Taken, Unnamed};
+use xcp_packet::Train;
 use xcp_slave::{Answer, Request};
 
 type Row = (&'static str, &'static str);
@@ -37,7 +38,7 @@ fn answer(text: &str) -> Option<Answer> {
     match text {
         "nothing" => Some(Answer::Nothing),
         "no store" => Some(Answer::NoStore),
-        _ => Some(Answer::Packet(bytes(text)?)),
+        _ => Some(Answer::Packets(Train::one(bytes(text)?))),
     }
 }
 

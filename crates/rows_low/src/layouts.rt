@@ -44,30 +44,39 @@ fn segment(
     })
 }
 
-fn event(alloc: Global) -> Result<EventPart, AllocError> {
-    Ok(EventPart {
+/// A segment at 0x1000, and one of two pages at 0x2000.
+fn segments(alloc: Global, kind: Kind) -> Result<Vec<SegmentPart>, AllocError> {
+    let mut segments = Vec::new(alloc);
+    segments.push(segment(alloc, 0x1000, kind.first, kind.pages)?)?;
+    segments.push(segment(alloc, 0x2000, kind.second, 2)?)?;
+    Ok(segments)
+}
+
+/// The event channel `10ms`.
+fn events(alloc: Global) -> Result<Vec<EventPart>, AllocError> {
+    let mut events = Vec::new(alloc);
+    events.push(EventPart {
         name: b"10ms".to_vec(alloc)?,
         cycle: 10,
         unit: 6,
         priority: 0,
-    })
+    })?;
+    Ok(events)
 }
 
 /// The identification `ECU1`, a segment at 0x1000, one of two pages at 0x2000, 8 bytes of signals at 0x8000, and
 /// the event channel `10ms`.
 pub(crate) fn layout(alloc: Global, kind: Kind) -> Result<Layout, Fail> {
-    let first = segment(alloc, 0x1000, kind.first, kind.pages)?;
-    let second = segment(alloc, 0x2000, kind.second, 2)?;
     Ok(Layout::new(Parts {
         id: b"ECU1".to_vec(alloc)?,
         max_cto: kind.max_cto,
         max_dto: kind.max_dto,
         checksum: kind.checksum,
         order: kind.order,
-        segments: Vec::from_array(alloc, [first, second])?,
+        segments: segments(alloc, kind)?,
         signals_address: 0x8000,
         signals_length: 8,
-        events: Vec::from_array(alloc, [event(alloc)?])?,
+        events: events(alloc)?,
     })?)
 }
 

@@ -26,6 +26,8 @@ mod packet_commands;
 #[cfg(test)]
 mod packet_replies;
 #[cfg(test)]
+mod packet_trains;
+#[cfg(test)]
 mod page_rows;
 #[cfg(test)]
 mod page_tests;

@@ -19,14 +19,14 @@ fn session_and_transfers(rt: HostRuntime) {
     let mut data = Data::new();
     let _ = data.try_extend_from_slice(&[1, 2, 3]);
     let connect = Reply::Connect {
-        basic: 0x80,
+        basic: 0xC0,
         max_cto: 32,
         max_dto: 64,
     };
     let sum = Reply::Checksum { kind: 3, sum: 0x78 };
     let rows = [
         (Reply::Done, &[0xFF][..]),
-        (connect, &[0xFF, 5, 0x80, 0x20, 0x40, 0, 1, 1][..]),
+        (connect, &[0xFF, 5, 0xC0, 0x20, 0x40, 0, 1, 1][..]),
         (Reply::Status(1), &[0xFF, 1, 0, 0, 0, 0][..]),
         (Reply::CommMode, &[0xFF, 0, 1, 0, 8, 0, 0, 0x10][..]),
         (Reply::Id(4), &[0xFF, 0, 0, 0, 4, 0, 0, 0][..]),

@@ -30,11 +30,14 @@ fn holds_at(alloc: Global, mta: Mta, row: &str) -> Result<bool, Fail> {
     Ok(set && wrong.is_none() && transfer.mta() == mta)
 }
 
-static ROWS: [(Mta, &str); 28] = [
+static ROWS: [(Mta, &str); 31] = [
     (Mta::Nowhere, "F0 00 > FE 22"),
     (Mta::Nowhere, "F0 02 55 > FE 21"),
     (Mta::Nowhere, "F0 01 55 > FE 24"),
-    (Mta::Nowhere, "F5 20 > FE 22"),
+    (Mta::Nowhere, "F5 00 > FE 22"),
+    (Mta::Nowhere, "F5 20 > FE 24"),
+    (Mta::Memory(0x1000), "F5 11 > FE 24"),
+    (Mta::Memory(0x1000), "F5 FF > FE 24"),
     (Mta::Nowhere, "F3 00 00 00 00 00 00 00 > FE 22"),
     (Mta::Nowhere, "F3 00 00 00 01 00 00 00 > FE 24"),
     (Mta::Nowhere, "EC 20 00 00 00 00 > FE 22"),

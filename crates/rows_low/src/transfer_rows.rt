@@ -4,7 +4,7 @@ use crate::layouts::{Kind, USUAL, pages};
 use crate::rows::{Subject, packet};
 use std::alloc::Global;
 use std::test::Fail;
-use xcp_packet::{Command, Fault, Packet, Sent, decode, write_fault};
+use xcp_packet::{Command, Fault, Packet, Sent, Width, decode, write_fault};
 use xcp_transfer::{Mta, Transfer};
 
 /// Transfers with such a MAX_CTO.
@@ -82,18 +82,39 @@ fn execute(transfer: &mut Transfer, command: &Command, packet: &mut Packet) -> O
     }
 }
 
-/// What is sent for a command packet: no bytes where nothing is sent.
+/// The width of a block, and its bytes.
+fn block(width: Width, bytes: &Packet) -> Option<Packet> {
+    let mut block = Packet::new();
+    block.try_push(width.bytes()).ok()?;
+    block.try_extend_from_slice(bytes).ok()?;
+    Some(block)
+}
+
+/// What is sent where this is the packet that was lent.
+fn laid(sent: Sent, packet: Packet) -> Option<Packet> {
+    match sent {
+        Sent::Lent => Some(packet),
+        Sent::Block(width) => block(width, &packet),
+        Sent::Nothing => Some(Packet::new()),
+    }
+}
+
+/// What is sent for a command packet: no bytes where nothing is sent, and of a block its width and its
+/// bytes.
 pub(crate) fn sent(transfer: &mut Transfer, bytes: &Packet) -> Option<Packet> {
     let order = transfer.pages().layout().order();
     let command = decode(bytes, order).ok()?;
     let mut packet = told(&[1, 2, 3]);
-    match execute(transfer, &command, &mut packet) {
-        None => return execute_on_pages(transfer, command),
-        Some(Ok(Sent::Lent)) => {}
-        Some(Ok(Sent::Nothing)) => packet.clear(),
-        Some(Err(fault)) => write_fault(&mut packet, fault, order),
+    let Some(outcome) = execute(transfer, &command, &mut packet) else {
+        return execute_on_pages(transfer, command);
+    };
+    match outcome {
+        Ok(sent) => laid(sent, packet),
+        Err(fault) => {
+            write_fault(&mut packet, fault, order);
+            Some(packet)
+        }
     }
-    Some(packet)
 }
 
 fn signals(transfer: &mut Transfer, bytes: &Packet) -> Option<Packet> {

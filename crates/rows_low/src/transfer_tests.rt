@@ -81,6 +81,31 @@ fn worked_rows(rt: HostRuntime) -> Result<(), Fail> {
     Ok(())
 }
 
+/// Uploads with MAX_CTO 8: seven bytes in a packet, and more as a block.
+#[test]
+fn uploads_of_blocks(rt: HostRuntime) -> Result<(), Fail> {
+    let rows = "
+        F6 00 00 00 00 10 00 00 > FF
+        F5 07 > FF 00 01 02 03 04 05 06
+        F5 09 > 07 07 08 09 0A 0B 0C 0D 0E 0F
+        F5 01 > FE 24
+        # SHORT_UPLOAD keeps to one packet.
+        F6 00 00 00 00 10 00 00 > FF
+        F5 10 > 07 00 01 02 03 04 05 06 07 08 09 0A 0B 0C 0D 0E 0F
+        F4 08 00 00 00 10 00 00 > FE 22
+        F4 07 00 00 00 10 00 00 > FF 00 01 02 03 04 05 06
+        F5 08 > 07 07 08 09 0A 0B 0C 0D 0E
+        # An upload gives a download in blocks up.
+        EB 02 00 01 > FF
+        F6 00 00 00 00 10 00 00 > FF
+        F0 08 01 02 03 04 05 06 > -
+        F5 08 > 07 00 01 02 03 04 05 06 07
+        EF 02 07 08 > FE 29 00
+    ";
+    assert_eq!(rt; first_wrong_of(rt.alloc(), 8, rows)?, None);
+    Ok(())
+}
+
 /// Blocks with MAX_CTO 8: six bytes in a packet.
 #[test]
 fn blocks(rt: HostRuntime) -> Result<(), Fail> {

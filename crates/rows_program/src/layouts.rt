@@ -53,15 +53,27 @@ byte_order = "intel"
 # is given), words into two (ADD_22) or four (ADD_24), double words into four (ADD_44).
 checksum = "ADD_12"
 
-# Segment 0: ignition angles in half degrees, four loads by eight speeds.
+# Segment 0: ignition angles in half degrees, sixteen loads by eight speeds.
 # Long data goes over several lines between three quotes; a backslash takes away the line's end and the blanks behind it.
 # Optional: how many pages there are, 2 (where none is given) to 4; page 0 is the reference page, the others are working pages.
 [[segment]]
 address = 0x0008_0000
 data = """\
     1416181A1C1E2022\
+    1416181A1B1D1F21\
+    131517191A1C1E20\
+    131517191A1C1E20\
+    12141618191B1D1F\
     12141618181A1C1E\
+    1214161717191B1D\
+    1113151616181A1C\
+    1113151616181A1A\
+    1012141515171919\
     1012141414161818\
+    0F11131313151717\
+    0E10121212141616\
+    0E10121212141616\
+    0D0F111111131515\
     0C0E101010121414"""
 pages = 3
 

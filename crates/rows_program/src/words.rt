@@ -247,10 +247,7 @@ fn the_words_of_the_command_line(rt: HostRuntime) -> Result<(), Fail> {
         (&b"xcpd|replay|--config=a b.toml"[..], "a b.toml"),
         (&b"xcpd|--help"[..], PROGRAM_HELP),
         (&b"xcpd|replay|--help"[..], REPLAY_HELP),
-        (
-            &b"xcpd|--version"[..],
-            "0 xcpd 0.1.0, proved with rattle-kit-13f\n",
-        ),
+        (&b"xcpd|--version"[..], "0 xcpd 0.1.0\n"),
         (
             &b"xcpd|replay|--config|Steuerger\xE4t.toml"[..],
             "1 xcpd: a word is no UTF-8\n",

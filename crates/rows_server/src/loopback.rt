@@ -54,7 +54,7 @@ fn a_tool_connects_over_tcp(rt: HostRuntime) -> Result<(), Fail> {
         move || -> Option<Vec<u8>> { ask(threads, alloc, port, &[2, 0, 0, 0, 0xff, 0], 12) },
         move || -> Option<Report> { serve_one(threads, alloc, slave) },
     );
-    let wanted: [u8; 12] = [8, 0, 0, 0, 0xff, 5, 0x80, 0x20, 0x40, 0, 1, 1];
+    let wanted: [u8; 12] = [8, 0, 0, 0, 0xff, 5, 0xC0, 0x20, 0x40, 0, 1, 1];
     let got = got.ok_or("a reply")?;
     assert!(rt; got.as_slice() == wanted.as_slice());
     assert_eq!(rt;

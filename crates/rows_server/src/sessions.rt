@@ -20,8 +20,8 @@ pub type Row = (&'static str, &'static str);
 
 // The session that `docs/CONNECT.md` walks through. Behind the answer to START_STOP_DAQ_LIST come the data
 // packets of three cycles, for which the tool asks nothing.
-const SESSION: [Row; 17] = [
-    ("02 00 00 00 FF 00", "08 00 00 00 FF 05 80 40 80 00 01 01"),
+const SESSION: [Row; 19] = [
+    ("02 00 00 00 FF 00", "08 00 00 00 FF 05 C0 40 80 00 01 01"),
     ("04 00 01 00 EB 02 00 01", "01 00 01 00 FF"),
     ("08 00 02 00 F6 00 00 00 00 00 08 00", "01 00 02 00 FF"),
     ("06 00 03 00 F0 04 22 24 26 28", "01 00 03 00 FF"),
@@ -42,8 +42,14 @@ const SESSION: [Row; 17] = [
          07 00 10 00 00 02 02 02 02 E8 03",
     ),
     ("01 00 0E 00 FD", "06 00 11 00 FF 40 00 00 00 00"),
-    ("04 00 0F 00 DE 00 00 00", "02 00 12 00 FF 00"),
-    ("01 00 10 00 FE", "01 00 13 00 FF"),
+    ("08 00 0F 00 F6 00 00 00 00 00 08 00", "01 00 12 00 FF"),
+    (
+        "02 00 10 00 F5 64",
+        "40 00 13 00 FF 22 24 26 28 1C 1E 20 22 14 16 18 1A 1B 1D 1F 21 13 15 17 19 1A 1C 1E 20 13 15 17 19 1A 1C 1E 20 12 14 16 18 19 1B 1D 1F 12 14 16 18 18 1A 1C 1E 12 14 16 17 17 19 1B 1D 11 13 15 16 16 18 1A
+         26 00 14 00 FF 1C 11 13 15 16 16 18 1A 1A 10 12 14 15 15 17 19 19 10 12 14 14 14 16 18 18 0F 11 13 13 13 15 17 17 0E 10 12 12",
+    ),
+    ("04 00 11 00 DE 00 00 00", "02 00 15 00 FF 00"),
+    ("01 00 12 00 FE", "01 00 16 00 FF"),
 ];
 
 // How many bytes the slave has written with the answer to START_STOP_DAQ_LIST.
@@ -61,7 +67,7 @@ event = [
   { name = \"100 ms\", cycle = 100, unit = 6 },
 ]
 segment = [
-  { address = 0x80000, pages = 3, data = \"1416181A1C1E202212141618181A1C1E10121414141618180C0E101010121414\" },
+  { address = 0x80000, pages = 3, data = \"1416181A1C1E20221416181A1B1D1F21131517191A1C1E20131517191A1C1E2012141618191B1D1F12141618181A1C1E1214161717191B1D1113151616181A1C1113151616181A1A101214151517191910121414141618180F111313131517170E101212121416160E101212121416160D0F1111111315150C0E101010121414\" },
   { address = 0x80100, data = \"E803B0047805400608070808D008980A\" },
   { address = 0x80200, data = \"5203400012000800\" },
   { address = 0x80300, data = \"64197882\" },
@@ -71,7 +77,7 @@ segment = [
 // The same with a small slave: lists are asked for and refused, one is made and started, and the first
 // event's packet comes.
 const FIRST: [Row; 13] = [
-    ("02 00 00 00 FF 00", "08 00 00 00 FF 05 80 20 40 00 01 01"),
+    ("02 00 00 00 FF 00", "08 00 00 00 FF 05 C0 20 40 00 01 01"),
     ("04 00 01 00 D5 00 01 00", "02 00 01 00 FE 29"),
     ("01 00 02 00 D6", "01 00 02 00 FF"),
     ("04 00 03 00 D5 00 11 00", "02 00 03 00 FE 30"),
@@ -95,7 +101,7 @@ const FIRST_STARTED: usize = 77;
 
 // A tool that asks twenty times for the state.
 const ASKING: [Row; 21] = [
-    ("02 00 00 00 FF 00", "08 00 00 00 FF 05 80 20 40 00 01 01"),
+    ("02 00 00 00 FF 00", "08 00 00 00 FF 05 C0 20 40 00 01 01"),
     ("01 00 01 00 FD", "06 00 01 00 FF 40 00 00 00 00"),
     ("01 00 02 00 FD", "06 00 02 00 FF 40 00 00 00 00"),
     ("01 00 03 00 FD", "06 00 03 00 FF 40 00 00 00 00"),
@@ -123,14 +129,14 @@ const STREAMS: [(Row, Result<Served, ServeError>); 4] = [
     (
         (
             "00 00 07 00 02 00 08 00 FF 00",
-            "08 00 00 00 FF 05 80 20 40 00 01 01",
+            "08 00 00 00 FF 05 C0 20 40 00 01 01",
         ),
         Ok(Served { frames: 1, sent: 1 }),
     ),
     (
         (
             "00 00 07 00 02 00 08 00 FF 00 21 00",
-            "08 00 00 00 FF 05 80 20 40 00 01 01",
+            "08 00 00 00 FF 05 C0 20 40 00 01 01",
         ),
         Err(ServeError::BadLength(33)),
     ),
@@ -241,10 +247,10 @@ fn data_packets_come_by_themselves(rt: HostRuntime) -> Result<(), Fail> {
     let unnamed = engine(alloc, 4)?;
     let came = serve_all(&rt, alloc, unnamed, ends, (2, 3), &gate)?;
     let end = Ok(Served {
-        frames: 17,
-        sent: 17,
+        frames: 19,
+        sent: 20,
     });
-    let wanted: Came = (Vec::from_array(alloc, [end])?, None, Ok(30));
+    let wanted: Came = (Vec::from_array(alloc, [end])?, None, Ok(32));
     assert!(rt; came == wanted);
     Ok(())
 }
@@ -273,10 +279,10 @@ fn a_connection_ends_for_itself(rt: HostRuntime) -> Result<(), Fail> {
     let came = serve_all(&rt, alloc, unnamed, ends, (2, 3), &gate)?;
     let quiet = Ok(Served { frames: 0, sent: 0 });
     let end = Ok(Served {
-        frames: 17,
-        sent: 17,
+        frames: 19,
+        sent: 20,
     });
-    let wanted: Came = (Vec::from_array(alloc, [quiet, end])?, None, Ok(30));
+    let wanted: Came = (Vec::from_array(alloc, [quiet, end])?, None, Ok(32));
     assert!(rt; came == wanted);
     Ok(())
 }

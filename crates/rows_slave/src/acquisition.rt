@@ -180,7 +180,7 @@ fn events_and_lists_are_told(rt: HostRuntime) -> Result<(), Fail> {
 #[test]
 fn an_odt_that_a_packet_does_not_hold(rt: HostRuntime) -> Result<(), Fail> {
     let rows = "
-        FF 00 > FF 05 80 20 08 00 01 01
+        FF 00 > FF 05 C0 20 08 00 01 01
         D6 > FF
         D5 00 01 00 > FF
         D4 00 00 00 01 > FF
@@ -205,7 +205,7 @@ fn an_odt_that_a_packet_does_not_hold(rt: HostRuntime) -> Result<(), Fail> {
 #[test]
 fn a_selected_list_may_outgrow_a_packet(rt: HostRuntime) -> Result<(), Fail> {
     let rows = "
-        FF 00 > FF 05 80 20 08 00 01 01
+        FF 00 > FF 05 C0 20 08 00 01 01
         D6 > FF
         D5 00 01 00 > FF
         D4 00 00 00 01 > FF
@@ -231,11 +231,11 @@ fn a_sessions_end_takes_its_lists(rt: HostRuntime) -> Result<(), Fail> {
     let rows = "
         D6 > FF
         D5 00 01 00 > FF
-        FF 00 > FF 05 80 20 40 00 01 01
+        FF 00 > FF 05 C0 20 40 00 01 01
         DA > FF 03 01 00 01 00 00 00
         hangup > -
         event 0 01 02 03 04 05 06 07 08 > sampled 0
-        FF 00 > FF 05 80 20 40 00 01 01
+        FF 00 > FF 05 C0 20 40 00 01 01
         DA > FF 03 00 00 01 00 00 00
         D5 00 01 00 > FE 29
         F4 02 00 00 00 80 00 00 > FF 01 02

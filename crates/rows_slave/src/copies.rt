@@ -1,6 +1,6 @@
 //! Requests and answers are copied.
 use arrayvec::ArrayVec;
-use xcp_packet::Packet;
+use xcp_packet::{Packet, Train, Width};
 use xcp_slave::{Answer, Request};
 
 fn packet(bytes: &[u8]) -> Packet {
@@ -20,7 +20,7 @@ fn are_copied(requests: &[Request]) -> bool {
 }
 
 fn answers_are_copied(answers: &[Answer]) -> bool {
-    answers.iter().all(|answer| answer.copy() == *answer)
+    answers.iter().all(|answer| answer.copy() == *answer && answer.copy().same(answer))
 }
 
 #[test]
@@ -35,7 +35,8 @@ fn requests_and_answers_are_copied(rt: HostRuntime) {
     assert!(rt; are_copied(&requests));
     let answers = [
         Answer::Silent,
-        Answer::Packet(packet(&[0xFF, 1, 2])),
+        Answer::Packets(Train::one(packet(&[0xFF, 1, 2]))),
+        Answer::Packets(Train::cut(&[1, 2, 3, 4, 5, 6, 7, 8, 9], Width::new(7))),
         Answer::Sampled(3),
         Answer::Overrun,
         Answer::NoChannel,

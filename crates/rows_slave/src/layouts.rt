@@ -13,23 +13,35 @@ pub struct Kind {
     pub checksum: i64,
     pub order: Order,
     pub pages: i64,
+    pub length: u8,
 }
 
-/// MAX_CTO 32, MAX_DTO 64, checksums of type ADD_14, Intel byte order, two pages of segment 0.
+/// MAX_CTO 32, MAX_DTO 64, checksums of type ADD_14, Intel byte order, two pages of segment 0, which has
+/// 16 bytes.
 pub const USUAL: Kind = Kind {
     max_cto: 32,
     max_dto: 64,
     checksum: 3,
     order: Order::Intel,
     pages: 2,
+    length: 16,
 };
 
-/// Segment 0 with so many pages, and segment 1 with two.
-fn segments(alloc: Global, pages: i64) -> Result<Vec<SegmentPart>, AllocError> {
+/// So many bytes, which count from 0.
+fn counted(alloc: Global, length: u8) -> Result<Vec<u8>, AllocError> {
+    let mut bytes = Vec::new(alloc);
+    for byte in 0..length {
+        bytes.push(byte)?;
+    }
+    Ok(bytes)
+}
+
+/// Segment 0 with so many pages and bytes, and segment 1 with two pages.
+fn segments(alloc: Global, pages: i64, length: u8) -> Result<Vec<SegmentPart>, AllocError> {
     let mut segments = Vec::new(alloc);
     segments.push(SegmentPart {
         address: 0x1000,
-        bytes: [0, 1, 2, 3, 4, 5, 6, 7, 8, 9, 10, 11, 12, 13, 14, 15].to_vec(alloc)?,
+        bytes: counted(alloc, length)?,
         pages,
     })?;
     segments.push(SegmentPart {
@@ -40,25 +52,31 @@ fn segments(alloc: Global, pages: i64) -> Result<Vec<SegmentPart>, AllocError> {
     Ok(segments)
 }
 
-/// The identification `ECU1`, 00 to 0F at 0x1000, eight bytes AA at 0x2000, 8 bytes of signals at
-/// 0x8000, and the event channel `10ms`.
-fn layout(alloc: Global, kind: Kind) -> Result<Layout, Fail> {
-    let event = EventPart {
+/// The event channel `10ms`.
+fn events(alloc: Global) -> Result<Vec<EventPart>, AllocError> {
+    let mut events = Vec::new(alloc);
+    events.push(EventPart {
         name: b"10ms".to_vec(alloc)?,
         cycle: 10,
         unit: 6,
         priority: 0,
-    };
+    })?;
+    Ok(events)
+}
+
+/// The identification `ECU1`, 00, 01 and so on at 0x1000, eight bytes AA at 0x2000, 8 bytes of signals at
+/// 0x8000, and the event channel `10ms`.
+fn layout(alloc: Global, kind: Kind) -> Result<Layout, Fail> {
     Ok(Layout::new(Parts {
         id: b"ECU1".to_vec(alloc)?,
         max_cto: kind.max_cto,
         max_dto: kind.max_dto,
         checksum: kind.checksum,
         order: kind.order,
-        segments: segments(alloc, kind.pages)?,
+        segments: segments(alloc, kind.pages, kind.length)?,
         signals_address: 0x8000,
         signals_length: 8,
-        events: Vec::from_array(alloc, [event])?,
+        events: events(alloc)?,
     })?)
 }
 

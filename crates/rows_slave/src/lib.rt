@@ -22,4 +22,6 @@ mod sessions;
 #[cfg(test)]
 mod storing;
 #[cfg(test)]
+mod trains;
+#[cfg(test)]
 mod transfers;

@@ -1,11 +1,11 @@
-//! Rows as texts. A line is what is asked of a slave, a `>`, and what it answers: packets in hex,
-//! `event C HEX`, `drain`, `store`, `hangup`, or `image` of its first 24 bytes; `-` where nothing is
-//! sent. Empty lines and comments (`#`) are skipped.
+//! Rows as texts. A line is what is asked of a slave, a `>`, and what it answers: packets in hex, a `|`
+//! between those of one answer; `event C HEX`, `drain`, `store`, `hangup`, or `image` of its first 24
+//! bytes; `-` where nothing is sent. Empty lines and comments (`#`) are skipped.
 use crate::layouts::{Kind, connected, slave};
 use arrayvec::ArrayVec;
 use std::alloc::Global;
 use std::test::Fail;
-use xcp_packet::Packet;
+use xcp_packet::{Packet, Train, Width};
 use xcp_slave::{Answer, Request, Slave};
 
 /// The bytes of a text, if all its words are bytes.
@@ -43,6 +43,42 @@ fn counted(text: &str) -> Option<Answer> {
     }
 }
 
+/// The bytes of a block's packets, without the first one of each.
+fn joined(text: &str) -> Option<Packet> {
+    let mut data = Packet::new();
+    for part in text.split('|') {
+        let packet: Packet = bytes(part)?;
+        let (_, rest) = packet.split_first()?;
+        data.try_extend_from_slice(rest).ok()?;
+    }
+    Some(data)
+}
+
+/// Whether the packets are those of the text, in order.
+fn are(train: &Train, text: &str) -> bool {
+    let mut count = 0u8;
+    for part in text.split('|') {
+        if count >= train.count() || Some(train.at(count)) != bytes(part) {
+            return false;
+        }
+        count += 1;
+    }
+    count == train.count()
+}
+
+/// The packets of an answer, if they are one packet or those of a block.
+fn packets(text: &str) -> Option<Train> {
+    let Some((first, _)) = text.split_once('|') else {
+        return Some(Train::one(bytes(text)?));
+    };
+    let first: Packet = bytes(first)?;
+    if first.len() < 8 {
+        return None;
+    }
+    let train = Train::cut(&joined(text)?, Width::new(first.len() as u8 - 1));
+    if are(&train, text) { Some(train) } else { None }
+}
+
 pub(crate) fn answer(text: &str) -> Option<Answer> {
     match text {
         "-" => Some(Answer::Silent),
@@ -53,8 +89,8 @@ pub(crate) fn answer(text: &str) -> Option<Answer> {
         "no store" => Some(Answer::NoStore),
         "later" => Some(Answer::Later),
         "" => None,
-        _ => match bytes(text) {
-            Some(packet) => Some(Answer::Packet(packet)),
+        _ => match packets(text) {
+            Some(train) => Some(Answer::Packets(train)),
             None => counted(text),
         },
     }
@@ -70,7 +106,7 @@ fn image(slave: &Slave) -> Option<Answer> {
     }
     let mut packet = Packet::new();
     packet.try_extend_from_slice(bytes).ok()?;
-    Some(Answer::Packet(packet))
+    Some(Answer::Packets(Train::one(packet)))
 }
 
 /// A packet to lend, full of bytes that no answer may have.

@@ -48,3 +48,25 @@ fn answers_have_words(rt: HostRuntime) {
         assert!(rt; answer(text) == meant, "{text}");
     }
 }
+
+/// Texts of several packets, and whether one answer may have them.
+static TRAINS: [(&str, bool); 8] = [
+    ("FF 00 01 02 03 04 05 06 | FF 07", true),
+    ("FF 00 01 02 03 04 05 06 | FF 07 08 09 0A 0B 0C 0D", true),
+    ("FF 00 01 02 03 04 05 06 | FE 07", false),
+    ("FF 00 01 02 03 04 05 06 | FF", false),
+    ("FF 00 01 02 03 04 05 06 |", false),
+    ("FF 00 01 02 03 04 05 06 | FF 07 | FF 08", false),
+    (
+        "FF 00 01 02 03 04 05 06 | FF 07 08 09 0A 0B 0C 0D 0E",
+        false,
+    ),
+    ("FF 00 01 02 03 04 05 | FF 06", false),
+];
+
+#[test]
+fn packets_but_the_last_are_full(rt: HostRuntime) {
+    for (text, may) in &TRAINS {
+        assert!(rt; answer(text).is_some() == *may, "{text}");
+    }
+}

@@ -20,7 +20,7 @@ fn a_slave_that_is_not_connected_heeds_a_whole_connect_alone(rt: HostRuntime) ->
         # A packet of no bytes.
         > -
         F5 04 > -
-        FF 00 > FF 05 80 20 40 00 01 01
+        FF 00 > FF 05 C0 20 40 00 01 01
     ";
     assert_eq!(rt; first_wrong_of_new(rt.alloc(), USUAL, rows)?, None);
     assert_eq!(rt; limits(rt.alloc())?, (32, 64));
@@ -34,7 +34,7 @@ fn a_motorola_slave_has_the_highest_byte_first(rt: HostRuntime) -> Result<(), Fa
         ..USUAL
     };
     let rows = "
-        FF 00 > FF 05 81 20 00 40 01 01
+        FF 00 > FF 05 C1 20 00 40 01 01
         EB 02 00 01 > FF
         F6 00 00 00 00 00 10 00 > FF
         EC 08 FF FE 00 02 > FF
@@ -52,7 +52,7 @@ fn a_session_ends_and_keeps_what_was_written(rt: HostRuntime) -> Result<(), Fail
         F0 01 55 > FF
         hangup > -
         F5 01 > -
-        FF 00 > FF 05 80 20 40 00 01 01
+        FF 00 > FF 05 C0 20 40 00 01 01
         F5 01 > FE 24
         F6 00 00 00 00 10 00 00 > FF
         F5 02 > FF 55 01
@@ -68,7 +68,7 @@ fn a_second_connect_keeps_what_waits(rt: HostRuntime) -> Result<(), Fail> {
         F9 01 00 00 > FF
         store > stored 0
         F9 01 00 00 > FF
-        FF 00 > FF 05 80 20 40 00 01 01
+        FF 00 > FF 05 C0 20 40 00 01 01
         FD > FF 01 00 00 00 00
         F5 01 > FE 24
         drain > FD 03

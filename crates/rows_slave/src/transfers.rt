@@ -30,7 +30,7 @@ const ROWS: [&str; 15] = [
     F5 05 > FE 24
     F5 04 > FF 0C 0D 0E 0F
     F5 00 > FE 22
-    F5 20 > FE 22
+    F5 20 > FE 24
 ",
     "
     F6 00 00 00 00 10 00 00 > FF

@@ -5,6 +5,7 @@ ghost use Rattle.std.specs.Prelude.{◌<◌};
 use std::io::{self, Write};
 use std::sync::atomic::{AtomicU32, Ordering};
 use xcp_locked::{Caller, Name};
+use xcp_packet::Train;
 use xcp_slave::Answer;
 
 /// How many frames had a packet that begins by FF, by FE, and by another byte, and how many had a number
@@ -41,12 +42,18 @@ impl Counts {
 pub fn kinds_of<N: Name>(caller: &Caller<N>) -> [u32; 3] {
     let mut kinds = [0u32; 3];
     for receipt in caller.receipts.iter() {
-        if let Answer::Packet(packet) = &receipt.answer {
-            let kind = kind(*packet.first().unwrap_or(&0));
-            kinds[kind] = kinds[kind].wrapping_add(1);
+        if let Answer::Packets(train) = &receipt.answer {
+            add_kinds(&mut kinds, train);
         }
     }
     kinds
+}
+
+fn add_kinds(kinds: &mut [u32; 3], train: &Train) {
+    for i in 0..train.count() {
+        let kind = kind(*train.at(i).first().unwrap_or(&0));
+        kinds[kind] = kinds[kind].wrapping_add(1);
+    }
 }
 
 // Of a packet that begins by this byte: 0 for an answer, 1 for an error, 2 for another one.

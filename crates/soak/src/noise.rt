@@ -3,8 +3,9 @@ use std::alloc::AllocError;
 use std::io;
 use xcp_packet::Packet;
 
-// A session over two pages of four bytes: its commands, each a line in hex. Behind CONNECT come a transfer,
-// pages, a list that samples those bytes at each event, and what a slave doesn't have.
+// A session over two pages of 64 bytes: its commands, each a line in hex. Behind CONNECT come a transfer, an
+// UPLOAD of all 64 bytes in three packets, pages, a list that samples the first four at each event, and what a
+// slave doesn't have.
 const COMMANDS: &str = "FF 00
 FD
 EB 03 00 01
@@ -12,6 +13,8 @@ F6 00 00 00 00 10 00 00
 F0 02 AB CD
 F6 00 00 00 00 10 00 00
 F5 04
+F6 00 00 00 00 10 00 00
+F5 40
 ED 02 00 00 02 10 00 00 11 22
 F4 04 00 00 00 10 00 00
 EF 08 01 02 03 04 05 06
@@ -41,7 +44,7 @@ C0 01
 FF 00";
 
 // How many lines these are.
-const LINES: u32 = 34;
+const LINES: u32 = 36;
 
 // Numbers that look like thrown dice, and are the same for the same seed.
 #[derive(Drop)]

@@ -25,13 +25,13 @@ const TURNS: u32 = 10_000_000;
 // (A pump ends with its connection.)
 const PUMP_TURNS: u32 = 100_000_000;
 
-// Four bytes of two pages, so that both tools write the same ones.
+// One segment of two pages, of which both tools write the same four bytes.
 const CONFIG: &str = "id = \"ECU1\"
 max_cto = 32
 max_dto = 64
 [[segment]]
 address = 0x1000
-data = \"00010203\"
+data = \"000102030405060708090A0B0C0D0E0F101112131415161718191A1B1C1D1E1F202122232425262728292A2B2C2D2E2F303132333435363738393A3B3C3D3E3F\"
 [signals]
 address = 0x8000
 length = 8

@@ -3,6 +3,9 @@ use Rattle.std.proofs.Common.{◌≡◌, ◌<◌, ◌≤◌, ◌+◌, ◌/◌, �
 use Rattle.std.proofs.lemmas.Fmt.{decimal_digit, decimal_step}
 use Rattle.std.proofs.lemmas.List.{append-nil, drop_all}
 use Rattle.hex.specs.Hex.{encode_with, encode_upper, upper_digits}
+use Rattle.xcp_packet.specs.PacketTrains.{block_packets}
+use Rattle.xcp_packet.specs.BlockPacketLemmas.{block_begins}
+use Rattle.xcp_framing.specs.AnswerText.{packets_text}
 
 -- the hex text of one byte more
 pub encode_more : (packet : List ℕ) (i : ℕ) → i < length packet
@@ -48,10 +51,30 @@ pub pushed_pair : (xs ys zs rest whole : List ℕ) (a b : ℕ)
 pushed_pair xs ys zs rest whole a b h p q =
     rw (q, p) (append_assoc (xs ++ a ∷ []) (b ∷ []) rest ∙ append_assoc xs (a ∷ []) (b ∷ rest) ∙ h)
 
--- all of a packet, and then a line feed
-pub encode_ended : (start xs ys packet : List ℕ) (i : ℕ) → length packet ≤ i
-    → xs ++ encode_upper (drop i packet) ≡ start ++ encode_upper packet → ys ≡ xs ++ 10 ∷ [] → ys ≡ start ++ encode_upper packet ++ 10 ∷ []
+-- all of a packet, and then what ends it
+pub encode_ended : (start xs ys packet : List ℕ) (i end : ℕ) → length packet ≤ i
+    → xs ++ encode_upper (drop i packet) ≡ start ++ encode_upper packet → ys ≡ xs ++ end ∷ [] → ys ≡ start ++ encode_upper packet ++ end ∷ []
 unfolding encode_with
-encode_ended start xs ys packet i h p q =
+encode_ended start xs ys packet i end h p q =
     let all : xs ≡ start ++ encode_upper packet = sym (append-nil xs) ∙ (rw (drop_all i packet h) at p) in
-    q ∙ ap (λ (zs : List ℕ). zs ++ 10 ∷ []) all
+    q ∙ ap (λ (zs : List ℕ). zs ++ end ∷ []) all
+
+-- the text of a packet, and of those of a block behind it
+text_behind : (p : List ℕ) (width : ℕ) (rest : List ℕ) → packets_text (p ∷ block_packets width rest) ≡ encode_upper p ++ 32 ∷ packets_text (block_packets width rest)
+text_behind p width rest = let b = block_begins width rest in rw b.2 refl
+
+-- one packet more in the middle
+pub text_more : (xs ys whole p : List ℕ) (width : ℕ) (left rest : List ℕ) → block_packets width left ≡ p ∷ block_packets width rest
+    → xs ++ packets_text (block_packets width left) ≡ whole → ys ≡ xs ++ encode_upper p ++ 32 ∷ [] → ys ++ packets_text (block_packets width rest) ≡ whole
+text_more xs ys whole p width left rest e h q =
+    ap (λ (zs : List ℕ). zs ++ packets_text (block_packets width rest)) q
+    ∙ append_assoc (xs ++ encode_upper p) (32 ∷ []) (packets_text (block_packets width rest))
+    ∙ append_assoc xs (encode_upper p) (32 ∷ packets_text (block_packets width rest))
+    ∙ ap (λ (zs : List ℕ). xs ++ zs) (sym (text_behind p width rest) ∙ ap packets_text (sym e)) ∙ h
+
+-- the last packet
+pub text_last : (start xs ys p : List ℕ) (width : ℕ) (left all : List ℕ) → block_packets width left ≡ p ∷ []
+    → xs ++ packets_text (block_packets width left) ≡ start ++ packets_text (block_packets width all) → ys ≡ xs ++ encode_upper p ++ 10 ∷ []
+    → ys ≡ start ++ packets_text (block_packets width all) ++ 10 ∷ []
+text_last start xs ys p width left all e h q =
+    q ∙ ap (λ (zs : List ℕ). zs ++ 10 ∷ []) (ap (λ (zs : List ℕ). xs ++ zs) (sym (append-nil (encode_upper p)) ∙ ap packets_text (sym e)) ∙ h)

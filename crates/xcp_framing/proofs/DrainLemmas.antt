@@ -9,6 +9,7 @@ use Rattle.xcp_framing.specs.declared.station.StationError.TheVariants as refusa
 use Rattle.xcp_framing.specs.declared.serving.ServeError.{ServeError}
 use Rattle.xcp_framing.specs.declared.serving.ServeError.TheVariants as errors
 use Rattle.xcp_framing.specs.Serve.{packet_of, packets_of, refused_with}
+use Rattle.xcp_framing.specs.ServeBy.{IsHandedBack}
 use Rattle.xcp_framing.specs.ServeRefusal.{Refused}
 use Rattle.xcp_framing.specs.ServeParts.{IsInterruption}
 use Rattle.xcp_framing.specs.Pump.{AllDrains, PutsDrains, DrainsUpTo, Pumped, Pumps, DrainAgain}
@@ -39,9 +40,10 @@ up_to_more xs ys a b c h k = record {
   full = xs ++ k.full;
   last = k.last;
   joined = ap (λ (z : List Exchange). xs ++ z) k.joined ∙ sym (append_assoc xs k.full (k.last ∷ []));
-  answered = puts_more xs k.full a b c h k.answered;
+  mid = k.mid;
+  answered = puts_more xs k.full a b k.mid h k.answered;
   asked = k.asked;
-  gave = k.gave;
+  handed = k.handed;
 }
 
 -- nothing yet
@@ -96,11 +98,11 @@ one_drain n x old new a b asked grown put count =
     }
 
 -- one Drain whose packet was handed back
-pub one_back : (x : Exchange) (old new : List Exchange) (a b : List (List ℕ)) → x.request ≡ requests.Drain → new ≡ old ++ x ∷ [] → b ≡ a → packet_of x.answer ≢ [] → Pumps (Err errors.Write) old new a b
-one_back x old new a b asked grown put gave = record {
+pub one_back : (x : Exchange) (old new : List Exchange) (a b : List (List ℕ)) → x.request ≡ requests.Drain → new ≡ old ++ x ∷ [] → IsHandedBack (packet_of x.answer) a b → Pumps (Err errors.Write) old new a b
+one_back x old new a b asked grown handed = record {
   exchanges = x ∷ [];
   grown = grown;
-  puts = record { full = []; last = x; joined = refl; answered = record { drains = tt; put = put ∙ sym (append-nil a) }; asked = asked; gave = gave };
+  puts = record { full = []; last = x; joined = refl; mid = a; answered = record { drains = tt; put = sym (append-nil a) }; asked = asked; handed = handed };
   counts = λ m is. absurd (no_ok is);
 }
 

@@ -1,26 +1,23 @@
 -- Exchanges that come one after another, and what is written of them.
-use Rattle.std.proofs.Common.{◌≡◌, ◌≤◌, ◌+◌, ℕ, List, [], ◌∷◌, ◌++◌, All, OnOk, length, Result, Ok, Err, IfErr, IsErrAnd, refl, sym, ap, ◌∙◌, arith, append_assoc, length-append}
+use Rattle.std.proofs.Common.{◌≡◌, ◌≢◌, Option, ◌≤◌, ◌+◌, ℕ, List, [], ◌∷◌, ◌++◌, All, OnOk, length, Result, Ok, Err, IfErr, IsErrAnd, refl, sym, ap, ◌∙◌, arith, append_assoc, length-append}
 use Rattle.std.proofs.lemmas.List.{append-nil}
 use Rattle.std.proofs.lemmas.Grind.{flat_map-append}
 use Rattle.std.proofs.lemmas.List.Elements.{All-append}
-use Rattle.arrayvec.specs.ArrayVec.{ArrayVec}
 use Rattle.xcp_slave.specs.declared.Exchange.{Exchange}
-use Rattle.xcp_slave.specs.declared.told.Told.{Told}
-use Rattle.xcp_slave.specs.declared.told.Told.TheVariants as tolds
-use Rattle.xcp_slave.specs.AnswerInBytes.{answer_in}
 use Rattle.xcp_slave.specs.declared.Request.TheVariants as requests
 use Rattle.xcp_framing.specs.declared.serving.ServeError.{ServeError}
 use Rattle.xcp_framing.specs.declared.serving.ServeError.TheVariants as errors
 use Rattle.xcp_framing.specs.declared.station.StationError.{StationError}
 use Rattle.xcp_framing.specs.declared.station.StationError.TheVariants as refusals
 use Rattle.std.specs.Io.KnownBytes.{Appends}
-use Rattle.xcp_framing.specs.private.FrameOutput.{Output, Sends}
+use Rattle.xcp_framing.specs.private.FrameOutput.{Gathers, Output, Sends}
 use Rattle.xcp_framing.specs.Wire.{wire_from, frame_bytes}
 use Rattle.xcp_framing.specs.Serve.{packet_of, packets_of, GavePacket, AnswersAll, AnswersStart, AnswersPart, AnswersSoFar, most_drains, refused_with}
+use Rattle.xcp_framing.specs.ServeBy.{IsHandedBack}
 use Rattle.xcp_framing.specs.ServeParts.{IsInterruption}
 use Rattle.xcp_framing.specs.private.ServeParts.{Grows, DrainsSoFar, EndsPiece, fine}
 use Rattle.xcp_framing.specs.Prefix.{AppendsFront}
-use Rattle.xcp_framing.proofs.FrameOutputLemmas.{gathers_none, sends_flushed, sends_more, sends_none, sends_unflushed}
+use Rattle.xcp_framing.proofs.FrameOutputLemmas.{gathers_more, gathers_none, sends_flushed, sends_more, sends_none, sends_unflushed}
 
 -- frames behind frames
 pub wire_from-append : (k : ℕ) (ps qs : List (List ℕ)) → wire_from k (ps ++ qs) ≡ wire_from k ps ++ wire_from (k + length ps) qs
@@ -47,19 +44,6 @@ on_any (Err e) h = tt
 -- a list with a first element isn't empty
 pub cons≢nil : {A : Type 0} {x : A} {xs : List A} → ◌≡◌ {A = List A} (x ∷ xs) [] → ⊥
 cons≢nil h = cc
-
--- what isn't told as a packet has none
-pub no_packet : (t : Told) (packet : ArrayVec ℕ) → (t ≡ tolds.Packet → ⊥) → packet_of (answer_in t packet) ≡ []
-no_packet tolds.Packet packet h = absurd (h refl)
-no_packet tolds.Silent packet h = refl
-no_packet (tolds.Sampled n) packet h = refl
-no_packet tolds.Overrun packet h = refl
-no_packet tolds.NoChannel packet h = refl
-no_packet tolds.BadSignals packet h = refl
-no_packet tolds.Nothing packet h = refl
-no_packet (tolds.Stored n) packet h = refl
-no_packet tolds.NoStore packet h = refl
-no_packet tolds.Later packet h = refl
 
 -- no exchange yet
 pub grows_none : (Fact : List Exchange → Type 0) (old : List Exchange) (a : Output) (from : ℕ) → Fact [] → Grows fine Fact old old a a from from
@@ -100,17 +84,17 @@ grows_quiet x a from h e =
       counts = rw none (omega arith);
     }
 
--- one exchange, and its packet sent
-pub grows_sent : {A : Type 0} (r : Result A ServeError) {old new : List Exchange} (x : Exchange) (p : List ℕ) {a b : Output} {from to : ℕ}
-    → new ≡ old ++ x ∷ [] → packet_of x.answer ≡ p ∷ [] → Sends r a b (wire_from from (p ∷ [])) → OnOk r (to ≡ from + 1) → Grows r (λ xs. xs ≡ x ∷ []) old new a b from to
-grows_sent r x p {from = from} {to = to} h e w k =
-    let one : packets_of (x ∷ []) ≡ p ∷ [] = rw e refl in
+-- one exchange, and its packets sent
+pub grows_sent : {A : Type 0} (r : Result A ServeError) {old new : List Exchange} (x : Exchange) {a b : Output} {from to : ℕ}
+    → new ≡ old ++ x ∷ [] → Sends r a b (wire_from from (packet_of x.answer)) → OnOk r (to ≡ from + length (packet_of x.answer)) → Grows r (λ xs. xs ≡ x ∷ []) old new a b from to
+grows_sent r x {from = from} {to = to} h w k =
+    let all : packets_of (x ∷ []) ≡ packet_of x.answer = append-nil (packet_of x.answer) in
     record {
       exchanges = x ∷ [];
       grown = h;
       fact = refl;
-      sends = rw one w;
-      counts = on_ok r k (λ (j : to ≡ from + 1). rw one j);
+      sends = rw all w;
+      counts = on_ok r k (λ (j : to ≡ from + length (packet_of x.answer)). rw all j);
     }
 
 -- a request that the station refused
@@ -129,12 +113,68 @@ passed_on (Ok v) e h = absurd h
 passed_on (Err x) e h = ap Err h
 
 -- one more Drain that gave a packet
-pub drains_one : (k : ℕ) (x : Exchange) (p : List ℕ) → x.request ≡ requests.Drain → packet_of x.answer ≡ p ∷ []
+pub drains_one : (k : ℕ) (x : Exchange) → x.request ≡ requests.Drain → packet_of x.answer ≢ []
     → (xs ys : List Exchange) → All GavePacket xs × (length xs ≡ k) → ys ≡ x ∷ [] → All GavePacket (xs ++ ys) × (length (xs ++ ys) ≡ k + 1)
-drains_one k x p q a xs ys h e =
-    let one : GavePacket x = record { drain = q; gave = λ n. absurd (cons≢nil (sym a ∙ n)) } in
+drains_one k x q gave xs ys h e =
+    let one : GavePacket x = record { drain = q; gave = gave } in
     let all : All GavePacket (x ∷ []) = λ i d b. let first : i ≡ 0 = omega (arith, b) in rw first one in
     (rw e (All-append GavePacket xs (x ∷ []) h.0 all), omega (arith, h.1, length-append xs ys, ap (λ (zs : List Exchange). length zs) e))
+
+-- what was sent of a front is a front of the whole
+pub front_longer : (before after : Option (List ℕ)) (t more : List ℕ) → AppendsFront before after t → AppendsFront before after (t ++ more)
+front_longer before after t more h = record {
+  written = h.written;
+  grown = h.grown;
+  front = record { rest = h.front.rest ++ more; joined = sym (append_assoc h.written h.front.rest more) ∙ ap (λ (z : List ℕ). z ++ more) h.front.joined };
+}
+
+-- packets that were sent, one more behind them, and the others of a block
+pub record SentPart (a b : Output) (from to : ℕ) (packets left : List (List ℕ)) : Type 0 where
+  pub done : List (List ℕ)
+  pub joined : packets ≡ done ++ left
+  pub sends : Gathers a b (wire_from from done)
+  pub counts : to ≡ from + length done
+
+pub part_begun : (a : Output) (from : ℕ) (packets : List (List ℕ)) → SentPart a a from from packets packets
+part_begun a from packets = record { done = []; joined = refl; sends = gathers_none a; counts = omega arith }
+
+text_of_part : (from at : ℕ) (done : List (List ℕ)) (p : List ℕ) → at ≡ from + length done → wire_from from (done ++ p ∷ []) ≡ wire_from from done ++ wire_from at (p ∷ [])
+text_of_part from at done p e = wire_from-append from done (p ∷ []) ∙ ap (λ (n : ℕ). wire_from from done ++ wire_from n (p ∷ [])) (sym e)
+
+pub part_more_sent : {a b c : Output} {from at to : ℕ} {packets left : List (List ℕ)} (p : List ℕ) (rest : List (List ℕ)) → SentPart a b from at packets left → left ≡ p ∷ rest → Gathers b c (wire_from at (p ∷ [])) → to ≡ at + 1 → SentPart a c from to packets rest
+part_more_sent {a = a} {b = b} {c = c} {from = from} {at = at} p rest k e w n = record {
+  done = k.done ++ p ∷ [];
+  joined = k.joined ∙ ap (λ (z : List (List ℕ)). k.done ++ z) e ∙ sym (append_assoc k.done (p ∷ []) rest);
+  sends = rw (text_of_part from at k.done p k.counts) (gathers_more a b c (wire_from from k.done) (wire_from at (p ∷ [])) k.sends w);
+  counts = omega (arith, n, k.counts, length-append k.done (p ∷ []));
+}
+
+-- the last packet
+pub part_last : {A : Type 0} (r : Result A ServeError) {a b : Output} (c : Output) {from at : ℕ} {packets left : List (List ℕ)} (p : List ℕ) → SentPart a b from at packets left → left ≡ p ∷ [] → Sends r b c (wire_from at (p ∷ [])) → Sends r a c (wire_from from packets)
+part_last r {a = a} {b = b} c {from = from} {at = at} p k e w =
+    let text : wire_from from (k.done ++ p ∷ []) ≡ wire_from from k.done ++ wire_from at (p ∷ []) = text_of_part from at k.done p k.counts in
+    let all = k.joined ∙ ap (λ (z : List (List ℕ)). k.done ++ z) e in
+    rw (all, text) (sends_more r a b c (wire_from from k.done) (wire_from at (p ∷ [])) k.sends w)
+
+pub part_counted : {from at to : ℕ} {a b : Output} {packets left : List (List ℕ)} (p : List ℕ) (rest : List (List ℕ)) → SentPart a b from at packets left → left ≡ p ∷ rest → to ≡ at + 1 → to + length rest ≡ from + length packets
+part_counted p rest k e n =
+    omega (arith, n, k.counts, ap (λ (z : List (List ℕ)). length z) (k.joined ∙ ap (λ (z : List (List ℕ)). k.done ++ z) e), length-append k.done (p ∷ rest))
+
+pub part_room : {from at : ℕ} {a b : Output} {packets left : List (List ℕ)} (p : List ℕ) (rest : List (List ℕ)) → SentPart a b from at packets left → left ≡ p ∷ rest → at + 1 ≤ from + length packets
+part_room p rest k e =
+    omega (arith, k.counts, ap (λ (z : List (List ℕ)). length z) (k.joined ∙ ap (λ (z : List (List ℕ)). k.done ++ z) e), length-append k.done (p ∷ rest))
+
+-- of a packet in the middle a front was written
+pub part_cut : (A : Type 0) {a b : Output} (c : Output) {from at : ℕ} {packets left : List (List ℕ)} (e : ServeError) (p : List ℕ) (rest : List (List ℕ)) → SentPart a b from at packets left → left ≡ p ∷ rest → e ≡ errors.Write
+    → Sends {A = A} (Err e) b c (wire_from at (p ∷ [])) → Sends {A = A} (Err e) a c (wire_from from packets)
+part_cut A {a} {b} c {from} {at} {packets} e p rest k h w s =
+    let t : wire_from from packets ≡ (wire_from from k.done ++ wire_from at (p ∷ [])) ++ wire_from (from + length (k.done ++ p ∷ [])) rest =
+    ap (wire_from from) (k.joined ∙ ap (λ (z : List (List ℕ)). k.done ++ z) h ∙ sym (append_assoc k.done (p ∷ []) rest)) ∙ wire_from-append from (k.done ++ p ∷ []) rest
+    ∙ ap (λ (x : List ℕ). x ++ wire_from (from + length (k.done ++ p ∷ [])) rest) (text_of_part from at k.done p k.counts) in
+    let sent : AppendsFront b.contents c.contents (b.held ++ wire_from at (p ∷ [])) = (rw w at s) in
+    let short : AppendsFront a.contents c.contents (a.held ++ (wire_from from k.done ++ wire_from at (p ∷ []))) = sends_more {A = A} (Err errors.Write) a b c (wire_from from k.done) (wire_from at (p ∷ [])) k.sends sent in
+    let long = front_longer a.contents c.contents (a.held ++ (wire_from from k.done ++ wire_from at (p ∷ []))) (wire_from (from + length (k.done ++ p ∷ [])) rest) short in
+    rw (w, t) (rw append_assoc at long)
 
 -- before the first packet's command
 pub part_none : (packets : List (List ℕ)) → AnswersPart packets []
@@ -295,3 +335,35 @@ ends_interrupted A m errors.Read held left i = absurd i
 ends_interrupted A m (errors.BadLength n) held left i = absurd i
 ends_interrupted A m errors.Truncated held left i = absurd i
 ends_interrupted A m errors.TurnsSpent held left i = absurd i
+
+-- packets that were put, and those of a block that are left
+pub record PutPart (before after : List (List ℕ)) (count : ℕ) (packets left : List (List ℕ)) : Type 0 where
+  pub done : List (List ℕ)
+  pub joined : packets ≡ done ++ left
+  pub put : after ≡ before ++ done
+  pub counts : count ≡ length done
+
+pub put_begun : (a : List (List ℕ)) (packets : List (List ℕ)) → PutPart a a 0 packets packets
+put_begun a packets = record { done = []; joined = refl; put = sym (append-nil a); counts = refl }
+
+pub put_more : {a b c : List (List ℕ)} {n : ℕ} {packets left : List (List ℕ)} (p : List ℕ) (rest : List (List ℕ)) → PutPart a b n packets left → left ≡ p ∷ rest → c ≡ b ++ p ∷ [] → PutPart a c (n + 1) packets rest
+put_more {a = a} p rest k e w = record {
+  done = k.done ++ p ∷ [];
+  joined = k.joined ∙ ap (λ (z : List (List ℕ)). k.done ++ z) e ∙ sym (append_assoc k.done (p ∷ []) rest);
+  put = w ∙ ap (λ (z : List (List ℕ)). z ++ p ∷ []) k.put ∙ append_assoc a k.done (p ∷ []);
+  counts = omega (arith, k.counts, length-append k.done (p ∷ []));
+}
+
+-- all were put
+pub put_all : {a b : List (List ℕ)} {n : ℕ} {packets : List (List ℕ)} → PutPart a b n packets [] → (b ≡ a ++ packets) × (n ≡ length packets)
+put_all {a = a} {packets = packets} k =
+    let all : packets ≡ k.done = k.joined ∙ append-nil k.done in
+    (k.put ∙ ap (λ (z : List (List ℕ)). a ++ z) (sym all), k.counts ∙ ap (λ (z : List (List ℕ)). length z) (sym all))
+
+-- the next one was handed back
+pub put_back : {a b c : List (List ℕ)} {n : ℕ} {packets left : List (List ℕ)} (p : List ℕ) (rest : List (List ℕ)) → PutPart a b n packets left → left ≡ p ∷ rest → c ≡ b → IsHandedBack packets a c
+put_back p rest k e w = record { front = k.done; back = p ∷ rest; joined = k.joined ∙ ap (λ (z : List (List ℕ)). k.done ++ z) e; some = cons≢nil; put = w ∙ k.put }
+
+pub put_room : {a b : List (List ℕ)} {n : ℕ} {packets left : List (List ℕ)} (p : List ℕ) (rest : List (List ℕ)) → PutPart a b n packets left → left ≡ p ∷ rest → n + 1 ≤ length packets
+put_room p rest k e =
+    omega (arith, k.counts, ap (λ (z : List (List ℕ)). length z) (k.joined ∙ ap (λ (z : List (List ℕ)). k.done ++ z) e), length-append k.done (p ∷ rest))

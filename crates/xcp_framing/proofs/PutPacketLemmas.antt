@@ -12,7 +12,7 @@ use Rattle.xcp_framing.specs.declared.serving.ServeError.TheVariants as errors
 use Rattle.xcp_framing.specs.Serve.{packet_of, packets_of, Counts, refused_with}
 use Rattle.xcp_framing.specs.ServeRefusal.{OnRefusal, Refused}
 use Rattle.xcp_framing.specs.ServeParts.{IsInterruption}
-use Rattle.xcp_framing.specs.ServeBy.{command, commands, PutsAll, PutsUpTo, PutsSome, PutsSoFar, ServesBy, CommandNext}
+use Rattle.xcp_framing.specs.ServeBy.{command, commands, IsHandedBack, PutsAll, PutsUpTo, PutsSome, PutsSoFar, ServesBy, CommandNext}
 use Rattle.xcp_framing.specs.private.AnsweredStream.{Stand, Streams, outcome}
 use Rattle.xcp_framing.specs.private.ServeBy.{NextCommand, AnswersByPut, HandsNothingOn}
 use Rattle.xcp_framing.proofs.ExchangeLemmas.{packets_of-append}
@@ -40,9 +40,10 @@ up_to_more ps qs xs ys a b c h k = record {
   last = k.last;
   packets_are = ap (λ (z : List (List ℕ)). ps ++ z) k.packets_are ∙ sym (append_assoc ps k.done (k.packet ∷ k.later));
   joined = ap (λ (z : List Exchange). xs ++ z) k.joined ∙ sym (append_assoc xs k.full (k.last ∷ []));
-  answered = all_more ps k.done xs k.full a b c h k.answered;
+  mid = k.mid;
+  answered = all_more ps k.done xs k.full a b k.mid h k.answered;
   asked = k.asked;
-  gave = k.gave;
+  handed = k.handed;
 }
 
 some_more : (ps qs : List (List ℕ)) (xs ys : List Exchange) (a b c : List (List ℕ)) → PutsAll ps xs a b → PutsSome qs ys b c → PutsSome (ps ++ qs) (xs ++ ys) a c
@@ -73,9 +74,10 @@ up_to_before ps qs xs a b k = record {
   last = k.last;
   packets_are = ap (λ (z : List (List ℕ)). z ++ qs) k.packets_are ∙ append_assoc k.done (k.packet ∷ k.later) qs;
   joined = k.joined;
+  mid = k.mid;
   answered = k.answered;
   asked = k.asked;
-  gave = k.gave;
+  handed = k.handed;
 }
 
 some_before : (ps qs : List (List ℕ)) (xs : List Exchange) (a b : List (List ℕ)) → PutsSome ps xs a b → PutsSome (ps ++ qs) xs a b
@@ -189,12 +191,12 @@ module _ {S K O : Type 0} (exchanges_of : S → List Exchange) (refuses : S → 
 
   -- one packet whose answer was handed back
   pub one_back : (sent_of : K → ℕ) (x : Exchange) (p : List ℕ) (a b : Stand S K O) → x.request ≡ command p → exchanges_of b.station ≡ exchanges_of a.station ++ x ∷ []
-      → put_of b.out ≡ put_of a.out → same_out a.out b.out → (packet_of x.answer ≡ [] → ⊥)
+      → IsHandedBack (packet_of x.answer) (put_of a.out) (put_of b.out) → same_out a.out b.out
       → AnswersByPut exchanges_of refuses put_of same_out sent_of (Err errors.Write) (p ∷ []) a b
-  one_back sent_of x p a b asked grown put kept gave = record {
+  one_back sent_of x p a b asked grown handed kept = record {
     exchanges = x ∷ [];
     grown = grown;
-    puts = record { done = []; packet = p; later = []; full = []; last = x; packets_are = refl; joined = refl; answered = record { asked = refl; put = put ∙ sym (append-nil (put_of a.out)) }; asked = asked; gave = gave };
+    puts = record { done = []; packet = p; later = []; full = []; last = x; packets_are = refl; joined = refl; mid = put_of a.out; answered = record { asked = refl; put = sym (append-nil (put_of a.out)) }; asked = asked; handed = handed };
     kept = kept;
     counted = tt;
     refused = tt;

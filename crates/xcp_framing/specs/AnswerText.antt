@@ -5,10 +5,15 @@ use Rattle.xcp_slave.specs.declared.Answer.{Answer}
 use Rattle.xcp_slave.specs.declared.Answer.TheVariants as answers
 use Rattle.xcp_slave.specs.declared.Exchange.{Exchange}
 
--- what an answer's line says: a packet in upper-case hex without spaces, or words
+-- packets in upper-case hex, one space (32) between them
+abbrev pub packets_text : List (List ℕ) → List ℕ
+packets_text [] = []
+packets_text (p ∷ ps) = encode_upper p ++ flat_map (λ q. 32 ∷ encode_upper q) ps
+
+-- what an answer's line says: its packets, or words
 abbrev pub words_of : Answer → List ℕ
 words_of answers.Silent = codes "-"
-words_of (answers.Packet packet) = encode_upper packet.items
+words_of (answers.Packets packets) = packets_text packets
 words_of (answers.Sampled n) = codes "sampled " ++ decimal n
 words_of answers.Overrun = codes "overrun"
 words_of answers.NoChannel = codes "no channel"

@@ -16,9 +16,9 @@ use Rattle.xcp_framing.specs.Prefix.{AppendsFront}
 use Rattle.xcp_framing.specs.Wire.{wire, len_of, IsBadLength}
 use Rattle.xcp_framing.specs.Frames.{frames, rest}
 
--- the packet of an answer, if it is one
+-- the packets of an answer, if it has some
 abbrev pub packet_of : Answer → List (List ℕ)
-packet_of (answers.Packet packet) = packet.items ∷ []
+packet_of (answers.Packets packets) = packets
 packet_of _ = []
 
 -- the packets of the answers, in order
@@ -30,7 +30,7 @@ pub record GavePacket (x : Exchange) : Type 0 where
   pub drain : x.request ≡ requests.Drain
   pub gave : packet_of x.answer ≢ []
 
--- the most Drains behind a command, and the most packets of a command: its answer's and those of the Drains
+-- the most Drains behind a command
 abbrev pub most_drains : ℕ
 most_drains = 64
 

@@ -22,7 +22,15 @@ pub record PutsAll (packets : List (List ℕ)) (exchanges : List Exchange) (befo
   pub asked : requests_of exchanges ≡ commands packets
   pub put : after ≡ before ++ packets_of exchanges
 
--- those of the first packets, up to one whose answer's packet was handed back
+-- Of these packets the first were put, and the next one was handed back.
+pub record IsHandedBack (packets : List (List ℕ)) (before after : List (List ℕ)) : Type 0 where
+  pub front : List (List ℕ)
+  pub back : List (List ℕ)
+  pub joined : packets ≡ front ++ back
+  pub some : back ≢ []
+  pub put : after ≡ before ++ front
+
+-- those of the first packets, up to one of whose answer's packets one was handed back
 pub record PutsUpTo (packets : List (List ℕ)) (exchanges : List Exchange) (before after : List (List ℕ)) : Type 0 where
   pub done : List (List ℕ)
   pub packet : List ℕ
@@ -31,9 +39,10 @@ pub record PutsUpTo (packets : List (List ℕ)) (exchanges : List Exchange) (bef
   pub last : Exchange
   pub packets_are : packets ≡ done ++ packet ∷ later
   pub joined : exchanges ≡ full ++ last ∷ []
-  pub answered : PutsAll done full before after
+  pub mid : List (List ℕ)
+  pub answered : PutsAll done full before mid
   pub asked : last.request ≡ command packet
-  pub gave : packet_of last.answer ≢ []
+  pub handed : IsHandedBack (packet_of last.answer) mid after
 
 -- those of the first packets
 pub record PutsSome (packets : List (List ℕ)) (exchanges : List Exchange) (before after : List (List ℕ)) : Type 0 where

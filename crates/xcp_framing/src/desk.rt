@@ -44,7 +44,7 @@ impl Desk {
         }
     }
 
-    /// MAX_CTO: the greatest length of a command or a reply, in bytes.
+    /// MAX_CTO: the greatest length of a command or of a packet that answers one, in bytes.
     pub fn max_cto(&self) -> u8
         ensures { result ≡ (layout_of self.now.slave).max_cto }
     {
@@ -88,7 +88,7 @@ impl Station for Desk {
             return Err(StationError::Memory);
         }
         let told = self.slave.submit_into(request, packet);
-        self.trace.push_told(request, told, packet);
+        self.trace.push_told(request, &told, packet);
         Ok(told)
     }
 

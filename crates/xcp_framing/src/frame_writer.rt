@@ -52,6 +52,7 @@ impl FrameWriter {
     }
 
     /// Sends one packet. CTR is the number of packets sent before, modulo 65,536.
+    #[inline(always)]
     pub(crate) fn send<W: Write>(
         &mut self,
         writer: &mut Watched<W>,

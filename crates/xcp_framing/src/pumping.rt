@@ -3,32 +3,29 @@ ghost use Rattle.std.specs.Prelude.{◌≡◌, ◌≤◌, IfOk, IfErr};
 ghost use Rattle.xcp_framing.specs.Pump.{DrainAgain, Pumps};
 ghost use Rattle.xcp_framing.specs.ServeRefusal.{OnRefusal, Refused};
 ghost use Rattle.xcp_framing.specs.ServeParts.{IsInterruption};
+ghost use Rattle.xcp_framing.specs.private.Serve.{most_train};
 
+use crate::end::put_told;
 use crate::{End, ServeError, Station};
 use std::sync::atomic::{AtomicBool, Ordering};
 use std::thread;
 use std::time::{Clock, Duration};
 use xcp_packet::Packet;
-use xcp_slave::{Request, Told};
+use xcp_slave::Request;
 
-/// Submits one `Drain`, and puts its packet. `Ok` is the number of packets put, none or one.
+/// Submits one `Drain`, and puts its packets. `Ok` is the number of packets put.
 fn pump_one<S: Station, E: End>(station: &mut S, end: &mut E) -> Result<u64, ServeError>
     ensures pumps { Pumps result (S.exchanges station.old) (S.exchanges station.new)
         (E.put_so_far end.old) (E.put_so_far end.new) }
     ensures kept { E.same end.old end.new }
-    ensures one { IfOk result (λ n. n ≤ 1) }
+    ensures most { IfOk result (λ n. n ≤ most_train) }
     ensures stops { IfErr result IsInterruption }
     ensures refused { OnRefusal result (λ e. Refused S.exchanges S.refuses e DrainAgain
         (S.exchanges station.old) station.new) }
 {
     let mut packet = Packet::new();
-    let Told::Packet = station.submit_into(&Request::Drain, &mut packet)? else {
-        return Ok(0);
-    };
-    if end.put(packet).is_err() {
-        return Err(ServeError::Write);
-    }
-    Ok(1)
+    let told = station.submit_into(&Request::Drain, &mut packet)?;
+    put_told(end, told, packet)
 }
 
 /// Submits `Drain` where a packet waits, and puts the packets, until it sees `stop` or its turns

@@ -1,8 +1,12 @@
 //! A station behind a stream: commands in frames from a reader, answers in frames to a writer.
-ghost use Rattle.std.specs.Prelude.{◌≡◌, ◌≢◌, ◌<◌, ◌≤◌, ◌+◌, ◌*◌, ◌^◌, [], ◌∷◌, ◌++◌, ◌⊎◌, OnOk, IfErr, length};
-ghost use Rattle.xcp_framing.specs.private.FrameOutput.{output};
-ghost use Rattle.xcp_framing.specs.Serve.{AnswersSoFar, EndsReader, Serves, most_drains, number_of};
-ghost use Rattle.xcp_framing.specs.private.Serve.{most_packets};
+ghost use Rattle.std.specs.Prelude.{◌≡◌, ◌≢◌, ◌<◌, ◌≤◌, ◌+◌, ◌*◌, ◌^◌, [], ◌∷◌, ◌++◌, ◌⊎◌, ℕ, OnErr, OnOk, IfErr, false, length, true};
+ghost use Rattle.arrayvec.specs.ArrayVec.{ArrayVec};
+ghost use Rattle.xcp_packet.specs.PacketTrains.{block_packets};
+ghost use Rattle.xcp_slave.specs.AnswerInBytes.{answer_in};
+ghost use Rattle.xcp_framing.specs.private.FrameOutput.{Sends, output};
+ghost use Rattle.xcp_framing.specs.Serve.{AnswersSoFar, EndsReader, Serves, most_drains, number_of, packet_of};
+ghost use Rattle.xcp_framing.specs.private.Serve.{most_packets, most_train};
+ghost use Rattle.xcp_framing.specs.Wire.{wire_from};
 ghost use Rattle.xcp_framing.specs.ServeRefusal.{AsksNext, DrainsNext, OnRefusal, ReadsNext, Refused};
 ghost use Rattle.xcp_framing.specs.ServeParts.{IsInterruption};
 ghost use Rattle.xcp_framing.specs.private.ServeParts.{Grows, DrainsSoFar};
@@ -14,6 +18,7 @@ use crate::{Station, StationError, Watched};
 use std::alloc::Global;
 use std::io::{Read, Write};
 use thiserror::Error;
+use xcp_packet::{Packet, Width};
 use xcp_slave::Told;
 
 /// The most Drains behind a command.
@@ -85,20 +90,95 @@ impl From<StationError> for ServeError {
     }
 }
 
-/// Drains the station until an answer is no packet, at most 64 times, and sends the packets.
+/// Whether an answer has packets.
+fn has_packets(told: &Told) -> bool
+    ensures some { (packet : ArrayVec ℕ) → result ≡ true → packet_of (answer_in told.now packet) ≢ [] }
+    ensures none { (packet : ArrayVec ℕ) → result ≡ false → packet_of (answer_in told.now packet) ≡ [] }
+{
+    match told {
+        Told::Packet => true,
+        Told::Block(_) => true,
+        _ => false,
+    }
+}
+
+/// Sends the packets of an answer, each in a frame of its own.
+#[inline(always)]
+fn send_told<W: Write>(
+    told: &Told,
+    packet: &Packet,
+    writer: &mut Watched<W>,
+    sender: &mut FrameWriter,
+) -> Result<(), ServeError>
+    requires { sender.old.sent + most_train < 2 ^ 64 }
+    ensures sends { Sends result
+        (output (W.contents writer.old.inner) sender.old)
+        (output (W.contents writer.new.inner) sender.new)
+        (wire_from sender.old.sent (packet_of (answer_in told.now packet.now))) }
+    ensures counts { OnOk result (sender.new.sent
+        ≡ sender.old.sent + length (packet_of (answer_in told.now packet.now))) }
+    ensures most { OnOk result (sender.new.sent ≤ sender.old.sent + most_train) }
+    ensures fine { OnOk result (writer.new.failures ≡ writer.old.failures) }
+    ensures dropped { OnErr result (sender.new.held ≡ []) }
+    ensures err { IfErr result (λ e.
+        (e ≡ ServeError.Write) × (writer.old.failures < writer.new.failures)) }
+{
+    match told {
+        Told::Packet => sender.send(writer, packet),
+        Told::Block(width) => send_block(packet.as_slice(), *width, writer, sender),
+        _ => Ok(()),
+    }
+}
+
+/// Sends the packets of a block.
+fn send_block<W: Write>(
+    bytes: &[u8],
+    width: Width,
+    writer: &mut Watched<W>,
+    sender: &mut FrameWriter,
+) -> Result<(), ServeError>
+    requires room { sender.old.sent + most_train < 2 ^ 64 }
+    requires short { length bytes.now ≤ 255 }
+    ensures sends { Sends result
+        (output (W.contents writer.old.inner) sender.old)
+        (output (W.contents writer.new.inner) sender.new)
+        (wire_from sender.old.sent (block_packets width bytes.now)) }
+    ensures counts { OnOk result (sender.new.sent
+        ≡ sender.old.sent + length (block_packets width bytes.now)) }
+    ensures most { OnOk result (sender.new.sent ≤ sender.old.sent + most_train) }
+    ensures fine { OnOk result (writer.new.failures ≡ writer.old.failures) }
+    ensures dropped { OnErr result (sender.new.held ≡ []) }
+    ensures err { IfErr result (λ e.
+        (e ≡ ServeError.Write) × (writer.old.failures < writer.new.failures)) }
+{
+    let _least = width.bytes();
+    let mut piece = Packet::new();
+    let mut left = bytes;
+    'pieces: loop {
+        match width.cut(left, &mut piece) {
+            None => return sender.send(writer, &piece),
+            Some(rest) => {
+                sender.send(writer, &piece)?;
+                left = rest;
+            }
+        }
+    }
+}
+
+/// Drains the station until an answer has no packet, at most 64 times, and sends the packets.
 fn drain<W: Write, S: Station>(
     station: &mut S,
     writer: &mut Watched<W>,
     sender: &mut FrameWriter,
     lent: &mut Lent,
 ) -> Result<(), ServeError>
-    requires { sender.old.sent + most_drains < 2 ^ 64 }
+    requires { sender.old.sent + most_train * most_drains < 2 ^ 64 }
     ensures drains { Grows result (DrainsSoFar result)
         (S.exchanges station.old) (S.exchanges station.new)
         (output (W.contents writer.old.inner) sender.old)
         (output (W.contents writer.new.inner) sender.new)
         sender.old.sent sender.new.sent }
-    ensures bound { OnOk result (sender.new.sent ≤ sender.old.sent + most_drains) }
+    ensures bound { OnOk result (sender.new.sent ≤ sender.old.sent + most_train * most_drains) }
     ensures quiet { result ≢ Err ServeError.Write → writer.new.failures ≡ writer.old.failures }
     ensures stops { IfErr result IsInterruption }
     ensures write { result ≡ Err ServeError.Write → writer.old.failures < writer.new.failures }
@@ -107,15 +187,16 @@ fn drain<W: Write, S: Station>(
         (S.exchanges station.old) station.new) }
 {
     for _drain in 0..DRAINS {
-        let Told::Packet = station.submit_into(lent.drain.request(), &mut lent.packet)? else {
+        let told = station.submit_into(lent.drain.request(), &mut lent.packet)?;
+        if !has_packets(&told) {
             return Ok(());
-        };
-        sender.send(writer, &lent.packet)?;
+        }
+        send_told(&told, &lent.packet, writer, sender)?;
     }
     Ok(())
 }
 
-/// Submits the command that is lent, sends the packet of the answer, and drains the station.
+/// Submits the command that is lent, sends the packets of the answer, and drains the station.
 fn exchange<W: Write, S: Station>(
     command: &LentCommand,
     station: &mut S,
@@ -138,9 +219,8 @@ fn exchange<W: Write, S: Station>(
         Refused S.exchanges S.refuses e (AsksNext (command.now.items ∷ []))
         (S.exchanges station.old) station.new) }
 {
-    if let Told::Packet = station.submit_into(command.request(), &mut lent.packet)? {
-        sender.send(writer, &lent.packet)?;
-    }
+    let told = station.submit_into(command.request(), &mut lent.packet)?;
+    send_told(&told, &lent.packet, writer, sender)?;
     drain(station, writer, sender, lent)
 }
 
@@ -186,7 +266,7 @@ impl<S: Station, W: Write> Answerer<S, Sending, Watched<W>> for InFrames {
 /// Answers a stream of frames (XCP on Ethernet, TCP), packet by packet, until the reader ends.
 ///
 /// Each turn is one read of up to 512 bytes, of at most `turns` turns. Each packet that is whole is
-/// submitted as a command, and behind it `Drain` until an answer is no packet, at most 64 times.
+/// submitted as a command, and behind it `Drain` until an answer has no packet, at most 64 times.
 /// Each packet of an answer is sent in a frame of its own; CTR counts them from 0. The frames are
 /// gathered, and written before the next read, before any return, and where the next one finds no
 /// room. A frame of LEN 0 is skipped, and the CTR of what is read is not looked at.

@@ -4,13 +4,13 @@ ghost use Rattle.xcp_framing.specs.Serve.{EndsReader};
 ghost use Rattle.xcp_framing.specs.ServeRefusal.{OnRefusal, Refused};
 ghost use Rattle.xcp_framing.specs.ServeBy.{CommandNext, ServesBy};
 
+use crate::end::put_told;
 use crate::lent::LentCommand;
 use crate::passage::{Answerer, READ_SIZE, answer_stream};
 use crate::{End, ServeError, Served, Station, StationError, Watched};
 use std::alloc::Global;
 use std::io::Read;
 use xcp_packet::Packet;
-use xcp_slave::Told;
 
 /// How many packets were put at an end.
 #[derive(Drop)]
@@ -18,7 +18,7 @@ struct Putting {
     sent: u64,
 }
 
-/// A packet is answered by its command alone, and the packet of the answer is put.
+/// A packet is answered by its command alone, and the packets of the answer are put.
 struct ByCommand;
 
 impl<S: Station, E: End> Answerer<S, Putting, E> for ByCommand {
@@ -40,12 +40,8 @@ impl<S: Station, E: End> Answerer<S, Putting, E> for ByCommand {
         end: &mut E,
     ) -> Result<(), ServeError> {
         let mut reply = Packet::new();
-        if let Told::Packet = station.submit_into(command.request(), &mut reply)? {
-            let Ok(()) = end.put(reply) else {
-                return Err(ServeError::Write);
-            };
-            state.sent += 1;
-        }
+        let told = station.submit_into(command.request(), &mut reply)?;
+        state.sent += put_told(end, told, reply)?;
         Ok(())
     }
 
@@ -58,8 +54,8 @@ impl<S: Station, E: End> Answerer<S, Putting, E> for ByCommand {
     }
 }
 
-/// Answers a stream of frames as `serve` does, but without `Drain`: the packet of each answer is put
-/// at an end, for another thread to send. `sent` counts the packets put, and one that is handed back
+/// Answers a stream of frames as `serve` does, but without `Drain`: the packets of each answer are
+/// put at an end, for another thread to send. `sent` counts the packets put, and one that is handed back
 /// ends the call with `Write`.
 pub fn serve_by<R: Read, S: Station, E: End>(
     alloc: Global,

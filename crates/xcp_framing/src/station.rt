@@ -6,7 +6,7 @@ ghost use Rattle.xcp_slave.specs.AnswerInBytes.{answer_in};
 ghost use Rattle.xcp_framing.specs.declared.station.StationError.{StationError};
 
 use thiserror::Error;
-use xcp_packet::Packet;
+use xcp_packet::{Packet, Train};
 use xcp_slave::{Answer, Request, Told};
 
 /// Why a station did not take a request. Nothing was executed, and nothing changed.
@@ -42,9 +42,9 @@ pub trait Station {
     /// What a refusal may mean: in this state it may refuse this request with this error.
     ghost refuses: { Self → Request → StationError → Type 0 };
 
-    /// Answers a request that is lent, and has this exchange from then on. The answer's packet, if
-    /// it is one, stands in the lent packet, which has any bytes otherwise. After an `Err` the
-    /// station is as it was.
+    /// Answers a request that is lent, and has this exchange from then on. The answer's packet, or the
+    /// data bytes of its block, stand in the lent packet, which has any bytes otherwise. After an
+    /// `Err` the station is as it was.
     fn submit_into(&mut self, request: &Request, packet: &mut Packet) -> Result<Told, StationError>
         ensures ok { IfOk result (λ told. exchanges self.new ≡ exchanges self.old
             ++ record { request = request.now; answer = answer_in told packet.new } ∷ []) }
@@ -74,11 +74,7 @@ pub fn told_of(answer: &Answer, packet: &mut Packet) -> Told
     ensures { answer_in result packet.new ≡ answer.now }
 {
     match answer {
-        Answer::Packet(bytes) => {
-            packet.clear();
-            let _ = packet.try_extend_from_slice(bytes);
-            Told::Packet
-        }
+        Answer::Packets(train) => told_of_train(train, packet),
         Answer::Silent => Told::Silent,
         Answer::Sampled(count) => Told::Sampled(*count),
         Answer::Overrun => Told::Overrun,
@@ -88,5 +84,17 @@ pub fn told_of(answer: &Answer, packet: &mut Packet) -> Told
         Answer::Stored(count) => Told::Stored(*count),
         Answer::NoStore => Told::NoStore,
         Answer::Later => Told::Later,
+    }
+}
+
+fn told_of_train(train: &Train, packet: &mut Packet) -> Told
+    ensures { answer_in result packet.new ≡ Answer.Packets train.now }
+{
+    let (width, bytes) = train.parts();
+    packet.clear();
+    let _ = packet.try_extend_from_slice(bytes);
+    match width {
+        None => Told::Packet,
+        Some(width) => Told::Block(width),
     }
 }

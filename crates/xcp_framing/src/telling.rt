@@ -2,10 +2,11 @@
 ghost use Rattle.std.specs.Prelude.{◌≡◌, ◌++◌, ◌∷◌, [], OnOk, decimal, length, ◌≤◌, ◌+◌, vec_len, vec_capacity};
 ghost use Rattle.hex.specs.Hex.{encode_upper};
 ghost use Rattle.xcp_slave.specs.AnswerInBytes.{answer_in};
-ghost use Rattle.xcp_framing.specs.AnswerText.{text_of};
+ghost use Rattle.xcp_framing.specs.AnswerText.{packets_text, text_of};
+ghost use Rattle.xcp_packet.specs.PacketTrains.{block_packets};
 
 use std::alloc::AllocError;
-use xcp_packet::Packet;
+use xcp_packet::{Packet, Width};
 use xcp_slave::Told;
 
 const HEX_DIGITS: [u8; 16] = *b"0123456789ABCDEF";
@@ -19,6 +20,7 @@ pub fn push_text(texts: &mut Vec<u8>, told: Told, packet: &Packet) -> Result<(),
 {
     match told {
         Told::Packet => push_packet(texts, packet.as_slice()),
+        Told::Block(width) => push_block(texts, packet.as_slice(), width),
         Told::Sampled(count) => push_count(texts, b"sampled ", count),
         Told::Stored(count) => push_count(texts, b"stored ", count),
         Told::Silent => texts.extend_from_slice(b"-\n"),
@@ -37,12 +39,39 @@ fn push_packet(texts: &mut Vec<u8>, packet: &[u8]) -> Result<(), AllocError>
     ensures { OnOk result (texts.new.items
         ≡ texts.old.items ++ encode_upper packet.now ++ 10 ∷ []) }
 {
+    push_ended(texts, packet, b'\n')
+}
+
+/// Appends the packets of a block, a space between them, and a line feed.
+fn push_block(texts: &mut Vec<u8>, bytes: &[u8], width: Width) -> Result<(), AllocError>
+    requires { length bytes.now ≤ 255 }
+    ensures { OnOk result (texts.new.items
+        ≡ texts.old.items ++ packets_text (block_packets width bytes.now) ++ 10 ∷ []) }
+{
+    let mut piece = Packet::new();
+    let mut left = bytes;
+    'pieces: loop {
+        match width.cut(left, &mut piece) {
+            None => return push_ended(texts, piece.as_slice(), b'\n'),
+            Some(rest) => {
+                push_ended(texts, piece.as_slice(), b' ')?;
+                left = rest;
+            }
+        }
+    }
+}
+
+/// Appends a packet in upper-case hex, and the character behind it.
+fn push_ended(texts: &mut Vec<u8>, packet: &[u8], end: u8) -> Result<(), AllocError>
+    requires { length packet.now ≤ 255 }
+    ensures { OnOk result (texts.new.items ≡ texts.old.items ++ encode_upper packet.now ++ end ∷ []) }
+{
     texts.reserve(2 * packet.len() + 1)?;
     for byte in packet {
         texts.push_reserved(HEX_DIGITS[(*byte / 16) as usize]);
         texts.push_reserved(HEX_DIGITS[(*byte % 16) as usize]);
     }
-    texts.push_reserved(b'\n');
+    texts.push_reserved(end);
     Ok(())
 }
 

@@ -5,6 +5,7 @@ ghost use Rattle.xcp_slave.specs.Run.{Run};
 ghost use Rattle.xcp_slave.specs.MemoryEffects.{IsNoWrite};
 ghost use Rattle.xcp_slave.specs.Step.{Answers};
 ghost use Rattle.xcp_slave.specs.AnswerInBytes.{answer_in};
+ghost use Rattle.xcp_slave.specs.declared.Answer.{Answer};
 ghost use Rattle.xcp_slave.specs.SlaveValue.{SlaveValue, layout_of, opening};
 ghost use Rattle.xcp_locked.specs.Caller.{accepting};
 ghost use Rattle.xcp_locked.specs.Journal.{entry, exchanges, journal_limit};
@@ -19,7 +20,7 @@ use crate::{Caller, LockedError, Name, Receipt};
 use std::marker::Model;
 use std::sync::ledger::Book;
 use xcp_packet::Packet;
-use xcp_slave::{Answer, Request, Slave, Told};
+use xcp_slave::{Request, Slave, Told};
 use xcp_trace::Journal;
 
 /// The most entries of a journal.
@@ -94,8 +95,8 @@ impl<N: Name> Locked<N> {
         })
     }
 
-    /// Executes a request that is lent, as `submit` does. The answer's packet, if it is one, stands in
-    /// the lent packet, which has any bytes otherwise.
+    /// Executes a request that is lent, as `submit` does. The answer's packet, or the data bytes of its
+    /// block, stand in the lent packet, which has any bytes otherwise.
     pub(crate) fn submit_into(
         &mut self,
         caller: &mut Caller<N>,
@@ -145,7 +146,7 @@ impl<N: Name> Locked<N> {
         receipts.push_reserved(Receipt {
             at,
             request: request.copy(),
-            answer: answer_of(told, packet),
+            answer: told.beside(packet),
         });
         Ok(told)
     }
@@ -215,17 +216,8 @@ fn execute(
 {
     let told = slave.submit_into(request, packet);
     publish(publisher, slave, request, place);
-    journal.push_told(caller, request, told, packet);
+    journal.push_told(caller, request, &told, packet);
     told
-}
-
-/// The answer whose packet, if it is one, stands in the lent one.
-fn answer_of(told: Told, packet: &Packet) -> Answer
-    ensures { result ≡ answer_in told packet.now }
-{
-    let mut own = Packet::new();
-    let _ = own.try_extend_from_slice(packet);
-    told.with(own)
 }
 
 /// Publishes the image that the slave has after this request, if it isn't the one published last. A

@@ -62,7 +62,8 @@ impl Unnamed {
         })
     }
 
-    /// MAX_CTO of its slave: the greatest length of a command or a reply, 8 to 255 bytes.
+    /// MAX_CTO of its slave: the greatest length of a command or of a packet that answers one, 8 to 255
+    /// bytes.
     pub fn max_cto(&self) -> u8
         ensures { result ≡ self.now.layout.max_cto }
     {

@@ -70,5 +70,5 @@ fn same_request(a: &Request, b: &Request) -> bool
 fn same_answer(a: &Answer, b: &Answer) -> bool
     ensures { MatchBool result (a.now ≡ b.now) (a.now ≢ b.now) }
 {
-    a == b
+    a.same(b)
 }

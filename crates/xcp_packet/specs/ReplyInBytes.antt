@@ -1,25 +1,39 @@
 -- What stands in a packet that was lent.
-use Rattle.std.specs.Prelude.{ℕ, List, Option, Some, None}
+use Rattle.std.specs.Prelude.{ℕ, List, [], ◌∷◌, Option, Some, None}
 use Rattle.xcp_packet.specs.declared.order.Order.{Order}
 use Rattle.xcp_packet.specs.declared.reply.Reply.{Reply}
-use Rattle.xcp_packet.specs.declared.reply.Reply.TheVariants.{Error, ErrorCount}
+use Rattle.xcp_packet.specs.declared.reply.Reply.TheVariants.{Bytes, Error, ErrorCount}
 use Rattle.xcp_packet.specs.declared.lent.Sent.{Sent}
-use Rattle.xcp_packet.specs.declared.lent.Sent.TheVariants.{Lent, Nothing}
+use Rattle.xcp_packet.specs.declared.lent.Sent.TheVariants.{Lent, Block, Nothing}
 use Rattle.xcp_packet.specs.declared.lent.Fault.{Fault}
 use Rattle.xcp_packet.specs.declared.lent.Fault.TheVariants.{Code, Count}
 use Rattle.xcp_packet.specs.ReplyPacket.{layout}
+use Rattle.xcp_packet.specs.PacketTrains.{block_packets}
 
 -- the error packet of a refusal
 abbrev pub fault_reply : Fault → Reply
 fault_reply (Code code) = Error code
 fault_reply (Count code count) = ErrorCount code count
 
--- what is sent, where the packet that was lent has these bytes
-abbrev pub sent_bytes : Sent → List ℕ → Option (List ℕ)
-sent_bytes Lent bytes = Some bytes
-sent_bytes Nothing bytes = None
+-- the packets that are sent, where the one that was lent has these bytes
+abbrev pub sent_packets : Sent → List ℕ → Option (List (List ℕ))
+sent_packets Lent bytes = Some (bytes ∷ [])
+sent_packets (Block width) bytes = Some (block_packets width bytes)
+sent_packets Nothing bytes = None
 
--- the bytes of a reply in this byte order, if there is one
-abbrev pub reply_bytes : Order → Option Reply → Option (List ℕ)
-reply_bytes order None = None
-reply_bytes order (Some reply) = Some (layout order reply)
+-- The packets of a reply, in this byte order, with at most `width` data bytes each: bytes that were read are as many packets
+-- as they fill, and any other reply is one.
+-- (ASAM MCD-1 XCP, protocol layer: slave block transfer mode.)
+abbrev pub packets_of : Order → ℕ → Reply → List (List ℕ)
+packets_of order width (Bytes bytes) = block_packets width bytes.items
+packets_of order width reply = layout order reply ∷ []
+
+-- those of the reply, if there is one
+abbrev pub reply_packets : Order → ℕ → Option Reply → Option (List (List ℕ))
+reply_packets order width None = None
+reply_packets order width (Some reply) = Some (packets_of order width reply)
+
+-- the reply tells no bytes that were read
+abbrev pub IsPlain : Reply → Type 0
+IsPlain (Bytes bytes) = ⊥
+IsPlain reply = Unit {0}

@@ -5,13 +5,15 @@ ghost use Rattle.xcp_packet.specs.ReplyPacket.{layout};
 ghost use Rattle.xcp_packet.specs.ReplyInBytes.{fault_reply};
 
 use crate::replying::{write_error, write_error_count};
-use crate::{Code, Order, Packet};
+use crate::{Code, Order, Packet, Width};
 
 /// What is sent of a command that was not refused.
 #[derive(Clone, Copy, Debug, PartialEq, Eq)]
 pub enum Sent {
     /// The packet that was lent, in which the reply now stands.
     Lent,
+    /// A block: the data bytes that now stand in the packet that was lent, so many to a packet.
+    Block(Width),
     /// Nothing.
     Nothing,
 }

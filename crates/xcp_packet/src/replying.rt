@@ -13,8 +13,8 @@ const RES: u8 = 0xFF;
 /// The packet identifier of an error packet.
 const ERR: u8 = 0xFE;
 
-/// As many as the data bytes of a packet can be.
-static ZEROS: [u8; 254] = [0; 254];
+/// As many as the data bytes of an UPLOAD can be.
+static ZEROS: [u8; 255] = [0; 255];
 
 /// Makes these bytes the packet's.
 fn write(packet: &mut Packet, bytes: &[u8])
@@ -63,8 +63,15 @@ pub fn write_blank(packet: &mut Packet, n: u8)
     write_bytes(packet, &ZEROS[..n as usize]);
 }
 
+/// As many zeros, in whose place the caller reads the data bytes of a block.
+pub fn write_zeros(packet: &mut Packet, n: u8)
+    ensures { packet.new.items ≡ replicate n 0 }
+{
+    write(packet, &ZEROS[..n as usize]);
+}
+
 /// The reply to UPLOAD and SHORT_UPLOAD: what was read.
-fn write_bytes(packet: &mut Packet, bytes: &[u8])
+pub(crate) fn write_bytes(packet: &mut Packet, bytes: &[u8])
     requires { length bytes.now ≤ 254 }
     ensures { packet.new.items ≡ 0xFF ∷ bytes.now }
 {

@@ -14,8 +14,8 @@ use clap::error::ErrorKind;
 use clap::{Arg, ArgAction, ArgMatches, Command, Error};
 use std::alloc::{AllocError, Global};
 
-/// What `--version` says behind the program's name: its version, and the toolchain that proves it.
-const VERSION: &str = "0.1.0, proved with rattle-kit-13f";
+/// What `--version` says behind the program's name.
+const VERSION: &str = "0.1.0";
 
 /// What help says below the options of the program.
 const STATUS: &str =
@@ -110,28 +110,34 @@ fn serve_command<'a>(alloc: Global) -> Result<Command<'a>, AllocError>
     ensures app { IfOk result (λ c. app_of c ≡ serve_app) }
     ensures local { IfOk result (λ c. (fields_of c).has_globals ≡ false) }
 {
-    let port = numeric(alloc, "port", "PORT", 1_024, 65_535, None).help(
-        "The port to listen on, 1,024 to 65,535",
-    );
-    let tools = numeric(alloc, "tools", "T", 1, 2, Some("1")).help(
-        "How many tools may connect, 1 or 2",
-    );
-    let tasks = numeric(alloc, "tasks", "K", 0, 6, Some("1")).help(
-        "How many tasks raise events, 0 to 6",
-    );
-    let cycles = numeric(alloc, "cycles", "N", 1, 1_000, Some("100")).help(
-        "How many cycles each task runs, 1 to 1,000",
-    );
-    let period = numeric(alloc, "period", "MS", 0, 1_000, Some("0")).help(
-        "The milliseconds from one cycle of a task to its next, 0 to 1,000",
-    );
+    // Each option is made just before it is added, since what lives at a `?` is dropped there, and each
+    // drop is proved.
     let serve = Command::new(alloc, "serve")
         .about(
             "Answers calibration tools over TCP on 127.0.0.1, while tasks of the controller raise events",
         )
         .after_help(ENDS);
-    let serve = serve.arg(config_option(alloc))?.arg(port)?;
-    Ok(serve.arg(tools)?.arg(tasks)?.arg(cycles)?.arg(period)?)
+    let serve = serve.arg(config_option(alloc))?;
+    let port = numeric(alloc, "port", "PORT", 1_024, 65_535, None).help(
+        "The port to listen on, 1,024 to 65,535",
+    );
+    let serve = serve.arg(port)?;
+    let tools = numeric(alloc, "tools", "T", 1, 2, Some("1")).help(
+        "How many tools may connect, 1 or 2",
+    );
+    let serve = serve.arg(tools)?;
+    let tasks = numeric(alloc, "tasks", "K", 0, 6, Some("1")).help(
+        "How many tasks raise events, 0 to 6",
+    );
+    let serve = serve.arg(tasks)?;
+    let cycles = numeric(alloc, "cycles", "N", 1, 1_000, Some("100")).help(
+        "How many cycles each task runs, 1 to 1,000",
+    );
+    let serve = serve.arg(cycles)?;
+    let period = numeric(alloc, "period", "MS", 0, 1_000, Some("0")).help(
+        "The milliseconds from one cycle of a task to its next, 0 to 1,000",
+    );
+    Ok(serve.arg(period)?)
 }
 
 /// The program's command line.

@@ -35,29 +35,47 @@ use Rattle.xcp_slave.specs.SlaveInvariant.{IsSlave}
 use Rattle.xcp_slave.specs.AcceptedCommands.{Accepts}
 use Rattle.xcp_slave.proofs.StepLaws.{either}
 use Rattle.xcp_slave.proofs.RefusalCodeLemmas.{refusal-begins}
-use Rattle.xcp_slave.proofs.RefusalLaws.{ff-fe, items_of}
+use Rattle.xcp_slave.proofs.RefusalLaws.{ff-fe, packets_told}
+use Rattle.xcp_packet.specs.PacketTrains.{block_packets}
+use Rattle.xcp_packet.specs.BlockPacketLemmas.{block_begins, block_joined}
+use Rattle.xcp_packet.specs.ReplyInBytes.{packets_of}
+use Rattle.xcp_packet.proofs.ReplyPacketLaws.{error_packet, first_of, packets_data}
+use Rattle.xcp_transfer.specs.TransferValue.{response_room}
+use Rattle.std.specs.List.{flat_map}
 use Rattle.xcp_slave.proofs.ListInvariantLemmas.{none-holds, is_true}
 use Rattle.xcp_slave.proofs.TransferInvariantLemmas.{none-refused}
 
-items-same : (x y : List ℕ) → answers.Packet (record { items = x }) ≡ answers.Packet (record { items = y }) → x ≡ y
-items-same x y e = ap items_of e
+packets-same : (xs ys : List (List ℕ)) → answers.Packets xs ≡ answers.Packets ys → xs ≡ ys
+packets-same xs ys e = ap packets_told e
+
+-- the positive responses of these bytes
+abbrev responses : SlaveValue → List ℕ → Answer
+responses v bytes = answers.Packets (block_packets (response_room (layout_of v)) bytes)
 
 -- what a row that is accepted says
 pub record Accepted (c : Command) (v : SlaveValue) (bytes : List ℕ) (w : SlaveValue) : Type 0 where
   pub allowed : first_holding (row c (found_by c v)).refusals ≡ None
   pub reply : Reply
   pub replied : (row c (found_by c v)).reply ≡ Some reply
-  pub sent : 0xFF ∷ bytes ≡ layout (layout_of v).order reply
+  pub sent : bytes ≡ drop 1 (layout (layout_of v).order reply)
   pub after : w ≡ (row c (found_by c v)).after
 
-replied-by : (c : Command) (v : SlaveValue) (bytes : List ℕ) (w : SlaveValue) (o : Option Reply) → first_holding (row c (found_by c v)).refusals ≡ None → o ≡ (row c (found_by c v)).reply → w ≡ (row c (found_by c v)).after → answers.Packet (record { items = 0xFF ∷ bytes }) ≡ answer_of (layout_of v).order o → Accepted c v bytes w
+told-bytes : (v : SlaveValue) (bytes : List ℕ) (reply : Reply) → block_packets (response_room (layout_of v)) bytes ≡ packets_of (layout_of v).order (response_room (layout_of v)) reply → bytes ≡ drop 1 (layout (layout_of v).order reply)
+told-bytes v bytes reply e =
+    sym (block_joined (response_room (layout_of v)) bytes) ∙ ap (λ (ps : List (List ℕ)). flat_map (λ p. drop 1 p) ps) e ∙ packets_data (layout_of v).order (response_room (layout_of v)) reply
+
+replied-by : (c : Command) (v : SlaveValue) (bytes : List ℕ) (w : SlaveValue) (o : Option Reply) → first_holding (row c (found_by c v)).refusals ≡ None → o ≡ (row c (found_by c v)).reply → w ≡ (row c (found_by c v)).after → responses v bytes ≡ answer_of (layout_of v) o → Accepted c v bytes w
 replied-by c v bytes w None h r a e = cc
-replied-by c v bytes w (Some reply) h r a e = record { allowed = h; reply = reply; replied = sym r; sent = items-same _ _ e; after = a }
+replied-by c v bytes w (Some reply) h r a e = record { allowed = h; reply = reply; replied = sym r; sent = told-bytes v bytes reply (packets-same _ _ e); after = a }
 
-refused-by : (c : Command) (v : SlaveValue) (bytes : List ℕ) (e : Reply) (R : Type 0) → first_holding (row c (found_by c v)).refusals ≡ Some e → answers.Packet (record { items = 0xFF ∷ bytes }) ≡ answer_of (layout_of v).order (Some e) → R
-refused-by c v bytes e R h s = let f = refusal-begins (layout_of v).order c (found_by c v) e h in absurd (ff-fe bytes f.0 (items-same _ _ s ∙ f.1))
+refused-by : (c : Command) (v : SlaveValue) (bytes : List ℕ) (e : Reply) (R : Type 0) → first_holding (row c (found_by c v)).refusals ≡ Some e → responses v bytes ≡ answer_of (layout_of v) (Some e) → R
+refused-by c v bytes e R h s =
+    let f = refusal-begins (layout_of v).order c (found_by c v) e h in
+    let b = block_begins (response_room (layout_of v)) bytes in
+    let alone = error_packet (layout_of v).order (response_room (layout_of v)) e f.0 f.1 in
+    absurd (ff-fe b.0 f.0 (ap first_of (sym b.2 ∙ packets-same _ _ s ∙ alone) ∙ f.1))
 
-executed : (c : Command) (v : SlaveValue) (bytes : List ℕ) (w : SlaveValue) (x : Result (Option Reply) Reply) → Meets (row c (found_by c v)) (noblock v) x w → answers.Packet (record { items = 0xFF ∷ bytes }) ≡ answer_of (layout_of v).order (sent_reply x) → Accepted c v bytes w
+executed : (c : Command) (v : SlaveValue) (bytes : List ℕ) (w : SlaveValue) (x : Result (Option Reply) Reply) → Meets (row c (found_by c v)) (noblock v) x w → responses v bytes ≡ answer_of (layout_of v) (sent_reply x) → Accepted c v bytes w
 executed c v bytes w (Ok o) m e = replied-by c v bytes w o m.0 m.1 m.2 e
 executed c v bytes w (Err f) m e = refused-by c v bytes f _ m.0 e
 
@@ -66,7 +84,7 @@ pub accepted : (c : Command) (v : SlaveValue) (bytes : List ℕ) (w : SlaveValue
 accepted c v bytes w h =
     let k = h.answered in
     let same : k.0 ≡ Ok c = decodes_once (layout_of v).order h.packet.items k.0 (Ok c) k.1 h.spelt in
-    let heeds : Heeds v (Ok c) (answers.Packet (record { items = 0xFF ∷ bytes })) w = subst (λ (d : Result Command Refuse). Heeds v d (answers.Packet (record { items = 0xFF ∷ bytes })) w) same k.2 in
+    let heeds : Heeds v (Ok c) (responses v bytes) w = subst (λ (d : Result Command Refuse). Heeds v d (responses v bytes) w) same k.2 in
     either (v.connected || is_connect c) _ _ _ heeds
     (λ m. executed c v bytes w m.0 m.1 m.2)
     (λ m. let e = m.0 in absurd (let z : ⊥ = cc in z))
@@ -122,27 +140,27 @@ set-mta v w extension a bytes h = ap mta_of (accepted (commands.SetMta extension
 -- reads
 
 -- the data of a reply
-data-of : (xs ys : List ℕ) → 0xFF ∷ xs ≡ 0xFF ∷ ys → xs ≡ ys
-data-of xs ys e = ap (drop 1) e
+abbrev data_in : SlaveValue → Reply → List ℕ
+data_in v reply = drop 1 (layout (layout_of v).order reply)
 
 -- an accepted UPLOAD of n bytes with the MTA at an address is answered with the tool's n bytes from there on
 pub upload-reads : (v w : SlaveValue) (n a : ℕ) (bytes : List ℕ) → IsSlave v → v.transfer.mta ≡ Memory a → Accepts v (commands.Upload n) bytes w → Reads Tool v.transfer.pages a n bytes
 upload-reads v w n a bytes s e h =
     let k = accepted (commands.Upload n) v bytes w h in
-    let t = none-holds ((n == 0 || nat_lt ((layout_of v).max_cto - 1) n, replies.Error OutOfRange) ∷ (not (is_readable v.transfer.pages v.transfer.mta n), replies.Error AccessDenied) ∷ []) k.allowed in
+    let t = none-holds ((n == 0, replies.Error OutOfRange) ∷ (not (is_readable v.transfer.pages v.transfer.mta n), replies.Error AccessDenied) ∷ []) k.allowed in
     let inside : lies_inside (layout_of v) a n ≡ true = ap (λ (m : Mta). is_readable v.transfer.pages m n) (sym e) ∙ is_true _ t.1.0 in
     let same : k.reply ≡ replies.Bytes (record { items = bytes_at v.transfer.pages v.transfer.mta n }) = (let r = k.replied in cc) in
-    let told : bytes ≡ tool_bytes v.transfer.pages a n = data-of _ _ (k.sent ∙ ap (layout (layout_of v).order) same) ∙ ap (λ (m : Mta). bytes_at v.transfer.pages m n) e in
+    let told : bytes ≡ tool_bytes v.transfer.pages a n = (k.sent ∙ ap (data_in v) same) ∙ ap (λ (m : Mta). bytes_at v.transfer.pages m n) e in
     (tool_is_read v.transfer.pages a n bytes s.transfer.layout s.transfer.pages).1 (inside, told)
 
 -- at a text
 pub upload-text-reads : (v w : SlaveValue) (n place : ℕ) (id : TextId) (bytes : List ℕ) → v.transfer.mta ≡ Text id place → Accepts v (commands.Upload n) bytes w → (place + n ≤ length (text_of (layout_of v) id)) × (bytes ≡ take n (drop place (text_of (layout_of v) id)))
 upload-text-reads v w n place id bytes e h =
     let k = accepted (commands.Upload n) v bytes w h in
-    let t = none-holds ((n == 0 || nat_lt ((layout_of v).max_cto - 1) n, replies.Error OutOfRange) ∷ (not (is_readable v.transfer.pages v.transfer.mta n), replies.Error AccessDenied) ∷ []) k.allowed in
+    let t = none-holds ((n == 0, replies.Error OutOfRange) ∷ (not (is_readable v.transfer.pages v.transfer.mta n), replies.Error AccessDenied) ∷ []) k.allowed in
     let enough : nat_le (place + n) (length (text_of (layout_of v) id)) ≡ true = ap (λ (m : Mta). is_readable v.transfer.pages m n) (sym e) ∙ is_true _ t.1.0 in
     let same : k.reply ≡ replies.Bytes (record { items = bytes_at v.transfer.pages v.transfer.mta n }) = (let r = k.replied in cc) in
-    let told : bytes ≡ bytes_at v.transfer.pages v.transfer.mta n = data-of _ _ (k.sent ∙ ap (layout (layout_of v).order) same) in
+    let told : bytes ≡ bytes_at v.transfer.pages v.transfer.mta n = (k.sent ∙ ap (data_in v) same) in
     (grind (arith, nat_tests, enough), told ∙ ap (λ (m : Mta). bytes_at v.transfer.pages m n) e)
 
 -- an accepted SHORT_UPLOAD of n bytes is answered with the tool's n bytes from its address on
@@ -151,7 +169,7 @@ short-upload-reads v w n extension a bytes s h =
     let k = accepted (commands.ShortUpload n extension a) v bytes w h in
     let t = none-holds ((n == 0 || nat_lt ((layout_of v).max_cto - 1) n, replies.Error OutOfRange) ∷ (not (extension == 0), replies.Error OutOfRange) ∷ (not (is_readable v.transfer.pages (Memory a) n), replies.Error AccessDenied) ∷ []) k.allowed in
     let same : k.reply ≡ replies.Bytes (record { items = tool_bytes v.transfer.pages a n }) = (let r = k.replied in cc) in
-    (tool_is_read v.transfer.pages a n bytes s.transfer.layout s.transfer.pages).1 (is_true _ t.1.1.0, data-of _ _ (k.sent ∙ ap (layout (layout_of v).order) same))
+    (tool_is_read v.transfer.pages a n bytes s.transfer.layout s.transfer.pages).1 (is_true _ t.1.1.0, (k.sent ∙ ap (data_in v) same))
 
 -- bytes that can be summed up lie in one area
 summed-inside : (k : ChecksumKind) (lies : Bool) (n : ℕ) → sum_refusal k lies n ≡ None → lies ≡ true
@@ -164,5 +182,5 @@ checksum-sums v w n a bytes s e h =
     let allowed : checksum_refusal v.transfer.pages a n ≡ None = ap (λ (m : Mta). sum_refusal_at v.transfer.pages m n) (sym e) ∙ none-refused (sum_refusal_at v.transfer.pages v.transfer.mta n) k.allowed in
     let inside : lies_inside (layout_of v) a n ≡ true = summed-inside (layout_of v).checksum (lies_inside (layout_of v) a n) n allowed in
     let same : k.reply ≡ replies.Checksum (checksum_number (layout_of v).checksum) (sum_at v.transfer.pages v.transfer.mta n) = (let r = k.replied in cc) in
-    let told : bytes ≡ checksum_number (layout_of v).checksum ∷ 0 ∷ 0 ∷ double_bytes (layout_of v).order (sum_at v.transfer.pages v.transfer.mta n) = data-of _ _ (k.sent ∙ ap (layout (layout_of v).order) same) in
+    let told : bytes ≡ checksum_number (layout_of v).checksum ∷ 0 ∷ 0 ∷ double_bytes (layout_of v).order (sum_at v.transfer.pages v.transfer.mta n) = (k.sent ∙ ap (data_in v) same) in
     (tool_bytes v.transfer.pages a n, (tool_is_read v.transfer.pages a n _ s.transfer.layout s.transfer.pages).1 (inside, refl), told ∙ ap (λ (m : Mta). checksum_number (layout_of v).checksum ∷ 0 ∷ 0 ∷ double_bytes (layout_of v).order (sum_at v.transfer.pages m n)) e)

@@ -34,7 +34,7 @@ record Unanswered (c : Command) (v w : SlaveValue) : Type 0 where
   unsaid : (row c (found_by c v)).reply ≡ None
   after : w ≡ (row c (found_by c v)).after
 
-unsaid-by : (c : Command) (v w : SlaveValue) (x : Result (Option Reply) Reply) → Meets (row c (found_by c v)) (noblock v) x w → answers.Silent ≡ answer_of (layout_of v).order (sent_reply x) → Unanswered c v w
+unsaid-by : (c : Command) (v w : SlaveValue) (x : Result (Option Reply) Reply) → Meets (row c (found_by c v)) (noblock v) x w → answers.Silent ≡ answer_of (layout_of v) (sent_reply x) → Unanswered c v w
 unsaid-by c v w (Ok None) m e = record { allowed = m.0; unsaid = sym m.1; after = m.2 }
 unsaid-by c v w (Ok (Some reply)) m e = absurd (let z : ⊥ = cc in z)
 unsaid-by c v w (Err f) m e = absurd (let z : ⊥ = cc in z)

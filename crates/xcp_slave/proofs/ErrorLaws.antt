@@ -10,6 +10,8 @@ use Rattle.xcp_packet.specs.Decoding.{Decodes}
 use Rattle.xcp_packet.proofs.DecodingLaws.{decodes_once}
 use Rattle.xcp_packet.specs.Rows.{Meets}
 use Rattle.xcp_packet.specs.declared.Order.{Order}
+use Rattle.xcp_packet.proofs.ReplyPacketLaws.{first_of, one_packet}
+use Rattle.xcp_transfer.specs.TransferValue.{response_room}
 use Rattle.xcp_packet.specs.declared.Command.{Command}
 use Rattle.xcp_packet.specs.declared.Command.TheVariants as commands
 use Rattle.xcp_packet.specs.declared.Refuse.{Refuse}
@@ -31,7 +33,7 @@ use Rattle.xcp_slave.specs.Rows.{row}
 use Rattle.xcp_slave.specs.Step.{Answers, Heeds, Executes, Drains, Samples, outbox_size, with_signals, found_by, answer_of, sent_reply, is_connect}
 use Rattle.xcp_slave.specs.SlaveInvariant.{IsSlave, IsWaiting}
 use Rattle.xcp_slave.proofs.StepLaws.{either}
-use Rattle.xcp_slave.proofs.RefusalLaws.{items_of, error-leaves, row-synch}
+use Rattle.xcp_slave.proofs.RefusalLaws.{packets_told, error-leaves, row-synch}
 use Rattle.xcp_slave.proofs.RefusalCodeLemmas.{both-true, is_error, is_error_of, refusal-error, refusal-of}
 
 -- what waits is no response
@@ -47,16 +49,15 @@ waiting-responds v h = λ k d below. no-response (layout_of v) _ (h.waiting k d 
 
 -- an error packet, whatever the request
 drains-error : (o : List (ArrayVec ℕ)) (v : SlaveValue) (a : Answer) (w : SlaveValue) (R : Type 0) → All (IsWaiting (layout_of v)) o → Drains o v a w → IsErrorPacket a → R
-drains-error [] v a w R h k r = let e : answers.Nothing ≡ answers.Packet (record { items = 0xFE ∷ r.code ∷ r.rest }) = sym k.0 ∙ r.packet in cc
+drains-error [] v a w R h k r = let e : answers.Nothing ≡ answers.Packets ((0xFE ∷ r.code ∷ r.rest) ∷ []) = sym k.0 ∙ r.packet in cc
 drains-error (p ∷ rest) v a w R h k r =
-    let e : answers.Packet p ≡ answers.Packet (record { items = 0xFE ∷ r.code ∷ r.rest }) = sym k.0 ∙ r.packet in
-    let same : p ≡ record { items = 0xFE ∷ r.code ∷ r.rest } = cc in
-    let first : slice_index p.items 0 ≡ 0xFE = ap (λ (x : ArrayVec ℕ). slice_index x.items 0) same in
+    let e : answers.Packets (p.items ∷ []) ≡ answers.Packets ((0xFE ∷ r.code ∷ r.rest) ∷ []) = sym k.0 ∙ r.packet in
+    let first : slice_index p.items 0 ≡ 0xFE = ap (λ (x : Answer). slice_index (first_of (packets_told x)) 0) e in
     absurd ((no-response (layout_of v) p (h zero p (omega arith))).1 first)
 
 -- other answers are no packets
 abbrev is_packet : Answer → Bool
-is_packet (answers.Packet p) = true
+is_packet (answers.Packets ps) = true
 is_packet _ = false
 
 other-error : (x a : Answer) (R : Type 0) → is_packet x ≡ false → a ≡ x → IsErrorPacket a → R
@@ -79,9 +80,9 @@ every-error v requests.Hangup a w h k r = other-error answers.Silent a _ refl k.
 -- the bytes of an error packet of a command
 
 -- the reply whose packet an answer is
-shown : (order : Order) (o : Option Reply) (p : ArrayVec ℕ) → answers.Packet p ≡ answer_of order o → (reply : Reply) × (o ≡ Some reply) × (p.items ≡ layout order reply)
-shown order None p e = absurd (let z : ⊥ = cc in z)
-shown order (Some reply) p e = (reply, refl, ap items_of e)
+shown : (l : LayoutValue) (o : Option Reply) (p : List ℕ) → answers.Packets (p ∷ []) ≡ answer_of l o → (reply : Reply) × (o ≡ Some reply) × (p ≡ layout l.order reply)
+shown l None p e = absurd (let z : ⊥ = cc in z)
+shown l (Some reply) p e = (reply, refl, sym (one_packet l.order (response_room l) reply p (ap packets_told (sym e))))
 
 -- a refusal's packet
 refusing : (order : Order) (reply : Reply) → is_error reply ≡ true → IsRefusing (layout order reply)
@@ -109,9 +110,9 @@ meets-codes c v (Err f) w reply rest m s e =
     let same : f ≡ reply = cc in
     inr (refusing (layout_of v).order reply (subst (λ (y : Reply). is_error y ≡ true) same (refusal-error c (found_by c v) f m.0)))
 
-executes-codes : (c : Command) (v : SlaveValue) (p : ArrayVec ℕ) (w : SlaveValue) (rest : List ℕ) → Executes c v (answers.Packet p) w → p.items ≡ 0xFE ∷ rest → Codes c p.items
+executes-codes : (c : Command) (v : SlaveValue) (p : List ℕ) (w : SlaveValue) (rest : List ℕ) → Executes c v (answers.Packets (p ∷ [])) w → p ≡ 0xFE ∷ rest → Codes c p
 executes-codes c v p w rest k e =
-    let s = shown (layout_of v).order (sent_reply k.0) p k.2 in
+    let s = shown (layout_of v) (sent_reply k.0) p k.2 in
     subst (Codes c) (sym s.2) (meets-codes c v k.0 w s.0 rest k.1 s.1 (sym s.2 ∙ e))
 
 -- the same in the packet's words
@@ -123,23 +124,23 @@ unfolding Codes
 spelt-codes order c packet bytes s (inl k) = inl (s.0.first ∙ ap code k.0, k.1)
 spelt-codes order c packet bytes s (inr k) = inr k
 
-ignored-packet : (p : ArrayVec ℕ) (R : Type 0) → answers.Packet p ≡ answers.Silent → R
+ignored-packet : (p : List ℕ) (R : Type 0) → answers.Packets (p ∷ []) ≡ answers.Silent → R
 ignored-packet p R e = cc
 
-refused-packet : (v : SlaveValue) (code : Code) (p : ArrayVec ℕ) (packet : List ℕ) → is_refusal_code (number_of code) ≡ true → answers.Packet p ≡ answer_of (layout_of v).order (Some (replies.Error code)) → Told packet p.items
+refused-packet : (v : SlaveValue) (code : Code) (p : List ℕ) (packet : List ℕ) → is_refusal_code (number_of code) ≡ true → answers.Packets (p ∷ []) ≡ answer_of (layout_of v) (Some (replies.Error code)) → Told packet p
 refused-packet v code p packet h e =
-    let s = shown (layout_of v).order (Some (replies.Error code)) p e in
+    let s = shown (layout_of v) (Some (replies.Error code)) p e in
     let same : replies.Error code ≡ s.0 = (let k = s.1 in cc) in
     inr (subst IsRefusing (ap (layout (layout_of v).order) same ∙ sym s.2) (refusing (layout_of v).order (replies.Error code) h))
 
-heeds-codes : (v : SlaveValue) (packet : List ℕ) (d : Result Command Refuse) (p : ArrayVec ℕ) (w : SlaveValue) (rest : List ℕ) → Decodes (layout_of v).order packet d → Heeds v d (answers.Packet p) w → p.items ≡ 0xFE ∷ rest → Told packet p.items
-heeds-codes v packet (Ok c) p w rest s h e = either (v.connected || is_connect c) _ _ _ h (λ k. spelt-codes (layout_of v).order c packet p.items s (executes-codes c v p w rest k e)) (λ k. ignored-packet p _ k.0)
+heeds-codes : (v : SlaveValue) (packet : List ℕ) (d : Result Command Refuse) (p : List ℕ) (w : SlaveValue) (rest : List ℕ) → Decodes (layout_of v).order packet d → Heeds v d (answers.Packets (p ∷ [])) w → p ≡ 0xFE ∷ rest → Told packet p
+heeds-codes v packet (Ok c) p w rest s h e = either (v.connected || is_connect c) _ _ _ h (λ k. spelt-codes (layout_of v).order c packet p s (executes-codes c v p w rest k e)) (λ k. ignored-packet p _ k.0)
 heeds-codes v packet (Err refuses.Empty) p w rest s h e = ignored-packet p _ h.0
 heeds-codes v packet (Err refuses.Unknown) p w rest s h e = either v.connected _ _ _ h (λ k. refused-packet v CmdUnknown p packet refl k.0) (λ k. ignored-packet p _ k.0)
 heeds-codes v packet (Err refuses.Short) p w rest s h e = either v.connected _ _ _ h (λ k. refused-packet v CmdSyntax p packet refl k.0) (λ k. ignored-packet p _ k.0)
 
 -- a command's answer that begins with FE is FE 00, to SYNCH (FC), or an error packet with a refusal's code
-pub error-codes : (v : SlaveValue) (q p : ArrayVec ℕ) (w : SlaveValue) (rest : List ℕ) → Answers v (requests.Command q) (answers.Packet p) w → p.items ≡ 0xFE ∷ rest → ((slice_index q.items 0 ≡ 0xFC) × (p.items ≡ 0xFE ∷ 0x00 ∷ [])) ⊎ IsRefusing p.items
+pub error-codes : (v : SlaveValue) (q : ArrayVec ℕ) (p : List ℕ) (w : SlaveValue) (rest : List ℕ) → Answers v (requests.Command q) (answers.Packets (p ∷ [])) w → p ≡ 0xFE ∷ rest → ((slice_index q.items 0 ≡ 0xFC) × (p ≡ 0xFE ∷ 0x00 ∷ [])) ⊎ IsRefusing p
 error-codes v q p w rest h e = heeds-codes v q.items h.0 p w rest h.1 h.2 e
 
 -- the code of a command's error packet
@@ -158,14 +159,14 @@ meets-code c v (Err f) w reply code rest m s e other =
     let same : f ≡ reply = cc in
     told-code (is_code_of c) (layout_of v).order f code rest (refusal-of c (found_by c v) f m.0) (ap (layout (layout_of v).order) same ∙ e)
 
-executes-code : (c : Command) (v : SlaveValue) (p : ArrayVec ℕ) (w : SlaveValue) (code : ℕ) (rest : List ℕ) → Executes c v (answers.Packet p) w → p.items ≡ 0xFE ∷ code ∷ rest → code ≢ 0x00 → is_code_of c code ≡ true
+executes-code : (c : Command) (v : SlaveValue) (p : List ℕ) (w : SlaveValue) (code : ℕ) (rest : List ℕ) → Executes c v (answers.Packets (p ∷ [])) w → p ≡ 0xFE ∷ code ∷ rest → code ≢ 0x00 → is_code_of c code ≡ true
 executes-code c v p w code rest k e other =
-    let s = shown (layout_of v).order (sent_reply k.0) p k.2 in
+    let s = shown (layout_of v) (sent_reply k.0) p k.2 in
     meets-code c v k.0 w s.0 code rest k.1 s.1 (sym s.2 ∙ e) other
 
 -- a packet that spells a command is answered by an error packet with one of that command's codes, but for SYNCH's FE 00
-pub command-codes : (v : SlaveValue) (c : Command) (q p : ArrayVec ℕ) (w : SlaveValue) (code : ℕ) (rest : List ℕ) → spells (layout_of v).order c q.items → Answers v (requests.Command q) (answers.Packet p) w → p.items ≡ 0xFE ∷ code ∷ rest → code ≢ 0x00 → is_code_of c code ≡ true
+pub command-codes : (v : SlaveValue) (c : Command) (q : ArrayVec ℕ) (p : List ℕ) (w : SlaveValue) (code : ℕ) (rest : List ℕ) → spells (layout_of v).order c q.items → Answers v (requests.Command q) (answers.Packets (p ∷ [])) w → p ≡ 0xFE ∷ code ∷ rest → code ≢ 0x00 → is_code_of c code ≡ true
 command-codes v c q p w code rest s h e other =
     let same : h.0 ≡ Ok c = decodes_once (layout_of v).order q.items h.0 (Ok c) h.1 s in
-    let heeds : Heeds v (Ok c) (answers.Packet p) w = subst (λ (d : Result Command Refuse). Heeds v d (answers.Packet p) w) same h.2 in
+    let heeds : Heeds v (Ok c) (answers.Packets (p ∷ [])) w = subst (λ (d : Result Command Refuse). Heeds v d (answers.Packets (p ∷ [])) w) same h.2 in
     either (v.connected || is_connect c) _ _ _ heeds (λ k. executes-code c v p w code rest k e other) (λ k. ignored-packet p _ k.0)

@@ -2,7 +2,6 @@ pub mod StepLaws
 pub mod LayoutKeptLemmas
 pub mod RunLaws
 pub mod RefusalCodeLemmas
-pub mod ReplyLemmas
 pub mod RefusalLaws
 pub mod ErrorLaws
 pub mod PacketLengthLaws
@@ -27,3 +26,4 @@ pub mod SampledByteLaws
 pub mod DueListLaws
 pub mod PacketIdentifierLaws
 pub mod BlockDownloadLaws
+pub mod UploadLaws

@@ -1,5 +1,5 @@
 -- Which ODT a packet identifier names.
-use Rattle.std.proofs.Common.{◌≡◌, ℕ, zero, suc, ◌+◌, ◌<◌, ◌≤◌, List, [], ◌∷◌, length, take, get_or, Option, Some, ap, sym, ◌∙◌, refl, arith, length-append, lt_of_not-le}
+use Rattle.std.proofs.Common.{◌≡◌, ℕ, zero, suc, ◌+◌, ◌<◌, ◌≤◌, List, [], ◌∷◌, length, take, drop, get_or, Option, Some, ap, sym, ◌∙◌, refl, arith, length-append, lt_of_not-le}
 use Rattle.xcp_packet.specs.declared.Command.TheVariants as commands
 use Rattle.xcp_packet.specs.declared.Reply.{Reply}
 use Rattle.xcp_packet.specs.declared.Reply.TheVariants as replies
@@ -54,18 +54,14 @@ more-odts (x ∷ lists) (suc i) h =
 pub next-pid : (v : SlaveValue) (i : ℕ) → i < length v.daq.lists → first_pid (i + 1) v.daq ≡ first_pid i v.daq + length (list_at v.daq i).odts
 next-pid v i h = ap (λ n. length (all_odts (take n v.daq.lists))) (let e : i + 1 ≡ suc i = omega arith in e) ∙ more-odts v.daq.lists i h
 
-tail-of : List ℕ → List ℕ
-tail-of [] = []
-tail-of (x ∷ xs) = xs
-
 reply-in : Option Reply → Reply
 reply-in (Some r) = r
 reply-in _ = replies.Done
 
 -- START_STOP_DAQ_LIST is answered by the PID of the list's first ODT
 pub told-pid : (v w : SlaveValue) (mode i : ℕ) (bytes : List ℕ) → Accepts v (commands.StartStopDaqList mode i) bytes w → bytes ≡ first_pid i v.daq ∷ []
-unfolding tail-of reply-in
+unfolding reply-in
 told-pid v w mode i bytes h =
     let k = accepted (commands.StartStopDaqList mode i) v bytes w h in
     let r : k.reply ≡ replies.FirstPid (first_pid i v.daq) = sym (ap (λ (o : Option Reply). reply-in o) k.replied) in
-    ap (λ (xs : List ℕ). tail-of xs) (k.sent ∙ ap (layout (layout_of v).order) r)
+    k.sent ∙ ap (λ (reply : Reply). drop 1 (layout (layout_of v).order reply)) r

@@ -45,7 +45,7 @@ command-queues v p a w h k = packet-part (λ x. x.outbox) (λ n. n ≢ 0xFE) v p
 drains-queue : (o : List (ArrayVec ℕ)) (v : SlaveValue) (a : Answer) (w : SlaveValue) → v.outbox ≡ o → Drains o v a w → Queues v requests.Drain a w
 unfolding Queues
 drains-queue [] v a w e k = as-these v requests.Drain answers.Nothing a v w k.0 k.1 (nothing-put v)
-drains-queue (p ∷ rest) v a w e k = as-these v requests.Drain (answers.Packet p) a (record v { outbox = rest }) w k.0 k.1 (sym e ∙ nothing-put v)
+drains-queue (p ∷ rest) v a w e k = as-these v requests.Drain (answers.Packets (p.items ∷ [])) a (record v { outbox = rest }) w k.0 k.1 (sym e ∙ nothing-put v)
 
 -- a tool that is connected is told of a store
 told-of : (b : Bool) (o : List (ArrayVec ℕ)) → (if b then o ++ store_event ∷ [] else o) ≡ o ++ (if b then store_event ∷ [] else [])
@@ -140,13 +140,13 @@ run-queues v (x ∷ xs) packets w h k =
     ∙ append_assoc v.outbox put rest
     ∙ ap (λ (o : List (ArrayVec ℕ)). v.outbox ++ o) (sym k.3)
 
-drains-first : (o : List (ArrayVec ℕ)) (v : SlaveValue) (packet : ArrayVec ℕ) (rest : List (ArrayVec ℕ)) (a : Answer) (w : SlaveValue) → o ≡ packet ∷ rest → Drains o v a w → (a ≡ answers.Packet packet) × (w.outbox ≡ rest)
+drains-first : (o : List (ArrayVec ℕ)) (v : SlaveValue) (packet : ArrayVec ℕ) (rest : List (ArrayVec ℕ)) (a : Answer) (w : SlaveValue) → o ≡ packet ∷ rest → Drains o v a w → (a ≡ answers.Packets (packet.items ∷ [])) × (w.outbox ≡ rest)
 drains-first o v packet rest a w e k =
     let now : Drains (packet ∷ rest) v a w = subst (λ (x : List (ArrayVec ℕ)). Drains x v a w) e k in
     (now.0, ap (λ (x : SlaveValue). x.outbox) now.1)
 
 -- a drain answers the first packet that waits, and then the others wait
-pub first-drained : (v : SlaveValue) (packet : ArrayVec ℕ) (rest : List (ArrayVec ℕ)) (a : Answer) (w : SlaveValue) → v.outbox ≡ packet ∷ rest → Answers v requests.Drain a w → (a ≡ answers.Packet packet) × (w.outbox ≡ rest)
+pub first-drained : (v : SlaveValue) (packet : ArrayVec ℕ) (rest : List (ArrayVec ℕ)) (a : Answer) (w : SlaveValue) → v.outbox ≡ packet ∷ rest → Answers v requests.Drain a w → (a ≡ answers.Packets (packet.items ∷ [])) × (w.outbox ≡ rest)
 first-drained v packet rest a w e k = drains-first v.outbox v packet rest a w e k
 
 -- events

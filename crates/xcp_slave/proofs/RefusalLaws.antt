@@ -4,6 +4,9 @@ use Rattle.std.specs.Prelude.{if◌then◌else◌}
 use Rattle.arrayvec.specs.ArrayVec.{ArrayVec}
 use Rattle.xcp_packet.specs.ReplyPacket.{layout}
 use Rattle.xcp_packet.specs.declared.Order.{Order}
+use Rattle.xcp_packet.proofs.ReplyPacketLaws.{one_packet}
+use Rattle.xcp_memory.specs.Layout.{LayoutValue}
+use Rattle.xcp_transfer.specs.TransferValue.{response_room}
 use Rattle.xcp_packet.specs.declared.Command.{Command}
 use Rattle.xcp_packet.specs.declared.Command.TheVariants as commands
 use Rattle.xcp_packet.specs.declared.Refuse.{Refuse}
@@ -65,25 +68,25 @@ row-synch _ v reply rest s e = absurd (positive (layout_of v).order _ reply _ re
 row-error : (c : Command) (v : SlaveValue) (reply : Reply) (rest : List ℕ) → (row c (found_by c v)).reply ≡ Some reply → layout (layout_of v).order reply ≡ 0xFE ∷ rest → (row c (found_by c v)).after ≡ noblock v
 row-error c v reply rest s e = subst (λ (d : Command). (row d (found_by d v)).after ≡ noblock v) (sym (row-synch c v reply rest s e)) refl
 
--- the bytes of an answer that is a packet
-abbrev pub items_of : Answer → List ℕ
-items_of (answers.Packet p) = p.items
-items_of _ = []
+-- the packets of an answer
+abbrev pub packets_told : Answer → List (List ℕ)
+packets_told (answers.Packets ps) = ps
+packets_told _ = []
 
 -- the reply that an error packet shows
-shown : (order : Order) (o : Option Reply) (a : Answer) (r : IsErrorPacket a) → a ≡ answer_of order o → (reply : Reply) × (o ≡ Some reply) × (layout order reply ≡ 0xFE ∷ r.code ∷ r.rest)
-shown order None a r h = let e : answers.Silent ≡ answers.Packet (record { items = 0xFE ∷ r.code ∷ r.rest }) = sym h ∙ r.packet in absurd (let z : ⊥ = cc in z)
-shown order (Some reply) a r h = (reply, refl, ap items_of (sym h ∙ r.packet))
+shown : (l : LayoutValue) (o : Option Reply) (a : Answer) (r : IsErrorPacket a) → a ≡ answer_of l o → (reply : Reply) × (o ≡ Some reply) × (layout l.order reply ≡ 0xFE ∷ r.code ∷ r.rest)
+shown l None a r h = let e : answers.Silent ≡ answers.Packets ((0xFE ∷ r.code ∷ r.rest) ∷ []) = sym h ∙ r.packet in absurd (let z : ⊥ = cc in z)
+shown l (Some reply) a r h = (reply, refl, one_packet l.order (response_room l) reply (0xFE ∷ r.code ∷ r.rest) (ap packets_told (sym h ∙ r.packet)))
 
 meets-error : (c : Command) (v : SlaveValue) (x : Result (Option Reply) Reply) (w : SlaveValue) (reply : Reply) (rest : List ℕ) → Meets (row c (found_by c v)) (noblock v) x w → sent_reply x ≡ Some reply → layout (layout_of v).order reply ≡ 0xFE ∷ rest → w ≡ noblock v
 meets-error c v (Ok o) w reply rest h s e = h.2 ∙ row-error c v reply rest (sym h.1 ∙ s) e
 meets-error c v (Err code) w reply rest h s e = h.1
 
 executes-error : (c : Command) (v : SlaveValue) (a : Answer) (w : SlaveValue) → IsErrorPacket a → Executes c v a w → w ≡ noblock v
-executes-error c v a w r k = let s = shown (layout_of v).order (sent_reply k.0) a r k.2 in meets-error c v k.0 w s.0 (r.code ∷ r.rest) k.1 s.1 s.2
+executes-error c v a w r k = let s = shown (layout_of v) (sent_reply k.0) a r k.2 in meets-error c v k.0 w s.0 (r.code ∷ r.rest) k.1 s.1 s.2
 
 silent-error : (a : Answer) (R : Type 0) → IsErrorPacket a → a ≡ answers.Silent → R
-silent-error a R r h = let e : answers.Silent ≡ answers.Packet (record { items = 0xFE ∷ r.code ∷ r.rest }) = sym h ∙ r.packet in cc
+silent-error a R r h = let e : answers.Silent ≡ answers.Packets ((0xFE ∷ r.code ∷ r.rest) ∷ []) = sym h ∙ r.packet in cc
 
 heeds-error : (v : SlaveValue) (d : Result Command Refuse) (a : Answer) (w : SlaveValue) → Heeds v d a w → IsErrorPacket a → w ≡ noblock v
 heeds-error v (Ok c) a w h r = either (v.connected || is_connect c) _ _ _ h (λ k. executes-error c v a w r k) (λ k. silent-error a _ r k.0)
@@ -96,12 +99,12 @@ pub error-leaves : (v : SlaveValue) (packet : ArrayVec ℕ) (a : Answer) (w : Sl
 error-leaves v packet a w h r = heeds-error v h.0 a w h.2 r
 
 -- nothing that is sent says that nothing was done
-sent-refusal : (order : Order) (o : Option Reply) (R : Type 0) → IsRefusal (answer_of order o) → R
-sent-refusal order None R r = absurd r
-sent-refusal order (Some reply) R r = absurd r
+sent-refusal : (l : LayoutValue) (o : Option Reply) (R : Type 0) → IsRefusal (answer_of l o) → R
+sent-refusal l None R r = absurd r
+sent-refusal l (Some reply) R r = absurd r
 
 heeds-refusal : (v : SlaveValue) (d : Result Command Refuse) (a : Answer) (w : SlaveValue) → Heeds v d a w → IsRefusal a → w ≡ v
-heeds-refusal v (Ok c) a w h r = either (v.connected || is_connect c) _ _ _ h (λ k. sent-refusal (layout_of v).order (sent_reply k.0) _ (subst IsRefusal k.2 r)) (λ k. k.1)
+heeds-refusal v (Ok c) a w h r = either (v.connected || is_connect c) _ _ _ h (λ k. sent-refusal (layout_of v) (sent_reply k.0) _ (subst IsRefusal k.2 r)) (λ k. k.1)
 heeds-refusal v (Err refuses.Empty) a w h r = h.1
 heeds-refusal v (Err refuses.Unknown) a w h r = either v.connected _ _ _ h (λ k. absurd (subst IsRefusal k.0 r)) (λ k. k.1)
 heeds-refusal v (Err refuses.Short) a w h r = either v.connected _ _ _ h (λ k. absurd (subst IsRefusal k.0 r)) (λ k. k.1)

@@ -3,7 +3,7 @@ use Rattle.std.proofs.Common.{◌≡◌, ℕ, ◌+◌, Bool, true, false, List, 
 use Rattle.std.specs.Prelude.{MatchBool}
 use Rattle.std.proofs.lemmas.Option.{none-some}
 use Rattle.xcp_packet.proofs.DecodingLaws.{decodes_once, decodes_total}
-use Rattle.xcp_packet.specs.declared.Order.{Order}
+use Rattle.xcp_memory.specs.Layout.{LayoutValue}
 use Rattle.xcp_packet.specs.declared.Command.{Command}
 use Rattle.xcp_packet.specs.declared.Refuse.{Refuse}
 use Rattle.xcp_packet.specs.declared.Refuse.TheVariants as refuses
@@ -48,19 +48,19 @@ meets-some : (r : Row SlaveValue) (left : SlaveValue) (o : Option Reply) → fir
 meets-some r left None h = (Ok r.reply, r.after, (h, refl, refl))
 meets-some r left (Some e) h = (Err e, left, (h, refl))
 
-sent : Order → Result (Option Reply) Reply → Answer
-sent order r = answer_of order (sent_reply r)
+sent : LayoutValue → Result (Option Reply) Reply → Answer
+sent l r = answer_of l (sent_reply r)
 
 executes-single : (c : Command) (v : SlaveValue) (a b : Answer) (w u : SlaveValue) → Executes c v a w → Executes c v b u → (a ≡ b) × (w ≡ u)
 unfolding sent
 executes-single c v a b w u h k =
     let e = meets-single (row c (found_by c v)) (noblock v) h.0 k.0 w u h.1 k.1 in
-    (h.2 ∙ ap (sent (layout_of v).order) e.0 ∙ sym k.2, e.1)
+    (h.2 ∙ ap (sent (layout_of v)) e.0 ∙ sym k.2, e.1)
 
 executes-some : (c : Command) (v : SlaveValue) → (a : Answer) × (w : SlaveValue) × Executes c v a w
 executes-some c v =
     let r = meets-some (row c (found_by c v)) (noblock v) (first_holding (row c (found_by c v)).refusals) refl in
-    (answer_of (layout_of v).order (sent_reply r.0), r.1, (r.0, r.2, refl))
+    (answer_of (layout_of v) (sent_reply r.0), r.1, (r.0, r.2, refl))
 
 ignores-single : (v : SlaveValue) (a b : Answer) (w u : SlaveValue) → Ignores v a w → Ignores v b u → (a ≡ b) × (w ≡ u)
 ignores-single v a b w u h k = (h.0 ∙ sym k.0, h.1 ∙ sym k.1)
@@ -72,7 +72,7 @@ ignores-some : (v : SlaveValue) → (a : Answer) × (w : SlaveValue) × Ignores 
 ignores-some v = (answers.Silent, v, (refl, refl))
 
 refuses-some : (v : SlaveValue) (e : Code) → (a : Answer) × (w : SlaveValue) × Refuses v e a w
-refuses-some v e = (answer_of (layout_of v).order (Some (replies.Error e)), noblock v, (refl, refl))
+refuses-some v e = (answer_of (layout_of v) (Some (replies.Error e)), noblock v, (refl, refl))
 
 heeds-single : (v : SlaveValue) (d : Result Command Refuse) (a b : Answer) (w u : SlaveValue) → Heeds v d a w → Heeds v d b u → (a ≡ b) × (w ≡ u)
 heeds-single v (Ok c) a b w u h k = both (v.connected || is_connect c) _ _ _ _ _ h k (executes-single c v a b w u) (ignores-single v a b w u)
@@ -92,11 +92,11 @@ settled x y a b w u h k = (h.0 ∙ sym k.0, h.1 ∙ sym k.1)
 
 drains-single : (o : List (ArrayVec ℕ)) (v : SlaveValue) (a b : Answer) (w u : SlaveValue) → Drains o v a w → Drains o v b u → (a ≡ b) × (w ≡ u)
 drains-single [] v a b w u h k = settled answers.Nothing v a b w u h k
-drains-single (packet ∷ rest) v a b w u h k = settled (answers.Packet packet) (record v { outbox = rest }) a b w u h k
+drains-single (packet ∷ rest) v a b w u h k = settled (answers.Packets (packet.items ∷ [])) (record v { outbox = rest }) a b w u h k
 
 drains-some : (o : List (ArrayVec ℕ)) (v : SlaveValue) → (a : Answer) × (w : SlaveValue) × Drains o v a w
 drains-some [] v = (answers.Nothing, v, (refl, refl))
-drains-some (packet ∷ rest) v = (answers.Packet packet, record v { outbox = rest }, (refl, refl))
+drains-some (packet ∷ rest) v = (answers.Packets (packet.items ∷ []), record v { outbox = rest }, (refl, refl))
 
 stores-single : (v : SlaveValue) (a b : Answer) (w u : SlaveValue) → Stores v a w → Stores v b u → (a ≡ b) × (w ≡ u)
 stores-single v a b w u h k = both (v.connected && nat_le outbox_size (length v.outbox)) _ _ _ _ _ h k (settled answers.Later v a b w u) (settled (answers.Stored (frozen_count v.transfer.pages)) (stored v) a b w u)

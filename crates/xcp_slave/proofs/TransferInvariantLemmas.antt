@@ -190,7 +190,7 @@ moved-read p (Text id place) n h r = (h.0, grind (arith, nat_tests, r))
 -- an UPLOAD that isn't refused leaves transfers lawful
 pub upload : (n : ℕ) (t : TransferValue) → IsLawful t → first_holding (upload_row n t).refusals ≡ None → IsLawful (upload_row n t).after
 upload n t h r =
-    let a = none-holds ((n == 0 || nat_lt (t.pages.layout.max_cto - 1) n, Error OutOfRange) ∷ (not (is_readable t.pages t.mta n), Error AccessDenied) ∷ []) r in
+    let a = none-holds ((n == 0, Error OutOfRange) ∷ (not (is_readable t.pages t.mta n), Error AccessDenied) ∷ []) r in
     lawful-of t.pages (moved t.mta n) (with-mta t.pages t.mta (moved t.mta n) (good t h) (moved-read t.pages t.mta n h.transfer.mta (is_true _ a.1.0)))
 
 -- what SHORT_UPLOAD does leaves transfers lawful

@@ -248,14 +248,14 @@ plain-by order _ p s a b = tt
 
 -- the memory is as it was, or one write was done, that the request put
 Steps : SlaveValue → Request → Answer → SlaveValue → Type 0
-Steps v q a w = IsStill v w ⊎ ((x : Written v.transfer.pages w.transfer.pages) × IsPut v q x.write × (a ≡ answers.Packet (record { items = 0xFF ∷ [] })))
+Steps v q a w = IsStill v w ⊎ ((x : Written v.transfer.pages w.transfer.pages) × IsPut v q x.write × (a ≡ answers.Packets ((0xFF ∷ []) ∷ [])))
 
 executes-steps : (v : SlaveValue) (p : ArrayVec ℕ) (c : Command) (a : Answer) (w : SlaveValue) → IsPlain c → IsSlave v → spells (layout_of v).order c p.items → Executes c v a w → Steps v (requests.Command p) a w
 unfolding Steps Does
 executes-steps v p c a w k h s m =
     elim (meets-does c v m.0 w k h m.1) [
       | inl e ↦ inl e
-      | inr x ↦ inr (x.0, (c, s, x.1), m.2 ∙ ap (answer_of (layout_of v).order) x.2)
+      | inr x ↦ inr (x.0, (c, s, x.1), m.2 ∙ ap (answer_of (layout_of v)) x.2)
     ]
 
 heeds-steps : (v : SlaveValue) (p : ArrayVec ℕ) (d : Result Command Refuse) (a : Answer) (w : SlaveValue) → byte_at 0 p.items ≢ 0xEB → byte_at 0 p.items ≢ 0xE4 → IsSlave v → Decodes (layout_of v).order p.items d → Heeds v d a w → Steps v (requests.Command p) a w

@@ -81,7 +81,7 @@ IsStill v w = SameMemory v.transfer.pages w.transfer.pages
 pub record IsWrite (v : SlaveValue) (q : Request) (a : Answer) (w : SlaveValue) (x : Write) : Type 0 where
   pub put : IsPut v q x
   pub writes : Writes v.transfer.pages x.address x.bytes w.transfer.pages
-  pub told : a ≡ answers.Packet (record { items = 0xFF ∷ [] })
+  pub told : a ≡ answers.Packets ((0xFF ∷ []) ∷ [])
 
 -- the exchanges lead from v to w, and these are their writes, in order
 abbrev pub Puts : SlaveValue → List Exchange → List Write → SlaveValue → Type 0

@@ -1,5 +1,5 @@
 -- What waits, as a queue: what steps put behind the others, and what they take out.
-use Rattle.std.specs.Prelude.{◌≡◌, ◌≢◌, ℕ, List, [], ◌∷◌, ◌++◌, slice_index, if◌then◌else◌}
+use Rattle.std.specs.Prelude.{◌≡◌, ◌≢◌, ℕ, List, [], ◌∷◌, ◌++◌, map, slice_index, if◌then◌else◌}
 use Rattle.std.specs.List.{flat_map}
 use Rattle.arrayvec.specs.ArrayVec.{ArrayVec}
 use Rattle.xcp_daq.specs.Sample.{sampled}
@@ -23,9 +23,9 @@ put_in v (requests.Event channel signals) (answers.Sampled n) = event_packets v 
 put_in v requests.FinishStore (answers.Stored n) = if v.connected then store_event ∷ [] else []
 put_in v _ _ = []
 
--- the packet that a step takes out: the one that a drain answers
+-- the packets that a step takes out: those that a drain answers
 abbrev pub taken_out : Request → Answer → List (ArrayVec ℕ)
-taken_out requests.Drain (answers.Packet packet) = packet ∷ []
+taken_out requests.Drain (answers.Packets packets) = map (λ p. record { items = p }) packets
 taken_out _ _ = []
 
 -- the packets that exchanges take out, in order

@@ -9,7 +9,7 @@ use Rattle.xcp_slave.specs.declared.answer.Answer.TheVariants as answers
 pub record IsErrorPacket (a : Answer) : Type 0 where
   pub code : ℕ
   pub rest : List ℕ
-  pub packet : a ≡ answers.Packet (record { items = 0xFE ∷ code ∷ rest })
+  pub packet : a ≡ answers.Packets ((0xFE ∷ code ∷ rest) ∷ [])
   pub other : code ≢ 0x00
 
 -- an answer that says that nothing was done

@@ -29,11 +29,11 @@ of_transfer v r = row_within (λ t. record v { transfer = t }) r
 abbrev pub status_of : SlaveValue → ℕ
 status_of v = (if v.store then 0x01 else 0) + (if any_running v.daq then 0x40 else 0)
 
--- COMM_MODE_BASIC: bit 7, optional information can be had; bit 0, the byte order. The address granularity is one byte, and
--- there is no slave block mode.
+-- COMM_MODE_BASIC: bit 7, optional information can be had; bit 6, slave block mode; bit 0, the byte order. The address
+-- granularity is one byte.
 -- (ASAM MCD-1 XCP, protocol layer, description of commands: CONNECT.)
 abbrev pub comm_mode_basic : Order → ℕ
-comm_mode_basic order = 0x80 + byte_order order
+comm_mode_basic order = 0xC0 + byte_order order
 
 -- The row of a command for a slave v. (ASAM MCD-1 XCP, protocol layer, description of commands; which error comes when, and
 -- in which order, is this slave's choice.)

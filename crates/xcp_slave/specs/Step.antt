@@ -2,8 +2,7 @@
 use Rattle.std.specs.Prelude.{◌≡◌, ℕ, ◌+◌, Bool, true, false, ◌&&◌, ◌||◌, ◌==◌, nat_le, nat_lt, List, [], ◌∷◌, ◌++◌, length, Option, Some, None, Result, Ok, Err, MatchBool, if◌then◌else◌}
 use Rattle.arrayvec.specs.ArrayVec.{ArrayVec}
 use Rattle.xcp_packet.specs.Decoding.{Decodes}
-use Rattle.xcp_packet.specs.ReplyPacket.{layout}
-use Rattle.xcp_packet.specs.declared.Order.{Order}
+use Rattle.xcp_packet.specs.ReplyInBytes.{packets_of}
 use Rattle.xcp_packet.specs.declared.Command.{Command}
 use Rattle.xcp_packet.specs.declared.Command.TheVariants as commands
 use Rattle.xcp_packet.specs.declared.Refuse.{Refuse}
@@ -13,6 +12,8 @@ use Rattle.xcp_packet.specs.declared.Reply.TheVariants as replies
 use Rattle.xcp_packet.specs.declared.Code.{Code}
 use Rattle.xcp_packet.specs.declared.Code.TheVariants.{CmdUnknown, CmdSyntax}
 use Rattle.xcp_memory.specs.Freeze.{pages_frozen, frozen_count}
+use Rattle.xcp_memory.specs.Layout.{LayoutValue}
+use Rattle.xcp_transfer.specs.TransferValue.{response_room}
 use Rattle.xcp_packet.specs.Rows.{Meets}
 use Rattle.xcp_daq.specs.Sample.{sampled, after_event}
 use Rattle.xcp_slave.specs.declared.request.Request.{Request}
@@ -22,10 +23,11 @@ use Rattle.xcp_slave.specs.declared.answer.Answer.TheVariants as answers
 use Rattle.xcp_slave.specs.SlaveValue.{SlaveValue, layout_of, noblock, ended}
 use Rattle.xcp_slave.specs.Rows.{row}
 
--- the answer to a reply: its packet in this byte order, or nothing where nothing is sent
-abbrev pub answer_of : Order → Option Reply → Answer
-answer_of order None = answers.Silent
-answer_of order (Some reply) = answers.Packet (record { items = layout order reply })
+-- The answer to a reply: its packets, in this layout's byte order and with at most MAX_CTO - 1 data bytes each, or nothing
+-- where nothing is sent.
+abbrev pub answer_of : LayoutValue → Option Reply → Answer
+answer_of l None = answers.Silent
+answer_of l (Some reply) = answers.Packets (packets_of l.order (response_room l) reply)
 
 -- the reply that is sent: of a refused command, its error packet
 abbrev pub sent_reply : Result (Option Reply) Reply → Option Reply
@@ -38,7 +40,7 @@ Ignores v a w = (a ≡ answers.Silent) × (w ≡ v)
 
 -- the packet is refused with this code, and nothing has changed but that a block under way is given up
 abbrev pub Refuses : SlaveValue → Code → Answer → SlaveValue → Type 0
-Refuses v e a w = (a ≡ answer_of (layout_of v).order (Some (replies.Error e))) × (w ≡ noblock v)
+Refuses v e a w = (a ≡ answer_of (layout_of v) (Some (replies.Error e))) × (w ≡ noblock v)
 
 -- The slave as a command finds it: any command but DOWNLOAD_NEXT gives a block under way up.
 abbrev pub found_by : Command → SlaveValue → SlaveValue
@@ -47,7 +49,7 @@ found_by _ v = noblock v
 
 -- The command's row is met at the slave that it finds, and its reply or its error is sent. A refusal leaves no block.
 abbrev pub Executes : Command → SlaveValue → Answer → SlaveValue → Type 0
-Executes c v a w = (r : Result (Option Reply) Reply) × Meets (row c (found_by c v)) (noblock v) r w × (a ≡ answer_of (layout_of v).order (sent_reply r))
+Executes c v a w = (r : Result (Option Reply) Reply) × Meets (row c (found_by c v)) (noblock v) r w × (a ≡ answer_of (layout_of v) (sent_reply r))
 
 abbrev pub is_connect : Command → Bool
 is_connect (commands.Connect mode) = true
@@ -70,7 +72,7 @@ AnswersPacket v bytes a w = (d : Result Command Refuse) × Decodes (layout_of v)
 -- (ASAM MCD-1 XCP, protocol layer: event packets, data packets.)
 abbrev pub Drains : List (ArrayVec ℕ) → SlaveValue → Answer → SlaveValue → Type 0
 Drains [] v a w = (a ≡ answers.Nothing) × (w ≡ v)
-Drains (packet ∷ rest) v a w = (a ≡ answers.Packet packet) × (w ≡ record v { outbox = rest })
+Drains (packet ∷ rest) v a w = (a ≡ answers.Packets (packet.items ∷ [])) × (w ≡ record v { outbox = rest })
 
 -- how many packets can wait
 abbrev pub outbox_size : ℕ

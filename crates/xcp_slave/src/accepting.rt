@@ -2,12 +2,12 @@
 ghost use Rattle.std.specs.Prelude.{◌≡◌, ◌≢◌, ◌⊎◌, ◌+◌, ◌<◌, ◌≤◌, ◌∷◌, ◌++◌, ◌-◌, ◌==◌, ℕ, List, Some, [], bit_and, drop, get_or, length, take, true};
 ghost use Rattle.arrayvec.specs.ArrayVec.{ArrayVec};
 ghost use Rattle.xcp_memory.specs.Checksum.{checksum_number, summed};
-ghost use Rattle.xcp_memory.specs.Memory.{Reads, Tool, Writes};
+ghost use Rattle.xcp_memory.specs.Memory.{LiesInside, Reads, Tool, Writes};
 ghost use Rattle.xcp_memory.specs.Pages.{segment_at};
 ghost use Rattle.xcp_packet.specs.ByteOrder.{double_at, double_bytes};
 ghost use Rattle.xcp_packet.specs.CommandSpelling.{spells};
 ghost use Rattle.xcp_packet.specs.declared.Command.{Command};
-ghost use Rattle.xcp_slave.specs.AcceptedCommands.{Accepts, Concerns};
+ghost use Rattle.xcp_slave.specs.AcceptedCommands.{Accepts, Concerns, IsCut};
 ghost use Rattle.xcp_slave.specs.SlaveInvariant.{IsSlave};
 ghost use Rattle.xcp_slave.specs.Step.{Answers};
 ghost use Rattle.xcp_slave.specs.SlaveValue.{SlaveValue, layout_of};
@@ -44,6 +44,15 @@ pub fn a_tool_is_told_its_bytes()
     ensures text { (v w : SlaveValue) (n place : ℕ) (id : TextId) (bytes : List ℕ) → v.transfer.mta ≡ Mta.Text id place → Accepts v (Command.Upload n) bytes w → (place + n ≤ length (text_of (layout_of v) id)) × (bytes ≡ take n (drop place (text_of (layout_of v) id))) }
     ensures short_upload { (v w : SlaveValue) (n extension a : ℕ) (bytes : List ℕ) → IsSlave v → Accepts v (Command.ShortUpload n extension a) bytes w → Reads Tool v.transfer.pages a n bytes }
     ensures checksum { (v w : SlaveValue) (n a : ℕ) (bytes : List ℕ) → IsSlave v → v.transfer.mta ≡ Mta.Memory a → Accepts v (Command.BuildChecksum n) bytes w → (read : List ℕ) × Reads Tool v.transfer.pages a n read × (bytes ≡ checksum_number (layout_of v).checksum ∷ 0 ∷ 0 ∷ double_bytes (layout_of v).order (summed (layout_of v).checksum (layout_of v).order read)) }
+{}
+
+/// An UPLOAD of n bytes, 1 to 255, that lie in one area is accepted. A positive answer to UPLOAD is as
+/// many packets as its n bytes fill, n / (MAX_CTO - 1), rounded up: each is FF and MAX_CTO - 1 bytes,
+/// the last one FF and the rest. Joined, they are the bytes that a read gives.
+pub fn an_upload_is_cut_into_packets()
+    ensures accepted { (v w : SlaveValue) (n a : ℕ) (packet : ArrayVec ℕ) (answer : Answer) → IsSlave v → v.connected ≡ true → v.transfer.mta ≡ Mta.Memory a → 0 < n → LiesInside (layout_of v) a n → spells (layout_of v).order (Command.Upload n) packet.items → Answers v (Request.Command packet) answer w → (bytes : List ℕ) × (packets : List (List ℕ)) × Reads Tool v.transfer.pages a n bytes × (answer ≡ Answer.Packets packets) × IsCut ((layout_of v).max_cto - 1) bytes packets }
+    ensures upload { (v w : SlaveValue) (n a : ℕ) (packet : ArrayVec ℕ) (first : List ℕ) (more : List (List ℕ)) → IsSlave v → v.transfer.mta ≡ Mta.Memory a → spells (layout_of v).order (Command.Upload n) packet.items → Answers v (Request.Command packet) (Answer.Packets ((0xFF ∷ first) ∷ more)) w → (bytes : List ℕ) × Reads Tool v.transfer.pages a n bytes × IsCut ((layout_of v).max_cto - 1) bytes ((0xFF ∷ first) ∷ more) }
+    ensures text { (v w : SlaveValue) (n place : ℕ) (id : TextId) (packet : ArrayVec ℕ) (first : List ℕ) (more : List (List ℕ)) → IsSlave v → v.transfer.mta ≡ Mta.Text id place → spells (layout_of v).order (Command.Upload n) packet.items → Answers v (Request.Command packet) (Answer.Packets ((0xFF ∷ first) ∷ more)) w → (place + n ≤ length (text_of (layout_of v) id)) × IsCut ((layout_of v).max_cto - 1) (take n (drop place (text_of (layout_of v) id))) ((0xFF ∷ first) ∷ more) }
 {}
 
 /// What a tool sends is written where it says, all of it at once.

@@ -1,5 +1,5 @@
 //! Laws of the definitions: each is the contract of a function with an empty body.
-ghost use Rattle.std.specs.Prelude.{◌≡◌, ◌<◌, ◌≤◌, ℕ, List, length};
+ghost use Rattle.std.specs.Prelude.{◌≡◌, ◌<◌, ◌≤◌, ℕ, All, List, length};
 ghost use Rattle.arrayvec.specs.ArrayVec.{ArrayVec};
 ghost use Rattle.xcp_memory.specs.Layout.{IsLayout};
 ghost use Rattle.xcp_slave.specs.declared.answer.Answer.{Answer};
@@ -32,7 +32,9 @@ pub fn refusals_leave_the_slave()
     ensures overrun { (v : SlaveValue) (channel : ℕ) (signals : ArrayVec ℕ) (w : SlaveValue) → Answers v (Request.Event channel signals) Answer.Overrun w → w ≡ with_event channel (with_signals signals.items v) }
 {}
 
-/// A reply to a command has at least one byte and at most MAX_CTO.
+/// An answer to a command has at least one packet, and each packet at least one byte and at most
+/// MAX_CTO.
 pub fn no_reply_is_longer_than_max_cto()
-    ensures { (v : SlaveValue) (q p : ArrayVec ℕ) (w : SlaveValue) → IsLayout (layout_of v) → Answers v (Request.Command q) (Answer.Packet p) w → (0 < length p.items) × (length p.items ≤ (layout_of v).max_cto) }
+    ensures some { (v : SlaveValue) (q : ArrayVec ℕ) (ps : List (List ℕ)) (w : SlaveValue) → Answers v (Request.Command q) (Answer.Packets ps) w → 0 < length ps }
+    ensures most { (v : SlaveValue) (q : ArrayVec ℕ) (ps : List (List ℕ)) (w : SlaveValue) → IsLayout (layout_of v) → Answers v (Request.Command q) (Answer.Packets ps) w → All (λ p. (0 < length p) × (length p ≤ (layout_of v).max_cto)) ps }
 {}

@@ -23,7 +23,7 @@ pub fn what_waits_is_a_queue()
     ensures step { (v : SlaveValue) (q : Request) (a : Answer) (w : SlaveValue) → IsWithin q → Answers v q a w → taken_out q a ++ w.outbox ≡ v.outbox ++ put_in v q a }
     ensures some { (v : SlaveValue) (xs : List Exchange) (w : SlaveValue) → Run v xs w → (packets : List (ArrayVec ℕ)) × PutsIn v xs packets w }
     ensures run { (v : SlaveValue) (xs : List Exchange) (packets : List (ArrayVec ℕ)) (w : SlaveValue) → All (λ (x : Exchange). IsWithin x.request) xs → PutsIn v xs packets w → all_taken xs ++ w.outbox ≡ v.outbox ++ packets }
-    ensures drain { (v : SlaveValue) (packet : ArrayVec ℕ) (rest : List (ArrayVec ℕ)) (a : Answer) (w : SlaveValue) → v.outbox ≡ packet ∷ rest → Answers v Request.Drain a w → (a ≡ Answer.Packet packet) × (w.outbox ≡ rest) }
+    ensures drain { (v : SlaveValue) (packet : ArrayVec ℕ) (rest : List (ArrayVec ℕ)) (a : Answer) (w : SlaveValue) → v.outbox ≡ packet ∷ rest → Answers v Request.Drain a w → (a ≡ Answer.Packets (packet.items ∷ [])) × (w.outbox ≡ rest) }
 {}
 
 /// An event's packets wait whole: all of them, in order, behind the others, and then it is answered

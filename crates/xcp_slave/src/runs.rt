@@ -35,11 +35,13 @@ pub fn what_waits_is_no_response()
     ensures errors { (v : SlaveValue) (q : Request) (a : Answer) (w : SlaveValue) → IsSlave v → Answers v q a w → IsErrorPacket a → w ≡ noblock v }
 {}
 
-/// A command's answer that begins with FE is FE 00, to SYNCH (FC) alone, or it has the code of a
-/// refusal; and where the packet spells a command, it is a code that this command may be refused with.
+/// A command's packet that begins with FE is the one packet of its answer: it is FE 00, to SYNCH (FC)
+/// alone, or it has the code of a refusal; and where the packet spells a command, it is a code that
+/// this command may be refused with.
 pub fn error_packets_have_codes()
-    ensures all { (v : SlaveValue) (q p : ArrayVec ℕ) (w : SlaveValue) (rest : List ℕ) → Answers v (Request.Command q) (Answer.Packet p) w → p.items ≡ 0xFE ∷ rest → ((slice_index q.items 0 ≡ 0xFC) × (p.items ≡ 0xFE ∷ 0x00 ∷ [])) ⊎ IsRefusing p.items }
-    ensures of_commands { (v : SlaveValue) (c : Command) (q p : ArrayVec ℕ) (w : SlaveValue) (code : ℕ) (rest : List ℕ) → spells (layout_of v).order c q.items → Answers v (Request.Command q) (Answer.Packet p) w → p.items ≡ 0xFE ∷ code ∷ rest → code ≢ 0x00 → is_code_of c code ≡ true }
+    ensures all { (v : SlaveValue) (q : ArrayVec ℕ) (p : List ℕ) (w : SlaveValue) (rest : List ℕ) → Answers v (Request.Command q) (Answer.Packets (p ∷ [])) w → p ≡ 0xFE ∷ rest → ((slice_index q.items 0 ≡ 0xFC) × (p ≡ 0xFE ∷ 0x00 ∷ [])) ⊎ IsRefusing p }
+    ensures blocks { (v : SlaveValue) (q : ArrayVec ℕ) (ps : List (List ℕ)) (w : SlaveValue) → Answers v (Request.Command q) (Answer.Packets ps) w → ((p : List ℕ) × (ps ≡ p ∷ [])) ⊎ All (λ p. slice_index p 0 ≡ 0xFF) ps }
+    ensures of_commands { (v : SlaveValue) (c : Command) (q : ArrayVec ℕ) (p : List ℕ) (w : SlaveValue) (code : ℕ) (rest : List ℕ) → spells (layout_of v).order c q.items → Answers v (Request.Command q) (Answer.Packets (p ∷ [])) w → p ≡ 0xFE ∷ code ∷ rest → code ≢ 0x00 → is_code_of c code ≡ true }
 {}
 
 /// A block under way lies in one segment, of which the tool has another page than the reference page;

@@ -2,7 +2,7 @@
 ghost use Rattle.std.specs.Prelude.{◌≡◌, ◌≤◌, ◌<◌, Err, IfOk, IsTrue, Some, drop, length};
 ghost use Rattle.xcp_memory.specs.EcuImage.{ecu_image};
 ghost use Rattle.xcp_packet.specs.ReplyPacket.{Fits};
-ghost use Rattle.xcp_packet.specs.ReplyInBytes.{reply_bytes, sent_bytes};
+ghost use Rattle.xcp_packet.specs.ReplyInBytes.{IsPlain, reply_packets, sent_packets};
 ghost use Rattle.xcp_packet.specs.ByteOrder.{byte_at};
 ghost use Rattle.xcp_packet.specs.private.DecodeByCode.{coded, readings};
 ghost use Rattle.xcp_slave.specs.private.ExecuteByCode.{TellsCoded, found_at, heeded};
@@ -10,6 +10,7 @@ ghost use Rattle.xcp_slave.specs.Step.{Answers, AnswersPacket};
 ghost use Rattle.xcp_slave.specs.AnswerInBytes.{answer_in};
 ghost use Rattle.xcp_slave.specs.SlaveValue.{ended, layout_of, noblock, opening};
 ghost use Rattle.xcp_transfer.specs.Laws.{IsLawful};
+ghost use Rattle.xcp_transfer.specs.TransferValue.{response_room};
 ghost use Rattle.xcp_daq.specs.DaqInvariant.{IsDaq};
 
 mod acquisition;
@@ -238,7 +239,7 @@ impl Slave {
         })
     }
 
-    /// MAX_CTO: the greatest length of a command or a reply, 8 to 255 bytes.
+    /// MAX_CTO: the greatest length of a command or of a packet that answers one, 8 to 255 bytes.
     pub fn max_cto(&self) -> u8
         ensures value { result ≡ (layout_of self.now).max_cto }
         ensures least { 8 ≤ result }
@@ -295,7 +296,8 @@ impl Slave {
     }
 
     /// Executes one request, as `submit` does. Where the answer is a packet, its bytes stand in the
-    /// packet that is lent; with any other answer that one may have any bytes.
+    /// packet that is lent, and where it is a block, the block's data bytes; with any other answer the
+    /// lent packet may have any bytes.
     pub fn submit_into(&mut self, request: &Request, packet: &mut Packet) -> Told
         ensures { Answers self.old request.now (answer_in result packet.new) self.new }
     {
@@ -363,9 +365,11 @@ impl Slave {
     }
 
     /// Writes a reply into the packet that is lent.
+    #[tactic(auto, using(xcp_packet::proofs::ReplyPacketLaws::plain_packets))]
     fn tell(&self, reply: &Reply, packet: &mut Packet) -> Sent
-        requires { Fits reply.now }
-        ensures { sent_bytes result packet.new.items ≡ reply_bytes (layout_of self.now).order (Some reply.now) }
+        requires fits { Fits reply.now }
+        requires plain { IsPlain reply.now }
+        ensures { sent_packets result packet.new.items ≡ reply_packets (layout_of self.now).order (response_room (layout_of self.now)) (Some reply.now) }
     {
         write_reply(packet, reply, self.order());
         Sent::Lent
@@ -373,7 +377,7 @@ impl Slave {
 
     /// Writes the positive response with nothing more into the packet that is lent.
     fn done(&self, packet: &mut Packet) -> Sent
-        ensures { sent_bytes result packet.new.items ≡ reply_bytes (layout_of self.now).order (Some Reply.Done) }
+        ensures { sent_packets result packet.new.items ≡ reply_packets (layout_of self.now).order (response_room (layout_of self.now)) (Some Reply.Done) }
     {
         write_done(packet);
         Sent::Lent

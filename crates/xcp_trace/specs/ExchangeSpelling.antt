@@ -1,6 +1,7 @@
 -- What exchange a string spells: a head of six bytes, then the bytes of the request and those of the answer. The head is the
 -- request's tag, its channel (the low byte first), the answer's tag, its number, and the length of the request's bytes.
 use Rattle.std.specs.Prelude.{ℕ, ◌+◌, ◌*◌, ◌/◌, ◌%◌, List, [], ◌∷◌, ◌++◌, length, take, drop, slice_index, ◌==◌, if◌then◌else◌}
+use Rattle.xcp_packet.specs.PacketTrains.{block_packets}
 use Rattle.xcp_slave.specs.declared.Request.{Request}
 use Rattle.xcp_slave.specs.declared.Request.TheVariants as requests
 use Rattle.xcp_slave.specs.declared.Answer.{Answer}
@@ -32,40 +33,20 @@ request_of tag channel bytes =
     if tag == 2 then requests.Drain else (
     if tag == 3 then requests.FinishStore else requests.Hangup)))
 
--- an answer as a tag, a number and bytes
-abbrev pub answer_tag : Answer → ℕ
-answer_tag answers.Silent = 0
-answer_tag (answers.Packet packet) = 1
-answer_tag (answers.Sampled n) = 2
-answer_tag answers.Overrun = 3
-answer_tag answers.NoChannel = 4
-answer_tag answers.BadSignals = 5
-answer_tag answers.Nothing = 6
-answer_tag (answers.Stored n) = 7
-answer_tag answers.NoStore = 8
-answer_tag answers.Later = 9
-
-abbrev pub answer_count : Answer → ℕ
-answer_count (answers.Sampled n) = n
-answer_count (answers.Stored n) = n
-answer_count _ = 0
-
-abbrev pub answer_bytes : Answer → List ℕ
-answer_bytes (answers.Packet packet) = packet.items
-answer_bytes _ = []
-
--- the answer of a tag, a number and bytes
+-- The answer of a tag, a number and bytes: of tag 1 the packet of these bytes, and of 10 the block of them, so many to a
+-- packet.
 abbrev pub answer_of : ℕ → ℕ → List ℕ → Answer
 answer_of tag n bytes =
     if tag == 0 then answers.Silent else (
-    if tag == 1 then answers.Packet (record { items = bytes }) else (
+    if tag == 1 then answers.Packets (bytes ∷ []) else (
     if tag == 2 then answers.Sampled n else (
     if tag == 3 then answers.Overrun else (
     if tag == 4 then answers.NoChannel else (
     if tag == 5 then answers.BadSignals else (
     if tag == 6 then answers.Nothing else (
     if tag == 7 then answers.Stored n else (
-    if tag == 8 then answers.NoStore else answers.Later))))))))
+    if tag == 8 then answers.NoStore else (
+    if tag == 9 then answers.Later else answers.Packets (block_packets n bytes))))))))))
 
 -- the exchange that a string spells
 abbrev pub exchange_in : List ℕ → Exchange
@@ -74,11 +55,10 @@ exchange_in string = record {
   answer = answer_of (slice_index string 3) (slice_index string 4) (drop (slice_index string 5) (drop 6 string));
 }
 
--- the string that spells an exchange
-abbrev pub spelling : Exchange → List ℕ
-spelling x =
-    (request_tag x.request ∷ request_channel x.request % 256 ∷ request_channel x.request / 256 ∷ answer_tag x.answer ∷ answer_count x.answer
-    ∷ length (request_bytes x.request) ∷ []) ++ request_bytes x.request ++ answer_bytes x.answer
+-- the string of a request and the parts of its answer
+abbrev pub spelling : Request → ℕ → ℕ → List ℕ → List ℕ
+spelling r tag n bytes =
+    (request_tag r ∷ request_channel r % 256 ∷ request_channel r / 256 ∷ tag ∷ n ∷ length (request_bytes r) ∷ []) ++ request_bytes r ++ bytes
 
 -- the room that any exchange needs: its string's length, a head, and twice 255 bytes
 abbrev pub room_for_any : ℕ

@@ -77,13 +77,13 @@ impl Journal {
             .push(&[caller], &spelled.head, spelled.asked, spelled.told);
     }
 
-    /// Puts an entry behind the others, as `push` does. The answer's packet, if it is one, stands in the
-    /// lent one.
-    pub fn push_told(&mut self, caller: u8, request: &Request, told: Told, packet: &Packet)
+    /// Puts an entry behind the others, as `push` does. The answer's packet, or the data bytes of its
+    /// block, stand in the lent one.
+    pub fn push_told(&mut self, caller: u8, request: &Request, told: &Told, packet: &Packet)
         requires { room_for_any_entry ≤ self.old.room }
         ensures { self.new.entries ≡ self.old.entries ++ record {
           caller = caller;
-          exchange = record { request = request.now; answer = answer_in told packet.now };
+          exchange = record { request = request.now; answer = answer_in told.now packet.now };
         } ∷ [] }
     {
         let parts = spell_told(request, told, packet);

@@ -2,11 +2,11 @@
 ghost use Rattle.std.specs.Prelude.{◌≡◌, ◌≤◌, ◌<◌, ◌++◌, length};
 ghost use Rattle.xcp_slave.specs.declared.Answer.{Answer};
 ghost use Rattle.xcp_slave.specs.AnswerInBytes.{answer_in};
-ghost use Rattle.xcp_trace.specs.ExchangeSpelling.{answer_bytes, answer_count, answer_of, answer_tag, exchange_in, request_bytes, request_channel, request_of, request_tag, spelling};
+ghost use Rattle.xcp_trace.specs.ExchangeSpelling.{answer_of, exchange_in, request_bytes, request_channel, request_of, request_tag};
 ghost use Rattle.xcp_trace.specs.private.ExchangeSpelling.{IsSpelling};
 
 use arrayvec::ArrayVec;
-use xcp_packet::Packet;
+use xcp_packet::{Packet, Train, Width};
 use xcp_slave::{Answer, Exchange, Request, Told};
 
 /// The bytes of a head: the request's tag and its channel, the answer's tag and its number, and the
@@ -19,6 +19,9 @@ const PACKET_BYTES: usize = 255;
 /// The most bytes of an exchange's string: its head, a command and a packet.
 pub(crate) const EXCHANGE_BYTES: usize = HEAD_BYTES + PACKET_BYTES + PACKET_BYTES;
 
+/// The tag of an answer that is a block.
+const BLOCK: u8 = 10;
+
 /// The parts of an exchange's string.
 #[derive(Drop)]
 pub(crate) struct Spelled<'a> {
@@ -29,9 +32,9 @@ pub(crate) struct Spelled<'a> {
 
 /// The string of an exchange, from its request and its answer.
 pub(crate) fn spell<'a>(request: &'a Request, answer: &'a Answer) -> Spelled<'a>
-    ensures string { result.head ++ result.asked.now ++ result.told.now
-        ≡ spelling (record { request = request.now; answer = answer.now }) }
-    ensures fits { IsSpelling (spelling (record { request = request.now; answer = answer.now })) }
+    ensures string { exchange_in (result.head ++ result.asked.now ++ result.told.now)
+        ≡ record { request = request.now; answer = answer.now } }
+    ensures fits { IsSpelling (result.head ++ result.asked.now ++ result.told.now) }
     ensures asked { length result.asked.now ≤ PACKET_BYTES }
     ensures told { length result.told.now ≤ PACKET_BYTES }
 {
@@ -40,11 +43,10 @@ pub(crate) fn spell<'a>(request: &'a Request, answer: &'a Answer) -> Spelled<'a>
 }
 
 /// The string of an exchange, from its request and from what was told beside a lent packet.
-pub(crate) fn spell_told<'a>(request: &'a Request, told: Told, packet: &'a Packet) -> Spelled<'a>
-    ensures string { result.head ++ result.asked.now ++ result.told.now
-        ≡ spelling (record { request = request.now; answer = answer_in told packet.now }) }
-    ensures fits { IsSpelling (spelling
-        (record { request = request.now; answer = answer_in told packet.now })) }
+pub(crate) fn spell_told<'a>(request: &'a Request, told: &Told, packet: &'a Packet) -> Spelled<'a>
+    ensures string { exchange_in (result.head ++ result.asked.now ++ result.told.now)
+        ≡ record { request = request.now; answer = answer_in told.now packet.now } }
+    ensures fits { IsSpelling (result.head ++ result.asked.now ++ result.told.now) }
     ensures asked { length result.asked.now ≤ PACKET_BYTES }
     ensures told { length result.told.now ≤ PACKET_BYTES }
 {
@@ -54,12 +56,11 @@ pub(crate) fn spell_told<'a>(request: &'a Request, told: Told, packet: &'a Packe
 
 /// The string of an exchange, from its request and the parts of its answer.
 fn spell_parts<'a>(request: &'a Request, kind: u8, count: u8, told: &'a [u8]) -> Spelled<'a>
-    requires { length told.now ≤ PACKET_BYTES }
-    ensures string { (answer : Answer) → kind ≡ answer_tag answer → count ≡ answer_count answer
-        → told.now ≡ answer_bytes answer → result.head ++ result.asked.now ++ result.told.now
-        ≡ spelling (record { request = request.now; answer = answer }) }
-    ensures fits { (answer : Answer) → told.now ≡ answer_bytes answer
-        → IsSpelling (spelling (record { request = request.now; answer = answer })) }
+    requires short { length told.now ≤ PACKET_BYTES }
+    requires width { 9 < kind → (7 ≤ count) × (count ≤ 254) }
+    ensures string { exchange_in (result.head ++ result.asked.now ++ result.told.now)
+        ≡ record { request = request.now; answer = answer_of kind count told.now } }
+    ensures fits { IsSpelling (result.head ++ result.asked.now ++ result.told.now) }
     ensures asked { length result.asked.now ≤ PACKET_BYTES }
     ensures told { length result.told.now ≤ PACKET_BYTES }
 {
@@ -105,14 +106,13 @@ fn request_parts(request: &Request) -> (u8, u16, &[u8])
 
 /// The tag of an answer, its number and its bytes.
 fn answer_parts(answer: &Answer) -> (u8, u8, &[u8])
-    ensures tag { result.0 ≡ answer_tag answer.now }
-    ensures count { result.1 ≡ answer_count answer.now }
-    ensures bytes { result.2.now ≡ answer_bytes answer.now }
+    ensures answer { answer_of result.0 result.1 result.2.now ≡ answer.now }
     ensures short { length result.2.now ≤ 255 }
+    ensures width { 9 < result.0 → (7 ≤ result.1) × (result.1 ≤ 254) }
 {
     match answer {
         Answer::Silent => (0, 0, &[]),
-        Answer::Packet(packet) => (1, 0, packet.as_slice()),
+        Answer::Packets(train) => train_parts(train),
         Answer::Sampled(count) => (2, *count, &[]),
         Answer::Overrun => (3, 0, &[]),
         Answer::NoChannel => (4, 0, &[]),
@@ -124,22 +124,35 @@ fn answer_parts(answer: &Answer) -> (u8, u8, &[u8])
     }
 }
 
-/// The same parts of what was told beside a lent packet.
-fn told_parts(told: Told, packet: &Packet) -> (u8, u8, &[u8])
-    ensures tag { result.0 ≡ answer_tag (answer_in told packet.now) }
-    ensures count { result.1 ≡ answer_count (answer_in told packet.now) }
-    ensures bytes { result.2.now ≡ answer_bytes (answer_in told packet.now) }
+/// The same parts of an answer's packets.
+fn train_parts(train: &Train) -> (u8, u8, &[u8])
+    ensures answer { answer_of result.0 result.1 result.2.now ≡ Answer.Packets train.now }
     ensures short { length result.2.now ≤ 255 }
+    ensures width { 9 < result.0 → (7 ≤ result.1) × (result.1 ≤ 254) }
+{
+    let (width, bytes) = train.parts();
+    match width {
+        None => (1, 0, bytes),
+        Some(width) => (BLOCK, width.bytes(), bytes),
+    }
+}
+
+/// The same parts of what was told beside a lent packet.
+fn told_parts<'a>(told: &Told, packet: &'a Packet) -> (u8, u8, &'a [u8])
+    ensures answer { answer_of result.0 result.1 result.2.now ≡ answer_in told.now packet.now }
+    ensures short { length result.2.now ≤ 255 }
+    ensures width { 9 < result.0 → (7 ≤ result.1) × (result.1 ≤ 254) }
 {
     match told {
         Told::Silent => (0, 0, &[]),
         Told::Packet => (1, 0, packet.as_slice()),
-        Told::Sampled(count) => (2, count, &[]),
+        Told::Block(width) => (BLOCK, width.bytes(), packet.as_slice()),
+        Told::Sampled(count) => (2, *count, &[]),
         Told::Overrun => (3, 0, &[]),
         Told::NoChannel => (4, 0, &[]),
         Told::BadSignals => (5, 0, &[]),
         Told::Nothing => (6, 0, &[]),
-        Told::Stored(count) => (7, count, &[]),
+        Told::Stored(count) => (7, *count, &[]),
         Told::NoStore => (8, 0, &[]),
         Told::Later => (9, 0, &[]),
     }
@@ -162,12 +175,13 @@ fn request_of(tag: u8, channel: u16, bytes: &[u8]) -> Request
 
 /// The answer of these parts.
 fn answer_of(tag: u8, count: u8, bytes: &[u8]) -> Answer
-    requires { length bytes.now ≤ 255 }
+    requires short { length bytes.now ≤ 255 }
+    requires width { 9 < tag → (7 ≤ count) × (count ≤ 254) }
     ensures { result ≡ answer_of tag count bytes.now }
 {
     match tag {
         0 => Answer::Silent,
-        1 => Answer::Packet(taken(bytes)),
+        1 => Answer::Packets(Train::one(taken(bytes))),
         2 => Answer::Sampled(count),
         3 => Answer::Overrun,
         4 => Answer::NoChannel,
@@ -175,7 +189,8 @@ fn answer_of(tag: u8, count: u8, bytes: &[u8]) -> Answer
         6 => Answer::Nothing,
         7 => Answer::Stored(count),
         8 => Answer::NoStore,
-        _ => Answer::Later,
+        9 => Answer::Later,
+        _ => Answer::Packets(Train::cut(bytes, Width::new(count))),
     }
 }
 

@@ -66,12 +66,12 @@ impl Trace {
             .push(&[], &spelled.head, spelled.asked, spelled.told);
     }
 
-    /// Puts an exchange behind the others, as `push` does. The answer's packet, if it is one, stands
-    /// in the lent one.
-    pub fn push_told(&mut self, request: &Request, told: Told, packet: &Packet)
+    /// Puts an exchange behind the others, as `push` does. The answer's packet, or the data bytes of its
+    /// block, stand in the lent one.
+    pub fn push_told(&mut self, request: &Request, told: &Told, packet: &Packet)
         requires { room_for_any ≤ self.old.room }
         ensures { self.new.exchanges ≡ self.old.exchanges
-            ++ record { request = request.now; answer = answer_in told packet.now } ∷ [] }
+            ++ record { request = request.now; answer = answer_in told.now packet.now } ∷ [] }
     {
         let spelled = spell_told(request, told, packet);
         self.tape

@@ -11,7 +11,7 @@ use Rattle.xcp_transfer.specs.TransferValue.{TransferValue, BlockValue, IsTransf
 use Rattle.xcp_transfer.specs.MtaAccess.{is_readable, bytes_at, write_refusal_at, written_at}
 use Rattle.xcp_transfer.specs.MtaRelations.{ReadsAt, WritesAt}
 use Rattle.xcp_packet.specs.Rows.{Row, first_holding}
-use Rattle.xcp_transfer.specs.Uploads.{upload_row, short_upload_row}
+use Rattle.xcp_transfer.specs.Uploads.{short_upload_row}
 use Rattle.xcp_transfer.specs.Downloads.{download_next_row}
 
 -- a value that a slave can have: layout, pages and transfers are within their limits
@@ -51,9 +51,6 @@ BlockIsWrittenLast =
 abbrev pub IsWithinPacket : TransferValue → Row TransferValue → Type 0
 IsWithinPacket v r = (reply : Reply) → first_holding r.refusals ≡ None → r.reply ≡ Some reply → data_length reply < v.pages.layout.max_cto
 
--- so it is with what is read
-abbrev pub UploadIsWithinPacket : Type 0
-UploadIsWithinPacket = (v : TransferValue) (n : ℕ) → IsLawful v → IsWithinPacket v (upload_row n v)
-
+-- so it is with what SHORT_UPLOAD reads
 abbrev pub ShortUploadIsWithinPacket : Type 0
 ShortUploadIsWithinPacket = (v : TransferValue) (n extension address : ℕ) → IsLawful v → IsWithinPacket v (short_upload_row n extension address v)

@@ -1,5 +1,5 @@
 -- What the tool's transfers go by, as contracts see it.
-use Rattle.std.specs.Prelude.{◌≡◌, ℕ, ◌+◌, ◌<◌, ◌≤◌, List, length, Option, Some, None, slice_index_or as get_or}
+use Rattle.std.specs.Prelude.{◌≡◌, ℕ, ◌+◌, ◌-◌, ◌<◌, ◌≤◌, List, length, Option, Some, None, slice_index_or as get_or}
 use Rattle.xcp_memory.specs.Layout.{LayoutValue, no_event}
 use Rattle.xcp_memory.specs.Pages.{PagesValue}
 use Rattle.xcp_memory.specs.ComputedAccess.{write_refusal}
@@ -24,6 +24,10 @@ pub record TransferValue : Type 0 where
 -- the same with no block under way: this is all that a refusal takes away
 abbrev pub without_block : TransferValue → TransferValue
 without_block v = record v { block = None }
+
+-- the most data bytes of a positive response: MAX_CTO, without its FF
+abbrev pub response_room : LayoutValue → ℕ
+response_room l = l.max_cto - 1
 
 -- no address is set and no block is under way
 abbrev pub opening_transfer : PagesValue → TransferValue

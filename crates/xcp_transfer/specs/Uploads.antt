@@ -10,11 +10,11 @@ use Rattle.xcp_transfer.specs.TransferValue.{TransferValue}
 use Rattle.xcp_transfer.specs.MtaAccess.{is_readable, bytes_at, moved, sum_refusal_at, sum_at}
 use Rattle.xcp_packet.specs.Rows.{Row, refused}
 
--- UPLOAD of n bytes, 1 to MAX_CTO - 1, moves the MTA on by n.
--- (ASAM MCD-1 XCP, protocol layer, description of commands: UPLOAD.)
+-- UPLOAD of n bytes, which are as many packets as they fill, moves the MTA on by n.
+-- (ASAM MCD-1 XCP, protocol layer, description of commands: UPLOAD; slave block transfer mode.)
 abbrev pub upload_row : ℕ → TransferValue → Row TransferValue
 upload_row n v = record {
-  refusals = (n == 0 || nat_lt (v.pages.layout.max_cto - 1) n, Error OutOfRange)
+  refusals = (n == 0, Error OutOfRange)
       ∷ (not (is_readable v.pages v.mta n), Error AccessDenied)
       ∷ [];
   reply = Some (Bytes (record { items = bytes_at v.pages v.mta n }));

@@ -7,7 +7,7 @@ ghost use Rattle.xcp_transfer.specs.MtaAccess.{is_readable, sum_refusal_at, sum_
 
 use crate::{Mta, TextId};
 use xcp_memory::{Layout, Pages};
-use xcp_packet::{Code, Packet, write_blank};
+use xcp_packet::{Code, Packet, write_blank, write_zeros};
 
 /// Reads n bytes from an MTA on into a packet, as the reply that tells them, and answers the MTA
 /// behind them. `AccessDenied` where they don't lie in one area, or a text has fewer left.
@@ -17,19 +17,34 @@ pub(crate) fn read(pages: &Pages, mta: Mta, n: u8, packet: &mut Packet) -> Resul
     requires there { IsMta pages.now.layout mta }
     ensures ok { IfOk result (λ next. (is_readable pages.now mta n ≡ true) × (packet.new.items ≡ 0xFF ∷ bytes_at pages.now mta n) × (next ≡ moved mta n)) }
     ensures next { IfOk result (λ next. IsMta pages.now.layout next) }
+    ensures long { IfOk result (λ next. length (bytes_at pages.now mta n) ≡ n) }
     ensures refused { IfErr result (λ code. (is_readable pages.now mta n ≡ false) × (code ≡ Code.AccessDenied)) }
 {
     write_blank(packet, n);
     read_through(pages, mta, &mut packet.as_mut_slice()[1..])
 }
 
+/// Reads n bytes from an MTA on into a packet, as the data of a block, and answers the MTA behind
+/// them. Refused as `read` is.
+pub(crate) fn read_block(pages: &Pages, mta: Mta, n: u8, packet: &mut Packet) -> Result<Mta, Code>
+    requires some { 0 < n }
+    requires there { IsMta pages.now.layout mta }
+    ensures ok { IfOk result (λ next. (is_readable pages.now mta n ≡ true) × (packet.new.items ≡ bytes_at pages.now mta n) × (next ≡ moved mta n)) }
+    ensures next { IfOk result (λ next. IsMta pages.now.layout next) }
+    ensures refused { IfErr result (λ code. (is_readable pages.now mta n ≡ false) × (code ≡ Code.AccessDenied)) }
+{
+    write_zeros(packet, n);
+    read_through(pages, mta, packet.as_mut_slice())
+}
+
 /// Reads as many bytes as the buffer has.
 fn read_through(pages: &Pages, mta: Mta, buffer: &mut [u8]) -> Result<Mta, Code>
     requires some { 0 < length buffer.old }
-    requires most { length buffer.old ≤ 254 }
+    requires most { length buffer.old ≤ 255 }
     requires there { IsMta pages.now.layout mta }
     ensures ok { IfOk result (λ next. (is_readable pages.now mta (length buffer.old) ≡ true) × (buffer.new ≡ bytes_at pages.now mta (length buffer.old)) × (next ≡ moved mta (length buffer.old))) }
     ensures next { IfOk result (λ next. IsMta pages.now.layout next) }
+    ensures long { IfOk result (λ next. length (bytes_at pages.now mta (length buffer.old)) ≡ length buffer.old) }
     ensures refused { IfErr result (λ code. (is_readable pages.now mta (length buffer.old) ≡ false) × (code ≡ Code.AccessDenied)) }
 {
     let n = buffer.len() as u8;
@@ -49,7 +64,7 @@ fn read_through(pages: &Pages, mta: Mta, buffer: &mut [u8]) -> Result<Mta, Code>
 #[tactic(auto, using(crate::proofs::AreaEndLemmas::inside_last))]
 fn read_memory(pages: &Pages, address: u32, buffer: &mut [u8]) -> Result<(), Code>
     requires some { 0 < length buffer.old }
-    requires most { length buffer.old ≤ 254 }
+    requires most { length buffer.old ≤ 255 }
     ensures ok { OnOk result ((lies_inside pages.now.layout address (length buffer.old) ≡ true) × (buffer.new ≡ tool_bytes pages.now address (length buffer.old))) }
     ensures last { OnOk result (address + length buffer.old ≤ 0xFFFF_FFFF) }
     ensures refused { IfErr result (λ code. (lies_inside pages.now.layout address (length buffer.old) ≡ false) × (code ≡ Code.AccessDenied)) }
@@ -61,7 +76,7 @@ fn read_memory(pages: &Pages, address: u32, buffer: &mut [u8]) -> Result<(), Cod
 
 fn read_text(layout: &Layout, id: TextId, place: u8, buffer: &mut [u8]) -> Result<(), Code>
     requires text { IsText layout.now id }
-    requires most { length buffer.old ≤ 254 }
+    requires most { length buffer.old ≤ 255 }
     ensures ok { OnOk result ((nat_le (place + length buffer.old) (length (text_of layout.now id)) ≡ true) × (buffer.new ≡ take (length buffer.old) (drop place (text_of layout.now id)))) }
     ensures last { OnOk result ((place + length buffer.old ≤ length (text_of layout.now id)) × (place + length buffer.old ≤ 64)) }
     ensures refused { IfErr result (λ code. (nat_le (place + length buffer.old) (length (text_of layout.now id)) ≡ false) × (code ≡ Code.AccessDenied)) }

@@ -1,7 +1,7 @@
 //! Laws of the definitions. A function here does nothing: its contract is the law, and the check
 //! proves it.
 ghost use Rattle.xcp_transfer.specs.Laws.{RowsRead, RowsWrite, BlockIsWrittenWhole, BlockIsWrittenLast};
-ghost use Rattle.xcp_transfer.specs.Laws.{UploadIsWithinPacket, ShortUploadIsWithinPacket};
+ghost use Rattle.xcp_transfer.specs.Laws.{ShortUploadIsWithinPacket};
 
 use xcp_memory::{tool_is_read, tool_is_written};
 
@@ -22,8 +22,7 @@ pub fn block_is_written_whole()
     tool_is_written();
 }
 
-/// One packet holds what is read.
-pub fn uploads_are_within_packets()
-    ensures upload { UploadIsWithinPacket }
-    ensures short { ShortUploadIsWithinPacket }
+/// One packet holds what SHORT_UPLOAD reads.
+pub fn short_uploads_are_within_packets()
+    ensures { ShortUploadIsWithinPacket }
 {}

@@ -11,6 +11,6 @@ mod laws;
 mod mta;
 mod transfer;
 
-pub use laws::{block_is_written_whole, rows_read_and_write, uploads_are_within_packets};
+pub use laws::{block_is_written_whole, rows_read_and_write, short_uploads_are_within_packets};
 pub use mta::{Mta, TextId};
 pub use transfer::Transfer;

@@ -9,8 +9,8 @@ use xcp_packet::{Code, Command, Packet, Reply};
 use xcp_transfer::Mta;
 
 /// COMM_MODE_BASIC of CONNECT but for the byte order, which is bit 0: optional information can be
-/// had (bit 7), address granularity of one byte, no slave block mode.
-const COMM_MODE_BASIC: u8 = 0x80;
+/// had (bit 7), slave block mode (bit 6), address granularity of one byte.
+const COMM_MODE_BASIC: u8 = 0xC0;
 
 impl Slave {
     pub(super) fn connect(&mut self, _mode: u8, packet: &mut Packet) -> Outcome

@@ -2,7 +2,7 @@
 ghost use Rattle.std.specs.Prelude.{◌≡◌, ◌≤◌, None, Some};
 ghost use Rattle.xcp_transfer.specs.Downloads.{modify_bits_row, modified};
 ghost use Rattle.xcp_packet.specs.Rows.{Tells};
-ghost use Rattle.xcp_transfer.specs.TransferValue.{without_block};
+ghost use Rattle.xcp_transfer.specs.TransferValue.{response_room, without_block};
 
 use super::Transfer;
 use crate::access::{read_double, writable, write_double};
@@ -25,7 +25,7 @@ impl Transfer {
         mx: u16,
         packet: &mut Packet,
     ) -> Result<Sent, Fault>
-        ensures { Tells self.old.pages.layout.order (modify_bits_row s ma mx self.old) (without_block self.old) result packet.new.items self.new }
+        ensures { Tells self.old.pages.layout.order (response_room self.old.pages.layout) (modify_bits_row s ma mx self.old) (without_block self.old) result packet.new.items self.new }
     {
         self.give_up_block();
         if s > 31 {

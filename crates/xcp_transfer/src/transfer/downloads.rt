@@ -4,7 +4,7 @@ ghost use Rattle.std.specs.Prelude.{◌≡◌, ◌≤◌, ◌<◌, length, None}
 ghost use Rattle.xcp_packet.specs.Rows.{Tells};
 ghost use Rattle.xcp_transfer.specs.Downloads.{download_row, download_next_row, download_max_row, short_download_row, packet_room, greatest_download};
 ghost use Rattle.xcp_transfer.specs.private.Downloads.{write_row};
-ghost use Rattle.xcp_transfer.specs.TransferValue.{without_block};
+ghost use Rattle.xcp_transfer.specs.TransferValue.{response_room, without_block};
 
 use super::Transfer;
 use crate::Mta;
@@ -24,7 +24,7 @@ impl Transfer {
     /// `WriteProtected` for all n bytes.
     /// ASAM MCD-1 XCP, protocol layer, description of commands: DOWNLOAD.
     pub fn download(&mut self, n: u8, bytes: &[u8], packet: &mut Packet) -> Result<Sent, Fault>
-        ensures { Tells self.old.pages.layout.order (download_row n bytes.now self.old) (without_block self.old) result packet.new.items self.new }
+        ensures { Tells self.old.pages.layout.order (response_room self.old.pages.layout) (download_row n bytes.now self.old) (without_block self.old) result packet.new.items self.new }
     {
         self.give_up_block();
         if n == 0 || n as usize > self.greatest_download() {
@@ -56,7 +56,7 @@ impl Transfer {
         bytes: &[u8],
         packet: &mut Packet,
     ) -> Result<Sent, Fault>
-        ensures { Tells self.old.pages.layout.order (download_next_row remaining bytes.now self.old) (without_block self.old) result packet.new.items self.new }
+        ensures { Tells self.old.pages.layout.order (response_room self.old.pages.layout) (download_next_row remaining bytes.now self.old) (without_block self.old) result packet.new.items self.new }
     {
         let room = self.packet_room();
         let Some(block) = &mut self.block else {
@@ -87,7 +87,7 @@ impl Transfer {
     /// `CmdSyntax` where data bytes are missing, then `AccessDenied`, then `WriteProtected`.
     /// ASAM MCD-1 XCP, protocol layer, description of commands: DOWNLOAD_MAX.
     pub fn download_max(&mut self, bytes: &[u8], packet: &mut Packet) -> Result<Sent, Fault>
-        ensures { Tells self.old.pages.layout.order (download_max_row bytes.now self.old) (without_block self.old) result packet.new.items self.new }
+        ensures { Tells self.old.pages.layout.order (response_room self.old.pages.layout) (download_max_row bytes.now self.old) (without_block self.old) result packet.new.items self.new }
     {
         self.give_up_block();
         let n = self.pages.layout().max_cto() - 1;
@@ -111,7 +111,7 @@ impl Transfer {
         bytes: &[u8],
         packet: &mut Packet,
     ) -> Result<Sent, Fault>
-        ensures { Tells self.old.pages.layout.order (short_download_row n extension address bytes.now self.old) (without_block self.old) result packet.new.items self.new }
+        ensures { Tells self.old.pages.layout.order (response_room self.old.pages.layout) (short_download_row n extension address bytes.now self.old) (without_block self.old) result packet.new.items self.new }
     {
         self.give_up_block();
         if n == 0 || n > self.pages.layout().max_cto() - 8 || extension != 0 {
@@ -149,7 +149,7 @@ impl Transfer {
         requires some { 0 < n }
         requires enough { n ≤ length bytes.now }
         requires no_block { self.old.block ≡ None }
-        ensures { Tells self.old.pages.layout.order (write_row mta n bytes.now self.old) self.old result packet.new.items self.new }
+        ensures { Tells self.old.pages.layout.order (response_room self.old.pages.layout) (write_row mta n bytes.now self.old) self.old result packet.new.items self.new }
     {
         let bytes = &bytes[..n as usize];
         self.mta = write(&mut self.pages, mta, bytes)?;

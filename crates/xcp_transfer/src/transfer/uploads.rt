@@ -1,28 +1,35 @@
 //! The commands by which a tool reads: UPLOAD, SHORT_UPLOAD, BUILD_CHECKSUM, GET_ID.
 ghost use Rattle.xcp_packet.specs.Rows.{Tells};
 ghost use Rattle.xcp_transfer.specs.Uploads.{upload_row, short_upload_row, build_checksum_row, get_id_row};
-ghost use Rattle.xcp_transfer.specs.TransferValue.{without_block};
+ghost use Rattle.xcp_transfer.specs.TransferValue.{response_room, without_block};
 
 use super::Transfer;
-use crate::access::{checksum, read};
+use crate::access::{checksum, read, read_block};
 use crate::{Mta, TextId};
-use xcp_packet::{Code, Fault, Packet, Reply, Sent, write_reply};
+use xcp_packet::{Code, Fault, Packet, Reply, Sent, Width, write_reply};
 
 impl Transfer {
-    /// UPLOAD: reads n bytes, 1 to MAX_CTO - 1, from the MTA on, and moves it on by n.
+    /// UPLOAD: reads n bytes from the MTA on, and moves it on by n. More than MAX_CTO - 1 bytes are
+    /// told in several packets.
     ///
-    /// `OutOfRange` for n, then `AccessDenied`: nowhere, where the bytes don't lie in one area,
+    /// `OutOfRange` for n 0, then `AccessDenied`: nowhere, where the bytes don't lie in one area,
     /// and past a text's end.
-    /// ASAM MCD-1 XCP, protocol layer, description of commands: UPLOAD.
+    /// ASAM MCD-1 XCP, protocol layer, description of commands: UPLOAD; slave block transfer mode.
+    #[tactic(auto, using(xcp_packet::specs::BlockPacketLemmas::block_of_one))]
     pub fn upload(&mut self, n: u8, packet: &mut Packet) -> Result<Sent, Fault>
-        ensures { Tells self.old.pages.layout.order (upload_row n self.old) (without_block self.old) result packet.new.items self.new }
+        ensures { Tells self.old.pages.layout.order (response_room self.old.pages.layout) (upload_row n self.old) (without_block self.old) result packet.new.items self.new }
     {
         self.give_up_block();
-        if n == 0 || n > self.pages.layout().max_cto() - 1 {
+        if n == 0 {
             return Err(Fault::Code(Code::OutOfRange));
         }
-        self.mta = read(&self.pages, self.mta, n, packet)?;
-        Ok(Sent::Lent)
+        let room = self.pages.layout().max_cto() - 1;
+        if n <= room {
+            self.mta = read(&self.pages, self.mta, n, packet)?;
+            return Ok(Sent::Lent);
+        }
+        self.mta = read_block(&self.pages, self.mta, n, packet)?;
+        Ok(Sent::Block(Width::new(room)))
     }
 
     /// SHORT_UPLOAD: reads n bytes, 1 to MAX_CTO - 1, at an address, and leaves the MTA behind
@@ -30,6 +37,7 @@ impl Transfer {
     ///
     /// `OutOfRange` for n, then for an address extension that isn't 0; then `AccessDenied`.
     /// ASAM MCD-1 XCP, protocol layer, description of commands: SHORT_UPLOAD.
+    #[tactic(auto, using(xcp_packet::specs::BlockPacketLemmas::block_of_one))]
     pub fn short_upload(
         &mut self,
         n: u8,
@@ -37,7 +45,7 @@ impl Transfer {
         address: u32,
         packet: &mut Packet,
     ) -> Result<Sent, Fault>
-        ensures { Tells self.old.pages.layout.order (short_upload_row n extension address self.old) (without_block self.old) result packet.new.items self.new }
+        ensures { Tells self.old.pages.layout.order (response_room self.old.pages.layout) (short_upload_row n extension address self.old) (without_block self.old) result packet.new.items self.new }
     {
         self.give_up_block();
         if n == 0 || n > self.pages.layout().max_cto() - 1 || extension != 0 {
@@ -54,7 +62,7 @@ impl Transfer {
     /// text.
     /// ASAM MCD-1 XCP, protocol layer, description of commands: BUILD_CHECKSUM.
     pub fn build_checksum(&mut self, size: u32, packet: &mut Packet) -> Result<Sent, Fault>
-        ensures { Tells self.old.pages.layout.order (build_checksum_row size self.old) (without_block self.old) result packet.new.items self.new }
+        ensures { Tells self.old.pages.layout.order (response_room self.old.pages.layout) (build_checksum_row size self.old) (without_block self.old) result packet.new.items self.new }
     {
         self.give_up_block();
         let (sum, next) = checksum(&self.pages, self.mta, size)?;
@@ -69,7 +77,7 @@ impl Transfer {
     ///
     /// ASAM MCD-1 XCP, protocol layer, description of commands: GET_ID.
     pub fn get_id(&mut self, kind: u8, packet: &mut Packet) -> Result<Sent, Fault>
-        ensures { Tells self.old.pages.layout.order (get_id_row kind self.old) (without_block self.old) result packet.new.items self.new }
+        ensures { Tells self.old.pages.layout.order (response_room self.old.pages.layout) (get_id_row kind self.old) (without_block self.old) result packet.new.items self.new }
     {
         self.give_up_block();
         let mut length = 0;

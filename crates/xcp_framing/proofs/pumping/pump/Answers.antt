@@ -25,5 +25,5 @@ loop-turn-preserved g c =
     record {
       pumps = pumps_more c.loop-turn.count _ (pumps_kept _ _ _ _ _ _ c.pending.ensures.same c.loop-turn.invariant.pumps) c.in_ok-count.ensures.pumps;
       kept = g.met.E.End.same_trans _ _ _ c.loop-turn.invariant.kept c.in_ok-count.ensures.kept;
-      bound = omega (arith, c.loop-turn.invariant.bound, c.in_ok-count.ensures.one);
+      bound = omega (arith, c.loop-turn.invariant.bound, c.in_ok-count.ensures.most);
     }

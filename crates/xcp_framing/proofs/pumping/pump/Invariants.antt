@@ -1,4 +1,4 @@
-use Rattle.std.proofs.Common.{◌≤◌, Ok}
+use Rattle.std.proofs.Common.{◌≤◌, ◌*◌, Ok}
 use Rattle.xcp_framing.specs.Pump.{Pumps}
 use Rattle.xcp_framing.proofs.pumping.pump.Given as goal
 
@@ -6,5 +6,5 @@ abbrev pub invariant-loop-turn : goal.invariant-loop-turn
 invariant-loop-turn g l = record {
   pumps : Pumps (Ok l.count) (g.S.Station.exchanges l.fn.station) (g.S.Station.exchanges l.station) (g.E.End.put_so_far l.fn.end) (g.E.End.put_so_far l.end);
   kept : g.E.End.same l.fn.end l.end;
-  bound : l.count ≤ l._turn;
+  bound : l.count ≤ 37 * l._turn;
 }

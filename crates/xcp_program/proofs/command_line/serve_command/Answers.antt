@@ -17,9 +17,9 @@ returns-clause-app c =
     let period_is : rule_of c.help-period.result ≡ numeric_rule period = ap rule_of c.help-period.ensures ∙ c.numeric-5.ensures.rule in
     let new_is : app_of c.after_help-serve.result ≡ new_app (codes "serve") =
     ap app_of_fields c.after_help-serve.ensures ∙ ap app_of_fields c.about.ensures ∙ c.new.ensures.app in
-    let with_file = c.in_ok-arg.ensures.shape c.config_option.ensures.local ∙ ap₂ with_rule new_is c.config_option.ensures.rule in
-    let with_port = c.in_ok-serve.ensures.shape (ap is_global c.help-port.ensures ∙ c.numeric.ensures.local) ∙ ap₂ with_rule with_file port_is in
-    let with_tools = c.in_ok-arg-2.ensures.shape (ap is_global c.help-tools.ensures ∙ c.numeric-2.ensures.local) ∙ ap₂ with_rule with_port tools_is in
-    let with_tasks = c.in_ok-arg-3.ensures.shape (ap is_global c.help-tasks.ensures ∙ c.numeric-3.ensures.local) ∙ ap₂ with_rule with_tools tasks_is in
-    let with_cycles = c.in_ok-arg-4.ensures.shape (ap is_global c.help-cycles.ensures ∙ c.numeric-4.ensures.local) ∙ ap₂ with_rule with_tasks cycles_is in
-    c.in_ok-arg-5.ensures.shape (ap is_global c.help-period.ensures ∙ c.numeric-5.ensures.local) ∙ ap₂ with_rule with_cycles period_is
+    let with_file = c.in_ok-serve.ensures.shape c.config_option.ensures.local ∙ ap₂ with_rule new_is c.config_option.ensures.rule in
+    let with_port = c.in_ok-serve-2.ensures.shape (ap is_global c.help-port.ensures ∙ c.numeric.ensures.local) ∙ ap₂ with_rule with_file port_is in
+    let with_tools = c.in_ok-serve-3.ensures.shape (ap is_global c.help-tools.ensures ∙ c.numeric-2.ensures.local) ∙ ap₂ with_rule with_port tools_is in
+    let with_tasks = c.in_ok-serve-4.ensures.shape (ap is_global c.help-tasks.ensures ∙ c.numeric-3.ensures.local) ∙ ap₂ with_rule with_tools tasks_is in
+    let with_cycles = c.in_ok-serve-5.ensures.shape (ap is_global c.help-cycles.ensures ∙ c.numeric-4.ensures.local) ∙ ap₂ with_rule with_tasks cycles_is in
+    c.in_ok-arg.ensures.shape (ap is_global c.help-period.ensures ∙ c.numeric-5.ensures.local) ∙ ap₂ with_rule with_cycles period_is

@@ -1,4 +1,5 @@
 use Rattle.std.proofs.Common.{ap, arith, ◌∙◌, ◌++◌, ◌∷◌, []}
+use Rattle.xcp_slave.specs.declared.Exchange.{Exchange}
 use Rattle.xcp_trace.specs.declared.journal.Entry.{Entry}
 use Rattle.xcp_trace.specs.EntrySpelling.{JournalValue}
 use Rattle.xcp_trace.specs.private.EntrySpelling.{IsEntry}
@@ -7,10 +8,11 @@ use Rattle.xcp_trace.proofs.journal.Journal.push.Goals as goal
 
 pub invariant_of-self : goal.invariant_of-self
 invariant_of-self c =
-    rw (c.push.ensures, c.spell-spelled.ensures.string)
+    rw (c.push.ensures)
     (all_more IsEntry _ _ c.self.invariant (record { caller = omega arith; exchange = c.spell-spelled.ensures.fits }))
 
 pub returns : goal.returns
 returns c =
-    let e : Entry = record { caller = c.args.caller; exchange = record { request = c.args.request.now; answer = c.args.answer.now } } in
-    rw (c.push.ensures, c.spell-spelled.ensures.string) (entry_pushed c.self.inside.tape.strings e ∙ ap (λ (j : JournalValue). j.entries ++ e ∷ []) c.self.view_is)
+    let x : Exchange = record { request = c.args.request.now; answer = c.args.answer.now } in
+    let e : Entry = record { caller = c.args.caller; exchange = x } in
+    rw (c.push.ensures) (entry_pushed c.self.inside.tape.strings c.args.caller _ x c.spell-spelled.ensures.string ∙ ap (λ (j : JournalValue). j.entries ++ e ∷ []) c.self.view_is)

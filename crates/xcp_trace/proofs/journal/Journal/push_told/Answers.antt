@@ -1,4 +1,5 @@
 use Rattle.std.proofs.Common.{ap, arith, ◌∙◌, ◌++◌, ◌∷◌, []}
+use Rattle.xcp_slave.specs.declared.Exchange.{Exchange}
 use Rattle.xcp_slave.specs.AnswerInBytes.{answer_in}
 use Rattle.xcp_trace.specs.declared.journal.Entry.{Entry}
 use Rattle.xcp_trace.specs.EntrySpelling.{JournalValue}
@@ -8,10 +9,11 @@ use Rattle.xcp_trace.proofs.journal.Journal.push_told.Goals as goal
 
 pub invariant_of-self : goal.invariant_of-self
 invariant_of-self c =
-    rw (c.push.ensures, c.spell_told-parts.ensures.string)
+    rw (c.push.ensures)
     (all_more IsEntry _ _ c.self.invariant (record { caller = omega arith; exchange = c.spell_told-parts.ensures.fits }))
 
 pub returns : goal.returns
 returns c =
-    let e : Entry = record { caller = c.args.caller; exchange = record { request = c.args.request.now; answer = answer_in c.args.told c.args.packet.now } } in
-    rw (c.push.ensures, c.spell_told-parts.ensures.string) (entry_pushed c.self.inside.tape.strings e ∙ ap (λ (j : JournalValue). j.entries ++ e ∷ []) c.self.view_is)
+    let x : Exchange = record { request = c.args.request.now; answer = answer_in c.args.told.now c.args.packet.now } in
+    let e : Entry = record { caller = c.args.caller; exchange = x } in
+    rw (c.push.ensures) (entry_pushed c.self.inside.tape.strings c.args.caller _ x c.spell_told-parts.ensures.string ∙ ap (λ (j : JournalValue). j.entries ++ e ∷ []) c.self.view_is)

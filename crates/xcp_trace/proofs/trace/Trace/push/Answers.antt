@@ -6,9 +6,9 @@ use Rattle.xcp_trace.proofs.SpellingLaws.{all_more, exchange_pushed}
 use Rattle.xcp_trace.proofs.trace.Trace.push.Goals as goal
 
 pub invariant_of-self : goal.invariant_of-self
-invariant_of-self c = rw (c.push.ensures, c.spell-spelled.ensures.string) (all_more IsSpelling _ _ c.self.invariant c.spell-spelled.ensures.fits)
+invariant_of-self c = rw (c.push.ensures) (all_more IsSpelling _ _ c.self.invariant c.spell-spelled.ensures.fits)
 
 pub returns : goal.returns
 returns c =
     let x : Exchange = record { request = c.args.request.now; answer = c.args.answer.now } in
-    rw (c.push.ensures, c.spell-spelled.ensures.string) (exchange_pushed c.self.inside.tape.strings x ∙ ap (λ (t : TraceValue). t.exchanges ++ x ∷ []) c.self.view_is)
+    rw (c.push.ensures) (exchange_pushed c.self.inside.tape.strings _ x c.spell-spelled.ensures.string ∙ ap (λ (t : TraceValue). t.exchanges ++ x ∷ []) c.self.view_is)

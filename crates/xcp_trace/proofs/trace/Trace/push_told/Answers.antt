@@ -7,9 +7,9 @@ use Rattle.xcp_trace.proofs.SpellingLaws.{all_more, exchange_pushed}
 use Rattle.xcp_trace.proofs.trace.Trace.push_told.Goals as goal
 
 pub invariant_of-self : goal.invariant_of-self
-invariant_of-self c = rw (c.push.ensures, c.spell_told-spelled.ensures.string) (all_more IsSpelling _ _ c.self.invariant c.spell_told-spelled.ensures.fits)
+invariant_of-self c = rw (c.push.ensures) (all_more IsSpelling _ _ c.self.invariant c.spell_told-spelled.ensures.fits)
 
 pub returns : goal.returns
 returns c =
-    let x : Exchange = record { request = c.args.request.now; answer = answer_in c.args.told c.args.packet.now } in
-    rw (c.push.ensures, c.spell_told-spelled.ensures.string) (exchange_pushed c.self.inside.tape.strings x ∙ ap (λ (t : TraceValue). t.exchanges ++ x ∷ []) c.self.view_is)
+    let x : Exchange = record { request = c.args.request.now; answer = answer_in c.args.told.now c.args.packet.now } in
+    rw (c.push.ensures) (exchange_pushed c.self.inside.tape.strings _ x c.spell_told-spelled.ensures.string ∙ ap (λ (t : TraceValue). t.exchanges ++ x ∷ []) c.self.view_is)

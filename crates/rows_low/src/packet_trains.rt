@@ -1,0 +1,85 @@
+//! Blocks against their packets.
+use xcp_packet::{Data, Packet, Train, Width};
+
+/// How many data bytes go into a packet, the bytes of a block, and its packets.
+type Row = (u8, &'static [u8], &'static [&'static [u8]]);
+
+static BLOCKS: [Row; 6] = [
+    (7, &[1], &[&[0xFF, 1]]),
+    (7, &[1, 2, 3, 4, 5, 6, 7], &[&[0xFF, 1, 2, 3, 4, 5, 6, 7]]),
+    (
+        7,
+        &[1, 2, 3, 4, 5, 6, 7, 8],
+        &[&[0xFF, 1, 2, 3, 4, 5, 6, 7], &[0xFF, 8]],
+    ),
+    (
+        7,
+        &[0, 1, 2, 3, 4, 5, 6, 7, 8, 9, 10, 11, 12, 13],
+        &[
+            &[0xFF, 0, 1, 2, 3, 4, 5, 6],
+            &[0xFF, 7, 8, 9, 10, 11, 12, 13],
+        ],
+    ),
+    (
+        7,
+        &[0, 1, 2, 3, 4, 5, 6, 7, 8, 9, 10, 11, 12, 13, 14, 15],
+        &[
+            &[0xFF, 0, 1, 2, 3, 4, 5, 6],
+            &[0xFF, 7, 8, 9, 10, 11, 12, 13],
+            &[0xFF, 14, 15],
+        ],
+    ),
+    (
+        8,
+        &[0, 1, 2, 3, 4, 5, 6, 7, 8, 9],
+        &[&[0xFF, 0, 1, 2, 3, 4, 5, 6, 7], &[0xFF, 8, 9]],
+    ),
+];
+
+/// Whether these are the packets, in order.
+fn are(train: &Train, packets: &[&[u8]]) -> bool {
+    for i in 0..train.count() {
+        match packets.get(usize::from(i)) {
+            Some(packet) if train.at(i).as_slice() == *packet => {}
+            _ => return false,
+        }
+    }
+    packets.len() == usize::from(train.count())
+}
+
+/// Whether a block is cut so, and a copy of it is the same.
+fn is_cut((width, bytes, packets): &Row) -> bool {
+    let mut data = Data::new();
+    let _ = data.try_extend_from_slice(bytes);
+    if data.is_empty() || *width < 7 || *width > 254 {
+        return false;
+    }
+    let train = Train::block(&data, *width);
+    are(&train, packets) && train.same(&train.copy())
+}
+
+#[test]
+fn blocks(rt: HostRuntime) {
+    for (number, row) in BLOCKS.iter().enumerate() {
+        assert!(rt; is_cut(row), "{number}");
+    }
+}
+
+/// FF and these bytes.
+fn one(bytes: &[u8]) -> Train {
+    let mut packet = Packet::new();
+    let _ = packet.try_push(0xFF);
+    let _ = packet.try_extend_from_slice(bytes);
+    Train::one(packet)
+}
+
+/// A block that one packet holds is this packet; else its width tells.
+#[test]
+fn blocks_are_compared(rt: HostRuntime) {
+    let eight = [1, 2, 3, 4, 5, 6, 7, 8];
+    let block = Train::cut(&eight, Width::new(7));
+    let longer = Train::cut(&eight, Width::new(8));
+    let short = Train::cut(&[1], Width::new(7));
+    assert!(rt; longer.same(&one(&eight)) && !block.same(&longer));
+    assert!(rt; short.same(&one(&[1])) && !short.same(&one(&[2])));
+}
