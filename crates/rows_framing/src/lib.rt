@@ -1,4 +1,5 @@
-//! Worked rows of lines, scripts and frames, and streams that fail, each through public items alone.
+//! Worked rows of scripts, streams and pumps, and of readers, writers and stations that fail, each through public items
+//! alone.
 #![tactic(auto)]
 
 #[cfg(test)]
@@ -6,19 +7,15 @@ mod cuts;
 #[cfg(test)]
 mod fakes;
 #[cfg(test)]
-mod feeds;
-#[cfg(test)]
-mod frames;
-#[cfg(test)]
 mod lent;
-#[cfg(test)]
-mod lines;
 #[cfg(test)]
 mod ordered;
 #[cfg(test)]
 mod orders;
 #[cfg(test)]
 mod pumps;
+#[cfg(test)]
+mod reads;
 #[cfg(test)]
 mod replay_rows;
 #[cfg(test)]
@@ -33,7 +30,3 @@ mod serves;
 mod shelf;
 #[cfg(test)]
 mod stations;
-#[cfg(test)]
-mod texts;
-#[cfg(test)]
-mod traces;

@@ -6,14 +6,6 @@
 #[cfg(test)]
 mod answers;
 #[cfg(test)]
-mod config_rows;
-#[cfg(test)]
-mod config_tests;
-#[cfg(test)]
-mod config_texts;
-#[cfg(test)]
-mod layout_faults;
-#[cfg(test)]
 mod layout_values;
 #[cfg(test)]
 mod layouts;

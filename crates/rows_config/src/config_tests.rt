@@ -66,6 +66,24 @@ fn the_layout_of_the_document(rt: HostRuntime) -> Result<(), Fail> {
     Ok(())
 }
 
+/// The document, and behind it a comment, in all some 65,000 bytes.
+fn long_document(alloc: Global) -> Result<String, AllocError> {
+    let mut text = changed(alloc, LINES.len(), "")?;
+    text.push_str("#")?;
+    for _part in 0..4_050 {
+        text.push_str("................")?;
+    }
+    Ok(text)
+}
+
+#[test]
+fn a_long_text_is_read(rt: HostRuntime) -> Result<(), Fail> {
+    let text = long_document(rt.alloc())?;
+    assert!(rt; (64_800..65_536).contains(&text.len()));
+    assert_eq!(rt; reads_the_document(rt.alloc(), text.as_str())?, Some(true));
+    Ok(())
+}
+
 // Passes whichever allocation is refused (`rt try --test --fail-alloc N`): the refusal is told as `Memory` and not as
 // another fault, and the same text is then read as with ample memory.
 #[test]
