@@ -2,6 +2,7 @@
 use crate::figures::Times;
 use crate::seats::{BLANK, Source};
 use arrayvec::ArrayVec;
+use std::alloc::Global;
 use std::rt::Clock;
 use std::time::Instant;
 use std::{fmt, io};
@@ -123,8 +124,8 @@ impl<N: Name> Alone<N> {
     fn published(&mut self, reader: &mut Reader<N>) -> u64 {
         let _ = reader.acquire();
         match self.locked.settle_reader(reader) {
-            Some(settled) => settled.number,
-            None => 0,
+            Ok(Some(settled)) => settled.number,
+            Ok(None) | Err(_) => 0,
         }
     }
 }
@@ -160,7 +161,28 @@ pub fn time_submits<C: Clock, N: Name>(
     Ok(alone.published(reader).saturating_sub(before))
 }
 
-/// Times the same of a slave with no journal, no receipts and no images for others.
+/// Times cuts, each of a chapter of so many calls.
+pub fn time_cuts<C: Clock, N: Name>(
+    rt: &C,
+    alloc: Global,
+    alone: &mut Alone<N>,
+    times: &mut Times,
+) -> io::Result<u64> {
+    for _ in 0..ROUNDS {
+        for _ in 0..CALLS {
+            alone.submit(event())?;
+        }
+        let start = Instant::now(rt)?;
+        let cut = alone.locked.cut(alloc);
+        times.add(start.elapsed(rt)?, 1)?;
+        if cut.is_err() {
+            return Err(io::Error::from(io::ErrorKind::OutOfMemory));
+        }
+    }
+    Ok(0)
+}
+
+/// Times submits to a slave with no journal, no receipts and no images for others.
 pub fn time_bare<C: Clock>(
     rt: &C,
     slave: &mut Slave,

@@ -1,5 +1,6 @@
 //! Times images off the lock: what readers of a slave take beside those of a bank alone, what a submit
-//! costs that publishes an image or none, and a tool beside threads that read: `image_times BLOCKS`.
+//! costs that publishes an image or none, what a cut costs, and a tool beside threads that read:
+//! `image_times BLOCKS`.
 //!
 //! Tables go to standard error: figures differ from run to run. The rows of a table are measured in turn,
 //! ten rounds of each in a block, so that what else the machine does falls on all of them.
@@ -102,7 +103,7 @@ const SEATS: [Plan; 6] = [
     Plan::SlaveSeats(Look::Newer),
 ];
 
-const SUBMITS: [Plan; 10] = [
+const SUBMITS: [Plan; 11] = [
     Plan::Comparison,
     Plan::Publication,
     Plan::Bare(Call::Status),
@@ -113,6 +114,7 @@ const SUBMITS: [Plan; 10] = [
     Plan::Submit(Call::OwnPage),
     Plan::Submit(Call::OtherByte),
     Plan::Submit(Call::Switch),
+    Plan::Cut,
 ];
 
 // A tool alone, and beside readers.

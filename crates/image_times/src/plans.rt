@@ -2,7 +2,9 @@
 ghost use Rattle.std.specs.Prelude.{◌≡◌, IfOk};
 
 use crate::beside::{Following, Pace, Pause, Talk, Talking};
-use crate::calls::{Alone, Call, time_bare, time_comparisons, time_publications, time_submits};
+use crate::calls::{
+    Alone, Call, time_bare, time_comparisons, time_cuts, time_publications, time_submits,
+};
 use crate::figures::Times;
 use crate::seats::{BLANK, Look, Writing, time_seats};
 use crate::slaves::layout;
@@ -32,6 +34,8 @@ pub enum Plan {
     Publication,
     /// A submit to the slave that lies under a lock, which nobody else takes.
     Submit(Call),
+    /// A cut of such a slave's open chapter.
+    Cut,
     /// A tool beside so many threads that read images.
     Beside(Talk, usize, Pause),
 }
@@ -55,6 +59,7 @@ impl fmt::Display for Plan {
             Plan::Comparison => write!(f, "the image, written and compared"),
             Plan::Publication => write!(f, "a publication, bank alone"),
             Plan::Submit(call) => write!(f, "{call}"),
+            Plan::Cut => write!(f, "a cut behind 200 calls"),
             Plan::Beside(_, 0, _) => write!(f, "alone"),
             Plan::Beside(_, count, pause) => write!(f, "beside {count}{pause}"),
         }
@@ -74,7 +79,7 @@ pub fn measure<R: Clock + Threads + Wait + Sync>(
         Plan::Publication => measure_publications(rt, alloc, times),
         Plan::Bare(call) => measure_bare(rt, alloc, call, times),
         Plan::Comparison => measure_comparisons(rt, alloc, times),
-        Plan::SlaveSeats(_) | Plan::Submit(_) | Plan::Beside(_, _, _) => {
+        Plan::SlaveSeats(_) | Plan::Submit(_) | Plan::Cut | Plan::Beside(_, _, _) => {
             measure_opening(rt, alloc, plan, times)
         }
     }
@@ -140,6 +145,7 @@ fn measure_named<N: Name + Send + Sync, R: Clock + Threads + Wait + Sync>(
     match plan {
         Plan::SlaveSeats(look) => measure_seats(rt, &mut alone, &mut readers, look, times),
         Plan::Submit(call) => time_submits(rt, &mut alone, &mut readers[0], call, times),
+        Plan::Cut => time_cuts(rt, alloc, &mut alone, times),
         Plan::Beside(talk, count, pause) => {
             measure_beside(rt, alloc, alone, readers, count, talk, pause, times)
         }

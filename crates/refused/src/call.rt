@@ -1,6 +1,6 @@
 //! The calls that take memory, each by a word.
 use crate::outcome::Outcome;
-use crate::{cores, layouts, openings, scripts, served, submits};
+use crate::{cores, cuts, layouts, openings, scripts, served, submits};
 use std::alloc::Global;
 use std::sync::Wait;
 
@@ -13,19 +13,21 @@ pub enum Call {
     UnnamedNew,
     LockedNew,
     Submit,
+    Cut,
     ServeDesk,
     ServeTool,
     ReplayOn,
     Replay,
 }
 
-pub const ALL: [Call; 10] = [
+pub const ALL: [Call; 11] = [
     Call::ReadLayout,
     Call::CoreNew,
     Call::CoreRun,
     Call::UnnamedNew,
     Call::LockedNew,
     Call::Submit,
+    Call::Cut,
     Call::ServeDesk,
     Call::ServeTool,
     Call::ReplayOn,
@@ -41,6 +43,7 @@ impl Call {
             Call::UnnamedNew => "Unnamed::new",
             Call::LockedNew => "Locked::new",
             Call::Submit => "Locked::submit",
+            Call::Cut => "Locked::cut",
             Call::ServeDesk => "serve-desk",
             Call::ServeTool => "serve-tool",
             Call::ReplayOn => "replay_on",
@@ -67,6 +70,7 @@ impl Call {
             Call::UnnamedNew => openings::make(alloc),
             Call::LockedNew => openings::open(alloc),
             Call::Submit => submits::submit_rows(alloc),
+            Call::Cut => cuts::cut_twice(alloc),
             Call::ServeDesk => served::serve_desk(alloc),
             Call::ServeTool => served::serve_tool(rt, alloc),
             Call::ReplayOn => scripts::replay_desk(alloc),

@@ -6,6 +6,7 @@
 
 mod call;
 mod cores;
+mod cuts;
 mod layouts;
 mod openings;
 mod outcome;

@@ -4,10 +4,12 @@ use xcp_locked::{Caller, Locked, Name, Receipt};
 /// How often each caller calls.
 pub const ROUNDS: usize = 6;
 
-/// How long the journal is, how many packets wait, the controller's image, and how many receipts a caller
-/// has and which.
+/// The number of the open chapter, how many calls there are in all and in it, how many packets wait, the
+/// controller's image, and how many receipts a caller has and which.
 #[derive(PartialEq, Drop)]
 pub struct Standing {
+    chapter: u64,
+    total: u64,
     calls: u64,
     pending: u8,
     image: [u8; 2040],
@@ -25,6 +27,8 @@ impl Standing {
             *copy = Some(receipt.copy());
         }
         Standing {
+            chapter: locked.chapter(),
+            total: locked.total(),
             calls,
             pending: locked.pending(),
             image,

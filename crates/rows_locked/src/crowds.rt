@@ -224,10 +224,10 @@ fn all_end_alike<N: Name>(locked: &mut Locked<N>, looked: &mut [(Reader<N>, bool
 // Which publication a reader takes once it is told of all, if it is no older one than it held, and is
 // the controller's image.
 fn newest<N: Name>(locked: &mut Locked<N>, reader: &mut Reader<N>) -> Option<Settled> {
-    let before = locked.settle_reader(reader)?;
+    let before = locked.settle_reader(reader).ok()??;
     locked.tell(reader);
     reader.acquire();
-    let after = locked.settle_reader(reader)?;
+    let after = locked.settle_reader(reader).ok()??;
     let mut image = [0xFF; 2040];
     let calls = locked.image(&mut image);
     let rises = before.number <= after.number && before.from <= after.from && after.from <= calls;

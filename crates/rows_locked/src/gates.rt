@@ -11,36 +11,38 @@ use std::sync::{Mutex, Wait};
 use std::test::Fail;
 use std::thread;
 use std::thread::Threads;
+use std::time::{Clock, Duration};
 use xcp_locked::{Gate, Locked, Name, Opening, Settled, TaskError, Unnamed, Worker, run_tasks};
 
 // How often a gate looks before it gives up.
 const LOOKS: u32 = 1_000_000;
 
-// Whether the flag is set, after some looks.
-pub fn seen(flag: &AtomicBool) -> bool {
+// Whether the flag is set, after some looks with a microsecond of sleep between them.
+pub fn seen(clock: &impl Clock, flag: &AtomicBool) -> bool {
     for _ in 0..LOOKS {
         if flag.load(Ordering::SeqCst) {
             return true;
         }
-        thread::yield_now();
+        thread::sleep(clock, Duration::from_micros(1));
     }
     false
 }
 
 // Holds one task before its cycle until another one is behind its own.
 #[derive(Drop)]
-struct Held {
+struct Held<'a, C> {
+    clock: &'a C,
     held: u8,
     done: AtomicBool,
 }
 
-impl Gate for Held {
+impl<C: Clock> Gate for Held<'_, C> {
     ghost use Rattle.std.specs.Prelude.{⊤};
 
     ghost may_end = { ⊤ };
 
     fn before(&self, task: u8, _cycle: u32) -> bool {
-        task != self.held || seen(&self.done)
+        task != self.held || seen(self.clock, &self.done)
     }
 
     fn after(&self, task: u8, _cycle: u32) -> bool {
@@ -52,7 +54,7 @@ impl Gate for Held {
 }
 
 // The fault of two tasks of one cycle of which one is held, and how many calls they made.
-fn run_held<N: Name + Send + Sync, R: Threads + Wait + Abort + Sync>(
+fn run_held<N: Name + Send + Sync, R: Threads + Wait + Clock + Sync>(
     rt: &R,
     alloc: Global,
     unnamed: Unnamed,
@@ -69,10 +71,11 @@ fn run_held<N: Name + Send + Sync, R: Threads + Wait + Abort + Sync>(
     let workers = workers(alloc, callers, readers)?;
     let lock = Mutex::new(locked);
     let gate = Held {
+        clock: rt,
         held: task,
         done: AtomicBool::new(false),
     };
-    let ran = run_tasks(rt, alloc, &lock, workers, 1, &gate)?;
+    let ran = run_tasks(rt, alloc, &lock, workers, 1, 65_536, &gate)?;
     let locked = lock.into_inner();
     Ok((ran.fault, locked.len()))
 }
@@ -89,10 +92,10 @@ fn workers_run_at_one_time(rt: HostRuntime) -> Result<(), Fail> {
 
 // Ends one task before or after one of its cycles.
 #[derive(Drop)]
-struct Spent {
-    task: u8,
-    cycle: u32,
-    is_before: bool,
+pub struct Spent {
+    pub task: u8,
+    pub cycle: u32,
+    pub is_before: bool,
 }
 
 impl Gate for Spent {
@@ -135,7 +138,7 @@ fn run_spent<N: Name + Send + Sync, R: Threads + Wait + Abort + Sync>(
         cycle: 3,
         is_before,
     };
-    let mut ran = run_tasks(rt, alloc, &lock, workers, 6, &gate)?;
+    let mut ran = run_tasks(rt, alloc, &lock, workers, 6, 65_536, &gate)?;
     let mut locked = lock.into_inner();
     let back = settling(&mut locked, &mut ran.workers);
     Ok((ran.fault, back, locked.len()))
@@ -147,8 +150,12 @@ fn settling<N: Name>(locked: &mut Locked<N>, workers: &mut [Worker<N>]) -> usize
     let mut count = 0usize;
     for worker in workers.iter_mut() {
         let held = locked.settle_reader(&mut worker.reader);
-        let opening = Some(Settled { number: 0, from: 0 });
-        if held == opening && locked.settle(&worker.caller).is_ok() {
+        let opening = Settled {
+            number: 0,
+            chapter: 0,
+            from: 0,
+        };
+        if held == Ok(Some(opening)) && locked.settle(&worker.caller).is_ok() {
             count = count.wrapping_add(1);
         }
     }

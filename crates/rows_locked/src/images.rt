@@ -124,7 +124,7 @@ fn run_beside<'r, 'l, N: Name + Send + Sync, R: Threads + Wait + Sync>(
         lock,
         tool: Mutex::new(tool),
     };
-    Ok(run_tasks(rt, alloc, lock, workers, 5, &gate)?)
+    Ok(run_tasks(rt, alloc, lock, workers, 5, 65_536, &gate)?)
 }
 
 // A worker for each of these callers, at most six: each has a reader.
@@ -139,7 +139,7 @@ pub fn workers<N: Name>(
     let mut readers = Vec::from_array(alloc, readers)?;
     for caller in callers {
         let reader = readers.pop().ok_or("a reader")?;
-        workers.push(Worker::new(caller, reader))?;
+        workers.push(Worker::new(alloc, caller, reader))?;
     }
     if workers.len() > 6 {
         return Err("more than six workers".into());
@@ -194,7 +194,7 @@ fn first_settled<N: Name>(
     workers: &mut [Worker<N>],
 ) -> Option<([u8; 2040], u64)> {
     let first = workers.first_mut()?;
-    let settled = locked.settle_reader(&mut first.reader)?;
+    let settled = locked.settle_reader(&mut first.reader).ok()??;
     Some((first.last, settled.number))
 }
 

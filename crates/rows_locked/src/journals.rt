@@ -23,21 +23,50 @@ fn drains<N: Name>(
 }
 
 // What 65,537 Drains of one caller come to, how many calls the journal has then, and whether it and
-// a caller that made no call settle.
+// a caller that made no call settle; and what comes of a cut.
 type Filled = (
     (u32, Option<LockedError>),
     u64,
     Result<(), Mismatch>,
     Result<(), Mismatch>,
+    Turned,
 );
 
-fn filled<N: Name>(locked: &mut Locked<N>, callers: &mut [Caller<N>]) -> Option<Filled> {
+fn filled<N: Name>(
+    alloc: Global,
+    locked: &mut Locked<N>,
+    callers: &mut [Caller<N>],
+) -> Option<Filled> {
     let [other, one] = callers else {
         return None;
     };
     let came = drains(locked, one, 65_537);
     let calls = locked.len();
-    Some((came, calls, locked.settle(one), locked.settle(other)))
+    let settled = locked.settle(one);
+    let beside = locked.settle(other);
+    let turned = turned(alloc, locked, one)?;
+    Some((came, calls, settled, beside, turned))
+}
+
+// The number of the chapter that is cut off and of its calls; the chapter and the place of the next
+// Drain; and how many calls there are then in all and in the open chapter.
+type Turned = [u64; 6];
+
+fn turned<N: Name>(
+    alloc: Global,
+    locked: &mut Locked<N>,
+    caller: &mut Caller<N>,
+) -> Option<Turned> {
+    let chapter = locked.cut(alloc).ok()?;
+    let receipt = locked.submit(caller, Request::Drain).ok()?;
+    Some([
+        chapter.number(),
+        chapter.len(),
+        receipt.chapter,
+        receipt.at,
+        locked.total(),
+        locked.len(),
+    ])
 }
 
 fn fill<N: Name>(alloc: Global, unnamed: Unnamed) -> Result<Option<Filled>, Fail>
@@ -49,7 +78,7 @@ fn fill<N: Name>(alloc: Global, unnamed: Unnamed) -> Result<Option<Filled>, Fail
         mut callers,
         ..
     } = Locked::<N>::new(alloc, unnamed)?;
-    Ok(filled(&mut locked, &mut callers))
+    Ok(filled(alloc, &mut locked, &mut callers))
 }
 
 #[test]
@@ -61,6 +90,7 @@ fn full_journal_refuses(rt: HostRuntime) -> Result<(), Fail> {
         65_536,
         Ok(()),
         Ok(()),
+        [0, 65_536, 1, 0, 65_537, 1],
     );
     assert!(rt; came == Some(wanted));
     Ok(())

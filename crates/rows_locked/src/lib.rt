@@ -22,10 +22,6 @@ mod numbers;
 #[cfg(test)]
 mod openings;
 #[cfg(test)]
-mod readers;
-#[cfg(test)]
-mod rows;
-#[cfg(test)]
 mod servers;
 #[cfg(test)]
 mod sessions;

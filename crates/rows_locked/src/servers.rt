@@ -12,7 +12,7 @@ use std::thread::Threads;
 use std::time::Clock;
 use xcp_framing::{ServeError, Served, Watched};
 use xcp_locked::{
-    Closing, Gate, Name, Reader, TaskError, Unnamed, Unsettled, run_server, settle_all,
+    Closing, Discord, Gate, Name, Reader, TaskError, Unnamed, run_server, settle_all,
 };
 use xcp_slave::Answer;
 
@@ -26,7 +26,7 @@ pub type Ends<I> = Vec<(Watched<I>, Watched<Hole>)>;
 pub type Came = (
     Vec<Result<Served, ServeError>>,
     Option<TaskError>,
-    Result<u64, Unsettled>,
+    Result<u64, Discord>,
     Option<usize>,
 );
 
@@ -106,7 +106,7 @@ fn served<
     requires readers { tasks ≤ 6 }
 {
     let mut closing: Closing<N, I, Hole> = run_server(
-        rt, alloc, unnamed, ends, tasks, 2, 1_000, PUMP_TURNS, gate,
+        rt, alloc, unnamed, ends, tasks, 2, 65_536, 1_000, PUMP_TURNS, gate,
     )?;
     alter(&mut closing, altered);
     let settled = settle_all(&mut closing);

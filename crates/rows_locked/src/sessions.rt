@@ -1,14 +1,15 @@
 // What comes of servers whose streams are cut, fail, or wait for a task.
 
+use crate::gates::Spent;
 use crate::servers::{Came, Open, serve_some};
 use crate::streams::{Hole, Pieces};
-use std::alloc::Global;
+use std::alloc::{AllocError, Global};
 use std::sync::Wait;
 use std::test::Fail;
 use std::thread::Threads;
 use std::time::Clock;
 use xcp_framing::{ServeError, Served, Watched};
-use xcp_locked::Unsettled;
+use xcp_locked::{Discord, TaskError, Unsettled};
 
 // CONNECT in a frame, and CONNECT and GET_STATUS.
 const CONNECT: [u8; 6] = [2, 0, 0, 0, 0xFF, 0];
@@ -81,7 +82,8 @@ fn altered_receipt_is_found(rt: HostRuntime) -> Result<(), Fail> {
     let other = pieces(&STATUS, 11, 11);
     let ends = Vec::from_array(alloc, [one, other])?;
     let (_, _, settled, _) = serve_some(&rt, alloc, 6, ends, 2, &Open, Some((1, 1)))?;
-    assert!(rt; settled == Err(Unsettled { caller: 1, at: 1 }));
+    let unsettled = Unsettled { caller: 1, at: 1 };
+    assert!(rt; settled == Err(Discord::Receipts(0, unsettled)));
     Ok(())
 }
 
@@ -114,5 +116,54 @@ fn one_connection_fails(rt: HostRuntime) -> Result<(), Fail> {
     let ends = Vec::from_array(alloc, [Err(ServeError::Write), Ok(ONE)])?;
     let wanted: Came = (ends, None, Ok(3), Some(0));
     assert!(rt; write == wanted);
+    Ok(())
+}
+
+// CONNECT, a task's first cycle, before the second of which its gate ends it, and the last Hangup.
+#[test]
+fn a_session_ends_behind_a_spent_gate(rt: HostRuntime) -> Result<(), Fail> {
+    let alloc = rt.alloc();
+    let gate = Spent {
+        task: 0,
+        cycle: 1,
+        is_before: true,
+    };
+    let ends = Vec::from_array(alloc, [pieces(&CONNECT, 6, 6)])?;
+    let came = serve_some(&rt, alloc, 3, ends, 1, &gate, None)?;
+    let ends = Vec::from_array(alloc, [Ok(ONE)])?;
+    let wanted: Came = (ends, Some(TaskError::GateSpent(0)), Ok(4), Some(1));
+    assert!(rt; came == wanted);
+    Ok(())
+}
+
+// GET_STATUS, so many times. Nobody is connected, so nothing is sent.
+fn statuses(alloc: Global, count: u32) -> Result<Vec<u8>, AllocError> {
+    let mut text = Vec::new(alloc);
+    for _ in 0..count {
+        for byte in [1, 0, 0, 0, 0xFD] {
+            text.push(byte)?;
+        }
+    }
+    Ok(text)
+}
+
+// A chapter of 65,536 calls is full: of as many commands and one more the last is refused, and so is the last
+// Hangup.
+#[test]
+fn a_full_chapter_refuses_the_last_hangup(rt: HostRuntime) -> Result<(), Fail> {
+    let alloc = rt.alloc();
+    let text = statuses(alloc, 65_537)?;
+    let reader = Pieces {
+        text: &text,
+        first: 512,
+        most: 512,
+        good_reads: 1_000,
+    };
+    let end = (Watched::new(reader), Watched::new(Hole { room: 0 }));
+    let ends = Vec::from_array(alloc, [end])?;
+    let came = serve_some(&rt, alloc, 2, ends, 0, &Open, None)?;
+    let ends = Vec::from_array(alloc, [Err(ServeError::JournalFull)])?;
+    let wanted: Came = (ends, Some(TaskError::JournalFull), Ok(65_536), Some(0));
+    assert!(rt; came == wanted);
     Ok(())
 }

@@ -127,6 +127,7 @@ fn faults_are_told(rt: HostRuntime) -> Result<(), Fail> {
         (Fault::Line(4), "line 4, 2"),
         (Fault::Stream(2), "stream 2, 3"),
         (Fault::Memory, "memory, 4"),
+        (Fault::MismatchedChapter(2), "mismatch chapter 2, 5"),
         (
             Fault::Mismatch { caller: 1, at: 3 },
             "mismatch caller 1 at 3, 5",

@@ -40,7 +40,7 @@ impl Env for Started<'_> {
 }
 
 /// What a program that was started with these words does: the file of a replay, the file of a server with its port,
-/// tools, tasks, cycles and period, or the status, a blank and what it tells.
+/// tools, tasks, cycles, chapter and period, or the status, a blank and what it tells.
 fn told(alloc: Global, words: &[u8]) -> Result<String, AllocError> {
     match asked(&(Started(words), alloc)) {
         Ok(Options::Replay { config }) => Ok(config),
@@ -51,9 +51,10 @@ fn told(alloc: Global, words: &[u8]) -> Result<String, AllocError> {
                 tools,
                 tasks,
                 cycles,
+                chapter,
                 period,
             },
-        ) => format!(in alloc; "{config} {port} {tools} {tasks} {cycles} {period}"),
+        ) => format!(in alloc; "{config} {port} {tools} {tasks} {cycles} {chapter} {period}"),
         Err(e) => format!(in alloc; "{} {e}", e.status()),
     }
 }
@@ -106,13 +107,15 @@ Options:
       --tools <T>      How many tools may connect, 1 or 2 [default: 1]
       --tasks <K>      How many tasks raise events, 0 to 6 [default: 1]
       --cycles <N>     How many cycles each task runs, 1 to 1,000 [default: 100]
+      --chapter <M>    From how many calls on a chapter of the journal is cut off, 1 to 65,536 [default: 65536]
       --period <MS>    The milliseconds from one cycle of a task to its next, 0 to 1,000 [default: 0]
   -h, --help           Print help
 
 Its first line is: listening PORT. It accepts T connections, answers each until it ends, and runs the tasks meanwhile.
-When all have ended it prints: calls N (N is the number of all calls), and: settled (what was answered is what the
-slave's journal has). These two lines come before that of a fault, but not before that of a mismatch, of a faulty
-configuration, of stream 0, or of memory where nothing had begun.
+When all have ended it prints: chapters C (C is the number of chapters, the open one included), calls N (N is the
+number of all calls), and: settled (what was answered is what the slave's journal has). These three lines come before
+that of a fault, but not before that of a mismatch, of a faulty configuration, of stream 0, or of memory where nothing
+had begun.
 
 Wrong words end the program with status 1, and what is wrong with them on standard error. Any other fault ends it
 with one line there, and this status:
@@ -121,42 +124,61 @@ with one line there, and this status:
   3  stream N: listening or accepting failed (0); of the first faulty connection, reading failed (1), writing
      failed (2), a frame is too long (3) or cut short (4), the reads were spent (6); the journal is full (7)
   4  memory: an allocation failed, or a thread couldn't be started
+  5  mismatch chapter K: chapter K of the journal doesn't follow the one before
   5  mismatch caller C at I: what caller C was answered differs from the journal, first at its call I
 ";
 
 /// What the program does with words of `serve` behind a configuration file F and a port.
-const SERVERS: [(&[u8], &str); 9] = [
-    (b"xcpd|serve|--config|F|--port|5555", "F 5555 1 1 100 0"),
-    (b"xcpd|serve|--port=+5555|--config=F", "F 5555 1 1 100 0"),
+const SERVERS: [(&[u8], &str); 12] = [
+    (
+        b"xcpd|serve|--config|F|--port|5555",
+        "F 5555 1 1 100 65536 0",
+    ),
+    (
+        b"xcpd|serve|--port=+5555|--config=F",
+        "F 5555 1 1 100 65536 0",
+    ),
     (
         b"xcpd|serve|--config|F|--port|1024|--tools|1|--tasks|0|--cycles|1",
-        "F 1024 1 0 1 0",
+        "F 1024 1 0 1 65536 0",
     ),
     (
         b"xcpd|serve|--period|1000|--cycles|1000|--tasks|6|--tools|2|--port|65535|--config|F",
-        "F 65535 2 6 1000 1000",
+        "F 65535 2 6 1000 65536 1000",
     ),
     (
         b"xcpd|serve|--config|F|--port|2000|--tools|2",
-        "F 2000 2 1 100 0",
+        "F 2000 2 1 100 65536 0",
     ),
     (
         b"xcpd|serve|--config|F|--port|2000|--tasks|2",
-        "F 2000 1 2 100 0",
+        "F 2000 1 2 100 65536 0",
+    ),
+    (
+        b"xcpd|serve|--config|F|--port|2000|--chapter|1",
+        "F 2000 1 1 100 1 0",
+    ),
+    (
+        b"xcpd|serve|--config|F|--port|2000|--chapter|65536",
+        "F 2000 1 1 100 65536 0",
+    ),
+    (
+        b"xcpd|serve|--period|7|--chapter=300|--cycles|20|--port|2000|--config|F",
+        "F 2000 1 1 20 300 7",
     ),
     (
         b"xcpd|serve|--config|F|--port|2000|--period|10",
-        "F 2000 1 1 100 10",
+        "F 2000 1 1 100 65536 10",
     ),
     (
         b"xcpd|serve|--config|F|--port|2000|--period|0",
-        "F 2000 1 1 100 0",
+        "F 2000 1 1 100 65536 0",
     ),
     (b"xcpd|serve|--help", SERVE_HELP),
 ];
 
 /// What it tells of words of `serve` that are wrong.
-const WRONG_SERVERS: [(&[u8], &str); 17] = [
+const WRONG_SERVERS: [(&[u8], &str); 21] = [
     (
         b"xcpd|serve",
         "1 error: the following required arguments were not provided:\n  --config <FILE>\n  --port <PORT>\n",
@@ -208,6 +230,22 @@ const WRONG_SERVERS: [(&[u8], &str); 17] = [
     (
         b"xcpd|serve|--config|F|--port|5555|--cycles|1001",
         "1 error: invalid value '1001' for '--cycles <N>'",
+    ),
+    (
+        b"xcpd|serve|--config|F|--port|5555|--chapter|0",
+        "1 error: invalid value '0' for '--chapter <M>'",
+    ),
+    (
+        b"xcpd|serve|--config|F|--port|5555|--chapter|65537",
+        "1 error: invalid value '65537' for '--chapter <M>'",
+    ),
+    (
+        b"xcpd|serve|--config|F|--port|5555|--chapter|all",
+        "1 error: invalid value 'all' for '--chapter <M>'",
+    ),
+    (
+        b"xcpd|serve|--config|F|--port|5555|--chapter=-1",
+        "1 error: invalid value '-1' for '--chapter <M>'",
     ),
     (
         b"xcpd|serve|--config|F|--port|5555|--period|1001",

@@ -12,9 +12,11 @@ use xcp_program::Fault;
 use xcp_server::{Ending, Report, serve_ends};
 use xcp_slave::Request;
 
-// What a tool sends; how many tasks run beside it, and how many cycles; the calls and the fault that
-// are told.
-type Row = (&'static [u8], u8, u32, u64, Option<Fault>);
+// How many tasks there are, how many cycles each has, and from how many calls on a chapter is cut.
+type Tasks = (u8, u32, u32);
+
+// What a tool sends, and what runs beside it; the chapters, the calls and the fault that are told.
+type Row = (&'static [u8], Tasks, u64, u64, Option<Fault>);
 
 const CONNECT: &[u8] = &[2, 0, 0, 0, 0xff, 0];
 
@@ -28,15 +30,15 @@ fn ended<R: Threads + Wait + Clock + Sync>(
     rt: &R,
     alloc: Global,
     sent: &'static [u8],
-    tasks: u8,
-    cycles: u32,
+    tasks: Tasks,
     period: u32,
 ) -> Result<Ending<&'static [u8], Vec<u8>>, Fail> {
+    let (tasks, cycles, chapter) = tasks;
     let tasks = tasks.min(6);
     let unnamed = small(alloc, 2 + tasks).ok_or("a slave")?;
     let writer: Vec<u8> = Vec::new(alloc);
     let ends = Vec::from_array(alloc, [(Watched::new(sent), Watched::new(writer))])?;
-    let ending = serve_ends(rt, alloc, unnamed, ends, tasks, cycles, period)
+    let ending = serve_ends(rt, alloc, unnamed, ends, tasks, cycles, chapter, period)
         .ok()
         .ok_or("an end")?;
     Ok(ending)
@@ -46,26 +48,33 @@ fn served<R: Threads + Wait + Clock + Sync>(
     rt: &R,
     alloc: Global,
     sent: &'static [u8],
-    tasks: u8,
-    cycles: u32,
+    tasks: Tasks,
     period: u32,
 ) -> Result<Report, Fail> {
-    let ending = ended(rt, alloc, sent, tasks, cycles, period)?;
+    let ending = ended(rt, alloc, sent, tasks, period)?;
     Ok(ending.told.ok().ok_or("a report")?)
 }
 
 #[test]
 fn a_server_tells_its_calls(rt: HostRuntime) -> Result<(), Fail> {
-    let rows: [Row; 5] = [
-        (&[], 0, 1, 1, None),
-        (CONNECT, 0, 1, 2, None),
-        (CONNECT, 2, 2, 8, None),
-        (TOO_LONG, 0, 1, 2, Some(Fault::Stream(3))),
-        (HALF, 1, 1, 4, Some(Fault::Stream(4))),
+    let rows: [Row; 6] = [
+        (&[], (0, 1, 65_536), 1, 1, None),
+        (CONNECT, (0, 1, 65_536), 1, 2, None),
+        (CONNECT, (2, 2, 65_536), 1, 8, None),
+        (TOO_LONG, (0, 1, 65_536), 1, 2, Some(Fault::Stream(3))),
+        (HALF, (1, 1, 65_536), 1, 4, Some(Fault::Stream(4))),
+        (&[], (1, 2, 1), 3, 5, None),
     ];
-    for (sent, tasks, cycles, calls, fault) in rows {
-        let found = served(&rt, rt.alloc(), sent, tasks, cycles, 0)?;
-        assert_eq!(rt; found, Report { calls, fault });
+    for (sent, tasks, chapters, calls, fault) in rows {
+        let found = served(&rt, rt.alloc(), sent, tasks, 0)?;
+        assert_eq!(rt;
+            found,
+            Report {
+                chapters,
+                calls,
+                fault
+            }
+        );
     }
     Ok(())
 }
@@ -80,7 +89,7 @@ fn is_connect(entry: &Entry) -> bool {
 // The tool's CONNECT, and the last Hangup, which the first caller submits too.
 #[test]
 fn a_journal_is_given_back(rt: HostRuntime) -> Result<(), Fail> {
-    let journal = ended(&rt, rt.alloc(), CONNECT, 0, 1, 0)?.journal;
+    let journal = ended(&rt, rt.alloc(), CONNECT, (0, 1, 65_536), 0)?.journal;
     let first = journal.get(0).ok_or("a first call")?;
     let last = journal.get(1).ok_or("a last call")?;
     assert!(rt; is_connect(&first) && last.exchange.request == Request::Hangup);
@@ -111,7 +120,7 @@ fn one_fails<R: Threads + Wait + Clock + Sync>(
             (Watched::new(failing), Watched::new(Hole { room })),
         ],
     )?;
-    let ending = serve_ends(rt, alloc, unnamed, ends, 0, 1, 0)
+    let ending = serve_ends(rt, alloc, unnamed, ends, 0, 1, 65_536, 0)
         .ok()
         .ok_or("an end")?;
     Ok(ending.told.ok().ok_or("a report")?)
@@ -125,6 +134,7 @@ fn one_connection_of_two_fails(rt: HostRuntime) -> Result<(), Fail> {
     assert_eq!(rt;
         read,
         Report {
+            chapters: 1,
             calls: 3,
             fault: Some(Fault::Stream(1))
         }
@@ -132,6 +142,7 @@ fn one_connection_of_two_fails(rt: HostRuntime) -> Result<(), Fail> {
     assert_eq!(rt;
         write,
         Report {
+            chapters: 1,
             calls: 3,
             fault: Some(Fault::Stream(2))
         }
@@ -143,11 +154,12 @@ fn one_connection_of_two_fails(rt: HostRuntime) -> Result<(), Fail> {
 #[test]
 fn cycles_begin_by_the_period(rt: HostRuntime) -> Result<(), Fail> {
     let begin = Instant::now(&rt)?;
-    let found = served(&rt, rt.alloc(), CONNECT, 2, 3, 20)?;
+    let found = served(&rt, rt.alloc(), CONNECT, (2, 3, 65_536), 20)?;
     let passed = begin.elapsed(&rt)?;
     assert_eq!(rt;
         found,
         Report {
+            chapters: 1,
             calls: 11,
             fault: None
         }

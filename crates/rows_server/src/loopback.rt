@@ -36,7 +36,7 @@ fn serve_one<R: Threads + Wait + Clock + Sync>(
 ) -> Option<Report> {
     let unnamed = small(alloc, 4)?;
     let ends = accept_tools(alloc, listener, 1).ok()?;
-    serve_ends(rt, alloc, unnamed, ends, 2, 2, 0)
+    serve_ends(rt, alloc, unnamed, ends, 2, 2, 65_536, 0)
         .ok()?
         .told
         .ok()
@@ -60,6 +60,7 @@ fn a_tool_connects_over_tcp(rt: HostRuntime) -> Result<(), Fail> {
     assert_eq!(rt;
         report,
         Some(Report {
+            chapters: 1,
             calls: 8,
             fault: None
         })

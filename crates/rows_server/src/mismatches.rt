@@ -1,5 +1,6 @@
-// A caller whose receipts aren't the journal's, as it is told at a server's end.
-ghost use Rattle.std.specs.Prelude.{◌≡◌, ◌<◌, vec_len};
+// A caller whose receipts aren't the journal's, and chapters that don't follow one another, as they are
+// told at a server's end.
+ghost use Rattle.std.specs.Prelude.{◌≡◌, ◌<◌, ◌≤◌, vec_len};
 
 use crate::slaves::small;
 use std::alloc::Global;
@@ -37,8 +38,27 @@ impl Gate for Open {
     }
 }
 
-// Alters the answer of receipt 3 of caller 1.
-fn alter<N: Name, I: Read + Drop, O: Write + Drop>(closing: &mut Closing<N, I, O>)
+// What is altered.
+#[derive(Clone, Copy)]
+enum Altered {
+    Nothing,
+    // The answer of receipt 3 of caller 1.
+    Receipt,
+    // The order of the chapters.
+    Chapters,
+}
+
+fn alter<N: Name, I: Read + Drop, O: Write + Drop>(closing: &mut Closing<N, I, O>, altered: Altered)
+    ensures { vec_len closing.new.callers ≡ vec_len closing.old.callers }
+{
+    match altered {
+        Altered::Nothing => {}
+        Altered::Receipt => alter_receipt(closing),
+        Altered::Chapters => closing.chapters.reverse(),
+    }
+}
+
+fn alter_receipt<N: Name, I: Read + Drop, O: Write + Drop>(closing: &mut Closing<N, I, O>)
     ensures { vec_len closing.new.callers ≡ vec_len closing.old.callers }
 {
     let Some(caller) = closing.callers.get_mut(1) else {
@@ -49,27 +69,32 @@ fn alter<N: Name, I: Read + Drop, O: Write + Drop>(closing: &mut Closing<N, I, O
     }
 }
 
-// What is told of two tools that ask this, where the receipt is altered, or isn't.
+// What is told of two tools that ask this, beside so many tasks of two cycles, where a chapter is cut from
+// so many calls on, and something may be altered at the end.
 fn told<R: Threads + Wait + Clock + Sync>(
     rt: &R,
     alloc: Global,
-    unnamed: Unnamed,
-    altered: bool,
+    tasks: u8,
+    chapter: u32,
+    altered: Altered,
 ) -> Result<Result<Report, Fault>, Fail>
-    requires { unnamed.callers ≡ 4 }
+    requires { tasks ≤ 1 }
 {
-    told_named::<Brand, R>(rt, alloc, unnamed, altered)
+    let unnamed = small(alloc, 5).ok_or("a slave")?;
+    told_named::<Brand, R>(rt, alloc, unnamed, tasks, chapter, altered)
 }
 
 fn told_named<N: Name + Send + Sync, R: Threads + Wait + Clock + Sync>(
     rt: &R,
     alloc: Global,
     unnamed: Unnamed,
-    altered: bool,
+    tasks: u8,
+    chapter: u32,
+    altered: Altered,
 ) -> Result<Result<Report, Fault>, Fail>
     requires name { (unnamed.name ≡ N.name) × (unnamed.callers ≡ N.parts)
         × (unnamed.layout ≡ N.layout) × (unnamed.bank ≡ N.bank) }
-    requires callers { unnamed.callers ≡ 4 }
+    requires callers { (unnamed.callers ≡ 5) × (tasks ≤ 1) }
 {
     let one: Vec<u8> = Vec::new(alloc);
     let other: Vec<u8> = Vec::new(alloc);
@@ -81,29 +106,44 @@ fn told_named<N: Name + Send + Sync, R: Threads + Wait + Clock + Sync>(
         ],
     )?;
     let mut closing = run_server::<N, _, _, _, _>(
-        rt, alloc, unnamed, ends, 0, 1, 1_000, 1_000_000, &Open,
+        rt, alloc, unnamed, ends, tasks, 2, chapter, 1_000, 1_000_000, &Open,
     )?;
-    if altered {
-        alter(&mut closing);
-    }
+    alter(&mut closing, altered);
     Ok(conclude(&mut closing))
 }
 
 #[test]
 fn an_altered_receipt_is_told(rt: HostRuntime) -> Result<(), Fail> {
     let alloc = rt.alloc();
-    let unnamed = small(alloc, 4).ok_or("a slave")?;
-    let good = told(&rt, alloc, unnamed, false)?;
-    let unnamed = small(alloc, 4).ok_or("a slave")?;
-    let fault = told(&rt, alloc, unnamed, true)?.err().ok_or("a fault")?;
+    let good = told(&rt, alloc, 0, 65_536, Altered::Nothing)?;
+    let bad = told(&rt, alloc, 0, 65_536, Altered::Receipt)?;
+    let fault = bad.err().ok_or("a fault")?;
     assert_eq!(rt;
         good.ok().ok_or("a report")?,
         Report {
+            chapters: 1,
             calls: 9,
             fault: None
         }
     );
     assert_eq!(rt; fault, Fault::Mismatch { caller: 1, at: 3 });
+    assert_eq!(rt; fault.status(), 5);
+    Ok(())
+}
+
+// Each of two chapters has two calls of the task, and may have some of the tools.
+#[test]
+fn exchanged_chapters_are_told(rt: HostRuntime) -> Result<(), Fail> {
+    let alloc = rt.alloc();
+    let good = told(&rt, alloc, 1, 1, Altered::Nothing)?.ok();
+    let bad = told(&rt, alloc, 1, 1, Altered::Chapters)?;
+    let fault = bad.err().ok_or("a fault")?;
+    let report = Report {
+        chapters: 3,
+        calls: 13,
+        fault: None,
+    };
+    assert_eq!(rt; (good, fault), (Some(report), Fault::MismatchedChapter(0)));
     assert_eq!(rt; fault.status(), 5);
     Ok(())
 }

@@ -12,7 +12,7 @@ use std::test::Fail;
 use std::thread::Threads;
 use std::time::Clock;
 use xcp_framing::{ServeError, Served, Watched};
-use xcp_locked::{Closing, Gate, Name, TaskError, Unnamed, Unsettled, run_server, settle_all};
+use xcp_locked::{Closing, Discord, Gate, Name, TaskError, Unnamed, run_server, settle_all};
 use xcp_program::layout_of;
 
 // What the tool sends, and what the slave sends behind it.
@@ -150,7 +150,7 @@ type End<'a> = (Watched<Asking<'a>>, Watched<Checking<'a>>);
 type Came = (
     Vec<Result<Served, ServeError>>,
     Option<TaskError>,
-    Result<u64, Unsettled>,
+    Result<u64, Discord>,
 );
 
 // How many tasks there are, and how many cycles each has.
@@ -178,6 +178,7 @@ fn serve_named<'a, N: Name + Send + Sync, G: Gate + Sync, R: Threads + Wait + Cl
         ends,
         tasks,
         cycles,
+        65_536,
         1_000,
         100_000_000,
         gate,

@@ -18,6 +18,8 @@ mod rows;
 #[cfg(test)]
 mod rows_tests;
 #[cfg(test)]
+mod same;
+#[cfg(test)]
 mod sessions;
 #[cfg(test)]
 mod storing;

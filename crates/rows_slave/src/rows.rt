@@ -18,7 +18,7 @@ pub(crate) fn bytes<const N: usize>(text: &str) -> Option<ArrayVec<u8, N>> {
     Some(bytes)
 }
 
-fn request(text: &str) -> Option<Request> {
+pub(crate) fn request(text: &str) -> Option<Request> {
     match text {
         "drain" => return Some(Request::Drain),
         "store" => return Some(Request::FinishStore),

@@ -4,10 +4,10 @@ use xcp_locked::{Locked, Name, Reader, Settled};
 // The publication that a reader takes once it is told of all: none where it held nothing, or an older
 // one comes, or what it reads is another image than the controller's.
 fn last_of<N: Name>(locked: &mut Locked<N>, reader: &mut Reader<N>) -> Option<Settled> {
-    let held = locked.settle_reader(reader)?;
+    let held = locked.settle_reader(reader).ok()??;
     locked.tell(reader);
     let _ = reader.acquire();
-    let last = locked.settle_reader(reader)?;
+    let last = locked.settle_reader(reader).ok()??;
     let mut image = [0; 2040];
     let mut wanted = [1; 2040];
     if reader.holds() {

@@ -22,6 +22,9 @@ use xcp_memory::Layout;
 // (More than a connection's text has bytes.)
 const TURNS: u32 = 10_000_000;
 
+// (More than a plan has calls: there is one chapter.)
+const CHAPTER: u32 = 65_536;
+
 // (A pump ends with its connection.)
 const PUMP_TURNS: u32 = 100_000_000;
 
@@ -88,6 +91,7 @@ fn soak_named<N: Name + Send + Sync, R: Threads + Wait + Clock + Sync>(
         ends,
         6,
         plan.cycles,
+        CHAPTER,
         TURNS,
         PUMP_TURNS,
         &Yielding,

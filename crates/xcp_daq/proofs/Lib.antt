@@ -6,3 +6,4 @@ pub mod DaqInvariantLemmas
 pub mod DueListLemmas
 pub mod ListLoopLemmas
 pub mod SampleBoundLaws
+pub mod SameListLemmas

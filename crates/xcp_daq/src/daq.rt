@@ -1,5 +1,5 @@
 //! The acquisition lists.
-ghost use Rattle.std.specs.Prelude.{◌≡◌, ◌<◌, length, None};
+ghost use Rattle.std.specs.Prelude.{◌≡◌, ◌≢◌, ◌<◌, length, None, MatchBool};
 ghost use Rattle.std.specs.List.{list_any};
 ghost use Rattle.xcp_daq.specs.DaqLists.{opening_daq, any_running};
 ghost use Rattle.xcp_daq.specs.DaqInvariant.{IsDaq};
@@ -13,6 +13,7 @@ mod telling;
 
 use crate::mode::Mode;
 use crate::odts::Odts;
+use crate::pools::copied;
 use crate::{Allocation, Pointer};
 use arrayvec::ArrayVec;
 use std::marker::Model;
@@ -65,6 +66,34 @@ impl Daq {
         self.last = None;
     }
 
+    /// Equal lists, with the pointer and the last allocating command.
+    pub fn copy(&self) -> Daq
+        ensures { result ≡ self.now }
+    {
+        Daq {
+            modes: copied(&self.modes),
+            odts: self.odts.copy(),
+            pointer: self.pointer,
+            last: self.last,
+        }
+    }
+
+    /// Whether both have equal lists, the same pointer and the same last allocating command.
+    pub fn same(&self, other: &Daq) -> bool
+        ensures { MatchBool result (self.now ≡ other.now) (self.now ≢ other.now) }
+    {
+        self.pointer == other.pointer && self.last == other.last && self.same_lists(other)
+    }
+
+    fn same_lists(&self, other: &Daq) -> bool
+        ensures { MatchBool result (self.now.lists ≡ other.now.lists) (self.now.lists ≢ other.now.lists) }
+    {
+        if !same_modes(&self.modes, &other.modes) {
+            return false;
+        }
+        self.odts.same(&other.odts)
+    }
+
     /// Whether a list runs.
     pub fn any_running(&self) -> bool
         ensures { result ≡ any_running self.now }
@@ -85,4 +114,19 @@ fn any_runs(modes: &[Mode]) -> bool
     ensures { result ≡ list_any (λ m. m.running) modes.now }
 {
     modes.iter().any(|mode| mode.running)
+}
+
+/// Whether both have the same modes.
+fn same_modes(ours: &[Mode], theirs: &[Mode]) -> bool
+    ensures { MatchBool result (ours.now ≡ theirs.now) (ours.now ≢ theirs.now) }
+{
+    if ours.len() != theirs.len() {
+        return false;
+    }
+    for i in 0..ours.len() {
+        if ours[i] != theirs[i] {
+            return false;
+        }
+    }
+    true
 }

@@ -1,5 +1,5 @@
 //! The ODTs of all lists, in flat pools.
-ghost use Rattle.std.specs.Prelude.{◌≡◌, ◌<◌, ◌≤◌, ◌+◌, ◌++◌, [], None, Some, length, map, replicate, slice_index_or as get_or, slice_set};
+ghost use Rattle.std.specs.Prelude.{◌≡◌, ◌≢◌, MatchBool, ◌<◌, ◌≤◌, ◌+◌, ◌++◌, [], None, Some, length, map, replicate, slice_index_or as get_or, slice_set};
 ghost use Rattle.xcp_daq.specs.Pools.{joined};
 
 mod reading;
@@ -7,7 +7,7 @@ mod sampling;
 
 use crate::Element;
 use crate::daq::MAX_LISTS;
-use crate::pools::{blank, end_of, grow, place_of, put, put_in, sum_before};
+use crate::pools::{blank, copied, end_of, grow, place_of, put, put_in, sum_before};
 use arrayvec::ArrayVec;
 use std::marker::Model;
 
@@ -49,6 +49,30 @@ impl Odts {
             entry_counts: ArrayVec::new(),
             entries: ArrayVec::new(),
         }
+    }
+
+    /// Equal lists.
+    pub(crate) fn copy(&self) -> Odts
+        ensures { result ≡ self.now }
+    {
+        Odts {
+            odt_counts: copied(&self.odt_counts),
+            entry_counts: copied(&self.entry_counts),
+            entries: copied(&self.entries),
+        }
+    }
+
+    /// Whether both are equal lists.
+    pub(crate) fn same(&self, other: &Odts) -> bool
+        ensures { MatchBool result (self.now ≡ other.now) (self.now ≢ other.now) }
+    {
+        if !same_counts(&self.odt_counts, &other.odt_counts) {
+            return false;
+        }
+        if !same_counts(&self.entry_counts, &other.entry_counts) {
+            return false;
+        }
+        same_entries(&self.entries, &other.entries)
     }
 
     /// Takes all lists away.
@@ -123,4 +147,26 @@ impl Odts {
         let to = sum_before(&self.entry_counts, end);
         blank(&mut self.entries, from, to);
     }
+}
+
+/// Whether both have the same counts.
+fn same_counts(ours: &[u16], theirs: &[u16]) -> bool
+    ensures { MatchBool result (ours.now ≡ theirs.now) (ours.now ≢ theirs.now) }
+{
+    ours == theirs
+}
+
+/// Whether both have the same entries.
+fn same_entries(ours: &[Option<Element>], theirs: &[Option<Element>]) -> bool
+    ensures { MatchBool result (ours.now ≡ theirs.now) (ours.now ≢ theirs.now) }
+{
+    if ours.len() != theirs.len() {
+        return false;
+    }
+    for i in 0..ours.len() {
+        if ours[i] != theirs[i] {
+            return false;
+        }
+    }
+    true
 }

@@ -121,3 +121,14 @@ pub(crate) fn rest<T: Copy>(xs: &[T], at: usize) -> &[T]
 {
     &xs[at..]
 }
+
+/// Equal elements, in place.
+pub(crate) fn copied<T: Copy + Default + Drop, const N: usize>(
+    pool: &ArrayVec<T, N>,
+) -> ArrayVec<T, N>
+    ensures { result ≡ pool.now }
+{
+    let mut copy = ArrayVec::new();
+    let _ = copy.try_extend_from_slice(pool.as_slice());
+    copy
+}

@@ -139,28 +139,28 @@ get_set (a ∷ more) v x y z zero first old new = inl (some_same x z (sym old �
 get_set (a ∷ more) v x y z (suc i) first old new = inr (some_same x y (sym old ∙ new))
 
 -- the last Hangup is no command
-hangup_counts_none : (before after : Option TaskError) (old new : List CallerValue) (journal : List Entry) (i : ℕ) (o c : CallerValue) → HungUp before after old new journal → slice_get old i ≡ Some o → slice_get new i ≡ Some c → commands c.receipts ≡ commands o.receipts
-hangup_counts_none before after old new journal i o c h was is = ⊎_elim accepted refused h.outcome
+hangup_counts_none : (before after : Option TaskError) (old new : List CallerValue) (ch : ℕ) (journal : List Entry) (i : ℕ) (o c : CallerValue) → HungUp before after old new ch journal → slice_get old i ≡ Some o → slice_get new i ≡ Some c → commands c.receipts ≡ commands o.receipts
+hangup_counts_none before after old new ch journal i o c h was is = ⊎_elim accepted refused h.outcome
   where
-    accepted : (earlier : List Entry) × (answer : Answer) × (journal ≡ earlier ++ entry h.caller.number requests.Hangup answer ∷ []) × (new ≡ slice_set old 0 (accepting h.caller (receipt (length earlier) requests.Hangup answer))) × (after ≡ before) → commands c.receipts ≡ commands o.receipts
+    accepted : (earlier : List Entry) × (answer : Answer) × (journal ≡ earlier ++ entry h.caller.number requests.Hangup answer ∷ []) × (new ≡ slice_set old 0 (accepting h.caller (receipt ch (length earlier) requests.Hangup answer))) × (after ≡ before) → commands c.receipts ≡ commands o.receipts
     accepted a = ⊎_elim
         (λ first.
-        let one = ap (λ (x : CallerValue). commands x.receipts) (sym first.1) ∙ commands_both h.caller.receipts (receipt (length a.0) requests.Hangup a.1 ∷ []) in
+        let one = ap (λ (x : CallerValue). commands x.receipts) (sym first.1) ∙ commands_both h.caller.receipts (receipt ch (length a.0) requests.Hangup a.1 ∷ []) in
         let none : one_if requests.Hangup ≡ 0 = refl in
-        let last = commands_one (receipt (length a.0) requests.Hangup a.1) [] in
+        let last = commands_one (receipt ch (length a.0) requests.Hangup a.1) [] in
         let nothing : commands [] ≡ 0 = refl in
         let same = ap (λ (x : CallerValue). commands x.receipts) first.0 in
         omega (arith, one, none, last, nothing, same))
         (λ other. ap (λ (x : CallerValue). commands x.receipts) (sym other))
-        (get_set old (accepting h.caller (receipt (length a.0) requests.Hangup a.1)) o c h.caller i h.first was (ap (λ cs. slice_get cs i) (sym a.3) ∙ is))
+        (get_set old (accepting h.caller (receipt ch (length a.0) requests.Hangup a.1)) o c h.caller i h.first was (ap (λ cs. slice_get cs i) (sym a.3) ∙ is))
 
     refused : (e : LockedError) × (new ≡ old) × (after ≡ or_else before (Some (refused_with e))) → commands c.receipts ≡ commands o.receipts
     refused r = ap (λ (x : CallerValue). commands x.receipts) (some_same c o (sym is ∙ (ap (λ cs. slice_get cs i) r.1 ∙ was)))
 
 -- each connection that ended well counted the commands of its tool's caller
-pub all_count : {N I O : Type 0} (remaining : I → Option (List ℕ)) (contents : O → Option (List ℕ)) (m turns : ℕ) (l : LayoutValue) (n : ℕ) (given : List (Watched I × Watched O)) (closed : List (Closed N I O)) (ends : List (Result Served ServeError)) (tools pumps hired spare others last new : List CallerValue) (journal : List Entry) (before after : Option TaskError)
-    → callers_of l n ≡ tools ++ hired ++ pumps ++ spare → EachFrom (ServedAt remaining contents m turns tools pumps) 0 given closed → ends ≡ map (λ d. d.end) closed → HungUp before after (map (λ d. d.tool) closed ++ others ++ last ++ spare) new journal → CountTheirCommands ends new
-all_count remaining contents m turns l n given closed ends tools pumps hired spare others last new journal before after dealt served ends_are h i told c ended there =
+pub all_count : {N I O : Type 0} (remaining : I → Option (List ℕ)) (contents : O → Option (List ℕ)) (m turns : ℕ) (l : LayoutValue) (n : ℕ) (given : List (Watched I × Watched O)) (closed : List (Closed N I O)) (ends : List (Result Served ServeError)) (tools pumps hired spare others last new : List CallerValue) (ch : ℕ) (journal : List Entry) (before after : Option TaskError)
+    → callers_of l n ≡ tools ++ hired ++ pumps ++ spare → EachFrom (ServedAt remaining contents m turns tools pumps) 0 given closed → ends ≡ map (λ d. d.end) closed → HungUp before after (map (λ d. d.tool) closed ++ others ++ last ++ spare) new ch journal → CountTheirCommands ends new
+all_count remaining contents m turns l n given closed ends tools pumps hired spare others last new ch journal before after dealt served ends_are h i told c ended there =
     let one = each_at (ServedAt remaining contents m turns tools pumps) 0 given closed (Result Served ServeError) (λ d. d.end) i (Ok told) served (ap (λ es. slice_get es i) (sym ends_are) ∙ ended) in
     let at = one.2 in
     let a = at.attended in
@@ -170,13 +170,13 @@ all_count remaining contents m turns l n given closed ends tools pumps hired spa
     let old = map (λ d. d.tool) closed ++ others ++ last ++ spare in
     let front : slice_get (map (λ d. d.tool) closed) i ≡ Some one.1.tool = ap (λ cs. slice_get cs i) (sym (append-nil (map (λ d. d.tool) closed))) ∙ mapped_at (λ d. d.tool) closed [] i one.1 one.4 in
     let back : slice_get old i ≡ Some one.1.tool = get_front (map (λ d. d.tool) closed ++ others ++ last) spare i one.1.tool (get_front (map (λ d. d.tool) closed ++ others) last i one.1.tool (get_front (map (λ d. d.tool) closed) others i one.1.tool front)) in
-    counted ∙ sym (hangup_counts_none before after old new journal i one.1.tool c h back there)
+    counted ∙ sym (hangup_counts_none before after old new ch journal i one.1.tool c h back there)
 
 -- without a fault the last Hangup was accepted
-pub ends_session : (before after : Option TaskError) (old new : List CallerValue) (journal : List Entry) → HungUp before after old new journal → EndsSession after new journal
-ends_session before after old new journal h none = ⊎_elim
+pub ends_session : (before after : Option TaskError) (old new : List CallerValue) (ch : ℕ) (journal : List Entry) → HungUp before after old new ch journal → EndsSession after new ch journal
+ends_session before after old new ch journal h none = ⊎_elim
     (λ a.
-    let last = accepting h.caller (receipt (length a.0) requests.Hangup a.1) in
+    let last = accepting h.caller (receipt ch (length a.0) requests.Hangup a.1) in
     (last, ap (λ cs. slice_get cs 0) a.3 ∙ first_set old last h.caller h.first, record { earlier = a.0; answer = a.1; last = a.2; receipts = h.caller.receipts; told = refl }))
     (λ r. absurd (never before _ (sym r.2 ∙ none)))
     h.outcome

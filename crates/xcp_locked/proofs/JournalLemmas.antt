@@ -3,10 +3,10 @@ use Rattle.std.proofs.Common.{◌≡◌, ℕ, ◌+◌, List, [], ◌∷◌, ◌+
 use Rattle.xcp_slave.specs.declared.exchange.Exchange.{Exchange}
 use Rattle.xcp_slave.specs.declared.request.Request.{Request}
 use Rattle.xcp_slave.specs.declared.answer.Answer.{Answer}
-use Rattle.xcp_slave.specs.SlaveValue.{SlaveValue, layout_of, opening}
+use Rattle.xcp_slave.specs.SlaveValue.{SlaveValue}
 use Rattle.xcp_slave.specs.Step.{Answers}
 use Rattle.xcp_slave.specs.Run.{Run}
-use Rattle.xcp_slave.proofs.RunLaws.{run-extended}
+use Rattle.xcp_slave.proofs.RunLaws.{run-more}
 use Rattle.xcp_trace.specs.declared.Entry.{Entry}
 use Rattle.xcp_locked.specs.Journal.{entry, exchanges}
 
@@ -16,16 +16,16 @@ exchanges_snoc [] e = refl
 exchanges_snoc (x ∷ es) e = ap (λ (z : List Exchange). x.exchange ∷ z) (exchanges_snoc es e)
 
 -- before any call
-pub run_first : (v : SlaveValue) (es : List Entry) → es ≡ [] → v ≡ opening (layout_of v) → Run (opening (layout_of v)) (exchanges es) v
-run_first v es none is = subst (λ (z : List Entry). Run (opening (layout_of v)) (exchanges z) v) (sym none) is
+pub run_first : (base v : SlaveValue) (es : List Entry) → es ≡ [] → v ≡ base → Run base (exchanges es) v
+run_first base v es none is = subst (λ (z : List Entry). Run base (exchanges z) v) (sym none) is
 
 -- the run of a journal goes on by one call
-pub run_snoc : (v : SlaveValue) (es : List Entry) (by : ℕ) (q : Request) (a : Answer) (w : SlaveValue) → Run (opening (layout_of v)) (exchanges es) v → Answers v q a w → Run (opening (layout_of w)) (exchanges (es ++ entry by q a ∷ [])) w
-run_snoc v es by q a w r h = subst (λ (z : List Exchange). Run (opening (layout_of w)) z w) (sym (exchanges_snoc es (entry by q a))) (run-extended v (exchanges es) q a w r h)
+run_snoc : (base v : SlaveValue) (es : List Entry) (by : ℕ) (q : Request) (a : Answer) (w : SlaveValue) → Run base (exchanges es) v → Answers v q a w → Run base (exchanges (es ++ entry by q a ∷ [])) w
+run_snoc base v es by q a w r h = subst (λ (z : List Exchange). Run base z w) (sym (exchanges_snoc es (entry by q a))) (run-more base (exchanges es) v (record { request = q; answer = a }) w r h)
 
 -- the same, of a journal that is said to be one call longer
-pub run_goes_on : (v : SlaveValue) (es more : List Entry) (by : ℕ) (q : Request) (a : Answer) (w : SlaveValue) → more ≡ es ++ entry by q a ∷ [] → Run (opening (layout_of v)) (exchanges es) v → Answers v q a w → Run (opening (layout_of w)) (exchanges more) w
-run_goes_on v es more by q a w is r h = subst (λ (z : List Entry). Run (opening (layout_of w)) (exchanges z) w) (sym is) (run_snoc v es by q a w r h)
+pub run_goes_on : (base v : SlaveValue) (es more : List Entry) (by : ℕ) (q : Request) (a : Answer) (w : SlaveValue) → more ≡ es ++ entry by q a ∷ [] → Run base (exchanges es) v → Answers v q a w → Run base (exchanges more) w
+run_goes_on base v es more by q a w is r h = subst (λ (z : List Entry). Run base (exchanges z) w) (sym is) (run_snoc base v es by q a w r h)
 
 -- a journal that is one entry longer than one that stands for the old one
 pub one_more : (old mid new : List Entry) (e : Entry) → mid ≡ old → new ≡ mid ++ e ∷ [] → (new ≡ old ++ e ∷ []) × (length new ≡ length old + 1)

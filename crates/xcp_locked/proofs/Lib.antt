@@ -7,6 +7,7 @@ pub mod JournalLemmas
 pub mod KeptImageLemmas
 pub mod PairedListLemmas
 pub mod TaskPlanLemmas
+pub mod HasCutLemmas
 pub mod PublicationLemmas
 pub mod PublicationLaws
 pub mod TaskOutcomeLemmas
@@ -16,3 +17,7 @@ pub mod SettledReaderLemmas
 pub mod TaskImageLaws
 pub mod TallyLemmas
 pub mod HandOverLemmas
+pub mod ComparedReceiptLemmas
+pub mod ChapterLemmas
+pub mod JoiningLemmas
+pub mod GapLemmas

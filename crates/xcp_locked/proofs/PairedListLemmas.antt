@@ -1,5 +1,8 @@
 -- Lists that belong together, and loops over what is handed over.
 use Rattle.std.proofs.Common.{◌≡◌, ℕ, suc, ◌+◌, ◌<◌, List, [], ◌∷◌, ◌++◌, length, map, slice_index_or, refl, sym, ap, ◌∙◌, subst, append_assoc, append-nil, arith}
+use Rattle.std.specs.Prelude.{All, Option, Some, None}
+use Rattle.std.proofs.lemmas.List.Elements.{All-append, All-cons, All-nil}
+use Rattle.std.specs.Option.{option_or}
 use Rattle.xcp_locked.specs.PairedLists.{EachFrom}
 
 -- one more of what is handed over was taken
@@ -66,3 +69,17 @@ dealt_more f taken more b a rest left all was steps is grown =
 pub in_three_turns : {A : Type 0} (first second third left later last all given : List A) → first ++ later ≡ all → second ++ last ≡ later → third ++ left ≡ last → all ≡ given → given ≡ first ++ second ++ third ++ left
 in_three_turns first second third left later last all given f s t is =
     sym is ∙ (sym f ∙ (ap (λ z. first ++ z) (sym s ∙ ap (λ z. second ++ z) (sym t)) ∙ (sym (append_assoc first second (third ++ left)) ∙ sym (append_assoc (first ++ second) third left))))
+
+-- what is read off the first element, where there is one
+abbrev pub first_of : {A B : Type 0} → (A → B) → List A → Option B
+first_of f [] = None
+first_of f (x ∷ xs) = Some (f x)
+
+-- one more element stands behind the first
+pub first_of-more : {A B : Type 0} (f : A → B) (xs : List A) (x : A) → option_or (first_of f xs) (Some (f x)) ≡ first_of f (xs ++ x ∷ [])
+first_of-more f [] x = refl
+first_of-more f (y ∷ xs) x = refl
+
+-- what holds of all holds of one more
+pub all_more : {A : Type 0} (P : A → Type 0) (xs more : List A) (x : A) → All P xs → P x → more ≡ xs ++ x ∷ [] → All P more
+all_more P xs more x all one is = subst (λ z. All P z) (sym is) (All-append P xs (x ∷ []) all (All-cons P x [] one (All-nil P)))

@@ -1,20 +1,19 @@
 -- What is published of a run that is one exchange longer.
-use Rattle.std.proofs.Common.{◌≡◌, ◌≢◌, ℕ, suc, ◌+◌, inl, inr, List, [], ◌∷◌, ◌++◌, length, refl, sym, ap, ◌∙◌, subst, arith, length-append}
+use Rattle.std.proofs.Common.{◌≡◌, ◌≢◌, ℕ, suc, ◌+◌, inl, inr, List, [], ◌∷◌, ◌++◌, length, refl, sym, ap, ◌∙◌, subst, arith, length-append, append_assoc}
 use Rattle.std.proofs.lemmas.List.{length-map, map-append}
 use Rattle.xcp_bank.specs.BankId.{BankId}
 use Rattle.xcp_bank.specs.BankEnds.{new_writer}
-use Rattle.xcp_memory.specs.Layout.{LayoutValue}
 use Rattle.xcp_slave.specs.declared.Exchange.{Exchange}
 use Rattle.xcp_slave.specs.declared.Request.{Request}
 use Rattle.xcp_slave.specs.declared.Answer.{Answer}
-use Rattle.xcp_slave.specs.SlaveValue.{SlaveValue, opening}
+use Rattle.xcp_slave.specs.SlaveValue.{SlaveValue}
 use Rattle.xcp_slave.specs.Step.{Answers}
 use Rattle.xcp_slave.specs.Run.{Run}
 use Rattle.xcp_slave.proofs.StepLaws.{answers-single}
 use Rattle.xcp_trace.specs.declared.Entry.{Entry}
 use Rattle.xcp_locked.specs.declared.publisher.Publisher.{Publisher}
 use Rattle.xcp_locked.specs.Journal.{entry, exchanges}
-use Rattle.xcp_locked.specs.Publications.{Publication, publication, image_of, LeadsThrough, Changes, Published}
+use Rattle.xcp_locked.specs.Publications.{Publication, publication, image_of, images_of, LeadsThrough, Changes, Published}
 use Rattle.xcp_locked.specs.private.PublishingCalls.{IsKept, Offers}
 use Rattle.xcp_locked.proofs.JournalLemmas.{exchanges_snoc}
 
@@ -81,10 +80,12 @@ pub published_first : (v : SlaveValue) → Published v [] (publication 0 (image_
 published_first v = record { states = []; run = refl; changed = []; changes = refl; is = refl }
 
 -- before any call
-pub kept_first : (bank : BankId) (l : LayoutValue) (es : List Entry) (v : SlaveValue) (p : Publisher) → es ≡ [] → v ≡ opening l → p.writer ≡ new_writer bank (image_of v) → p.places.items ≡ 0 ∷ [] → p.last ≡ image_of v → IsKept bank (opening l) (exchanges es) v p
-kept_first bank l es v p none is writer places last = record {
+pub kept_first : (bank : BankId) (base : SlaveValue) (es : List Entry) (v : SlaveValue) (p : Publisher) → es ≡ [] → v ≡ base → p.writer ≡ new_writer bank (image_of v) → p.places.items ≡ 0 ∷ [] → p.last ≡ image_of v → p.first ≡ 0 → IsKept bank base (exchanges es) v p
+kept_first bank base es v p none is writer places last first = record {
   list = publication 0 (image_of v) ∷ [];
   published = subst (λ (z : SlaveValue). Published z (exchanges es) (publication 0 (image_of v) ∷ [])) is (subst (λ (z : List Entry). Published v (exchanges z) (publication 0 (image_of v) ∷ [])) (sym none) (published_first v));
+  front = [];
+  fronts = sym first;
   images = ap (λ z. z.publications) writer;
   places = places;
   few = omega arith;
@@ -97,8 +98,9 @@ pub exchanges_length : (es : List Entry) → length (exchanges es) ≡ length es
 exchanges_length es = length-map es (λ (e : Entry). e.exchange)
 
 -- the exchange x led from w to u, and u's image was offered
-kept_on : (bank : BankId) (v : SlaveValue) (xs : List Exchange) (w : SlaveValue) (x : Exchange) (u : SlaveValue) (n : ℕ) (p q r : Publisher) → Run v xs w → Answers w x.request x.answer u → n ≡ length xs + 1 → q.writer ≡ p.writer → q.places.items ≡ p.places.items → q.last ≡ p.last → Offers n (image_of u) q r → IsKept bank v xs w p → IsKept bank v (xs ++ x ∷ []) u r
-kept_on bank v xs w x u n p q r run a is writer places last o k =
+kept_on : (bank : BankId) (v : SlaveValue) (xs : List Exchange) (w : SlaveValue) (x : Exchange) (u : SlaveValue) (n : ℕ) (p q r : Publisher) → Run v xs w → Answers w x.request x.answer u → n ≡ length xs + 1 → q.writer ≡ p.writer → q.places.items ≡ p.places.items → q.last ≡ p.last → q.first ≡ p.first → Offers n (image_of u) q r → IsKept bank v xs w p → IsKept bank v (xs ++ x ∷ []) u r
+kept_on bank v xs w x u n p q r run a is writer places last same o k =
+    let first : r.first ≡ p.first = o.first ∙ same in
     let more : length (xs ++ x ∷ []) ≡ length xs + 1 = length-append xs (x ∷ []) in
     let named = o.bank ∙ ap (λ z. z.bank) writer ∙ k.named in
     let before : q.last ≡ image_of w = last ∙ k.last in
@@ -108,6 +110,8 @@ kept_on bank v xs w x u n p q r run a is writer places last o k =
       | inl s ↦ record {
         list = k.list;
         published = published_same v xs w x u k.list run a (s.0 ∙ before) k.published;
+        front = k.front;
+        fronts = k.fronts ∙ sym first;
         images = s.1 ∙ images;
         places = s.2 ∙ (places ∙ k.places);
         few = omega (arith, few, more);
@@ -117,7 +121,9 @@ kept_on bank v xs w x u n p q r run a is writer places last o k =
       | inr s ↦ record {
         list = k.list ++ publication n (image_of u) ∷ [];
         published = published_other v xs w x u n k.list run a is (λ same. s.0 (same ∙ sym before)) k.published;
-        images = s.1 ∙ (ap (λ z. z ++ image_of u ∷ []) images ∙ sym (map-append (λ (z : Publication). z.image) k.list (publication n (image_of u) ∷ [])));
+        front = k.front;
+        fronts = k.fronts ∙ sym first;
+        images = s.1 ∙ (ap (λ z. z ++ image_of u ∷ []) images ∙ (append_assoc k.front (images_of k.list) (image_of u ∷ []) ∙ ap (λ z. k.front ++ z) (sym (map-append (λ (z : Publication). z.image) k.list (publication n (image_of u) ∷ [])))));
         places = s.2 ∙ (ap (λ z. z ++ n ∷ []) (places ∙ k.places) ∙ sym (map-append (λ (z : Publication). z.place) k.list (publication n (image_of u) ∷ [])));
         few = (let l = length-append k.list (publication n (image_of u) ∷ []) in omega (arith, few, more, l));
         last = o.last;
@@ -126,8 +132,8 @@ kept_on bank v xs w x u n p q r run a is writer places last o k =
     ]
 
 -- the same, of a journal that is said to be one call longer
-pub kept_goes_on : (bank : BankId) (v : SlaveValue) (es more : List Entry) (w : SlaveValue) (by : ℕ) (q : Request) (a : Answer) (u : SlaveValue) (n : ℕ) (old mid new : Publisher) → more ≡ es ++ entry by q a ∷ [] → Run v (exchanges es) w → Answers w q a u → n ≡ length es + 1 → mid.writer ≡ old.writer → mid.places.items ≡ old.places.items → mid.last ≡ old.last → Offers n (image_of u) mid new → IsKept bank v (exchanges es) w old → IsKept bank v (exchanges more) u new
-kept_goes_on bank v es more w by q a u n old mid new is run step place writer places last o k =
+pub kept_goes_on : (bank : BankId) (v : SlaveValue) (es more : List Entry) (w : SlaveValue) (by : ℕ) (q : Request) (a : Answer) (u : SlaveValue) (n : ℕ) (old mid new : Publisher) → more ≡ es ++ entry by q a ∷ [] → Run v (exchanges es) w → Answers w q a u → n ≡ length es + 1 → mid.writer ≡ old.writer → mid.places.items ≡ old.places.items → mid.last ≡ old.last → mid.first ≡ old.first → Offers n (image_of u) mid new → IsKept bank v (exchanges es) w old → IsKept bank v (exchanges more) u new
+kept_goes_on bank v es more w by q a u n old mid new is run step place writer places last first o k =
     let len = exchanges_length es in
     subst (λ z. IsKept bank v z u new) (sym (ap exchanges is ∙ exchanges_snoc es (entry by q a)))
-    (kept_on bank v (exchanges es) w (record { request = q; answer = a }) u n old mid new run step (omega (arith, place, len)) writer places last o k)
+    (kept_on bank v (exchanges es) w (record { request = q; answer = a }) u n old mid new run step (omega (arith, place, len)) writer places last first o k)

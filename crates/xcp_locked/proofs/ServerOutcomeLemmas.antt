@@ -116,7 +116,7 @@ module _ {I O N C : Type 0} (remaining : I → Option (List ℕ)) (contents : O 
 abbrev Came : {I O N C : Type 0} → (I → Option (List ℕ)) → (O → Option (List ℕ)) → ℕ → Connection N I O C → Closed N I O → Type 0
 Came {I} {O} {N} remaining contents i c k = (p : Parted N I O) × PartedAs remaining contents i c p × IsClosingOf p k
 
-module _ {N G I O C : Type 0} (m turns pumps cycles tasks : ℕ) (opened : List CallerValue) (readers : List ReaderEnd) (ends : List (Watched I × Watched O)) (d : Duties N G I O C) (deal : Dealt m turns pumps cycles tasks opened readers ends d) where
+module _ {N G I O C : Type 0} (m turns pumps cycles chapter tasks : ℕ) (opened : List CallerValue) (readers : List ReaderEnd) (ends : List (Watched I × Watched O)) (d : Duties N G I O C) (deal : Dealt m turns pumps cycles chapter tasks opened readers ends d) where
   abbrev tools : List CallerValue
   tools = map (λ c. c.0.caller) d.connections.items
 
@@ -136,7 +136,7 @@ module _ {N G I O C : Type 0} (m turns pumps cycles tasks : ℕ) (opened : List 
   as_many_pumps = length_map (λ c. c.1.caller) d.connections.items ∙ as_many_connections
 
   pub as_many_tasks : length d.tasks.items ≡ tasks
-  as_many_tasks = each_length (IsTaskOf cycles) 0 deal.workers d.tasks.items deal.numbered ∙ deal.hired
+  as_many_tasks = each_length (IsTaskOf cycles chapter) 0 deal.workers d.tasks.items deal.numbered ∙ deal.hired
 
   pub as_many_callers : length opened ≡ length ends + (tasks + (length ends + length (into_iter_items d.spare)))
   as_many_callers =
@@ -166,10 +166,10 @@ module _ {N G I O C : Type 0} (m turns pumps cycles tasks : ℕ) (opened : List 
       (each_through (PartedAs remaining contents) ClosedAs (Came remaining contents) (λ i c p k x y. (p, x, y)) 0 d.connections.items parted closed came put)
 
   -- each task was done for the worker of its place
-  pub all_worked : (may_end : Type 0) (done : List (Done N)) → EachFrom (DoneAs may_end) 0 d.tasks.items done → EachFrom (WorkedAs may_end cycles) 0 deal.workers done
+  pub all_worked : (may_end : Type 0) (done : List (Done N)) → EachFrom (DoneAs may_end) 0 d.tasks.items done → EachFrom (WorkedAs may_end cycles chapter) 0 deal.workers done
   all_worked may_end done =
-      each_through (IsTaskOf cycles) (DoneAs may_end) (WorkedAs may_end cycles)
-      (λ i w t k is h. worked_as may_end cycles t.cycles i t.task w t.worker k.worker k.fault is.number is.cycles_are is.worker h) 0 deal.workers d.tasks.items done deal.numbered
+      each_through (IsTaskOf cycles chapter) (DoneAs may_end) (WorkedAs may_end cycles chapter)
+      (λ i w t k is h. worked_as may_end cycles t.cycles chapter t.chapter i t.task w t.worker k.worker k.fault is.number is.cycles_are is.chapter_is is.worker h) 0 deal.workers d.tasks.items done deal.numbered
 
   -- as many callers come back as were dealt out
   pub all_there : (closed : List (Closed N I O)) (done : List (Done N)) → length closed ≡ length d.connections.items → length done ≡ length d.tasks.items
@@ -192,18 +192,18 @@ module _ {N G I O C : Type 0} (m turns pumps cycles tasks : ℕ) (opened : List 
       omega (arith, there, x, y, z, p, q, r)
 
 -- the same MAX_CTO, the same callers and the same readers
-pub dealt_as : {N G I O C : Type 0} (m m' turns pumps cycles tasks : ℕ) (opened opened' : List CallerValue) (readers readers' : List ReaderEnd) (ends : List (Watched I × Watched O)) (d : Duties N G I O C) → m ≡ m' → opened ≡ opened' → readers ≡ readers'
-    → Dealt m turns pumps cycles tasks opened readers ends d → Dealt m' turns pumps cycles tasks opened' readers' ends d
-dealt_as m m' turns pumps cycles tasks opened opened' readers readers' ends d e f r h =
-    subst (λ rs. Dealt m' turns pumps cycles tasks opened' rs ends d) r (subst (λ k. Dealt k turns pumps cycles tasks opened' readers ends d) e (subst (λ cs. Dealt m turns pumps cycles tasks cs readers ends d) f h))
+pub dealt_as : {N G I O C : Type 0} (m m' turns pumps cycles chapter tasks : ℕ) (opened opened' : List CallerValue) (readers readers' : List ReaderEnd) (ends : List (Watched I × Watched O)) (d : Duties N G I O C) → m ≡ m' → opened ≡ opened' → readers ≡ readers'
+    → Dealt m turns pumps cycles chapter tasks opened readers ends d → Dealt m' turns pumps cycles chapter tasks opened' readers' ends d
+dealt_as m m' turns pumps cycles chapter tasks opened opened' readers readers' ends d e f r h =
+    subst (λ rs. Dealt m' turns pumps cycles chapter tasks opened' rs ends d) r (subst (λ k. Dealt k turns pumps cycles chapter tasks opened' readers ends d) e (subst (λ cs. Dealt m turns pumps cycles chapter tasks cs readers ends d) f h))
 
 -- what is left behind the first ones
 pub left_behind : {A : Type 0} (first rest all : List A) → first ++ rest ≡ all → length first + length rest ≡ length all
 left_behind first rest all whole = sym (length-append first rest) ∙ ap length whole
 
 -- what the last Hangup did, said of an equal fault before it and of equal callers
-pub hung_up_as : (before before' after : Option TaskError) (old old' new : List CallerValue) (journal : List Entry) → before ≡ before' → old ≡ old' → HungUp before after old new journal → HungUp before' after old' new journal
-hung_up_as before before' after old old' new journal e f h = subst (λ b. HungUp b after old' new journal) e (subst (λ cs. HungUp before after cs new journal) f h)
+pub hung_up_as : (before before' after : Option TaskError) (old old' new : List CallerValue) (ch : ℕ) (journal : List Entry) → before ≡ before' → old ≡ old' → HungUp before after old new ch journal → HungUp before' after old' new ch journal
+hung_up_as before before' after old old' new ch journal e f h = subst (λ b. HungUp b after old' new ch journal) e (subst (λ cs. HungUp before after cs new ch journal) f h)
 
 -- room for so many callers and connections is room for fewer
 pub room_for_fewer : {N I O : Type 0} (k k' e e' : ℕ) (r : Ended N I O) → k' ≤ k → e' ≤ e → IsEndedRoom k e r → IsEndedRoom k' e' r
@@ -221,5 +221,5 @@ room_for_fewer k k' e e' r a b h =
     }
 
 -- as many callers as before the last Hangup
-pub all_come_back : (before after : Option TaskError) (old new : List CallerValue) (journal : List Entry) → HungUp before after old new journal → length new ≡ length old
-all_come_back before after old new journal h = ⊎_elim (λ accepted. ap length accepted.3 ∙ length-set old 0 _) (λ refused. ap length refused.1) h.outcome
+pub all_come_back : (before after : Option TaskError) (old new : List CallerValue) (ch : ℕ) (journal : List Entry) → HungUp before after old new ch journal → length new ≡ length old
+all_come_back before after old new ch journal h = ⊎_elim (λ accepted. ap length accepted.3 ∙ length-set old 0 _) (λ refused. ap length refused.1) h.outcome

@@ -1,12 +1,16 @@
 -- Tasks that ran, one by one.
 use Rattle.std.proofs.Common.{◌≡◌, ℕ, List, [], ◌∷◌, ◌++◌, refl, ap, ◌∙◌, subst}
-use Rattle.std.specs.Prelude.{Option, Some, None, is_none, true}
+use Rattle.std.specs.Prelude.{Option, Some, None, is_none, true, unwrap_or}
+use Rattle.std.specs.declared.alloc.Global.{Global}
+use Rattle.std.specs.declared.vec.Vec.{Vec}
 use Rattle.xcp_locked.specs.declared.tasks.TaskError.{TaskError}
 use Rattle.xcp_locked.specs.declared.tasks.TaskError.TheVariants as faults
 use Rattle.xcp_locked.specs.declared.tasks.Done.{Done}
 use Rattle.xcp_locked.specs.declared.worker.Worker.{Worker}
-use Rattle.xcp_locked.specs.TaskOutcome.{first_fault, or_else}
+use Rattle.xcp_locked.specs.LockedSlave.{ChapterValue}
+use Rattle.xcp_locked.specs.TaskOutcome.{chapters_of, first_fault, or_else}
 use Rattle.xcp_locked.specs.Tasks.{IsOwn, Worked}
+use Rattle.xcp_locked.proofs.PairedListLemmas.{first_of}
 
 or_else_assoc : (a b c : Option TaskError) → or_else a (or_else b c) ≡ or_else (or_else a b) c
 or_else_assoc None b c = refl
@@ -22,9 +26,10 @@ first_fault-more [] d = or_else_none d.fault
 first_fault-more (x ∷ done) d = ap (λ z. or_else x.fault z) (first_fault-more done d) ∙ or_else_assoc x.fault (first_fault done) d.fault
 
 -- what a task did, said of its worker
-pub worked_as : {N : Type 0} (may_end : Type 0) (cycles cycles' task task' : ℕ) (w w' new : Worker N) (fault : Option TaskError) → task' ≡ task → cycles' ≡ cycles → w' ≡ w → Worked may_end cycles' task' w' new fault → Worked may_end cycles task w new fault
-worked_as {N} may_end cycles cycles' task task' w w' new fault t n e h =
-    subst (λ (x : Worker N). Worked may_end cycles task x new fault) e (subst (λ (k : ℕ). Worked may_end k task w' new fault) n (subst (λ (k : ℕ). Worked may_end cycles' k w' new fault) t h))
+pub worked_as : {N : Type 0} (may_end : Type 0) (cycles cycles' chapter chapter' task task' : ℕ) (w w' new : Worker N) (fault : Option TaskError) → task' ≡ task → cycles' ≡ cycles → chapter' ≡ chapter → w' ≡ w → Worked may_end cycles' chapter' task' w' new fault → Worked may_end cycles chapter task w new fault
+worked_as {N} may_end cycles cycles' chapter chapter' task task' w w' new fault t n k e h =
+    subst (λ (x : Worker N). Worked may_end cycles chapter task x new fault) e
+    (subst (λ (i : ℕ). Worked may_end cycles i task w' new fault) k (subst (λ (i : ℕ). Worked may_end i chapter' task w' new fault) n (subst (λ (i : ℕ). Worked may_end cycles' chapter' i w' new fault) t h)))
 
 -- a fault that no gate gave is the task's own, whatever its gate may do
 pub own_anyway : (may_end : Type 0) (task : ℕ) (f : TaskError) → IsOwn ⊥ task f → IsOwn may_end task f
@@ -41,3 +46,8 @@ or_else_stays (Some e) b h = refl
 pub none_left : {A : Type 0} (o : Option A) → ((x : A) → o ≡ Some x → ⊥) → is_none o ≡ true
 none_left None h = refl
 none_left (Some x) h = absurd (h x refl)
+
+-- the first worker's chapters, or else an empty vector
+pub first_chapters : {N : Type 0} (workers : List (Worker N)) (none : Vec ChapterValue Global) → none.items ≡ [] → (unwrap_or (first_of (λ w. w.chapters) workers) none).items ≡ chapters_of workers
+first_chapters [] none empty = empty
+first_chapters (w ∷ workers) none empty = refl

@@ -9,6 +9,8 @@ use Rattle.xcp_locked.specs.declared.tasks.TaskError.TheVariants as faults
 abbrev pub locked_number : LockedError → ℕ
 locked_number refusals.Memory = 1
 locked_number refusals.JournalFull = 2
+locked_number refusals.LastChapter = 4
+locked_number refusals.Earlier = 5
 
 -- the number of a task's fault
 abbrev pub task_number : TaskError → ℕ

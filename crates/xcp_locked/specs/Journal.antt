@@ -9,6 +9,10 @@ use Rattle.xcp_trace.specs.declared.Entry.{Entry}
 abbrev pub journal_limit : ℕ
 journal_limit = 65536
 
+-- the number of the last chapter that there can be
+abbrev pub last_chapter : ℕ
+last_chapter = 4294967295
+
 -- a call by this caller
 abbrev pub entry : ℕ → Request → Answer → Entry
 entry by request answer = record { caller = by; exchange = record { request = request; answer = answer } }

@@ -1,5 +1,6 @@
 pub mod ConnectionOutcome
 pub mod Caller
+pub mod Chapters
 pub mod LastHangup
 pub mod Journal
 pub mod LockedSlave

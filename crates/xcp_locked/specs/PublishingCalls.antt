@@ -1,5 +1,5 @@
 -- What a shared slave publishes.
-use Rattle.std.specs.Prelude.{◌≡◌, ◌≢◌, ◌⊎◌, ℕ, List, [], ◌∷◌, ◌++◌}
+use Rattle.std.specs.Prelude.{◌≡◌, ◌≢◌, ◌⊎◌, ℕ, List, [], ◌∷◌, ◌++◌, length}
 use Rattle.xcp_slave.specs.declared.Exchange.{Exchange}
 use Rattle.xcp_slave.specs.SlaveValue.{SlaveValue}
 use Rattle.xcp_locked.specs.LockedSlave.{LockedValue}
@@ -14,3 +14,7 @@ Publishes old new =
 -- The images are those published of these exchanges of a slave that was v.
 abbrev pub AreImages : SlaveValue → List Exchange → List (List ℕ) → Type 0
 AreImages v xs images = (list : List Publication) × Published v xs list × (images ≡ images_of list)
+
+-- From the image with this number on they are those published of these exchanges of a slave that was v.
+abbrev pub AreImagesFrom : ℕ → SlaveValue → List Exchange → List (List ℕ) → Type 0
+AreImagesFrom first v xs images = (front : List (List ℕ)) × (length front ≡ first) × (list : List Publication) × Published v xs list × (images ≡ front ++ images_of list)

@@ -6,12 +6,13 @@ use Rattle.xcp_slave.specs.declared.Answer.{Answer}
 use Rattle.xcp_trace.specs.declared.Entry.{Entry}
 use Rattle.xcp_locked.specs.declared.receipt.Receipt.{Receipt}
 
-abbrev pub receipt : ℕ → Request → Answer → Receipt
-receipt at request answer = record { at = at; request = request; answer = answer }
+-- a chapter's number, a place in it, and a call
+abbrev pub receipt : ℕ → ℕ → Request → Answer → Receipt
+receipt chapter at request answer = record { chapter = chapter; at = at; request = request; answer = answer }
 
--- the receipt for the entry at this place of the journal
-abbrev pub receipt_of : ℕ → Entry → Receipt
-receipt_of at e = receipt at e.exchange.request e.exchange.answer
+-- the receipt for the entry at this place of this chapter
+abbrev pub receipt_of : ℕ → ℕ → Entry → Receipt
+receipt_of chapter at e = receipt chapter at e.exchange.request e.exchange.answer
 
 -- the exchanges that receipts have, in order
 abbrev pub exchanges_of : List Receipt → List Exchange

@@ -1,5 +1,5 @@
 -- Connections, tasks and the callers that are dealt to them.
-use Rattle.std.specs.Prelude.{◌≡◌, ℕ, Bool, true, false, List, ◌++◌, map, length, Option, Some, Result, Ok}
+use Rattle.std.specs.Prelude.{◌≡◌, ℕ, Bool, true, false, List, [], ◌++◌, map, length, Option, Some, Result, Ok, All}
 use Rattle.std.specs.List.{count_by, slice_get}
 use Rattle.xcp_slave.specs.declared.Request.{Request}
 use Rattle.xcp_slave.specs.declared.Request.TheVariants as requests
@@ -22,11 +22,12 @@ use Rattle.xcp_locked.specs.ConnectionOutcome.{Attended, HeardFor, PumpedFor, Wr
 use Rattle.xcp_locked.specs.Caller.{CallerValue}
 use Rattle.xcp_locked.specs.LastHangup.{HungUp}
 use Rattle.xcp_locked.specs.PairedLists.{EachFrom}
-use Rattle.xcp_locked.specs.TaskOutcome.{WorkedAs, first_fault}
+use Rattle.xcp_locked.specs.TaskOutcome.{WorkedAs, chapters_of, first_fault}
 
 -- nothing of what a server left has changed
 pub record SameClosing {N I O : Type 0} (old new : Closing N I O) : Type 0 where
   pub locked : new.locked ≡ old.locked
+  pub chapters : new.chapters ≡ old.chapters
   pub callers : new.callers.items ≡ old.callers.items
   pub readers : new.readers ≡ old.readers
   pub ends : new.ends ≡ old.ends
@@ -75,8 +76,9 @@ module _ {I O : Type 0} (remaining : I → Option (List ℕ)) (contents : O → 
 
   -- A server's work, for the callers that were opened: the first of them served the connections, the next did the tasks' work,
   -- the next the connections' pumps, and all come back in order, the first one after a last Hangup. The readers that were opened
-  -- come back too: the first of them as the tasks left them. `may_end` says that the gate may end a task.
-  pub record Closes {N : Type 0} (may_end : Type 0) (m turns cycles tasks : ℕ) (opened : List CallerValue) (readers : List ReaderEnd) (ends : List (Watched I × Watched O)) (r : Closing N I O) : Type 0 where
+  -- come back too: the first of them as the tasks left them. The chapters are those that task 0 has cut. `may_end` says that the
+  -- gate may end a task.
+  pub record Closes {N : Type 0} (may_end : Type 0) (m turns cycles chapter tasks : ℕ) (opened : List CallerValue) (readers : List ReaderEnd) (ends : List (Watched I × Watched O)) (r : Closing N I O) : Type 0 where
     -- the callers
     pub tools : List CallerValue
     pub connected : length tools ≡ length ends
@@ -85,6 +87,7 @@ module _ {I O : Type 0} (remaining : I → Option (List ℕ)) (contents : O → 
     pub spare : List CallerValue
     pub workers : List (Worker N)
     pub hired : length workers ≡ tasks
+    pub fresh : All (λ (w : Worker N). w.chapters.items ≡ []) workers
     pub dealt : opened ≡ tools ++ map (λ w. w.caller) workers ++ pumps ++ spare
     -- the connections
     pub closed : List (Closed N I O)
@@ -93,8 +96,10 @@ module _ {I O : Type 0} (remaining : I → Option (List ℕ)) (contents : O → 
     pub left_is : r.left.items ≡ map (λ d. d.left) closed
     -- the tasks
     pub done : List (Done N)
-    pub worked : EachFrom (WorkedAs may_end cycles) 0 workers done
-    pub hung_up : HungUp (first_fault done) r.fault (map (λ d. d.tool) closed ++ map (λ d. d.worker.caller) done ++ map (λ d. d.pump) closed ++ spare) r.callers.items r.locked.journal
+    pub worked : EachFrom (WorkedAs may_end cycles chapter) 0 workers done
+    pub hung_up : HungUp (first_fault done) r.fault (map (λ d. d.tool) closed ++ map (λ d. d.worker.caller) done ++ map (λ d. d.pump) closed ++ spare) r.callers.items r.locked.chapter r.locked.journal
+    -- the chapters
+    pub chapters_are : r.chapters.items ≡ chapters_of (map (λ d. d.worker) done)
     -- the readers
     pub unused : List ReaderEnd
     pub lent : readers ≡ map (λ w. w.reader) workers ++ unused

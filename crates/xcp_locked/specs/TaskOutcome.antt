@@ -4,12 +4,13 @@ use Rattle.xcp_locked.specs.declared.tasks.TaskError.{TaskError}
 use Rattle.xcp_locked.specs.declared.worker.Worker.{Worker}
 use Rattle.xcp_locked.specs.declared.tasks.Done.{Done}
 use Rattle.xcp_locked.specs.declared.tasks.Ran.{Ran}
+use Rattle.xcp_locked.specs.LockedSlave.{ChapterValue}
 use Rattle.xcp_locked.specs.PairedLists.{EachFrom}
 use Rattle.xcp_locked.specs.Tasks.{Worked}
 
 -- what came of the worker's task of this number
-abbrev pub WorkedAs : {N : Type 0} → Type 0 → ℕ → ℕ → Worker N → Done N → Type 0
-WorkedAs may_end cycles task w d = Worked may_end cycles task w d.worker d.fault
+abbrev pub WorkedAs : {N : Type 0} → Type 0 → ℕ → ℕ → ℕ → Worker N → Done N → Type 0
+WorkedAs may_end cycles chapter task w d = Worked may_end cycles chapter task w d.worker d.fault
 
 -- the first of two faults
 abbrev pub or_else : Option TaskError → Option TaskError → Option TaskError
@@ -21,10 +22,15 @@ abbrev pub first_fault : {N : Type 0} → List (Done N) → Option TaskError
 first_fault [] = None
 first_fault (d ∷ more) = or_else d.fault (first_fault more)
 
+-- the chapters that the first worker has cut, or none where there is no worker
+abbrev pub chapters_of : {N : Type 0} → List (Worker N) → List ChapterValue
+chapters_of [] = []
+chapters_of (w ∷ more) = w.chapters.items
+
 -- One task for each worker, numbered from 0: all workers come back, each having done what its task has, and the fault is that
 -- of the least task number. `may_end` says that the gate may end a task.
-pub record RanTasks {N : Type 0} (may_end : Type 0) (cycles : ℕ) (workers : List (Worker N)) (r : Ran N) : Type 0 where
+pub record RanTasks {N : Type 0} (may_end : Type 0) (cycles chapter : ℕ) (workers : List (Worker N)) (r : Ran N) : Type 0 where
   pub done : List (Done N)
-  pub worked : EachFrom (WorkedAs may_end cycles) 0 workers done
+  pub worked : EachFrom (WorkedAs may_end cycles chapter) 0 workers done
   pub back : r.workers.items ≡ map (λ d. d.worker) done
   pub fault : r.fault ≡ first_fault done

@@ -1,5 +1,5 @@
 -- What a task submits.
-use Rattle.std.specs.Prelude.{◌≡◌, ℕ, zero, suc, ◌%◌, Bool, true, List, [], ◌∷◌, ◌++◌, map, ◌==◌, if◌then◌else◌, replicate, Option, is_none, IfSome, ⊤}
+use Rattle.std.specs.Prelude.{◌≡◌, ◌≢◌, ◌≤◌, ℕ, zero, suc, ◌%◌, Bool, true, List, [], ◌∷◌, ◌++◌, map, length, ◌==◌, if◌then◌else◌, replicate, Option, is_none, IfSome, All, ⊤}
 use Rattle.xcp_slave.specs.declared.Request.{Request}
 use Rattle.xcp_slave.specs.declared.Request.TheVariants as requests
 use Rattle.xcp_locked.specs.declared.receipt.Receipt.{Receipt}
@@ -9,6 +9,7 @@ use Rattle.xcp_locked.specs.declared.tasks.TaskError.{TaskError}
 use Rattle.xcp_locked.specs.declared.tasks.TaskError.TheVariants as faults
 use Rattle.xcp_locked.specs.declared.worker.Worker.{Worker}
 use Rattle.xcp_locked.specs.Caller.{CallerValue}
+use Rattle.xcp_locked.specs.LockedSlave.{ChapterValue}
 use Rattle.xcp_locked.specs.TaskImages.{Took}
 
 -- A task's duty: by how many event channels and how many bytes of signals it goes, and its number.
@@ -58,6 +59,8 @@ pub record Same (old new : CallerValue) : Type 0 where
 abbrev pub refused_with : LockedError → TaskError
 refused_with refusals.Memory = faults.Memory
 refused_with refusals.JournalFull = faults.JournalFull
+refused_with refusals.LastChapter = faults.JournalFull
+refused_with refusals.Earlier = faults.JournalFull
 
 -- a gate's end names its own task, and comes only of a gate that may end one
 abbrev pub IsOwn : Type 0 → ℕ → TaskError → Type 0
@@ -65,10 +68,20 @@ IsOwn may_end task faults.Memory = ⊤
 IsOwn may_end task faults.JournalFull = ⊤
 IsOwn may_end task (faults.GateSpent of) = (of ≡ task) × may_end
 
--- what a task of so many cycles did: its caller's receipts grew by its plan, where it has a fault by a beginning of it, and
--- without a fault its reader looked for an image in each cycle
-pub record Worked {N : Type 0} (may_end : Type 0) (cycles task : ℕ) (old new : Worker N) (fault : Option TaskError) : Type 0 where
+-- What a task has cut in so many cycles stands behind what it had cut before: at most one chapter a cycle, each of at least so many
+-- calls. Only task 0 cuts.
+pub record HasCut (cycles chapter task : ℕ) (old new : List ChapterValue) : Type 0 where
+  pub more : List ChapterValue
+  pub new_is : new ≡ old ++ more
+  pub one_a_cycle : length more ≤ cycles
+  pub full : All (λ (c : ChapterValue). chapter ≤ length c.entries) more
+  pub first_only : task ≢ 0 → more ≡ []
+
+-- what a task of so many cycles did: its caller's receipts grew by its plan, where it has a fault by a beginning of it,
+-- without a fault its reader looked for an image in each cycle, and task 0 has cut chapters of at least so many calls
+pub record Worked {N : Type 0} (may_end : Type 0) (cycles chapter task : ℕ) (old new : Worker N) (fault : Option TaskError) : Type 0 where
   pub grew : Grew (duty old.caller task) cycles (is_none fault) old.caller.receipts new.caller.receipts
   pub same : Same old.caller new.caller
   pub took : Took cycles (is_none fault) old.reader new.reader old.last new.last
+  pub cut : HasCut cycles chapter task old.chapters.items new.chapters.items
   pub own : IfSome fault (IsOwn may_end task)

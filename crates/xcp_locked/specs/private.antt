@@ -1,4 +1,5 @@
 -- Words that contracts of private functions and invariants cite. No contract of a public function needs them.
+pub mod Chapters
 pub mod ConnectionOutcome
 pub mod DealtCallers
 pub mod UnnamedSlave

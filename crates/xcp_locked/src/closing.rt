@@ -1,32 +1,37 @@
 //! What a server gives back.
-ghost use Rattle.std.specs.Prelude.{◌≡◌, ◌<◌, ◌≤◌, ◌+◌, ◌++◌, [], IfErr, IfOk, length, map, sum_by, vec_capacity, vec_len};
+ghost use Rattle.std.specs.Prelude.{◌≡◌, ◌<◌, ◌≤◌, ◌+◌, ◌++◌, [], IfErr, IfOk, true, length, map, sum_by, vec_capacity, vec_len};
 ghost use Rattle.std.specs.Vec.Iter.{into_iter_items};
 ghost use Rattle.xcp_locked.specs.Caller.{accepted_by};
 ghost use Rattle.xcp_locked.specs.private.ServerRoom.{IsEndedRoom, IsRoom};
 ghost use Rattle.xcp_locked.specs.LastHangup.{HungUp};
 ghost use Rattle.xcp_locked.specs.ServerOutcome.{SameClosing};
-ghost use Rattle.xcp_locked.specs.TaskOutcome.{first_fault};
+ghost use Rattle.xcp_locked.specs.TaskOutcome.{chapters_of, first_fault};
 ghost use Rattle.xcp_locked.specs.Journal.{exchanges};
 ghost use Rattle.xcp_slave.specs.Run.{Run};
-ghost use Rattle.xcp_slave.specs.SlaveValue.{opening};
-ghost use Rattle.xcp_locked.specs.SettledReceipts.{AreSettled, FirstUnsettled};
+ghost use Rattle.xcp_locked.specs.LockedSlave.{IsReached};
+ghost use Rattle.xcp_locked.specs.Chapters.{Disagree, IsWhole, entries_of};
 
 use crate::dealing::{Ended, add_rest, dismiss, take_apart};
+use crate::joining::settle_chapters;
 use crate::running::collect;
-use crate::{Caller, Closed, Done, Left, Locked, Name, Ran, Reader, TaskError, Unsettled, Worker};
+use crate::{
+    Caller, Chapter, Closed, Discord, Done, Left, Locked, Name, Ran, Reader, TaskError, Worker,
+};
 use std::alloc::{AllocError, Global};
 use std::io::{Read, Write};
 use std::vec::IntoIter;
 use xcp_framing::{ServeError, Served};
 use xcp_slave::Request;
 
-/// What is left of a server: the slave, all callers (those of the tools first, then those of the
-/// tasks, then those of the pumps, then those that had nothing to do), the six readers (those of the tasks first), the end
-/// of each connection with what its streams were then, and the fault of the tasks, else that of the
-/// last `Hangup`.
+/// What is left of a server: the slave, the chapters that were cut off, all callers (those of the
+/// tools first, then those of the tasks, then those of the pumps, then those that had nothing to do),
+/// the six readers (those of the tasks first), the end of each connection with what its streams were
+/// then, and the fault of the tasks, else that of the last `Hangup`.
 #[derive(Drop)]
 pub struct Closing<N: Name, I: Read + Drop, O: Write + Drop> {
     pub locked: Locked<N>,
+    /// The chapters that task 0 has cut, in order.
+    pub chapters: Vec<Chapter<N>>,
     pub callers: Vec<Caller<N>>,
     pub readers: Vec<Reader<N>>,
     pub ends: Vec<Result<Served, ServeError>>,
@@ -78,6 +83,7 @@ pub(crate) fn make_rooms<N: Name, I: Read + Drop, O: Write + Drop>(
 /// Puts together what came of connections and tasks, for which there is room, and submits the last
 /// `Hangup`.
 pub(crate) fn close_all<N: Name, I: Read + Drop, O: Write + Drop>(
+    alloc: Global,
     locked: Locked<N>,
     closed: Vec<Closed<N, I, O>>,
     done: Vec<Done<N>>,
@@ -95,21 +101,24 @@ pub(crate) fn close_all<N: Name, I: Read + Drop, O: Write + Drop>(
     ensures hung_up { HungUp (first_fault done.items) result.fault
         (map (λ d. d.tool) closed.items ++ map (λ d. d.worker.caller) done.items
         ++ map (λ d. d.pump) closed.items ++ into_iter_items spare) result.callers.items
-        result.locked.journal }
+        result.locked.chapter result.locked.journal }
     ensures ends { result.ends.items ≡ map (λ d. d.end) closed.items }
     ensures left { result.left.items ≡ map (λ d. d.left) closed.items }
     ensures readers { result.readers.items
         ≡ map (λ d. d.worker.reader) done.items ++ into_iter_items unused }
-    ensures run { Run (opening N.layout) (exchanges result.locked.journal) result.locked.slave }
+    ensures run { Run result.locked.base (exchanges result.locked.journal) result.locked.slave }
+    ensures reached { IsReached N.layout result.locked.before result.locked.base }
+    ensures chapters { result.chapters.items ≡ chapters_of (map (λ d. d.worker) done.items) }
 {
     let ended = take_apart(closed, ended);
     let ran = collect(done, workers);
-    put_together(locked, ended, ran, spare, unused, readers)
+    put_together(alloc, locked, ended, ran, spare, unused, readers)
 }
 
 /// Gathers all callers and all readers again, in order, for which there is room, and submits the last
 /// `Hangup`.
 fn put_together<N: Name, I: Read + Drop, O: Write + Drop>(
+    alloc: Global,
     locked: Locked<N>,
     ended: Ended<N, I, O>,
     ran: Ran<N>,
@@ -124,15 +133,17 @@ fn put_together<N: Name, I: Read + Drop, O: Write + Drop>(
         ≤ vec_capacity readers) }
     ensures hung_up { HungUp ran.fault result.fault
         (ended.callers.items ++ map (λ w. w.caller) ran.workers.items
-        ++ ended.pumps.items ++ into_iter_items spare) result.callers.items result.locked.journal }
+        ++ ended.pumps.items ++ into_iter_items spare) result.callers.items result.locked.chapter result.locked.journal }
     ensures ends { result.ends.items ≡ ended.ends.items }
     ensures left { result.left.items ≡ ended.left.items }
     ensures readers { result.readers.items
         ≡ map (λ w. w.reader) ran.workers.items ++ into_iter_items unused }
-    ensures run { Run (opening N.layout) (exchanges result.locked.journal) result.locked.slave }
+    ensures run { Run result.locked.base (exchanges result.locked.journal) result.locked.slave }
+    ensures reached { IsReached N.layout result.locked.before result.locked.base }
+    ensures chapters { result.chapters.items ≡ chapters_of ran.workers.items }
 {
     let mut locked = locked;
-    let (callers, readers) = dismiss(ran.workers, ended.callers, readers);
+    let (callers, readers, chapters) = dismiss(alloc, ran.workers, ended.callers, readers);
     let callers = add_rest(ended.pumps.into_iter(), callers);
     let mut callers = add_rest(spare, callers);
     let readers = add_rest(unused, readers);
@@ -140,6 +151,7 @@ fn put_together<N: Name, I: Read + Drop, O: Write + Drop>(
     locked.audit();
     Closing {
         locked,
+        chapters,
         callers,
         readers,
         ends: ended.ends,
@@ -155,7 +167,7 @@ fn hang_up<N: Name>(
     fault: Option<TaskError>,
 ) -> Option<TaskError>
     requires { 0 < length callers.old }
-    ensures { HungUp fault result callers.old callers.new locked.new.journal }
+    ensures { HungUp fault result callers.old callers.new locked.new.chapter locked.new.journal }
 {
     match locked.submit(&mut callers[0], Request::Hangup) {
         Ok(_) => fault,
@@ -166,20 +178,21 @@ fn hang_up<N: Name>(
     }
 }
 
-/// Settles all callers, one after another, and answers how many calls the journal has. With all
-/// callers of the slave together it is known that this is how many calls of theirs were accepted.
+/// Settles all callers for each chapter and for the open one, where these follow one another, and answers
+/// how many calls there were. All of them are then one run of one slave from the opening to the slave as
+/// it is, and with all callers of the slave together this is how many calls of theirs were accepted.
 pub fn settle_all<N: Name, I: Read + Drop, O: Write + Drop>(
     closing: &mut Closing<N, I, O>,
-) -> Result<u64, Unsettled>
+) -> Result<u64, Discord>
     requires { (0 < vec_len closing.old.callers) × (vec_len closing.old.callers ≡ N.parts) }
-    ensures count { IfOk result (λ n. n ≡ length closing.old.locked.journal) }
+    ensures whole { IfOk result (λ _. IsWhole N.layout closing.old.locked closing.old.chapters.items
+        closing.old.callers.items) }
+    ensures count { IfOk result (λ n. n ≡ length (entries_of closing.old.chapters.items
+        ++ closing.old.locked.journal)) }
     ensures sum { IfOk result (λ n. n ≡ sum_by accepted_by closing.old.callers.items) }
-    ensures all { IfOk result (λ _. AreSettled closing.old.locked.journal
-        (vec_len closing.old.callers) closing.old.callers.items) }
-    ensures first { IfErr result (λ u. FirstUnsettled closing.old.locked.journal
-        closing.old.callers.items u) }
+    ensures first { IfErr result (Disagree N.layout closing.old.locked
+        closing.old.chapters.items closing.old.callers.items) }
     ensures same { SameClosing closing.old closing.new }
 {
-    closing.locked.gather(&mut closing.callers);
-    closing.locked.settle_each(&closing.callers)
+    settle_chapters(&mut closing.locked, &closing.chapters, &mut closing.callers)
 }

@@ -1,15 +1,16 @@
 //! Callers are dealt to connections and tasks, and gathered again.
-ghost use Rattle.std.specs.Prelude.{◌≡◌, ◌≤◌, ◌+◌, ◌++◌, [], IfOk, map, length, vec_len, vec_capacity};
+ghost use Rattle.std.specs.Prelude.{◌≡◌, ◌≤◌, ◌+◌, ◌++◌, [], All, IfOk, map, length, vec_len, vec_capacity};
 ghost use Rattle.std.specs.Vec.Iter.{into_iter_items, into_iter_len};
 ghost use Rattle.xcp_locked.specs.private.DealtCallers.{Dealt};
 ghost use Rattle.xcp_locked.specs.PairedLists.{EachFrom};
+ghost use Rattle.xcp_locked.specs.TaskOutcome.{chapters_of};
 ghost use Rattle.xcp_locked.specs.private.ServerOutcome.{IsConnectionOf};
 
 use crate::hearing::Hearing;
 use crate::pumping::Pumping;
 use crate::running::number_tasks;
 use crate::sending::Sending;
-use crate::{Caller, Closed, Connection, Gate, Left, Locked, Name, Reader, Task, Worker};
+use crate::{Caller, Chapter, Closed, Connection, Gate, Left, Locked, Name, Reader, Task, Worker};
 use std::alloc::{AllocError, Global};
 use std::io::{Read, Write};
 use std::sync::Mutex;
@@ -51,12 +52,13 @@ pub fn deal<'a, N: Name, G: Gate, I: Read + Drop, O: Write + Drop, C: Clock>(
     ends: Vec<(Watched<I>, Watched<O>)>,
     tasks: u8,
     cycles: u32,
+    chapter: u32,
     limits: Limits,
 ) -> Result<Duties<'a, N, G, I, O, C>, AllocError>
     requires enough { vec_len ends + tasks + vec_len ends ≤ vec_len callers }
     requires few { (tasks ≤ 16) × (tasks ≤ vec_len readers) }
     requires stops { length stops.now ≡ vec_len ends }
-    ensures { IfOk result (λ d. Dealt limits.max_cto limits.turns limits.pump_turns cycles tasks
+    ensures { IfOk result (λ d. Dealt limits.max_cto limits.turns limits.pump_turns cycles chapter tasks
         callers.items readers.items ends.items d) }
 {
     let mut spare = callers.into_iter();
@@ -64,7 +66,7 @@ pub fn deal<'a, N: Name, G: Gate, I: Read + Drop, O: Write + Drop, C: Clock>(
     let tools = next_callers(alloc, &mut spare, ends.len())?;
     let workers = employ(alloc, &mut spare, &mut unused, tasks)?;
     let connections = connect(clock, alloc, lock, stops, ends, tools, &mut spare, limits)?;
-    let tasks = number_tasks(alloc, lock, workers, cycles, gate)?;
+    let tasks = number_tasks(alloc, lock, workers, cycles, chapter, gate)?;
     Ok(Duties {
         connections,
         tasks,
@@ -187,6 +189,7 @@ pub fn employ<N: Name>(
         map (λ w. w.caller) ws.items ++ into_iter_items callers.new ≡ into_iter_items callers.old) }
     ensures lent { IfOk result (λ ws.
         map (λ w. w.reader) ws.items ++ into_iter_items readers.new ≡ into_iter_items readers.old) }
+    ensures fresh { IfOk result (λ ws. All (λ w. w.chapters.items ≡ []) ws.items) }
 {
     let mut workers = Vec::with_capacity(alloc, tasks as usize)?;
     for _task in 0..tasks {
@@ -196,7 +199,7 @@ pub fn employ<N: Name>(
         let Some(reader) = readers.next() else {
             unreachable!()
         };
-        workers.push_reserved(Worker::new(caller, reader));
+        workers.push_reserved(Worker::new(alloc, caller, reader));
     }
     Ok(workers)
 }
@@ -236,26 +239,30 @@ pub fn take_apart<N: Name, I: Read + Drop, O: Write + Drop>(
 }
 
 /// Puts the workers' callers behind the others and their readers behind the others, for which there
-/// is room.
+/// is room, and hands on the chapters that the first worker has cut: only task 0 cuts.
 pub fn dismiss<N: Name>(
+    alloc: Global,
     workers: Vec<Worker<N>>,
     callers: Vec<Caller<N>>,
     readers: Vec<Reader<N>>,
-) -> (Vec<Caller<N>>, Vec<Reader<N>>)
+) -> (Vec<Caller<N>>, Vec<Reader<N>>, Vec<Chapter<N>>)
     requires callers { vec_len callers + vec_len workers ≤ vec_capacity callers }
     requires readers { vec_len readers + vec_len workers ≤ vec_capacity readers }
     ensures callers { result.0.items ≡ callers.items ++ map (λ w. w.caller) workers.items }
     ensures capacity { vec_capacity result.0 ≡ vec_capacity callers }
     ensures readers { result.1.items ≡ readers.items ++ map (λ w. w.reader) workers.items }
     ensures room { vec_capacity result.1 ≡ vec_capacity readers }
+    ensures chapters { result.2.items ≡ chapters_of workers.items }
 {
     let mut callers = callers;
     let mut readers = readers;
+    let mut chapters = None;
     for worker in workers {
         callers.push_reserved(worker.caller);
         readers.push_reserved(worker.reader);
+        chapters = chapters.or(Some(worker.chapters));
     }
-    (callers, readers)
+    (callers, readers, chapters.unwrap_or(Vec::new(alloc)))
 }
 
 /// Puts the callers, or the readers, that had nothing to do behind the others, for which there is

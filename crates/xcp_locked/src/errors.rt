@@ -13,16 +13,24 @@ pub enum LockedError {
     /// The journal has all the entries that it takes.
     #[error("the journal is full")]
     JournalFull,
+    /// The open chapter has the last number.
+    #[error("no chapter can follow")]
+    LastChapter,
+    /// What is held was published before the open chapter.
+    #[error("the publication is of an earlier chapter")]
+    Earlier,
 }
 
 impl LockedError {
-    /// The error's number: 1 Memory, 2 JournalFull.
+    /// The error's number: 1 Memory, 2 JournalFull, 4 LastChapter, 5 Earlier.
     pub fn number(&self) -> u8
         ensures { result ≡ locked_number self.now }
     {
         match self {
             LockedError::Memory => 1,
             LockedError::JournalFull => 2,
+            LockedError::LastChapter => 4,
+            LockedError::Earlier => 5,
         }
     }
 }

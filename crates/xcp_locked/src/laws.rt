@@ -1,6 +1,6 @@
 //! Laws of what is published of a run, of settled callers, and of what a task's reader does. Each is the contract of a function
 //! with an empty body.
-ghost use Rattle.std.specs.Prelude.{◌≡◌, ◌≢◌, ◌↔◌, ◌<◌, ◌≤◌, ◌+◌, ◌⊎◌, ℕ, suc, List, [], ◌∷◌, ◌++◌, length, take, Some, Result, Ok, Err, IsOk, IsErr};
+ghost use Rattle.std.specs.Prelude.{◌≡◌, ◌≢◌, ◌↔◌, ◌<◌, ◌≤◌, ◌+◌, ◌⊎◌, ℕ, suc, Bool, List, [], ◌∷◌, ◌++◌, length, take, Some, Result, Ok, Err, IsOk, IsErr};
 ghost use Rattle.std.specs.List.{slice_get};
 ghost use Rattle.xcp_slave.specs.declared.exchange.Exchange.{Exchange};
 ghost use Rattle.xcp_slave.specs.declared.Request.{Request};
@@ -16,14 +16,17 @@ ghost use Rattle.xcp_outlet.specs.declared.fault.SendError.{SendError};
 ghost use Rattle.xcp_trace.specs.declared.Entry.{Entry};
 ghost use Rattle.xcp_locked.specs.ConnectionOutcome.{end_of};
 ghost use Rattle.xcp_locked.specs.Caller.{CallerValue};
+ghost use Rattle.xcp_locked.specs.Chapters.{AreJoined, IsFirstGap};
 ghost use Rattle.xcp_locked.specs.Journal.{entry};
 ghost use Rattle.xcp_locked.specs.Receipts.{receipt};
-ghost use Rattle.xcp_locked.specs.SettledReceipts.{IsSettled};
+ghost use Rattle.xcp_locked.specs.SettledReceipts.{IsSettledFor, receipts_for};
 ghost use Rattle.xcp_locked.specs.TaskImages.{looks};
 ghost use Rattle.xcp_locked.specs.declared.receipt.Receipt.{Receipt};
+ghost use Rattle.xcp_memory.specs.Layout.{LayoutValue};
 ghost use Rattle.xcp_slave.specs.Run.{Run};
 ghost use Rattle.xcp_slave.specs.Step.{Answers};
 ghost use Rattle.xcp_slave.specs.SlaveValue.{SlaveValue};
+ghost use Rattle.xcp_locked.specs.LockedSlave.{ChapterValue};
 ghost use Rattle.xcp_locked.specs.Publications.{Publication, Published, image_of, publication};
 
 /// A run determines what is published of it: the newest is the image of the slave that it leads to,
@@ -41,12 +44,18 @@ pub fn places_are_the_least()
     ensures { (v : SlaveValue) (xs : List Exchange) (list others : List Publication) (k n : ℕ) (p : Publication) → Published v xs list → Published v (take k xs) others → slice_get list n ≡ Some p → p.place ≤ k ↔ n < length others }
 {}
 
-/// A settled caller has one receipt for each of its entries: the entry at the place that a receipt names is this caller's, with
-/// the receipt's request and answer; each entry of this caller has a receipt; and the places rise.
+/// A settled caller has one receipt for each of its entries of a chapter: the entry at the place that a receipt of it names is this
+/// caller's, with the receipt's request and answer; each entry of this caller has a receipt; and the places rise.
 pub fn receipts_are_entries()
-    ensures each { (journal : List Entry) (c : CallerValue) (i : ℕ) (r : Receipt) → IsSettled journal c → slice_get c.receipts i ≡ Some r → slice_get journal r.at ≡ Some (entry c.number r.request r.answer) }
-    ensures all { (journal : List Entry) (c : CallerValue) (place : ℕ) (request : Request) (answer : Answer) → IsSettled journal c → slice_get journal place ≡ Some (entry c.number request answer) → (i : ℕ) × (slice_get c.receipts i ≡ Some (receipt place request answer)) }
-    ensures rise { (journal : List Entry) (c : CallerValue) (i : ℕ) (r s : Receipt) → IsSettled journal c → slice_get c.receipts i ≡ Some r → slice_get c.receipts (suc i) ≡ Some s → r.at < s.at }
+    ensures each { (later : Bool) (chapter : ℕ) (journal : List Entry) (c : CallerValue) (i : ℕ) (r : Receipt) → IsSettledFor later chapter journal c → slice_get (receipts_for later chapter c.receipts) i ≡ Some r → (r.chapter ≡ chapter) × (slice_get journal r.at ≡ Some (entry c.number r.request r.answer)) }
+    ensures all { (later : Bool) (chapter : ℕ) (journal : List Entry) (c : CallerValue) (place : ℕ) (request : Request) (answer : Answer) → IsSettledFor later chapter journal c → slice_get journal place ≡ Some (entry c.number request answer) → (i : ℕ) × (slice_get (receipts_for later chapter c.receipts) i ≡ Some (receipt chapter place request answer)) }
+    ensures rise { (later : Bool) (chapter : ℕ) (journal : List Entry) (c : CallerValue) (i : ℕ) (r s : Receipt) → IsSettledFor later chapter journal c → slice_get (receipts_for later chapter c.receipts) i ≡ Some r → slice_get (receipts_for later chapter c.receipts) (suc i) ≡ Some s → r.at < s.at }
+{}
+
+/// Where a chapter is the first that doesn't follow, the chapters aren't joined, and it is one of them or the open one behind them.
+pub fn a_gap_is_no_join()
+    ensures apart { (layout : LayoutValue) (chapters : List ChapterValue) (number before : ℕ) (base : SlaveValue) (k : ℕ) → IsFirstGap layout chapters number before base k → ¬ AreJoined layout chapters number before base }
+    ensures within { (layout : LayoutValue) (chapters : List ChapterValue) (number before : ℕ) (base : SlaveValue) (k : ℕ) → IsFirstGap layout chapters number before base k → k ≤ length chapters }
 {}
 
 /// A connection ends well exactly where its reading, its pump and its sender did; else its fault is that of its reading, or of its

@@ -1,8 +1,8 @@
 //! All callers together.
-ghost use Rattle.std.specs.Prelude.{◌≡◌, ◌<◌, ◌+◌, ℕ, IfErr, IfOk, Some, length, sum_by};
+ghost use Rattle.std.specs.Prelude.{◌≡◌, ◌<◌, ◌+◌, ℕ, IfErr, IfOk, true, Some, length, sum_by};
 ghost use Rattle.std.specs.List.{slice_get};
 ghost use Rattle.xcp_locked.specs.Caller.{CallerValue, accepted_by};
-ghost use Rattle.xcp_locked.specs.SettledReceipts.{AreSettled, FirstUnsettled};
+ghost use Rattle.xcp_locked.specs.SettledReceipts.{AreSettledFor, FirstUnsettledFor};
 
 use crate::{Caller, Locked, Name};
 use std::sync::ledger::{Book, Share};
@@ -12,7 +12,7 @@ impl<N: Name> Locked<N> {
     /// together had calls accepted, so that none of these is missing and none stands there twice.
     pub fn gather(&mut self, callers: &mut [Caller<N>])
         requires { (0 < length callers.old) × (length callers.old ≡ N.parts) }
-        ensures sum { length self.new.journal ≡ sum_by accepted_by callers.old }
+        ensures sum { self.new.before + length self.new.journal ≡ sum_by accepted_by callers.old }
         ensures same { self.new ≡ self.old }
         ensures callers { callers.new ≡ callers.old }
     {
@@ -58,9 +58,9 @@ pub struct Unsettled {
 impl<N: Name> Locked<N> {
     /// Settles one caller after another, and answers how many calls the journal has.
     pub(crate) fn settle_each(&mut self, callers: &[Caller<N>]) -> Result<u64, Unsettled>
-        ensures count { IfOk result (λ n. n ≡ length self.old.journal) }
-        ensures all { IfOk result (λ _. AreSettled self.old.journal (length callers.now) callers.now) }
-        ensures first { IfErr result (λ u. FirstUnsettled self.old.journal callers.now u) }
+        ensures count { IfOk result (λ n. n ≡ self.old.before + length self.old.journal) }
+        ensures all { IfOk result (λ _. AreSettledFor true self.old.chapter self.old.journal (length callers.now) callers.now) }
+        ensures first { IfErr result (λ u. FirstUnsettledFor true self.old.chapter self.old.journal callers.now u) }
         ensures same { self.new ≡ self.old }
     {
         for caller in 0..callers.len() {
@@ -71,6 +71,6 @@ impl<N: Name> Locked<N> {
                 });
             }
         }
-        Ok(self.len())
+        Ok(self.total())
     }
 }

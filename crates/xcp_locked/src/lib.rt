@@ -6,6 +6,7 @@
 #![tactic(auto)]
 
 mod caller;
+mod chapter;
 mod closing;
 mod connection;
 mod dealing;
@@ -13,6 +14,7 @@ mod errors;
 mod gate;
 mod hearing;
 mod holding;
+mod joining;
 mod laws;
 mod ledger;
 mod locked;
@@ -32,14 +34,16 @@ mod tool;
 mod worker;
 
 pub use caller::Caller;
+pub use chapter::Chapter;
 pub use closing::{Closing, settle_all};
 pub use connection::{Closed, Connection, Left, Parted};
 pub use errors::LockedError;
 pub use gate::Gate;
 pub use hearing::{Heard, Hearing};
+pub use joining::{Discord, check_joined, settle_chapters};
 pub use laws::{
-    a_connection_ends_as_its_parts, a_settled_image_is_the_one_held, acquiring_is_looking,
-    places_are_the_least, publications_follow_the_run, receipts_are_entries,
+    a_connection_ends_as_its_parts, a_gap_is_no_join, a_settled_image_is_the_one_held,
+    acquiring_is_looking, places_are_the_least, publications_follow_the_run, receipts_are_entries,
 };
 pub use ledger::Unsettled;
 pub use locked::{JOURNAL, Locked};

@@ -1,5 +1,5 @@
 //! What lies under the lock: a slave and its journal.
-ghost use Rattle.std.specs.Prelude.{◌≡◌, ◌≢◌, ◌↔◌, ◌<◌, ◌≤◌, [], ◌∷◌, ◌++◌, length, slice_index, OnErr, IfOk, Err, true, vec_capacity, vec_len};
+ghost use Rattle.std.specs.Prelude.{◌≡◌, ◌≢◌, ◌↔◌, ◌⊎◌, ◌+◌, ◌*◌, ◌<◌, ◌≤◌, IfErr, [], ◌∷◌, ◌++◌, length, slice_index, OnErr, OnOk, IfOk, Err, true, vec_capacity, vec_len};
 ghost use Rattle.xcp_memory.specs.EcuImage.{ecu_image};
 ghost use Rattle.xcp_slave.specs.Run.{Run};
 ghost use Rattle.xcp_slave.specs.MemoryEffects.{IsNoWrite};
@@ -9,15 +9,18 @@ ghost use Rattle.xcp_slave.specs.declared.Answer.{Answer};
 ghost use Rattle.xcp_slave.specs.SlaveValue.{SlaveValue, layout_of, opening};
 ghost use Rattle.xcp_locked.specs.Caller.{accepting};
 ghost use Rattle.xcp_locked.specs.Journal.{entry, exchanges, journal_limit};
+ghost use Rattle.xcp_locked.specs.LockedSlave.{IsReached, SameChapter};
 ghost use Rattle.xcp_locked.specs.Publications.{image_of};
-ghost use Rattle.xcp_locked.specs.PublishingCalls.{AreImages, Publishes};
+ghost use Rattle.xcp_locked.specs.PublishingCalls.{AreImagesFrom, Publishes};
 ghost use Rattle.xcp_locked.specs.private.PublishingCalls.{KeepsImage, Offers};
 ghost use Rattle.xcp_locked.specs.Receipts.{receipt};
 ghost use Rattle.xcp_trace.specs.EntrySpelling.{room_for_any_entry};
 
 use crate::publisher::Publisher;
 use crate::{Caller, LockedError, Name, Receipt};
+use std::alloc::AllocError;
 use std::marker::Model;
+use std::sync::Arc;
 use std::sync::ledger::Book;
 use xcp_packet::Packet;
 use xcp_slave::{Request, Slave, Told};
@@ -35,31 +38,36 @@ const SET_CAL_PAGE: u8 = 0xEB;
 
 const DOWNLOAD: u8 = 0xF0;
 
-/// A slave with its journal. The journal is a run of the slave, from the opening of its layout to
-/// the slave as it is, and the book of accepted calls has as many units as the journal has entries.
-/// The bank's publications are the controller's images along this run: the opening's, and each that
-/// differs from the one before it.
+/// A slave with its journal, which has chapters: the open one, and those before it that were cut off.
+/// The open chapter is a run of the slave, from its base to the slave as it is; the calls before it are
+/// a run from the opening of the layout to the base; and the book of accepted calls has as many units
+/// as all chapters have entries. The bank's publications since the chapter's first image are the
+/// controller's images along its run: the base's, and each that differs from the one before it.
 #[derive(Drop)]
 pub struct Locked<N: Name> {
     pub(crate) slave: Slave,
+    pub(crate) chapter: u64,
+    pub(crate) base: Arc<Slave>,
+    pub(crate) before: u64,
     pub(crate) journal: Journal,
     pub(crate) book: Book<N>,
     pub(crate) publisher: Publisher,
 }
 
 impl<N: Name> Model for Locked<N> {
-    ghost use Rattle.std.specs.Prelude.{◌≡◌, ◌≤◌, length};
+    ghost use Rattle.std.specs.Prelude.{◌≡◌, ◌≤◌, ◌+◌, ◌*◌, length};
+    ghost use Rattle.std.specs.Arc.{arc_value};
     ghost use Rattle.xcp_slave.specs.Run.{Run};
-    ghost use Rattle.xcp_slave.specs.SlaveValue.{layout_of, opening};
-    ghost use Rattle.xcp_locked.specs.LockedSlave.{LockedValue};
-    ghost use Rattle.xcp_locked.specs.Journal.{exchanges, journal_limit};
+    ghost use Rattle.xcp_slave.specs.SlaveValue.{layout_of};
+    ghost use Rattle.xcp_locked.specs.LockedSlave.{IsReached, LockedValue};
+    ghost use Rattle.xcp_locked.specs.Journal.{exchanges, journal_limit, last_chapter};
     ghost use Rattle.xcp_locked.specs.private.PublishingCalls.{IsKept};
 
     ghost Value = { LockedValue };
 
-    ghost view = { λ l. record { slave = l.slave; journal = l.journal.entries; writer = l.publisher.writer } };
+    ghost view = { λ l. record { slave = l.slave; chapter = l.chapter; base = arc_value l.base; journal = l.journal.entries; before = l.before; writer = l.publisher.writer; first = l.publisher.first } };
 
-    ghost invariant = { λ l. Run (opening (layout_of l.slave)) (exchanges l.journal.entries) l.slave × (l.book.total ≡ length l.journal.entries) × (length l.journal.entries ≤ journal_limit) × (layout_of l.slave ≡ N.layout) × IsKept N.bank (opening N.layout) (exchanges l.journal.entries) l.slave l.publisher };
+    ghost invariant = { λ l. Run (arc_value l.base) (exchanges l.journal.entries) l.slave × (l.book.total ≡ l.before + length l.journal.entries) × (length l.journal.entries ≤ journal_limit) × (layout_of l.slave ≡ N.layout) × IsKept N.bank (arc_value l.base) (exchanges l.journal.entries) l.slave l.publisher × IsReached N.layout l.before (arc_value l.base) × (l.before ≤ l.chapter * journal_limit) × (l.chapter ≤ last_chapter) × (l.publisher.first ≤ l.before) };
 }
 
 impl<N: Name> Locked<N> {
@@ -77,18 +85,22 @@ impl<N: Name> Locked<N> {
         ensures journal { IfOk result (λ r. self.new.journal
             ≡ self.old.journal ++ entry caller.old.number request r.answer ∷ []) }
         ensures receipt { IfOk result (λ r.
-            r ≡ receipt (length self.old.journal) request r.answer) }
+            r ≡ receipt self.old.chapter (length self.old.journal) request r.answer) }
         ensures caller { IfOk result (λ r. caller.new ≡ accepting caller.old r) }
         ensures published { IfOk result (λ r. Publishes self.old self.new) }
         ensures full { result ≡ Err LockedError.JournalFull
             ↔ (journal_limit ≤ length self.old.journal) }
         ensures err { OnErr result ((self.new ≡ self.old) × (caller.new ≡ caller.old)) }
         ensures layout { layout_of self.new.slave ≡ layout_of self.old.slave }
+        ensures chapter { SameChapter self.old self.new }
+        ensures refused { IfErr result (λ e. (e ≡ LockedError.Memory) ⊎ (e ≡ LockedError.JournalFull)) }
     {
         let at = self.len();
+        let chapter = self.chapter;
         let mut packet = Packet::new();
         let told = self.submit_into(caller, &request, &mut packet)?;
         Ok(Receipt {
+            chapter,
             at,
             request,
             answer: told.with(packet),
@@ -108,21 +120,25 @@ impl<N: Name> Locked<N> {
         ensures journal { IfOk result (λ told. self.new.journal ≡ self.old.journal
             ++ entry caller.old.number request.now (answer_in told packet.new) ∷ []) }
         ensures caller { IfOk result (λ told. caller.new ≡ accepting caller.old
-            (receipt (length self.old.journal) request.now (answer_in told packet.new))) }
+            (receipt self.old.chapter (length self.old.journal) request.now (answer_in told packet.new))) }
         ensures published { IfOk result (λ told. Publishes self.old self.new) }
         ensures full { result ≡ Err LockedError.JournalFull
             ↔ (journal_limit ≤ length self.old.journal) }
         ensures err { OnErr result ((self.new ≡ self.old) × (caller.new ≡ caller.old)) }
         ensures layout { layout_of self.new.slave ≡ layout_of self.old.slave }
+        ensures chapter { SameChapter self.old self.new }
+        ensures refused { IfErr result (λ e. (e ≡ LockedError.Memory) ⊎ (e ≡ LockedError.JournalFull)) }
     {
         if self.journal.len() >= JOURNAL {
             return Err(LockedError::JournalFull);
         }
         let Locked {
             slave,
+            chapter,
             journal,
             book,
             publisher,
+            ..
         } = self;
         let Caller {
             number,
@@ -132,10 +148,7 @@ impl<N: Name> Locked<N> {
             ..
         } = caller;
         // All memory is taken before anything is executed.
-        if journal.reserve().is_err()
-            || publisher.reserve().is_err()
-            || receipts.reserve(1).is_err()
-        {
+        if make_room(journal, publisher, receipts).is_err() {
             return Err(LockedError::Memory);
         }
         book.audit(share);
@@ -144,6 +157,7 @@ impl<N: Name> Locked<N> {
         book.add(share, 1);
         *accepted += 1;
         receipts.push_reserved(Receipt {
+            chapter: *chapter,
             at,
             request: request.copy(),
             answer: told.beside(packet),
@@ -151,11 +165,39 @@ impl<N: Name> Locked<N> {
         Ok(told)
     }
 
-    /// How many calls were accepted, at most 65,536.
+    /// How many calls the open chapter has, at most 65,536.
     pub fn len(&self) -> u64
         ensures { result ≡ length self.now.journal }
     {
         self.journal.len() as u64
+    }
+
+    /// How many calls were accepted in all.
+    pub fn total(&self) -> u64
+        ensures { result ≡ self.now.before + length self.now.journal }
+    {
+        self.before + self.journal.len() as u64
+    }
+
+    /// How many calls there were before the open chapter.
+    pub fn before(&self) -> u64
+        ensures { result ≡ self.now.before }
+    {
+        self.before
+    }
+
+    /// The number of the open chapter, from 0.
+    pub fn chapter(&self) -> u64
+        ensures { result ≡ self.now.chapter }
+    {
+        self.chapter
+    }
+
+    /// The slave where the open chapter begins.
+    pub fn base(&self) -> &Slave
+        ensures { result.now ≡ self.now.base }
+    {
+        &self.base
     }
 
     /// How many packets wait in the slave's outbox, for `Drain`.
@@ -165,7 +207,7 @@ impl<N: Name> Locked<N> {
         self.slave.pending()
     }
 
-    /// Writes the ECU image out, and answers its place: the number of calls that the journal has.
+    /// Writes the ECU image out, and answers its place: the number of calls that the open chapter has.
     pub fn image(&self, out: &mut [u8; 2040]) -> u64
         ensures image { out.new ≡ ecu_image self.now.slave.transfer.pages }
         ensures place { result ≡ length self.now.journal }
@@ -174,7 +216,7 @@ impl<N: Name> Locked<N> {
         self.len()
     }
 
-    /// The journal, where no more is executed.
+    /// The open chapter's journal, where no more is executed.
     pub fn into_journal(self) -> Journal
         ensures { result.entries ≡ self.journal }
     {
@@ -182,17 +224,42 @@ impl<N: Name> Locked<N> {
         journal
     }
 
-    /// Does nothing: its contract says that the journal is a run from the opening of the layout that
-    /// was named, and that what is published are the images of this run, which the type keeps.
+    /// Does nothing: its contract says that the open chapter is a run from its base, which all calls
+    /// before it led to from the opening of the layout that was named, and that what is published since
+    /// its first image are the images of this run, which the type keeps.
     pub fn audit(&self)
-        ensures run { Run (opening N.layout) (exchanges self.now.journal) self.now.slave }
+        ensures run { Run self.now.base (exchanges self.now.journal) self.now.slave }
+        ensures reached { IsReached N.layout self.now.before self.now.base }
         ensures layout { layout_of self.now.slave ≡ N.layout }
         ensures few { length self.now.journal ≤ journal_limit }
-        ensures published { AreImages (opening N.layout) (exchanges self.now.journal)
+        ensures chapters { self.now.before ≤ self.now.chapter * journal_limit }
+        ensures published { AreImagesFrom self.now.first self.now.base (exchanges self.now.journal)
             self.now.writer.publications }
     {
         let _ = &self.slave;
     }
+}
+
+/// Makes room for one more call: for its entry, for the place of an image that it may publish, and for
+/// its receipt.
+fn make_room(
+    journal: &mut Journal,
+    publisher: &mut Publisher,
+    receipts: &mut Vec<Receipt>,
+) -> Result<(), AllocError>
+    ensures entry { OnOk result (room_for_any_entry ≤ journal.new.room) }
+    ensures place { OnOk result (vec_len publisher.new.places < vec_capacity publisher.new.places) }
+    ensures receipt { OnOk result (vec_len receipts.new < vec_capacity receipts.new) }
+    ensures entries { journal.new.entries ≡ journal.old.entries }
+    ensures writer { publisher.new.writer ≡ publisher.old.writer }
+    ensures places { publisher.new.places.items ≡ publisher.old.places.items }
+    ensures last { publisher.new.last ≡ publisher.old.last }
+    ensures first { publisher.new.first ≡ publisher.old.first }
+    ensures receipts { receipts.new.items ≡ receipts.old.items }
+{
+    journal.reserve()?;
+    publisher.reserve()?;
+    receipts.reserve(1)
 }
 
 /// Executes a request, stores it with its answer and its caller, and publishes the image that it

@@ -6,6 +6,7 @@ ghost use Rattle.xcp_slave.specs.SlaveValue.{layout_of, opening};
 ghost use Rattle.xcp_locked.specs.Caller.{callers_of, fresh_caller};
 ghost use Rattle.xcp_locked.specs.Publications.{image_of};
 
+use crate::chapter::share;
 use crate::publisher::Publisher;
 use crate::{Caller, Locked, Name, Reader};
 use std::alloc::{AllocError, Global};
@@ -90,8 +91,12 @@ impl<N: Name> Locked<N> {
         ensures locked { IfOk result (λ o.
             o.locked ≡ record {
               slave = opening unnamed.layout;
+              chapter = 0;
+              base = opening unnamed.layout;
               journal = [];
+              before = 0;
               writer = new_writer N.bank (image_of (opening unnamed.layout));
+              first = 0;
             }) }
         ensures callers { IfOk result (λ o.
             o.callers.items ≡ callers_of unnamed.layout unnamed.callers) }
@@ -108,8 +113,12 @@ impl<N: Name> Locked<N> {
         } = unnamed;
         let (book, shares) = blank.open::<N>();
         let all = new_callers(alloc, callers, slave.layout(), shares)?;
+        let base = share(alloc, &slave)?;
         let locked = Locked {
             slave,
+            chapter: 0,
+            base,
+            before: 0,
             journal: Journal::new(alloc),
             book,
             publisher: Publisher::new(alloc, writer, image)?,

@@ -1,5 +1,5 @@
 //! The images that are published for the readers, each with its place.
-ghost use Rattle.std.specs.Prelude.{◌≡◌, ◌<◌, [], ◌∷◌, IfOk, OnErr, OnOk, vec_capacity, vec_len};
+ghost use Rattle.std.specs.Prelude.{◌≡◌, ◌<◌, ◌+◌, ◌-◌, [], ◌∷◌, IfOk, OnErr, OnOk, vec_capacity, vec_len};
 ghost use Rattle.xcp_locked.specs.Publications.{image_of};
 ghost use Rattle.xcp_locked.specs.private.PublishingCalls.{Offers};
 
@@ -7,11 +7,13 @@ use std::alloc::{AllocError, Global};
 use xcp_bank::Writer;
 use xcp_slave::Slave;
 
-/// A bank's writer, and of each of its publications the place: the number of calls that the journal
-/// had then. The image published last is stored, so that it needn't be read again.
+/// A bank's writer, the number of the publication that the open chapter begins with, and of each from
+/// that one on the place: the number of calls that the chapter had then. The image published last is
+/// stored, so that it needn't be read again.
 #[derive(Drop)]
 pub(crate) struct Publisher {
     pub(crate) writer: Writer,
+    pub(crate) first: u64,
     pub(crate) places: Vec<u64>,
     pub(crate) last: [u8; 2040],
 }
@@ -24,12 +26,13 @@ impl Publisher {
         image: [u8; 2040],
     ) -> Result<Publisher, AllocError>
         ensures { IfOk result (λ p. (p.writer ≡ writer) × (p.places.items ≡ 0 ∷ [])
-            × (p.last ≡ image)) }
+            × (p.last ≡ image) × (p.first ≡ 0)) }
     {
         let mut places = Vec::new(alloc);
         places.push(0)?;
         Ok(Publisher {
             writer,
+            first: 0,
             places,
             last: image,
         })
@@ -41,8 +44,33 @@ impl Publisher {
         ensures writer { self.new.writer ≡ self.old.writer }
         ensures places { self.new.places.items ≡ self.old.places.items }
         ensures last { self.new.last ≡ self.old.last }
+        ensures first { self.new.first ≡ self.old.first }
     {
         self.places.reserve(1)
+    }
+
+    /// An empty list with as much room as that of the places has in all, and room for one at least.
+    pub(crate) fn room_anew(&self, alloc: Global) -> Result<Vec<u64>, AllocError>
+        ensures { IfOk result (λ v. (v.items ≡ []) × (vec_len v < vec_capacity v)) }
+    {
+        Vec::with_capacity(alloc, self.places.capacity().max(1))
+    }
+
+    /// Begins a chapter with the image published last. `places` is empty, and has room for one.
+    pub(crate) fn turn(&mut self, places: Vec<u64>)
+        requires some { 0 < vec_len self.old.places }
+        requires bound { self.old.first + vec_len self.old.places < 18446744073709551616 }
+        requires empty { places.items ≡ [] }
+        requires room { vec_len places < vec_capacity places }
+        ensures writer { self.new.writer ≡ self.old.writer }
+        ensures first { self.new.first ≡ self.old.first + vec_len self.old.places - 1 }
+        ensures places { self.new.places.items ≡ 0 ∷ [] }
+        ensures last { self.new.last ≡ self.old.last }
+    {
+        let mut places = places;
+        places.push_reserved(0);
+        self.first += self.places.len() as u64 - 1;
+        self.places = places;
     }
 
     /// Publishes the slave's image, if it isn't the one published last. There is room for its place.

@@ -3,10 +3,11 @@ ghost use Rattle.std.specs.Prelude.{◌≡◌};
 
 use xcp_slave::{Answer, Request};
 
-/// What a caller has of a call: its place in the journal, counted from 0, the request and the
-/// answer.
+/// What a caller has of a call: its chapter and its place there, both counted from 0, the request and
+/// the answer.
 #[derive(Debug, PartialEq, Eq, Drop)]
 pub struct Receipt {
+    pub chapter: u64,
     pub at: u64,
     pub request: Request,
     pub answer: Answer,
@@ -18,6 +19,7 @@ impl Receipt {
         ensures { result ≡ self.now }
     {
         Receipt {
+            chapter: self.chapter,
             at: self.at,
             request: self.request.copy(),
             answer: self.answer.copy(),

@@ -15,6 +15,9 @@ use together::run_both;
 /// the number of channels) with all signals the cycle's number (modulo 256), takes the current image
 /// and reads it, outside the lock, as task 0 also finishes a store, and asks the gate again.
 ///
+/// At the end of its cycle task 0 cuts the open chapter where it has at least `chapter` calls, 1 to
+/// 65,536; its worker has the chapters. Where there is no memory for one, it ends with `Memory`.
+///
 /// Where memory or a thread is refused, the answer is `Memory`, and no task has begun. Else all
 /// workers come back, in order, with the fault of the least task number that has one.
 pub fn run_tasks<N: Name + Send + Sync, G: Gate + Sync, R: Threads + Wait + Sync>(
@@ -23,14 +26,15 @@ pub fn run_tasks<N: Name + Send + Sync, G: Gate + Sync, R: Threads + Wait + Sync
     lock: &Mutex<Locked<N>>,
     workers: Vec<Worker<N>>,
     cycles: u32,
+    chapter: u32,
     gate: &G,
 ) -> Result<Ran<N>, TaskError>
     requires { vec_len workers ≤ 16 }
-    ensures ran { IfOk result (λ r. RanTasks G.may_end cycles workers.items r) }
+    ensures ran { IfOk result (λ r. RanTasks G.may_end cycles chapter workers.items r) }
     ensures err { IfErr result (λ e. e ≡ TaskError.Memory) }
 {
     let back = Vec::with_capacity(alloc, workers.len())?;
-    let tasks = number_tasks(alloc, lock, workers, cycles, gate)?;
+    let tasks = number_tasks(alloc, lock, workers, cycles, chapter, gate)?;
     let none: Vec<Task<N, G>> = Vec::new(alloc);
     let (_none, done) = run_both(rt, alloc, none, tasks)?;
     Ok(collect(done, back))
@@ -42,10 +46,11 @@ pub(crate) fn number_tasks<'a, N: Name, G: Gate>(
     lock: &'a Mutex<Locked<N>>,
     workers: Vec<Worker<N>>,
     cycles: u32,
+    chapter: u32,
     gate: &'a G,
 ) -> Result<Vec<Task<'a, N, G>>, AllocError>
     requires { vec_len workers ≤ 16 }
-    ensures { IfOk result (λ tasks. EachFrom (IsTaskOf cycles) 0 workers.items tasks.items) }
+    ensures { IfOk result (λ tasks. EachFrom (IsTaskOf cycles chapter) 0 workers.items tasks.items) }
 {
     let mut tasks = Vec::with_capacity(alloc, workers.len())?;
     let mut task = 0;
@@ -54,8 +59,10 @@ pub(crate) fn number_tasks<'a, N: Name, G: Gate>(
             task,
             worker,
             cycles,
+            chapter,
             gate,
             lock,
+            alloc,
         });
         task += 1;
     }

@@ -7,6 +7,7 @@ ghost use Rattle.xcp_locked.specs.PairedLists.{EachFrom};
 ghost use Rattle.xcp_locked.specs.Publications.{image_of};
 ghost use Rattle.xcp_locked.specs.private.TaskOutcome.{DoneAs};
 ghost use Rattle.xcp_locked.specs.Journal.{exchanges};
+ghost use Rattle.xcp_locked.specs.LockedSlave.{IsReached};
 ghost use Rattle.xcp_slave.specs.Run.{Run};
 ghost use Rattle.xcp_slave.specs.SlaveValue.{opening};
 ghost use Rattle.xcp_locked.specs.ServerOutcome.{Closes, CountTheirCommands, PartedAs};
@@ -29,7 +30,8 @@ use xcp_framing::Watched;
 /// own. A connection has three: one hears the tool, a pump drains what the slave samples, and a sender
 /// writes the answers and the data packets as they come. The first callers are those of the tools, the
 /// next those of the tasks, which also have the first readers, and the next those of the pumps. Each
-/// connection has at most `turns` reads, and is closed when it ends; its pump has `pump_turns`.
+/// connection has at most `turns` reads, and is closed when it ends; its pump has `pump_turns`. Task 0
+/// cuts the open chapter from `chapter` calls on, 1 to 65,536.
 ///
 /// Where memory or a thread is refused the answer is `Err`, and nobody has begun.
 pub fn run_server<
@@ -45,6 +47,7 @@ pub fn run_server<
     ends: Vec<(Watched<I>, Watched<O>)>,
     tasks: u8,
     cycles: u32,
+    chapter: u32,
     turns: u32,
     pump_turns: u32,
     gate: &G,
@@ -55,14 +58,14 @@ pub fn run_server<
     requires callers { vec_len ends + tasks + vec_len ends ≤ unnamed.callers }
     requires readers { tasks ≤ 6 }
     ensures closes { IfOk result (λ r. Closes I.remaining O.contents G.may_end
-        unnamed.layout.max_cto turns cycles tasks
+        unnamed.layout.max_cto turns cycles chapter tasks
         (callers_of unnamed.layout unnamed.callers)
         (six_readers unnamed.bank (image_of (opening unnamed.layout))) ends.items r) }
     ensures callers { IfOk result (λ r. vec_len r.callers ≡ unnamed.callers) }
     ensures frames { IfOk result (λ r. CountTheirCommands r.ends.items r.callers.items) }
-    ensures hangup { IfOk result (λ r. EndsSession r.fault r.callers.items r.locked.journal) }
-    ensures run { IfOk result (λ r.
-        Run (opening unnamed.layout) (exchanges r.locked.journal) r.locked.slave) }
+    ensures hangup { IfOk result (λ r. EndsSession r.fault r.callers.items r.locked.chapter r.locked.journal) }
+    ensures run { IfOk result (λ r. Run r.locked.base (exchanges r.locked.journal) r.locked.slave) }
+    ensures reached { IfOk result (λ r. IsReached unnamed.layout r.locked.before r.locked.base) }
 {
     let limits = Limits {
         max_cto: unnamed.max_cto(),
@@ -84,11 +87,12 @@ pub fn run_server<
         spare,
         unused,
     } = deal(
-        rt, alloc, &lock, gate, &stops, callers, readers, ends, tasks, cycles, limits,
+        rt, alloc, &lock, gate, &stops, callers, readers, ends, tasks, cycles, chapter, limits,
     )?;
     let (parted, done) = run_all(rt, alloc, connections, tasks)?;
     let closed = close_each(parted, rooms.closed);
     Ok(close_all(
+        alloc,
         lock.into_inner(),
         closed,
         done,

@@ -1,7 +1,8 @@
 //! Whether a caller's receipts are the journal's.
-ghost use Rattle.std.specs.Prelude.{◌≡◌, ◌≢◌, MatchBool, MatchResult};
+ghost use Rattle.std.specs.Prelude.{◌≡◌, ◌≢◌, ◌≤◌, MatchBool, MatchResult, Some, drop, length, true, slice_get};
 ghost use Rattle.xcp_locked.specs.Receipts.{receipt_of};
-ghost use Rattle.xcp_locked.specs.SettledReceipts.{DifferAt, IsSettled, tally};
+ghost use Rattle.xcp_locked.specs.SettledReceipts.{DifferAt, DiffersFor, IsSettledFor, compared, receipts_for, tally};
+ghost use Rattle.xcp_locked.specs.declared.receipt.Receipt.{Receipt};
 
 use crate::{Caller, Locked, Name, Receipt};
 use xcp_slave::{Answer, Request};
@@ -14,25 +15,42 @@ pub struct Mismatch {
 }
 
 impl<N: Name> Locked<N> {
-    /// Whether the caller's receipts are the journal's entries of this caller, in order, each with
-    /// its place. The error is the first index that differs, the shorter length where one ends.
+    /// Whether the caller's receipts of the open chapter are its calls of this caller, in order, each
+    /// with its place. A receipt of a later chapter, which there isn't, is compared too, and differs.
+    /// The error is the first index among these receipts that differs, the shorter length where one ends.
     pub fn settle(&mut self, caller: &Caller<N>) -> Result<(), Mismatch>
         ensures settled { MatchResult result
-            (λ _. IsSettled self.old.journal caller.now)
-            (λ m. DifferAt m.at caller.now.receipts (tally caller.now.number 0 self.old.journal)) }
+            (λ _. IsSettledFor true self.old.chapter self.old.journal caller.now)
+            (λ m. DiffersFor true self.old.chapter self.old.journal caller.now m.at) }
         ensures same { self.new ≡ self.old }
     {
-        settled(caller.number, &self.journal, &caller.receipts)
+        settled(
+            caller.number,
+            self.chapter,
+            true,
+            &self.journal,
+            &caller.receipts,
+        )
     }
 }
 
-fn settled(number: u8, journal: &Journal, receipts: &[Receipt]) -> Result<(), Mismatch>
+/// Whether a caller's receipts of a chapter (where it is the open one, of it and of later ones) are
+/// its tally of the chapter.
+pub(crate) fn settled(
+    number: u8,
+    chapter: u64,
+    later: bool,
+    journal: &Journal,
+    receipts: &[Receipt],
+) -> Result<(), Mismatch>
     ensures { MatchResult result
-        (λ _. receipts.now ≡ tally number 0 journal.now.entries)
-        (λ m. DifferAt m.at receipts.now (tally number 0 journal.now.entries)) }
+        (λ _. receipts_for later chapter receipts.now ≡ tally number chapter 0 journal.now.entries)
+        (λ m. DifferAt m.at (receipts_for later chapter receipts.now)
+        (tally number chapter 0 journal.now.entries)) }
 {
     let mut entries = journal.entries();
-    let mut next = 0;
+    let mut next = first_from(later, chapter, receipts, 0);
+    let mut met = 0;
     for at in 0..journal.len() {
         let Some(entry) = entries.next() else {
             unreachable!()
@@ -40,23 +58,53 @@ fn settled(number: u8, journal: &Journal, receipts: &[Receipt]) -> Result<(), Mi
         if entry.caller != number {
             continue;
         }
-        if next >= receipts.len() || !is_receipt(at as u64, &entry, &receipts[next]) {
-            return Err(Mismatch { at: next });
+        if next >= receipts.len() || !is_receipt(chapter, at as u64, &entry, &receipts[next]) {
+            return Err(Mismatch { at: met });
         }
-        next += 1;
+        met += 1;
+        next = first_from(later, chapter, receipts, next + 1);
     }
     if next < receipts.len() {
-        return Err(Mismatch { at: next });
+        return Err(Mismatch { at: met });
     }
     Ok(())
 }
 
-/// Whether the receipt is that of the entry at this place.
-fn is_receipt(at: u64, entry: &Entry, receipt: &Receipt) -> bool
-    ensures { MatchBool result
-        (receipt.now ≡ receipt_of at entry.now) (receipt.now ≢ receipt_of at entry.now) }
+/// The first receipt from a place on that is compared, or how many there are.
+fn first_from(later: bool, chapter: u64, receipts: &[Receipt], from: usize) -> usize
+    requires { from ≤ length receipts.now }
+    ensures within { (from ≤ result) × (result ≤ length receipts.now) }
+    ensures rest { receipts_for later chapter (drop from receipts.now)
+        ≡ receipts_for later chapter (drop result receipts.now) }
+    ensures stands { (r : Receipt) → slice_get receipts.now result ≡ Some r
+        → compared later chapter r.chapter ≡ true }
 {
-    receipt.at == at
+    for at in from..receipts.len() {
+        if is_compared(later, chapter, receipts[at].chapter) {
+            return at;
+        }
+    }
+    receipts.len()
+}
+
+/// Whether receipts of this chapter are compared with that one's calls.
+fn is_compared(later: bool, chapter: u64, other: u64) -> bool
+    ensures { result ≡ compared later chapter other }
+{
+    if later {
+        chapter <= other
+    } else {
+        other == chapter
+    }
+}
+
+/// Whether the receipt is that of the entry at this place.
+fn is_receipt(chapter: u64, at: u64, entry: &Entry, receipt: &Receipt) -> bool
+    ensures { MatchBool result (receipt.now ≡ receipt_of chapter at entry.now)
+        (receipt.now ≢ receipt_of chapter at entry.now) }
+{
+    receipt.chapter == chapter
+        && receipt.at == at
         && same_request(&receipt.request, &entry.exchange.request)
         && same_answer(&receipt.answer, &entry.exchange.answer)
 }

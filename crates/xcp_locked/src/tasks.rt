@@ -1,13 +1,14 @@
 //! Tasks of the controller: what each submits, cycle by cycle.
-ghost use Rattle.std.specs.Prelude.{◌≡◌, ◌≤◌, ◌+◌, ℕ, List, [], ◌∷◌, IfSome, MatchBool, is_none, replicate, true};
+ghost use Rattle.std.specs.Prelude.{◌≡◌, ◌<◌, ◌≤◌, ◌+◌, ℕ, List, [], ◌∷◌, IfNone, IfSome, MatchBool, OnSome, is_none, replicate, true, vec_capacity, vec_len};
 ghost use Rattle.xcp_locked.specs.FaultNumbers.{task_number};
 ghost use Rattle.xcp_locked.specs.TaskImages.{Took};
-ghost use Rattle.xcp_locked.specs.Tasks.{Grew, IsOwn, Same, closing_of, duty, event_of};
-ghost use Rattle.xcp_locked.specs.private.Tasks.{Adds};
+ghost use Rattle.xcp_locked.specs.Tasks.{Grew, HasCut, IsOwn, Same, closing_of, duty, event_of};
+ghost use Rattle.xcp_locked.specs.private.Tasks.{Adds, CutsFull};
 
-use crate::{Caller, Gate, Locked, LockedError, Name, Reader, Worker};
+use crate::chapter::LAST_CHAPTER;
+use crate::{Caller, Chapter, Gate, Locked, LockedError, Name, Reader, Worker};
 use arrayvec::ArrayVec;
-use std::alloc::AllocError;
+use std::alloc::{AllocError, Global};
 use std::sync::{Mutex, Wait};
 use thiserror::Error;
 use together::Work;
@@ -48,7 +49,9 @@ impl From<LockedError> for TaskError {
     fn from(error: LockedError) -> TaskError {
         match error {
             LockedError::Memory => TaskError::Memory,
-            LockedError::JournalFull => TaskError::JournalFull,
+            LockedError::JournalFull | LockedError::LastChapter | LockedError::Earlier => {
+                TaskError::JournalFull
+            }
         }
     }
 }
@@ -64,14 +67,17 @@ impl From<AllocError> for TaskError {
     }
 }
 
-/// A task: its number, its worker, and how many cycles it has.
+/// A task: its number, its worker, how many cycles it has, and from how many calls on the open chapter
+/// is cut, 1 to 65,536.
 #[derive(Drop)]
 pub struct Task<'a, N: Name, G: Gate> {
     pub task: u8,
     pub worker: Worker<N>,
     pub cycles: u32,
+    pub chapter: u32,
     pub gate: &'a G,
     pub lock: &'a Mutex<Locked<N>>,
+    pub alloc: Global,
 }
 
 /// What comes of a task.
@@ -91,17 +97,19 @@ pub struct Ran<N: Name> {
 impl<'a, N: Name + Send + Sync, G: Gate + Sync> Work<Done<N>> for Task<'a, N, G> {
     ghost use Rattle.xcp_locked.specs.Tasks.{Worked};
 
-    ghost gives = { λ t d. Worked G.may_end t.cycles t.task t.worker d.worker d.fault };
+    ghost gives = { λ t d. Worked G.may_end t.cycles t.chapter t.task t.worker d.worker d.fault };
 
     fn run<R: Wait>(self, rt: &R) -> Done<N> {
         let Task {
             task,
             mut worker,
             cycles,
+            chapter,
             gate,
             lock,
+            alloc,
         } = self;
-        let fault = run_cycles(rt, lock, task, &mut worker, cycles, gate);
+        let fault = run_cycles(rt, alloc, lock, task, &mut worker, cycles, chapter, gate);
         Done { worker, fault }
     }
 
@@ -116,10 +124,12 @@ impl<'a, N: Name + Send + Sync, G: Gate + Sync> Work<Done<N>> for Task<'a, N, G>
 /// The cycles of a task, until one has a fault.
 fn run_cycles<N: Name, G: Gate>(
     rt: &impl Wait,
+    alloc: Global,
     lock: &Mutex<Locked<N>>,
     task: u8,
     worker: &mut Worker<N>,
     cycles: u32,
+    chapter: u32,
     gate: &G,
 ) -> Option<TaskError>
     ensures grew { Grew (duty worker.old.caller task) cycles (is_none result)
@@ -127,10 +137,11 @@ fn run_cycles<N: Name, G: Gate>(
     ensures same { Same worker.old.caller worker.new.caller }
     ensures took { Took cycles (is_none result) worker.old.reader worker.new.reader
         worker.old.last worker.new.last }
+    ensures cut { HasCut cycles chapter task worker.old.chapters.items worker.new.chapters.items }
     ensures own { IfSome result (IsOwn G.may_end task) }
 {
     for n in 0..cycles {
-        if let Some(fault) = cycle(rt, lock, task, worker, n, gate) {
+        if let Some(fault) = cycle(rt, alloc, lock, task, worker, n, chapter, gate) {
             return Some(fault);
         }
     }
@@ -138,13 +149,15 @@ fn run_cycles<N: Name, G: Gate>(
 }
 
 /// One cycle: the gate is asked, an event is submitted, an image is taken outside the lock, task 0
-/// finishes a store, and the gate is asked again.
+/// finishes a store and cuts a full chapter, and the gate is asked again.
 fn cycle<N: Name, G: Gate>(
     rt: &impl Wait,
+    alloc: Global,
     lock: &Mutex<Locked<N>>,
     task: u8,
     worker: &mut Worker<N>,
     cycle: u32,
+    chapter: u32,
     gate: &G,
 ) -> Option<TaskError>
     ensures grew { (old : List _) (n : ℕ) → n ≡ cycle
@@ -153,6 +166,7 @@ fn cycle<N: Name, G: Gate>(
     ensures same { Same worker.old.caller worker.new.caller }
     ensures took { Took 1 (is_none result) worker.old.reader worker.new.reader
         worker.old.last worker.new.last }
+    ensures cut { HasCut 1 chapter task worker.old.chapters.items worker.new.chapters.items }
     ensures own { IfSome result (IsOwn G.may_end task) }
 {
     if !gate.before(task, cycle) {
@@ -164,6 +178,9 @@ fn cycle<N: Name, G: Gate>(
     }
     take_image(&mut worker.reader, &mut worker.last);
     if let Some(fault) = close(rt, lock, task, &mut worker.caller) {
+        return Some(fault);
+    }
+    if let Some(fault) = cut_full(rt, alloc, lock, task, chapter, &mut worker.chapters) {
         return Some(fault);
     }
     if !gate.after(task, cycle) {
@@ -234,4 +251,54 @@ fn close<N: Name>(
         return None;
     }
     step(rt, lock, caller, Request::FinishStore)
+}
+
+/// Of task 0, cuts the open chapter where it is full, under one hold of the lock. Room for it is made
+/// before.
+fn cut_full<N: Name>(
+    rt: &impl Wait,
+    alloc: Global,
+    lock: &Mutex<Locked<N>>,
+    task: u8,
+    chapter: u32,
+    chapters: &mut Vec<Chapter<N>>,
+) -> Option<TaskError>
+    ensures cut { HasCut 1 chapter task chapters.old.items chapters.new.items }
+    ensures fault { IfSome result (λ e. e ≡ TaskError.Memory) }
+    ensures uncut { OnSome result (chapters.new.items ≡ chapters.old.items) }
+{
+    if task > 0 {
+        return None;
+    }
+    if chapters.reserve(1).is_err() {
+        return Some(TaskError::Memory);
+    }
+    take_chapter(&mut lock.lock(rt), alloc, chapter, chapters)
+}
+
+/// Cuts the open chapter where it has so many calls, unless it is the last that there can be, and puts
+/// it behind the others, for which there is room.
+fn take_chapter<N: Name>(
+    locked: &mut Locked<N>,
+    alloc: Global,
+    chapter: u32,
+    chapters: &mut Vec<Chapter<N>>,
+) -> Option<TaskError>
+    requires { vec_len chapters.old < vec_capacity chapters.old }
+    ensures cut { IfNone result
+        (CutsFull chapter locked.old locked.new chapters.old.items chapters.new.items) }
+    ensures fault { IfSome result (λ e. e ≡ TaskError.Memory) }
+    ensures uncut { OnSome result
+        ((locked.new ≡ locked.old) × (chapters.new.items ≡ chapters.old.items)) }
+{
+    if locked.len() < u64::from(chapter) || locked.chapter() >= LAST_CHAPTER {
+        return None;
+    }
+    match locked.cut(alloc) {
+        Ok(cut) => {
+            chapters.push_reserved(cut);
+            None
+        }
+        Err(refused) => Some(TaskError::from(refused)),
+    }
 }

@@ -1,19 +1,19 @@
 //! What readers are told under the lock.
-ghost use Rattle.std.specs.Prelude.{◌≡◌, ◌↔◌, ◌∷◌, IfSome, IsNone, None};
+ghost use Rattle.std.specs.Prelude.{◌≡◌, ◌↔◌, ◌∷◌, ◌≢◌, IfErr, IfOk, IfSome, Ok, Err, None};
 ghost use Rattle.xcp_bank.specs.BankEnds.{ReaderEnd};
 ghost use Rattle.xcp_bank.specs.SeatKnowledge.{AllBegin};
-ghost use Rattle.xcp_slave.specs.SlaveValue.{opening};
 ghost use Rattle.xcp_locked.specs.Journal.{exchanges};
-ghost use Rattle.xcp_locked.specs.PublishingCalls.{AreImages};
-ghost use Rattle.xcp_locked.specs.SettledReader.{IsSettledAt};
+ghost use Rattle.xcp_locked.specs.PublishingCalls.{AreImagesFrom};
+ghost use Rattle.xcp_locked.specs.SettledReader.{HoldsEarlier, IsSettledAt};
 
-use crate::{Locked, Name, Reader};
+use crate::{Locked, LockedError, Name, Reader};
 
-/// Which publication a reader holds: its number, from 0, and its place: the number of calls that the
-/// journal had when it was published, 0 for the opening's.
+/// Which publication a reader holds: its number, from 0, the open chapter, and its place there: the
+/// number of calls that the chapter had when it was published, 0 for the chapter's first.
 #[derive(Clone, Copy, Debug, PartialEq, Eq)]
 pub struct Settled {
     pub number: u64,
+    pub chapter: u64,
     pub from: u64,
 }
 
@@ -22,7 +22,7 @@ impl<N: Name> Locked<N> {
     /// holds stays.
     pub fn tell(&mut self, reader: &mut Reader<N>)
         ensures seen { reader.new.seen ≡ self.old.writer.publications }
-        ensures published { AreImages (opening N.layout) (exchanges self.old.journal) reader.new.seen }
+        ensures published { AreImagesFrom self.old.first self.old.base (exchanges self.old.journal) reader.new.seen }
         ensures past { reader.new.past ≡ reader.old.seen ∷ reader.old.past }
         ensures history { reader.new.history ≡ reader.old.history }
         ensures held { reader.new.held ≡ reader.old.held }
@@ -34,17 +34,20 @@ impl<N: Name> Locked<N> {
         reader.inner.tell(writer);
     }
 
-    /// Which publication the reader holds, if it holds one. It is told all that was published, and
-    /// what it holds stays: what it had seen is the beginning of what was published, so the image is
+    /// Which publication the reader holds, if it holds one; `Earlier` where that is older than the open
+    /// chapter's first image. It is told all that was published, and what it holds stays: what it had seen is the beginning of what was published, so the image is
     /// the one that it held (`a_settled_image_is_the_one_held`).
-    pub fn settle_reader(&mut self, reader: &mut Reader<N>) -> Option<Settled>
-        ensures none { IsNone result ↔ (reader.old.held ≡ None) }
-        ensures settled { IfSome result (λ s.
-            IsSettledAt (opening N.layout) (exchanges self.old.journal) reader.new s) }
+    pub fn settle_reader(&mut self, reader: &mut Reader<N>) -> Result<Option<Settled>, LockedError>
+        ensures none { result ≡ Ok None ↔ (reader.old.held ≡ None) }
+        ensures earlier { result ≡ Err LockedError.Earlier ↔ HoldsEarlier self.old.first reader.old }
+        ensures settled { IfOk result (λ o. IfSome o (λ s. IsSettledAt self.old.base
+            (exchanges self.old.journal) self.old.first reader.new s)) }
+        ensures chapter { IfOk result (λ o. IfSome o (λ s. s.chapter ≡ self.old.chapter)) }
+        ensures refused { IfErr result (λ e. e ≡ LockedError.Earlier) }
         ensures held { reader.new.held ≡ reader.old.held }
         ensures seen { reader.new.seen ≡ self.old.writer.publications }
-        ensures begins { IfSome result (λ _.
-            AllBegin (reader.old.seen ∷ reader.old.past) reader.new.seen) }
+        ensures begins { reader.old.held ≢ None →
+            AllBegin (reader.old.seen ∷ reader.old.past) reader.new.seen }
         ensures past { reader.new.past ≡ reader.old.seen ∷ reader.old.past }
         ensures same { self.new ≡ self.old }
         ensures same_reader { (reader.new.bank ≡ reader.old.bank)
@@ -52,10 +55,17 @@ impl<N: Name> Locked<N> {
     {
         reader.inner.tell(&mut self.publisher.writer);
         if !reader.inner.holds() {
-            return None;
+            return Ok(None);
         }
         let number = reader.inner.number();
-        let from = self.publisher.places[number as usize];
-        Some(Settled { number, from })
+        if number < self.publisher.first {
+            return Err(LockedError::Earlier);
+        }
+        let from = self.publisher.places[(number - self.publisher.first) as usize];
+        Ok(Some(Settled {
+            number,
+            chapter: self.chapter,
+            from,
+        }))
     }
 }

@@ -52,7 +52,7 @@ impl<'a, N: Name, R: Wait> Station for Tool<'a, N, R> {
         match submitted {
             Ok(told) => Ok(told),
             Err(LockedError::Memory) => Err(StationError::Memory),
-            Err(LockedError::JournalFull) => Err(StationError::JournalFull),
+            Err(_) => Err(StationError::JournalFull),
         }
     }
 

@@ -1,9 +1,9 @@
 -- Pages that stand in one list of bytes, one after another.
-use Rattle.std.proofs.Common.{◌≡◌, ℕ, ◌+◌, ◌*◌, ◌<◌, ◌≤◌, List, [], ◌∷◌, ◌++◌, length, take, drop, replicate, get_or, slice_set, zero, suc, ap, sym, ◌∙◌, refl, arith, length-append, length-drop}
-use Rattle.std.specs.List.{repeat, copy_within}
+use Rattle.std.proofs.Common.{◌≡◌, ℕ, ◌+◌, ◌*◌, ◌/◌, ◌<◌, ◌≤◌, List, [], ◌∷◌, ◌++◌, length, take, drop, replicate, get_or, slice_set, zero, suc, ap, sym, ◌∙◌, refl, arith, length-append, length-drop}
+use Rattle.std.specs.List.{repeat, copy_within, flat_map}
 use Rattle.std.proofs.lemmas.Grind.{elements, common_steps}
-use Rattle.std.proofs.lemmas.List.{drop-append-le, drop-take, drop-drop, length-take, length-take-le}
-use Rattle.std.proofs.Math.Nat.{mul-le-mul_right}
+use Rattle.std.proofs.lemmas.List.{drop-append-le, drop-take, drop-drop, length-take, length-take-le, take-append-drop}
+use Rattle.std.proofs.Math.Nat.{mul-le-mul_right, mul-div_cancel_left}
 use Rattle.std.proofs.Math.Seq.{take-append_seam, drop-append_seam}
 use Rattle.xcp_memory.specs.declared.page_set.PageSet.TheInside.{Inside}
 use Rattle.xcp_memory.specs.Pages.{SegmentPages}
@@ -130,3 +130,28 @@ pub with_pages : (s t : SegmentPages) (ps qs : List (List ℕ)) → t ≡ s → 
 with_pages s t ps qs e f =
     ap (λ (t : SegmentPages). let r : SegmentPages = record t { pages = ps } in r) e
     ∙ ap (λ (qs : List (List ℕ)). let r : SegmentPages = record s { pages = qs } in r) f
+
+-- the pages, one after another, are the bytes
+joined_again : (n size : ℕ) (xs : List ℕ) → length xs ≡ n * size → flat_map (λ (p : List ℕ). p) (pages_in n size xs) ≡ xs
+joined_again zero size [] h = refl
+joined_again zero size (x ∷ xs) h = absurd (omega (arith, h))
+joined_again (suc n) size xs h =
+    let rest : length (drop size xs) ≡ n * size = omega (arith, h, length-drop size xs) in
+    ap (λ zs. take size xs ++ zs) (joined_again n size (drop size xs) rest) ∙ take-append-drop size xs
+
+-- equal pages stand in equal bytes
+pub same_bytes : (n s m t : ℕ) (xs ys : List ℕ) → length xs ≡ n * s → length ys ≡ m * t → pages_in n s xs ≡ pages_in m t ys → (n ≡ m) × (xs ≡ ys)
+same_bytes n s m t xs ys h k e = (
+  sym (length-pages_in n s xs) ∙ ap length e ∙ length-pages_in m t ys,
+  sym (joined_again n s xs h) ∙ ap (flat_map (λ (p : List ℕ). p)) e ∙ joined_again m t ys k,
+)
+
+same_size : (n s t : ℕ) (xs : List ℕ) → length xs ≡ n * s → length xs ≡ n * t → pages_in n s xs ≡ pages_in n t xs
+same_size zero s t xs h k = refl
+same_size (suc n) s t xs h k = let e : s ≡ t = sym (mul-div_cancel_left s {n = suc n} (omega arith)) ∙ (ap (λ z. z / suc n) (sym h ∙ k) ∙ mul-div_cancel_left t {n = suc n} (omega arith)) in ap (λ z. pages_in (suc n) z xs) e
+
+-- and equal bytes make equal pages
+pub same_pages : (n s m t : ℕ) (xs ys : List ℕ) → length xs ≡ n * s → length ys ≡ m * t → n ≡ m → xs ≡ ys → pages_in n s xs ≡ pages_in m t ys
+same_pages n s m t xs ys h k e f =
+    let count : length xs ≡ n * t = ap length f ∙ k ∙ ap (λ (z : ℕ). z * t) (sym e) in
+    same_size n s t xs h count ∙ ap (λ z. pages_in n t z) f ∙ ap (λ z. pages_in z t ys) e

@@ -1,5 +1,5 @@
 //! An event channel of a layout.
-ghost use Rattle.std.specs.Prelude.{◌≡◌, map, Some, None, IfOk, IfErr};
+ghost use Rattle.std.specs.Prelude.{◌≡◌, ◌≢◌, ◌≤◌, length, map, Some, None, IfOk, IfErr, MatchBool};
 ghost use Rattle.xcp_memory.specs.LayoutParts.{event_of_part};
 ghost use Rattle.xcp_packet.specs.Rows.{first_holding};
 ghost use Rattle.xcp_memory.specs.Limits.{event_limits, events_limits};
@@ -7,7 +7,7 @@ ghost use Rattle.xcp_memory.specs.Limits.{event_limits, events_limits};
 use crate::limits::{MAX_EVENTS, MAX_NAME};
 use crate::{EventPart, Key, LayoutFault, checks};
 use arrayvec::ArrayVec;
-use std::alloc::Global;
+use std::alloc::{AllocError, Global};
 use std::default::MadeWith;
 use std::marker::Model;
 
@@ -38,6 +38,29 @@ impl EventChannel {
             unit,
             priority,
         }
+    }
+
+    /// An equal event channel.
+    pub(crate) fn copy(&self) -> Result<EventChannel, AllocError>
+        ensures { IfOk result (λ e. e ≡ self.now) }
+    {
+        let name = self.name.clone()?;
+        Ok(EventChannel {
+            name,
+            cycle: self.cycle,
+            unit: self.unit,
+            priority: self.priority,
+        })
+    }
+
+    /// Whether both event channels are equal.
+    pub(crate) fn same(&self, other: &EventChannel) -> bool
+        ensures { MatchBool result (self.now ≡ other.now) (self.now ≢ other.now) }
+    {
+        self.cycle == other.cycle
+            && self.unit == other.unit
+            && self.priority == other.priority
+            && self.name == other.name
     }
 
     pub(crate) fn name(&self) -> &[u8]
@@ -107,4 +130,34 @@ pub(crate) fn read_events(
         events.push(event);
     }
     Ok(events)
+}
+
+/// Equal event channels.
+pub(crate) fn copy_events(
+    alloc: Global,
+    events: &[EventChannel],
+) -> Result<ArrayVec<EventChannel, MAX_EVENTS, Global>, AllocError>
+    requires { length events.now ≤ 8 }
+    ensures { IfOk result (λ s. s.items ≡ events.now) }
+{
+    let mut copies = ArrayVec::new_in(alloc);
+    for event in events {
+        copies.push(event.copy()?);
+    }
+    Ok(copies)
+}
+
+/// Whether both lists of event channels are equal.
+pub(crate) fn same_events(ours: &[EventChannel], others: &[EventChannel]) -> bool
+    ensures { MatchBool result (ours.now ≡ others.now) (ours.now ≢ others.now) }
+{
+    if ours.len() != others.len() {
+        return false;
+    }
+    for i in 0..ours.len() {
+        if !ours[i].same(&others[i]) {
+            return false;
+        }
+    }
+    true
 }

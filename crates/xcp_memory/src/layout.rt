@@ -1,5 +1,5 @@
 //! A layout: what a controller shows to a tool.
-ghost use Rattle.std.specs.Prelude.{◌≡◌, ◌+◌, ◌<◌, ◌≤◌, ◌↔◌, length, All, Some, None, Ok, Err, IfOk, IfErr, IfSome, IsTrue, slice_index_or as get_or};
+ghost use Rattle.std.specs.Prelude.{◌≡◌, ◌≢◌, MatchBool, ◌+◌, ◌<◌, ◌≤◌, ◌↔◌, length, All, Some, None, Ok, Err, IfOk, IfErr, IfSome, IsTrue, slice_index_or as get_or};
 ghost use Rattle.xcp_memory.specs.Pages.{no_segment};
 ghost use Rattle.xcp_memory.specs.Layout.{IsLayout, IsPrintable, signals_extent, no_event};
 ghost use Rattle.xcp_memory.specs.declared.key.LayoutFault.{LayoutFault};
@@ -9,13 +9,13 @@ ghost use Rattle.xcp_memory.specs.Limits.{first_fault, own_limits};
 ghost use Rattle.xcp_memory.specs.ComputedAccess.{segment_of, is_inside, Located};
 
 use crate::areas::{areas_of, check_apart};
-use crate::event_channel::{EventChannel, read_events};
+use crate::event_channel::{EventChannel, copy_events, read_events, same_events};
 use crate::extent::{Extent, read_signals};
 use crate::limits::{MAX_EVENTS, MAX_ID, MAX_SEGMENTS, MIN_PACKET};
-use crate::segment::{Segment, read_segments};
+use crate::segment::{Segment, copy_segments, read_segments, same_segments};
 use crate::{ChecksumKind, Key, LayoutFault, Parts, checks};
 use arrayvec::ArrayVec;
-use std::alloc::Global;
+use std::alloc::{AllocError, Global};
 use std::marker::Model;
 use xcp_packet::Order;
 
@@ -109,6 +109,40 @@ impl Layout {
             signals,
             events,
         })
+    }
+
+    /// An equal layout.
+    pub(crate) fn copy(&self, alloc: Global) -> Result<Layout, AllocError>
+        ensures { IfOk result (λ l. l ≡ self.now) }
+    {
+        let id = self.id.clone()?;
+        let segments = copy_segments(alloc, &self.segments)?;
+        let events = copy_events(alloc, &self.events)?;
+        Ok(Layout {
+            id,
+            max_cto: self.max_cto,
+            max_dto: self.max_dto,
+            checksum: self.checksum,
+            order: self.order,
+            segments,
+            signals: self.signals,
+            events,
+        })
+    }
+
+    /// Whether both layouts are equal. It takes no memory.
+    pub(crate) fn same(&self, other: &Layout) -> bool
+        ensures { MatchBool result (self.now ≡ other.now) (self.now ≢ other.now) }
+    {
+        self.id == other.id
+            && self.max_cto == other.max_cto
+            && self.max_dto == other.max_dto
+            && self.checksum == other.checksum
+            && self.order == other.order
+            && self.signals.address() == other.signals.address()
+            && self.signals.size() == other.signals.size()
+            && same_segments(&self.segments, &other.segments)
+            && same_events(&self.events, &other.events)
     }
 
     /// Every layout is within the limits. A caller that proves something of a layout calls this; it does nothing.

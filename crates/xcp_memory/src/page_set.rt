@@ -1,5 +1,5 @@
 //! The pages of one segment.
-ghost use Rattle.std.specs.Prelude.{◌≡◌, ◌≤◌, ◌<◌, ◌+◌, length, [], IfOk, false, replicate, take, drop, slice_index_or as get_or};
+ghost use Rattle.std.specs.Prelude.{◌≡◌, ◌≢◌, MatchBool, ◌≤◌, ◌<◌, ◌+◌, length, [], IfOk, false, replicate, take, drop, slice_index_or as get_or};
 ghost use Rattle.xcp_memory.specs.Pages.{xcp_page};
 ghost use Rattle.xcp_memory.specs.PageCopy.{with_content};
 ghost use Rattle.xcp_memory.specs.Freeze.{segment_frozen};
@@ -59,6 +59,41 @@ impl PageSet {
             xcp: 0,
             freeze: false,
         })
+    }
+
+    /// Equal pages, of the same numbers and the same mode.
+    pub(crate) fn copy_all(&self) -> Result<PageSet, AllocError>
+        ensures { IfOk result (λ s. s ≡ self.now) }
+    {
+        let bytes = self.bytes.clone()?;
+        Ok(PageSet {
+            bytes,
+            size: self.size,
+            count: self.count,
+            ecu: self.ecu,
+            xcp: self.xcp,
+            freeze: self.freeze,
+        })
+    }
+
+    /// Whether both have equal pages, the same numbers and the same mode.
+    pub(crate) fn same(&self, other: &PageSet) -> bool
+        ensures { MatchBool result (self.now ≡ other.now) (self.now ≢ other.now) }
+    {
+        self.ecu == other.ecu
+            && self.xcp == other.xcp
+            && self.freeze == other.freeze
+            && self.same_pages(other)
+    }
+
+    /// Whether both have equal pages.
+    fn same_pages(&self, other: &PageSet) -> bool
+        ensures { MatchBool result (self.now.pages ≡ other.now.pages) (self.now.pages ≢ other.now.pages) }
+    {
+        if self.count != other.count {
+            return false;
+        }
+        same_bytes(&self.bytes, &other.bytes)
     }
 
     /// How many pages there are.
@@ -168,6 +203,13 @@ impl PageSet {
             self.xcp = page;
         }
     }
+}
+
+/// Whether both have the same bytes.
+fn same_bytes(ours: &[u8], others: &[u8]) -> bool
+    ensures { MatchBool result (ours.now ≡ others.now) (ours.now ≢ others.now) }
+{
+    ours == others
 }
 
 /// The n bytes from a place on.

@@ -1,5 +1,5 @@
 //! The pages of all segments.
-ghost use Rattle.std.specs.Prelude.{◌≡◌, ◌<◌, length, IfOk};
+ghost use Rattle.std.specs.Prelude.{◌≡◌, ◌≢◌, ◌<◌, length, IfOk, MatchBool};
 ghost use Rattle.xcp_memory.specs.Layout.{IsLayout};
 ghost use Rattle.xcp_memory.specs.Pages.{opening_pages, IsPages};
 
@@ -52,6 +52,29 @@ impl Pages {
         })
     }
 
+    /// Equal pages, with the layout, the numbers, the modes and the signals.
+    pub fn copy_all(&self, alloc: Global) -> Result<Pages, AllocError>
+        ensures { IfOk result (λ p. p ≡ self.now) }
+    {
+        let layout = self.layout.copy(alloc)?;
+        let segments = copy_sets(alloc, &self.segments)?;
+        let signals = self.signals.clone()?;
+        Ok(Pages {
+            layout,
+            segments,
+            signals,
+        })
+    }
+
+    /// Whether both are equal: layout, pages, numbers, modes and signals. It takes no memory.
+    pub fn same(&self, other: &Pages) -> bool
+        ensures { MatchBool result (self.now ≡ other.now) (self.now ≢ other.now) }
+    {
+        self.signals == other.signals
+            && same_sets(&self.segments, &other.segments)
+            && self.layout.same(&other.layout)
+    }
+
     /// The layout.
     pub fn layout(&self) -> &Layout
         ensures { result.now ≡ self.now.layout }
@@ -74,4 +97,30 @@ impl Pages {
     {
         self.layout.audit();
     }
+}
+
+/// Equal pages of each segment.
+fn copy_sets(alloc: Global, sets: &[PageSet]) -> Result<Vec<PageSet>, AllocError>
+    ensures { IfOk result (λ s. s.items ≡ sets.now) }
+{
+    let mut copies = Vec::with_capacity(alloc, sets.len())?;
+    for set in sets {
+        copies.push(set.copy_all()?)?;
+    }
+    Ok(copies)
+}
+
+/// Whether the pages of each segment are equal.
+fn same_sets(ours: &[PageSet], others: &[PageSet]) -> bool
+    ensures { MatchBool result (ours.now ≡ others.now) (ours.now ≢ others.now) }
+{
+    if ours.len() != others.len() {
+        return false;
+    }
+    for i in 0..ours.len() {
+        if !ours[i].same(&others[i]) {
+            return false;
+        }
+    }
+    true
 }

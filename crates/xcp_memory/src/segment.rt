@@ -1,5 +1,5 @@
 //! A segment of a layout.
-ghost use Rattle.std.specs.Prelude.{◌≡◌, ◌+◌, ◌≤◌, length, map, Some, None, IfOk, IfErr};
+ghost use Rattle.std.specs.Prelude.{◌≡◌, ◌≢◌, ◌+◌, ◌≤◌, length, map, Some, None, IfOk, IfErr, MatchBool};
 ghost use Rattle.xcp_memory.specs.LayoutParts.{segment_of_part, size};
 ghost use Rattle.xcp_packet.specs.Rows.{first_holding};
 ghost use Rattle.xcp_memory.specs.Limits.{segment_limits, segments_limits};
@@ -8,7 +8,7 @@ use crate::extent::Extent;
 use crate::limits::{LAST_ADDRESS, MAX_BYTES, MAX_PAGES, MAX_SEGMENTS, MIN_PAGES};
 use crate::{Key, LayoutFault, SegmentPart, checks};
 use arrayvec::ArrayVec;
-use std::alloc::Global;
+use std::alloc::{AllocError, Global};
 use std::default::MadeWith;
 use std::marker::Model;
 
@@ -61,6 +61,25 @@ impl Segment {
         ensures { result ≡ self.now.pages }
     {
         self.pages
+    }
+
+    /// An equal segment.
+    pub(crate) fn copy(&self) -> Result<Segment, AllocError>
+        ensures { IfOk result (λ s. s ≡ self.now) }
+    {
+        let bytes = self.bytes.clone()?;
+        Ok(Segment {
+            address: self.address,
+            bytes,
+            pages: self.pages,
+        })
+    }
+
+    /// Whether both segments are equal.
+    pub(crate) fn same(&self, other: &Segment) -> bool
+        ensures { MatchBool result (self.now ≡ other.now) (self.now ≢ other.now) }
+    {
+        self.address == other.address && self.pages == other.pages && self.bytes == other.bytes
     }
 
     /// Where the segment lies.
@@ -124,4 +143,34 @@ pub(crate) fn read_segments(
         segments.push(segment);
     }
     Ok(segments)
+}
+
+/// Equal segments.
+pub(crate) fn copy_segments(
+    alloc: Global,
+    segments: &[Segment],
+) -> Result<ArrayVec<Segment, MAX_SEGMENTS, Global>, AllocError>
+    requires { length segments.now ≤ 4 }
+    ensures { IfOk result (λ s. s.items ≡ segments.now) }
+{
+    let mut copies = ArrayVec::new_in(alloc);
+    for segment in segments {
+        copies.push(segment.copy()?);
+    }
+    Ok(copies)
+}
+
+/// Whether both lists of segments are equal.
+pub(crate) fn same_segments(ours: &[Segment], others: &[Segment]) -> bool
+    ensures { MatchBool result (ours.now ≡ others.now) (ours.now ≢ others.now) }
+{
+    if ours.len() != others.len() {
+        return false;
+    }
+    for i in 0..ours.len() {
+        if !ours[i].same(&others[i]) {
+            return false;
+        }
+    }
+    true
 }

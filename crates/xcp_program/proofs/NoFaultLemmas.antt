@@ -11,7 +11,7 @@ use Rattle.clap.specs.Values.{IsUnsignedIn}
 use Rattle.clap.proofs.ValueTestLemmas.{accepts-Accepts}
 use Rattle.clap.specs.declared.builder.value_parser.ValueParser.TheVariants.{Unsigned}
 use Rattle.clap.specs.declared.error.kind.ErrorKind.TheVariants as kind
-use Rattle.xcp_program.specs.CommandLine.{HasNumber, Numeric, cycles, period, port, program, tasks, tools}
+use Rattle.xcp_program.specs.CommandLine.{HasNumber, Numeric, chapter, cycles, period, port, program, tasks, tools}
 use Rattle.xcp_program.specs.private.CommandLine.{AsksSomething}
 use Rattle.xcp_program.proofs.ClapRowLemmas.{Each, EachRule, Good, IsGiven, Keeps, default_row, defaults_leave, found_row, found_rule, keeps_set, no_kinds, default_among, parts, row_for}
 use Rattle.xcp_program.proofs.ClapWalkLemmas.{NoHelp, settles, walk_kept, walk_stops}
@@ -59,7 +59,10 @@ keeps_serve = (
           keeps_set serve_shape.rules (nth 4 serve_shape) refl refl (λ again rows e. no_kinds _ _ e),
           (
             keeps_set serve_shape.rules (nth 5 serve_shape) refl refl (λ again rows e. no_kinds _ _ e),
-            (λ again values rows e v. v, tt),
+            (
+              keeps_set serve_shape.rules (nth 6 serve_shape) refl refl (λ again rows e. no_kinds _ _ e),
+              (λ again values rows e v. v, tt),
+            ),
           ),
         ),
       ),
@@ -217,10 +220,15 @@ module _ (words : List Text) (e : level_fault serve_shape [] nothing_held words 
       (default_among (take 4 serve_shape.rules) (drop 5 serve_shape.rules) (nth 4 serve_shape) (codes "100") (given_rows serve_shape words) refl refl refl)
       (good_row (nth 4 serve_shape) refl) refl
 
-  period_stands : Stands (nth 5 serve_shape) (all_rows serve_shape words) period.default
-  period_stands = default_stands (nth 5 serve_shape) (codes "0") (given_rows serve_shape words) (all_rows serve_shape words)
-      (default_among (take 5 serve_shape.rules) (drop 6 serve_shape.rules) (nth 5 serve_shape) (codes "0") (given_rows serve_shape words) refl refl refl)
+  chapter_stands : Stands (nth 5 serve_shape) (all_rows serve_shape words) chapter.default
+  chapter_stands = default_stands (nth 5 serve_shape) (codes "65536") (given_rows serve_shape words) (all_rows serve_shape words)
+      (default_among (take 5 serve_shape.rules) (drop 6 serve_shape.rules) (nth 5 serve_shape) (codes "65536") (given_rows serve_shape words) refl refl refl)
       (good_row (nth 5 serve_shape) refl) refl
+
+  period_stands : Stands (nth 6 serve_shape) (all_rows serve_shape words) period.default
+  period_stands = default_stands (nth 6 serve_shape) (codes "0") (given_rows serve_shape words) (all_rows serve_shape words)
+      (default_among (take 6 serve_shape.rules) (drop 7 serve_shape.rules) (nth 6 serve_shape) (codes "0") (given_rows serve_shape words) refl refl refl)
+      (good_row (nth 6 serve_shape) refl) refl
 
   serve_asked : AsksSomething (Some (rows_at serve_shape words))
   serve_asked =
@@ -228,7 +236,8 @@ module _ (words : List Text) (e : level_fault serve_shape [] nothing_held words 
       let t = number_stands words (nth 2 serve_shape) tools refl (λ text h. accepts-Accepts false (Unsigned 1 2) text h) tools_stands in
       let k = number_stands words (nth 3 serve_shape) tasks refl (λ text h. accepts-Accepts false (Unsigned 0 6) text h) tasks_stands in
       let n = number_stands words (nth 4 serve_shape) cycles refl (λ text h. accepts-Accepts false (Unsigned 1 1000) text h) cycles_stands in
-      let m = number_stands words (nth 5 serve_shape) period refl (λ text h. accepts-Accepts false (Unsigned 0 1000) text h) period_stands in
+      let m = number_stands words (nth 5 serve_shape) chapter refl (λ text h. accepts-Accepts false (Unsigned 1 65536) text h) chapter_stands in
+      let ms = number_stands words (nth 6 serve_shape) period refl (λ text h. accepts-Accepts false (Unsigned 0 1000) text h) period_stands in
       inr (
         config_stands.text,
         p.0,
@@ -236,13 +245,15 @@ module _ (words : List Text) (e : level_fault serve_shape [] nothing_held words 
         k.0,
         n.0,
         m.0,
+        ms.0,
         record {
           config = record { text = record { name = refl; value = config_stands.value }; given = wants.0 };
           port = p.1;
           tools = t.1;
           tasks = k.1;
           cycles = n.1;
-          period = m.1;
+          chapter = m.1;
+          period = ms.1;
         },
       )
 

@@ -42,6 +42,9 @@ tasks = record { name = codes "tasks"; least = 0; most = 6; default = Some (code
 abbrev pub cycles : Numeric
 cycles = record { name = codes "cycles"; least = 1; most = 1000; default = Some (codes "100") }
 
+abbrev pub chapter : Numeric
+chapter = record { name = codes "chapter"; least = 1; most = 65536; default = Some (codes "65536") }
+
 abbrev pub period : Numeric
 period = record { name = codes "period"; least = 0; most = 1000; default = Some (codes "0") }
 
@@ -56,9 +59,9 @@ numeric_rule o = record (new_rule o.name) {
   required = not (is_some o.default);
 }
 
--- `serve --config FILE --port PORT [--tools T] [--tasks K] [--cycles N] [--period MS]`
+-- `serve --config FILE --port PORT [--tools T] [--tasks K] [--cycles N] [--chapter M] [--period MS]`
 abbrev pub serve_app : App
-serve_app = with_rule (with_rule (with_rule (with_rule (with_rule (with_rule (new_app (codes "serve")) config_rule) (numeric_rule port)) (numeric_rule tools)) (numeric_rule tasks)) (numeric_rule cycles)) (numeric_rule period)
+serve_app = with_rule (with_rule (with_rule (with_rule (with_rule (with_rule (with_rule (new_app (codes "serve")) config_rule) (numeric_rule port)) (numeric_rule tools)) (numeric_rule tasks)) (numeric_rule cycles)) (numeric_rule chapter)) (numeric_rule period)
 
 abbrev pub with_a_version : App → App
 with_a_version a = record a { top = record a.top { has_version = true } }
@@ -103,24 +106,25 @@ pub record HasNumber (found : Option (Text × List Row)) (o : Numeric) (n : ℕ)
   pub otherwise : gives o.name found ≡ false → o.default ≡ Some spelt.text
 
 -- a subcommand with its rows is a server with this configuration file and these numbers
-pub record IsServe (found : Option (Text × List Row)) (file : Text) (p t k n m : ℕ) : Type 0 where
+pub record IsServe (found : Option (Text × List Row)) (file : Text) (p t k n m ms : ℕ) : Type 0 where
   pub config : HasFile found (codes "serve") file
   pub port : HasNumber found port p
   pub tools : HasNumber found tools t
   pub tasks : HasNumber found tasks k
   pub cycles : HasNumber found cycles n
-  pub period : HasNumber found period m
+  pub chapter : HasNumber found chapter m
+  pub period : HasNumber found period ms
 
 -- what a subcommand with its rows asks for
 abbrev pub Asks : Option (Text × List Row) → Options → Type 0
 Asks found (Replay config) = IsReplay found (string_bytes config)
-Asks found (Serve config p t k n m) = IsServe found (string_bytes config) p t k n m
+Asks found (Serve config p t k n m ms) = IsServe found (string_bytes config) p t k n m ms
 
 -- each number is in its option's bounds
 abbrev pub InRange : Options → Type 0
 InRange (Replay config) = ⊤
-InRange (Serve config p t k n m) = (port.least ≤ p) × (p ≤ port.most) × (tools.least ≤ t) × (t ≤ tools.most) × (tasks.least ≤ k) × (k ≤ tasks.most) × (cycles.least ≤ n) × (n ≤ cycles.most)
-    × (period.least ≤ m) × (m ≤ period.most)
+InRange (Serve config p t k n m ms) = (port.least ≤ p) × (p ≤ port.most) × (tools.least ≤ t) × (t ≤ tools.most) × (tasks.least ≤ k) × (k ≤ tasks.most) × (cycles.least ≤ n) × (n ≤ cycles.most)
+    × (chapter.least ≤ m) × (m ≤ chapter.most) × (period.least ≤ ms) × (ms ≤ period.most)
 
 -- Why the words ask for nothing, by the kinds of error of the first fault that clap finds in them (a wish for help is one): the error
 -- has one of these kinds. Memory: an allocation may fail at any place.

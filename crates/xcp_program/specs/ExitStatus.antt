@@ -1,11 +1,12 @@
 -- The status with which the program ends after a fault.
 use Rattle.std.specs.Prelude.{ℕ}
 use Rattle.xcp_program.specs.declared.fault.Fault.{Fault}
-use Rattle.xcp_program.specs.declared.fault.Fault.TheVariants.{Configuration, Line, Stream, Memory, Mismatch}
+use Rattle.xcp_program.specs.declared.fault.Fault.TheVariants.{Configuration, Line, Stream, Memory, MismatchedChapter, Mismatch}
 
 abbrev pub status_of : Fault → ℕ
 status_of (Configuration n) = 1
 status_of (Line n) = 2
 status_of (Stream n) = 3
 status_of Memory = 4
+status_of (MismatchedChapter number) = 5
 status_of (Mismatch caller at) = 5

@@ -60,4 +60,5 @@ Ends config script old new (Err (faults.Configuration n)) = IsFaulty config n ×
 Ends config script old new (Err (faults.Line k)) = Replays config script old new (Err (errors.Line k))
 Ends config script old new (Err (faults.Stream n)) = ((n ≡ 1) × Replays config script old new (Err errors.Read)) ⊎ ((n ≡ 2) × Replays config script old new (Err errors.Write))
 Ends config script old new (Err faults.Memory) = (new ≡ old) ⊎ Replays config script old new (Err errors.Memory)
+Ends config script old new (Err (faults.MismatchedChapter number)) = ⊥
 Ends config script old new (Err (faults.Mismatch caller at)) = ⊥

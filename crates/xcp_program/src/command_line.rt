@@ -37,9 +37,10 @@ with one line there, and this status:
 /// What help says below the options of a server.
 const ENDS: &str =
     "Its first line is: listening PORT. It accepts T connections, answers each until it ends, and runs the tasks meanwhile.
-When all have ended it prints: calls N (N is the number of all calls), and: settled (what was answered is what the
-slave's journal has). These two lines come before that of a fault, but not before that of a mismatch, of a faulty
-configuration, of stream 0, or of memory where nothing had begun.
+When all have ended it prints: chapters C (C is the number of chapters, the open one included), calls N (N is the
+number of all calls), and: settled (what was answered is what the slave's journal has). These three lines come before
+that of a fault, but not before that of a mismatch, of a faulty configuration, of stream 0, or of memory where nothing
+had begun.
 
 Wrong words end the program with status 1, and what is wrong with them on standard error. Any other fault ends it
 with one line there, and this status:
@@ -48,6 +49,7 @@ with one line there, and this status:
   3  stream N: listening or accepting failed (0); of the first faulty connection, reading failed (1), writing
      failed (2), a frame is too long (3) or cut short (4), the reads were spent (6); the journal is full (7)
   4  memory: an allocation failed, or a thread couldn't be started
+  5  mismatch chapter K: chapter K of the journal doesn't follow the one before
   5  mismatch caller C at I: what caller C was answered differs from the journal, first at its call I";
 
 /// The option `--config`, which both subcommands want.
@@ -134,6 +136,10 @@ fn serve_command<'a>(alloc: Global) -> Result<Command<'a>, AllocError>
         "How many cycles each task runs, 1 to 1,000",
     );
     let serve = serve.arg(cycles)?;
+    let chapter = numeric(alloc, "chapter", "M", 1, 65_536, Some("65536")).help(
+        "From how many calls on a chapter of the journal is cut off, 1 to 65,536",
+    );
+    let serve = serve.arg(chapter)?;
     let period = numeric(alloc, "period", "MS", 0, 1_000, Some("0")).help(
         "The milliseconds from one cycle of a task to its next, 0 to 1,000",
     );
@@ -238,6 +244,7 @@ fn server_asked(alloc: Global, matches: &ArgMatches<'_>) -> Result<Options, Opti
         tools: number_in(matches, "tools") as u8,
         tasks: number_in(matches, "tasks") as u8,
         cycles: number_in(matches, "cycles"),
+        chapter: number_in(matches, "chapter"),
         period: number_in(matches, "period"),
     })
 }

@@ -22,12 +22,17 @@ pub enum Fault {
     /// An allocation failed, or a thread could not be started.
     #[error("memory")]
     Memory,
-    /// The answers that a caller got differ from the journal's calls of that caller, first at this place among them.
+    /// The chapter of this number, from 0, which may be the open one, doesn't begin where the one before ended, or has
+    /// another number or count of calls before it.
+    #[error("mismatch chapter {0}")]
+    MismatchedChapter(u64),
+    /// A caller's receipts differ from its calls in a chapter: the first chapter in which one differs.
     #[error("mismatch caller {caller} at {at}")]
     Mismatch {
         /// The caller's number, from 0.
         caller: u8,
-        /// The first place that differs, from 0; the shorter length where one list ends.
+        /// The first place that differs among its receipts of that chapter, from 0; the shorter length where one list
+        /// ends.
         at: usize,
     },
 }
@@ -44,7 +49,7 @@ impl Fault {
             Fault::Line(_) => 2,
             Fault::Stream(_) => 3,
             Fault::Memory => 4,
-            Fault::Mismatch { .. } => 5,
+            Fault::MismatchedChapter(_) | Fault::Mismatch { .. } => 5,
         }
     }
 }

@@ -24,6 +24,8 @@ pub enum Options {
         tasks: u8,
         /// How many cycles each task runs, 1 to 1,000.
         cycles: u32,
+        /// From how many calls on a chapter of the journal is cut off, 1 to 65,536.
+        chapter: u32,
         /// The milliseconds from one cycle of a task to its next, 0 to 1,000.
         period: u32,
     },

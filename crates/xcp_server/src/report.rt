@@ -6,13 +6,15 @@ ghost use Rattle.xcp_server.specs.Report.{IsMismatch, IsReport, fault_of_end, fa
 
 use std::io::{Read, Write};
 use xcp_framing::{ServeError, Served};
-use xcp_locked::{Closing, Journal, Left, Name, TaskError, settle_all};
+use xcp_locked::{Closing, Discord, Journal, Left, Name, TaskError, settle_all};
 use xcp_program::Fault;
 
 /// What is told of a server whose callers are all settled.
 #[derive(Clone, Copy, Debug, PartialEq, Eq)]
 pub struct Report {
-    /// How many calls were accepted, all of them in the journal.
+    /// How many chapters the journal has, the open one included.
+    pub chapters: u64,
+    /// How many calls were accepted, all of them in the journal's chapters.
     pub calls: u64,
     /// The fault of the first faulty connection, in the order of accepting, else that of the tasks
     /// or of the last Hangup.
@@ -23,28 +25,34 @@ pub struct Report {
 /// accepting, as they were left. Contracts alone see the latter.
 #[derive(Drop)]
 pub struct Ending<I: Read + Drop, O: Write + Drop> {
-    /// What is told, or `Mismatch` where the receipts of a caller aren't the journal's.
+    /// What is told, or `MismatchedChapter` where a chapter doesn't follow the one before it, or
+    /// `Mismatch` where the receipts of a caller aren't the journal's.
     pub told: Result<Report, Fault>,
-    /// All calls that were accepted, in order, with their callers' numbers.
+    /// The calls of the open chapter, in order, with their callers' numbers.
     pub journal: Journal,
     pub left: Vec<Left<I, O>>,
 }
 
-/// Settles all callers of a server, one after another, and tells how many calls there were.
-/// `Mismatch` comes where the receipts of a caller aren't the journal's, and no other fault does.
+/// Settles all callers of a server for each chapter, one after another, and tells how many chapters
+/// and calls there were. `MismatchedChapter` comes where a chapter doesn't follow the one before it,
+/// and else `Mismatch` where the receipts of a caller aren't the journal's; no other fault does.
 pub fn conclude<N: Name, I: Read + Drop, O: Write + Drop>(
     closing: &mut Closing<N, I, O>,
 ) -> Result<Report, Fault>
     requires { (0 < vec_len closing.old.callers) × (vec_len closing.old.callers ≡ N.parts) }
-    ensures told { MatchResult result (IsReport closing.old)
-        (IsMismatch closing.old.locked.journal closing.old.callers.items) }
+    ensures told { MatchResult result (IsReport N.layout closing.old) (IsMismatch N.layout closing.old) }
     ensures sum { IfOk result (λ r. r.calls ≡ sum_by accepted_by closing.old.callers.items) }
     ensures same { SameClosing closing.old closing.new }
 {
     let fault = told_fault(&closing.ends, closing.fault);
     match settle_all(closing) {
-        Ok(calls) => Ok(Report { calls, fault }),
-        Err(unsettled) => Err(Fault::Mismatch {
+        Ok(calls) => Ok(Report {
+            chapters: closing.chapters.len() as u64 + 1,
+            calls,
+            fault,
+        }),
+        Err(Discord::Chapter(number)) => Err(Fault::MismatchedChapter(number)),
+        Err(Discord::Receipts(_, unsettled)) => Err(Fault::Mismatch {
             caller: closing.callers[unsettled.caller].number(),
             at: unsettled.at,
         }),

@@ -21,10 +21,12 @@ const TURNS: u32 = 1_000_000;
 const PUMP_TURNS: u32 = 4_000_000_000;
 
 /// Serves each reader and writer by frames on this slave, and runs so many tasks of so many cycles,
-/// all at the same time; joins them, ends the session, settles all callers and tells how many calls
-/// there were, or `Mismatch` where a caller's receipts aren't the journal's. A task begins its cycle n
-/// once n periods, in milliseconds, have passed since the call. `Memory`, and no other fault, is the
-/// call's own: it comes where memory or a thread is refused, before anybody has begun.
+/// all at the same time, of which task 0 cuts the open chapter from `chapter` calls on, 1 to 65,536;
+/// joins them, ends the session, settles all callers for each chapter and tells how many chapters and
+/// calls there were, or which chapter doesn't follow the one before it, or which caller's receipts
+/// aren't the journal's. A task begins its cycle n once n periods, in milliseconds, have passed since
+/// the call. `Memory`, and no other fault, is the call's own: it comes where memory or a thread is
+/// refused, before anybody has begun.
 pub fn serve_ends<I: Read + Send + Drop, O: Write + Send + Drop, R: Threads + Wait + Clock + Sync>(
     rt: &R,
     alloc: Global,
@@ -32,15 +34,16 @@ pub fn serve_ends<I: Read + Send + Drop, O: Write + Send + Drop, R: Threads + Wa
     ends: Vec<(Watched<I>, Watched<O>)>,
     tasks: u8,
     cycles: u32,
+    chapter: u32,
     period: u32,
 ) -> Result<Ending<I, O>, Fault>
     requires some { 0 < vec_len ends }
     requires callers { vec_len ends + tasks + vec_len ends ≤ unnamed.callers }
     requires readers { tasks ≤ 6 }
     ensures served { MatchResult result (IsServed Brand I.remaining O.contents unnamed.layout 1000000
-        cycles tasks unnamed.callers unnamed.bank ends.items) (λ f. f ≡ Fault.Memory) }
+        cycles chapter tasks unnamed.callers unnamed.bank ends.items) (λ f. f ≡ Fault.Memory) }
 {
-    serve_named::<Brand, I, O, R>(rt, alloc, unnamed, ends, tasks, cycles, period)
+    serve_named::<Brand, I, O, R>(rt, alloc, unnamed, ends, tasks, cycles, chapter, period)
 }
 
 /// The same, for a slave that has a name.
@@ -56,6 +59,7 @@ fn serve_named<
     ends: Vec<(Watched<I>, Watched<O>)>,
     tasks: u8,
     cycles: u32,
+    chapter: u32,
     period: u32,
 ) -> Result<Ending<I, O>, Fault>
     requires name { (unnamed.name ≡ N.name) × (unnamed.callers ≡ N.parts)
@@ -64,11 +68,11 @@ fn serve_named<
     requires callers { vec_len ends + tasks + vec_len ends ≤ unnamed.callers }
     requires readers { tasks ≤ 6 }
     ensures served { MatchResult result (IsServed N I.remaining O.contents unnamed.layout 1000000
-        cycles tasks unnamed.callers unnamed.bank ends.items) (λ f. f ≡ Fault.Memory) }
+        cycles chapter tasks unnamed.callers unnamed.bank ends.items) (λ f. f ≡ Fault.Memory) }
 {
     let gate = Timetable::new(rt, period);
     let Ok(mut closing) = run_server::<N, _, _, _, _>(
-        rt, alloc, unnamed, ends, tasks, cycles, TURNS, PUMP_TURNS, &gate,
+        rt, alloc, unnamed, ends, tasks, cycles, chapter, TURNS, PUMP_TURNS, &gate,
     ) else {
         return Err(Fault::Memory);
     };

@@ -1,5 +1,5 @@
 //! The packets that wait to be sent.
-ghost use Rattle.std.specs.Prelude.{◌≡◌, ◌≤◌, ◌<◌, ◌+◌, [], ◌∷◌, ◌++◌, length, Option, Some, None, if◌then◌else◌};
+ghost use Rattle.std.specs.Prelude.{◌≡◌, ◌≢◌, MatchBool, ◌≤◌, ◌<◌, ◌+◌, [], ◌∷◌, ◌++◌, length, Option, Some, None, if◌then◌else◌, slice_index_or as get_or};
 ghost use Rattle.xcp_slave.specs.private.OutboxRing.{first_of, behind_first, wrapped};
 
 use crate::packet::{copied, copy_into};
@@ -47,6 +47,40 @@ impl Outbox {
             first: 0,
             count: 0,
         }
+    }
+
+    /// An outbox in which equal packets wait.
+    pub(crate) fn copy(&self) -> Outbox
+        ensures { result ≡ self.now }
+    {
+        Outbox {
+            slots: copy_slots(&self.slots),
+            first: self.first,
+            count: self.count,
+        }
+    }
+
+    /// Whether equal packets wait in both.
+    pub(crate) fn same(&self, other: &Outbox) -> bool
+        ensures { MatchBool result (self.now ≡ other.now) (self.now ≢ other.now) }
+    {
+        if self.count() != other.count() {
+            return false;
+        }
+        for i in 0..self.count() as usize {
+            if !same_packet(self.at(i), other.at(i)) {
+                return false;
+            }
+        }
+        true
+    }
+
+    /// The packet that waits behind so many others.
+    fn at(&self, i: usize) -> &Packet
+        requires { i < length self.now }
+        ensures { result.now ≡ get_or self.now i result.now }
+    {
+        &self.slots[around(self.first + i)]
     }
 
     /// How many packets have room.
@@ -111,4 +145,22 @@ fn around(n: usize) -> usize
     ensures { result ≡ wrapped n }
 {
     if n < CAPACITY { n } else { n - CAPACITY }
+}
+
+/// Whether both packets are equal.
+fn same_packet(ours: &Packet, theirs: &Packet) -> bool
+    ensures { MatchBool result (ours.now ≡ theirs.now) (ours.now ≢ theirs.now) }
+{
+    ours == theirs
+}
+
+/// Equal packets in as many slots.
+fn copy_slots(slots: &ArrayVec<Packet, 64>) -> ArrayVec<Packet, 64>
+    ensures { result.items ≡ slots.now.items }
+{
+    let mut copies = ArrayVec::new();
+    for slot in slots.as_slice() {
+        copies.push(copied(slot));
+    }
+    copies
 }

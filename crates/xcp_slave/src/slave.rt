@@ -1,5 +1,5 @@
 //! The slave: its value, and one answer for each request.
-ghost use Rattle.std.specs.Prelude.{◌≡◌, ◌≤◌, ◌<◌, Err, IfOk, IsTrue, Some, drop, length};
+ghost use Rattle.std.specs.Prelude.{◌≡◌, ◌≢◌, MatchBool, ◌≤◌, ◌<◌, Err, IfOk, IsTrue, Some, drop, length};
 ghost use Rattle.xcp_memory.specs.EcuImage.{ecu_image};
 ghost use Rattle.xcp_packet.specs.ReplyPacket.{Fits};
 ghost use Rattle.xcp_packet.specs.ReplyInBytes.{IsPlain, reply_packets, sent_packets};
@@ -237,6 +237,32 @@ impl Slave {
             store: false,
             sample: ArrayVec::new(),
         })
+    }
+
+    /// An equal slave.
+    pub fn copy(&self, alloc: Global) -> Result<Slave, AllocError>
+        ensures { IfOk result (λ s. s ≡ self.now) }
+    {
+        let transfer = self.transfer.copy_all(alloc)?;
+        Ok(Slave {
+            connected: self.connected,
+            transfer,
+            daq: self.daq.copy(),
+            outbox: self.outbox.copy(),
+            store: self.store,
+            sample: ArrayVec::new(),
+        })
+    }
+
+    /// Whether both slaves are equal. It takes no memory.
+    pub fn same(&self, other: &Slave) -> bool
+        ensures { MatchBool result (self.now ≡ other.now) (self.now ≢ other.now) }
+    {
+        self.connected == other.connected
+            && self.store == other.store
+            && self.daq.same(&other.daq)
+            && self.outbox.same(&other.outbox)
+            && self.transfer.same(&other.transfer)
     }
 
     /// MAX_CTO: the greatest length of a command or of a packet that answers one, 8 to 255 bytes.

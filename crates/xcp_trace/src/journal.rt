@@ -1,5 +1,5 @@
 //! Exchanges with the callers that asked.
-ghost use Rattle.std.specs.Prelude.{◌≡◌, ◌≤◌, ◌++◌, ◌∷◌, [], length, OnOk, OnErr, MatchOption, slice_get};
+ghost use Rattle.std.specs.Prelude.{◌≡◌, ◌≤◌, ◌++◌, ◌∷◌, [], length, IfOk, OnOk, OnErr, MatchOption, slice_get};
 ghost use Rattle.xcp_slave.specs.AnswerInBytes.{answer_in};
 ghost use Rattle.xcp_trace.specs.EntrySpelling.{entry_in, room_for_any_entry};
 ghost use Rattle.xcp_trace.specs.private.EntrySpelling.{IsEntry};
@@ -48,6 +48,14 @@ impl Journal {
         Journal {
             tape: Tape::new(alloc),
         }
+    }
+
+    /// A journal with no entry, and with as much room as the other one has in all.
+    pub fn with_room_of(alloc: Global, other: &Journal) -> Result<Journal, AllocError>
+        ensures { IfOk result (λ j. (j.entries ≡ []) × (other.now.room ≤ j.room)) }
+    {
+        let tape = Tape::with_room_of(alloc, &other.tape)?;
+        Ok(Journal { tape })
     }
 
     /// How many entries there are.

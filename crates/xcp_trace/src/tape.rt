@@ -1,5 +1,5 @@
 //! Byte strings, one behind another in one buffer.
-ghost use Rattle.std.specs.Prelude.{◌≡◌, ◌≤◌, ◌<◌, ◌+◌, [], ◌∷◌, ◌++◌, length, Some, None, OnOk, OnErr, MatchOption, slice_get, vec_len, vec_capacity};
+ghost use Rattle.std.specs.Prelude.{◌≡◌, ◌≤◌, ◌<◌, ◌+◌, [], ◌∷◌, ◌++◌, length, Some, None, IfOk, OnOk, OnErr, MatchOption, slice_get, vec_len, vec_capacity};
 ghost use Rattle.xcp_trace.specs.Tape.{behind_string, framed, length_at, string_at};
 
 use std::alloc::{AllocError, Global};
@@ -37,6 +37,14 @@ impl Tape {
             bytes: Vec::new(alloc),
             count: 0,
         }
+    }
+
+    /// A tape with no string on it, and with as much room as the other one has in all.
+    pub fn with_room_of(alloc: Global, other: &Tape) -> Result<Tape, AllocError>
+        ensures { IfOk result (λ t. (t.strings ≡ []) × (other.now.room ≤ t.room)) }
+    {
+        let bytes = Vec::with_capacity(alloc, other.bytes.capacity())?;
+        Ok(Tape { bytes, count: 0 })
     }
 
     /// How many strings are on the tape.

@@ -1,5 +1,5 @@
 //! A block under way.
-ghost use Rattle.std.specs.Prelude.{◌≡◌, ◌≤◌, ◌+◌, length};
+ghost use Rattle.std.specs.Prelude.{◌≡◌, ◌≢◌, MatchBool, ◌≤◌, ◌+◌, length};
 ghost use Rattle.xcp_transfer.specs.Downloads.{block_with};
 
 use std::marker::Model;
@@ -35,6 +35,22 @@ impl Block {
             expected,
             bytes: begun,
         }
+    }
+
+    /// An equal block.
+    pub(crate) fn copy(&self) -> Block
+        ensures { result ≡ self.now }
+    {
+        Block::begin(self.address, self.expected, &self.bytes)
+    }
+
+    /// Whether both blocks are equal.
+    pub(crate) fn same(&self, other: &Block) -> bool
+        ensures { MatchBool result (self.now ≡ other.now) (self.now ≢ other.now) }
+    {
+        self.address == other.address
+            && self.expected == other.expected
+            && self.bytes.as_slice() == other.bytes.as_slice()
     }
 
     /// The first address.

@@ -1,5 +1,5 @@
 //! The tool's transfers: its memory transfer address, and the block under way.
-ghost use Rattle.std.specs.Prelude.{◌≡◌, length, None, OnOk, IfErr};
+ghost use Rattle.std.specs.Prelude.{◌≡◌, ◌≢◌, length, None, OnOk, IfErr, IfOk, MatchBool};
 ghost use Rattle.xcp_memory.specs.PageCopy.{copy_refusal, pages_copied};
 ghost use Rattle.xcp_memory.specs.Freeze.{set_freeze_refusal, pages_with_mode, pages_frozen, frozen_count};
 ghost use Rattle.xcp_memory.specs.PageSwitch.{switch_refusal, pages_switched};
@@ -12,6 +12,7 @@ mod uploads;
 
 use crate::Mta;
 use crate::block::Block;
+use std::alloc::{AllocError, Global};
 use std::marker::Model;
 use xcp_memory::Pages;
 use xcp_packet::{Code, Order};
@@ -48,6 +49,28 @@ impl Transfer {
             mta: Mta::Nowhere,
             block: None,
         }
+    }
+
+    /// Equal transfers over equal pages.
+    pub fn copy_all(&self, alloc: Global) -> Result<Transfer, AllocError>
+        ensures { IfOk result (λ t. t ≡ self.now) }
+    {
+        let pages = self.pages.copy_all(alloc)?;
+        let block = copy_block(&self.block);
+        Ok(Transfer {
+            pages,
+            mta: self.mta,
+            block,
+        })
+    }
+
+    /// Whether both are equal: pages, address and block. It takes no memory.
+    pub fn same(&self, other: &Transfer) -> bool
+        ensures { MatchBool result (self.now ≡ other.now) (self.now ≢ other.now) }
+    {
+        self.mta == other.mta
+            && same_block(&self.block, &other.block)
+            && self.pages.same(&other.pages)
     }
 
     /// Tells a caller's proof what is true of all transfers. It does nothing.
@@ -153,5 +176,26 @@ impl Transfer {
         ensures { self.new ≡ record self.old { pages = record self.old.pages { signals = bytes.now } } }
     {
         self.pages.set_signals(bytes);
+    }
+}
+
+/// An equal block, if there is one.
+fn copy_block(block: &Option<Block>) -> Option<Block>
+    ensures { result ≡ block.now }
+{
+    match block {
+        Some(block) => Some(block.copy()),
+        None => None,
+    }
+}
+
+/// Whether both are equal blocks, or neither is there.
+fn same_block(ours: &Option<Block>, theirs: &Option<Block>) -> bool
+    ensures { MatchBool result (ours.now ≡ theirs.now) (ours.now ≢ theirs.now) }
+{
+    match (ours, theirs) {
+        (Some(a), Some(b)) => a.same(b),
+        (None, None) => true,
+        _ => false,
     }
 }

@@ -56,11 +56,14 @@ fn admit(
     Ok((unnamed, accept_tools(rt.alloc(), &listener, tools)?))
 }
 
-/// Tells what came of a server: once its callers are settled its calls, and then its fault.
+/// Tells what came of a server: its chapters and calls once its callers are settled, then its fault.
 fn print_end(rt: &HostRuntime, told: Result<Report, Fault>) -> Option<Fault> {
     match told {
         Ok(report) => {
-            let _ = println!(rt; "calls {}\nsettled", report.calls);
+            let _ = println!(rt;
+                "chapters {}\ncalls {}\nsettled",
+                report.chapters, report.calls
+            );
             report.fault
         }
         Err(fault) => Some(fault),
@@ -79,6 +82,7 @@ fn tell(rt: &HostRuntime, unasked: &Unasked) -> ExitCode {
 }
 
 fn main(rt: HostRuntime) -> ExitCode {
+    let alloc = rt.alloc();
     let fault = match asked(&rt) {
         Ok(Options::Replay { config }) => run(&rt, config.as_str()).err(),
         Ok(
@@ -88,11 +92,12 @@ fn main(rt: HostRuntime) -> ExitCode {
                 tools,
                 tasks,
                 cycles,
+                chapter,
                 period,
             },
         ) => match admit(&rt, config.as_str(), port, tools, tasks) {
             Ok((unnamed, ends)) => {
-                match serve_ends(&rt, rt.alloc(), unnamed, ends, tasks, cycles, period) {
+                match serve_ends(&rt, alloc, unnamed, ends, tasks, cycles, chapter, period) {
                     Ok(ending) => print_end(&rt, ending.told),
                     Err(fault) => Some(fault),
                 }

@@ -10,12 +10,14 @@ use Rattle.xcp_locked.specs.declared.publisher.Publisher.{Publisher}
 use Rattle.xcp_locked.specs.Publications.{Publication, Published, image_of, images_of}
 use Rattle.xcp_locked.specs.private.Publications.{places_of}
 
--- What the writer of this bank has published, and where, is what is published of these exchanges, which led from v to w; the
--- image published last is at hand.
+-- What the writer of this bank has published since the chapter's first image, and where, is what is published of these exchanges,
+-- which led from v to w; the image published last is at hand.
 pub record IsKept (bank : BankId) (v : SlaveValue) (xs : List Exchange) (w : SlaveValue) (p : Publisher) : Type 0 where
   pub list : List Publication
   pub published : Published v xs list
-  pub images : p.writer.publications ≡ images_of list
+  pub front : List (List ℕ)
+  pub fronts : length front ≡ p.first
+  pub images : p.writer.publications ≡ front ++ images_of list
   pub places : p.places.items ≡ places_of list
   pub few : length list ≤ length xs + 1
   pub last : p.last ≡ image_of w
@@ -24,6 +26,7 @@ pub record IsKept (bank : BankId) (v : SlaveValue) (xs : List Exchange) (w : Sla
 -- The image is published with this place where it isn't the last one, and else nothing changes.
 pub record Offers (place : ℕ) (image : List ℕ) (old new : Publisher) : Type 0 where
   pub bank : new.writer.bank ≡ old.writer.bank
+  pub first : new.first ≡ old.first
   pub last : new.last ≡ image
   pub outcome : ((image ≡ old.last) × (new.writer.publications ≡ old.writer.publications) × (new.places.items ≡ old.places.items)) ⊎ ((image ≢ old.last) × (new.writer.publications ≡ old.writer.publications ++ image ∷ []) × (new.places.items ≡ old.places.items ++ place ∷ []))
 

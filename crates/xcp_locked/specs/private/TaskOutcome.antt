@@ -5,12 +5,13 @@ use Rattle.xcp_locked.specs.declared.worker.Worker.{Worker}
 use Rattle.xcp_locked.specs.declared.tasks.Done.{Done}
 use Rattle.xcp_locked.specs.Tasks.{Worked}
 
--- the task of this number and so many cycles, for a worker
-pub record IsTaskOf {N G : Type 0} (cycles task : ℕ) (w : Worker N) (t : Task N G) : Type 0 where
+-- the task of this number and so many cycles, which cuts chapters of so many calls, for a worker
+pub record IsTaskOf {N G : Type 0} (cycles chapter task : ℕ) (w : Worker N) (t : Task N G) : Type 0 where
   pub number : t.task ≡ task
   pub cycles_are : t.cycles ≡ cycles
+  pub chapter_is : t.chapter ≡ chapter
   pub worker : t.worker ≡ w
 
 -- what came of a task, at whichever place
 abbrev pub DoneAs : {N G : Type 0} → Type 0 → ℕ → Task N G → Done N → Type 0
-DoneAs may_end place t d = Worked may_end t.cycles t.task t.worker d.worker d.fault
+DoneAs may_end place t d = Worked may_end t.cycles t.chapter t.task t.worker d.worker d.fault

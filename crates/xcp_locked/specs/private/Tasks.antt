@@ -1,9 +1,21 @@
--- What a cycle adds.
-use Rattle.std.specs.Prelude.{◌≡◌, List, ◌++◌}
+-- What a cycle adds, and what it cuts.
+use Rattle.std.specs.Prelude.{◌≡◌, ◌<◌, ◌≤◌, ◌⊎◌, ℕ, List, [], ◌∷◌, ◌++◌, length}
 use Rattle.xcp_slave.specs.declared.Request.{Request}
 use Rattle.xcp_locked.specs.declared.receipt.Receipt.{Receipt}
+use Rattle.xcp_locked.specs.Journal.{last_chapter}
+use Rattle.xcp_locked.specs.LockedSlave.{ChapterValue, LockedValue, chapter_of, cut_off}
 use Rattle.xcp_locked.specs.Tasks.{requests_of}
 
 -- the receipts grew by those of these requests
 abbrev pub Adds : List Request → List Receipt → List Receipt → Type 0
 Adds requests old new = (more : List Receipt) × (requests_of more ≡ requests) × (new ≡ old ++ more)
+
+-- the open chapter has so many calls, and is not the last that there can be
+abbrev pub IsFull : ℕ → LockedValue → Type 0
+IsFull chapter l = (chapter ≤ length l.journal) × (l.chapter < last_chapter)
+
+-- a full chapter was cut off, and stands behind the others; of one that is not full nothing was done
+abbrev pub CutsFull : ℕ → LockedValue → LockedValue → List ChapterValue → List ChapterValue → Type 0
+CutsFull chapter old new before after =
+    (IsFull chapter old × (new ≡ cut_off old) × (after ≡ before ++ chapter_of old ∷ []))
+    ⊎ (¬ (IsFull chapter old) × (new ≡ old) × (after ≡ before))

@@ -53,6 +53,7 @@ returns g c = record {
   connections = c.in_ok-connections.ensures.each;
   workers = c.in_ok-workers.workers.items;
   hired = search rules;
+  fresh = c.in_ok-workers.ensures.fresh;
   numbered = c.in_ok-tasks.ensures;
   in_order =
       in_three_turns (map (λ k. k.0.caller) c.in_ok-connections.connections.items) (map (λ w. w.caller) c.in_ok-workers.workers.items) (map (λ k. k.1.caller) c.in_ok-connections.connections.items)

@@ -1,5 +1,7 @@
 use Rattle.std.proofs.Common.{length, ap, ◌∙◌, arith}
-use Rattle.xcp_locked.proofs.PairedListLemmas.{turn, map_behind}
+use Rattle.std.specs.Prelude.{Some}
+use Rattle.std.specs.Option.{option_or}
+use Rattle.xcp_locked.proofs.PairedListLemmas.{turn, map_behind, first_of-more}
 use Rattle.xcp_locked.proofs.dealing.dismiss.Goals as goal
 
 pub loop-worker-preserved : goal.loop-worker-preserved
@@ -21,4 +23,5 @@ loop-worker-preserved g c =
       omega (arith, gone, pushed_too, room_too, was.5),
       map_behind (λ w. w.reader) _ at.yielded c.in-Some.worker _ _ was.6 c.push_reserved-in-loop-worker.ensures.items,
       room_too ∙ was.7,
+      c.or-chapters.ensures ∙ (ap (λ z. option_or z (Some c.in-Some.worker.chapters)) was.8 ∙ first_of-more (λ w. w.chapters) at.yielded c.in-Some.worker),
     )

@@ -1,5 +1,6 @@
 use Rattle.std.specs.Prelude.{◌≡◌, ◌+◌, ◌≤◌, ◌++◌, map, length, vec_len, vec_capacity}
 use Rattle.std.specs.Vec.Iter.{into_iter_items, into_iter_len}
+use Rattle.xcp_locked.proofs.PairedListLemmas.{first_of}
 use Rattle.xcp_locked.proofs.dealing.dismiss.Given as goal
 
 abbrev pub invariant-loop-worker : goal.invariant-loop-worker
@@ -13,3 +14,4 @@ invariant-loop-worker g l =
     × (vec_len l.readers + into_iter_len rest ≤ vec_capacity l.readers)
     × (l.readers.items ≡ l.initial.readers.items ++ map (λ w. w.reader) l.yielded)
     × (vec_capacity l.readers ≡ vec_capacity l.initial.readers)
+    × (l.chapters ≡ first_of (λ w. w.chapters) l.yielded)

@@ -1,4 +1,4 @@
-use Rattle.std.specs.Prelude.{◌≡◌, ◌+◌, ◌≤◌, ◌++◌, map, length, vec_len, vec_capacity}
+use Rattle.std.specs.Prelude.{◌≡◌, ◌+◌, ◌≤◌, ◌++◌, [], All, map, length, vec_len, vec_capacity}
 use Rattle.std.specs.Vec.Iter.{into_iter_items}
 use Rattle.xcp_locked.proofs.dealing.employ.Given as goal
 
@@ -10,3 +10,4 @@ invariant-loop-task g l =
     × (l.tasks ≤ l._task + length (into_iter_items l.callers))
     × (map (λ w. w.reader) l.workers.items ++ into_iter_items l.readers ≡ into_iter_items l.fn.readers)
     × (l.tasks ≤ l._task + length (into_iter_items l.readers))
+    × All (λ w. w.chapters.items ≡ []) l.workers.items

@@ -17,8 +17,8 @@ loop-worker-preserved g c =
       turn at.yielded _ _ _ c.in-Some.worker was.0 steps.0,
       omega (arith, short, gone, was.1),
       omega (arith, gone, pushed, room, was.2),
-      subst (λ z. EachFrom (IsTaskOf {N = g.row.N.Denot} {G = g.row.G.Denot} c.args.cycles) 0 (at.yielded ++ c.in-Some.worker ∷ []) z) (sym c.push_reserved.ensures.items)
-          (each_more (IsTaskOf {N = g.row.N.Denot} {G = g.row.G.Denot} c.args.cycles) 0 at.yielded at.tasks.items c.in-Some.worker _ was.3 (record { number = omega (arith, was.4); cycles_are = refl; worker = refl })),
+      subst (λ z. EachFrom (IsTaskOf {N = g.row.N.Denot} {G = g.row.G.Denot} c.args.cycles c.args.chapter) 0 (at.yielded ++ c.in-Some.worker ∷ []) z) (sym c.push_reserved.ensures.items)
+          (each_more (IsTaskOf {N = g.row.N.Denot} {G = g.row.G.Denot} c.args.cycles c.args.chapter) 0 at.yielded at.tasks.items c.in-Some.worker _ was.3 (record { number = omega (arith, was.4); cycles_are = refl; chapter_is = refl; worker = refl })),
       omega (arith, longer, was.4),
       omega (arith, gone, was.5),
     )

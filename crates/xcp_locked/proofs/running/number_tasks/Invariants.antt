@@ -10,6 +10,6 @@ invariant-loop-worker g l =
     (l.yielded ++ into_iter_items rest ≡ into_iter_items first)
     × (into_iter_len rest ≡ length (into_iter_items rest))
     × (vec_len l.tasks + into_iter_len rest ≤ vec_capacity l.tasks)
-    × EachFrom (IsTaskOf l.cycles) 0 l.yielded l.tasks.items
+    × EachFrom (IsTaskOf l.cycles l.chapter) 0 l.yielded l.tasks.items
     × (l.task ≡ length l.yielded)
     × (l.task + into_iter_len rest ≤ 16)

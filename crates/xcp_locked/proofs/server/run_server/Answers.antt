@@ -25,7 +25,7 @@ close_each-closed-requires-clause-room g c =
     let ends : vec_len c.args.ends ≡ length c.args.ends.items = search rules in
     let parted : vec_len c.in_ok-parted.parted ≡ length c.in_ok-parted.parted.items = search rules in
     let all = each_length (PartedAs g.I.Read.remaining g.O.Write.contents) 0 c.in_ok-connections.field-0.connections.items c.in_ok-parted.parted.items c.in_ok-parted.ensures.parted in
-    let connected = as_many_connections _ _ _ _ _ _ _ _ _ c.in_ok-connections.ensures in
+    let connected = as_many_connections _ _ _ _ _ _ _ _ _ _ c.in_ok-connections.ensures in
     let room = c.in_ok-rooms.ensures.for_closed in
     let asked = c.len-2.ensures in
     (c.in_ok-rooms.ensures.none_closed, omega (arith, ends, parted, all, connected, room, asked))
@@ -41,7 +41,7 @@ close_all-requires-clause-some g c =
     let closed : vec_len c.close_each-closed.result ≡ length c.close_each-closed.result.items = search rules in
     let put = each_length ClosedAs 0 c.in_ok-parted.parted.items c.close_each-closed.result.items c.close_each-closed.ensures in
     let all = each_length (PartedAs g.I.Read.remaining g.O.Write.contents) 0 c.in_ok-connections.field-0.connections.items c.in_ok-parted.parted.items c.in_ok-parted.ensures.parted in
-    let connected = as_many_connections _ _ _ _ _ _ _ _ _ c.in_ok-connections.ensures in
+    let connected = as_many_connections _ _ _ _ _ _ _ _ _ _ c.in_ok-connections.ensures in
     let some = c.requires.some in
     omega (arith, ends, closed, put, all, connected, some)
 
@@ -55,8 +55,8 @@ close_all-requires-clause-ended g c =
     let put = each_length ClosedAs 0 c.in_ok-parted.parted.items c.close_each-closed.result.items c.close_each-closed.ensures in
     let all = each_length (PartedAs g.I.Read.remaining g.O.Write.contents) 0 d.connections.items c.in_ok-parted.parted.items c.in_ok-parted.ensures.parted in
     let tasks = each_length (DoneAs g.G.Gate.may_end) 0 d.tasks.items c.in_ok-parted.done.items c.in_ok-parted.ensures.worked in
-    let connected = as_many_connections _ _ _ _ _ _ _ _ _ c.in_ok-connections.ensures in
-    let there = all_there _ _ _ _ _ _ _ _ _ c.in_ok-connections.ensures c.close_each-closed.result.items c.in_ok-parted.done.items (put ∙ all) tasks in
+    let connected = as_many_connections _ _ _ _ _ _ _ _ _ _ c.in_ok-connections.ensures in
+    let there = all_there _ _ _ _ _ _ _ _ _ _ c.in_ok-connections.ensures c.close_each-closed.result.items c.in_ok-parted.done.items (put ∙ all) tasks in
     let asked = c.len.ensures in
     let asked_too = c.len-2.ensures in
     room_for_fewer _ _ _ _ c.in_ok-rooms.rooms.ended (omega (arith, callers, closed, done, there, asked)) (omega (arith, ends, closed, put, all, connected, asked_too)) c.in_ok-rooms.ensures.for_ended
@@ -66,7 +66,7 @@ close_all-requires-clause-workers g c =
     let done : vec_len c.in_ok-parted.done ≡ length c.in_ok-parted.done.items = search rules in
     let d = c.in_ok-connections.field-0 in
     let tasks = each_length (DoneAs g.G.Gate.may_end) 0 d.tasks.items c.in_ok-parted.done.items c.in_ok-parted.ensures.worked in
-    let hired = as_many_tasks _ _ _ _ _ _ _ _ _ c.in_ok-connections.ensures in
+    let hired = as_many_tasks _ _ _ _ _ _ _ _ _ _ c.in_ok-connections.ensures in
     let room = c.in_ok-rooms.ensures.for_workers in
     (c.in_ok-rooms.ensures.no_worker, omega (arith, done, tasks, hired, room))
 
@@ -75,8 +75,8 @@ close_all-requires-clause-readers g c =
     let done : vec_len c.in_ok-parted.done ≡ length c.in_ok-parted.done.items = search rules in
     let d = c.in_ok-connections.field-0 in
     let tasks = each_length (DoneAs g.G.Gate.may_end) 0 d.tasks.items c.in_ok-parted.done.items c.in_ok-parted.ensures.worked in
-    let hired = as_many_tasks _ _ _ _ _ _ _ _ _ c.in_ok-connections.ensures in
-    let lent = as_many_readers _ _ _ _ _ _ _ _ _ c.in_ok-connections.ensures in
+    let hired = as_many_tasks _ _ _ _ _ _ _ _ _ _ c.in_ok-connections.ensures in
+    let lent = as_many_readers _ _ _ _ _ _ _ _ _ _ c.in_ok-connections.ensures in
     let readers = c.in_ok-readers.readers.ok.0 in
     let asked = c.len-3.ensures in
     let room = c.in_ok-rooms.ensures.for_readers in
@@ -96,23 +96,25 @@ returns-clause-closes g c =
     let closed = c.close_each-closed.result.items in
     let done = c.in_ok-parted.done.items in
     let came = c.in_ok-parted.ensures in
-    let deal : Dealt m turns pumps c.args.cycles c.args.tasks opened readers ends d = dealt_as _ m turns pumps c.args.cycles c.args.tasks _ opened _ readers ends d c.max_cto.ensures c.in_ok-locked.ensures.callers given c.in_ok-connections.ensures in
+    let deal : Dealt m turns pumps c.args.cycles c.args.chapter c.args.tasks opened readers ends d = dealt_as _ m turns pumps c.args.cycles c.args.chapter c.args.tasks _ opened _ readers ends d c.max_cto.ensures c.in_ok-locked.ensures.callers given c.in_ok-connections.ensures in
     record {
       tools = map (λ k. k.0.caller) d.connections.items;
-      connected = as_many_tools m turns pumps c.args.cycles c.args.tasks opened readers ends d deal;
+      connected = as_many_tools m turns pumps c.args.cycles c.args.chapter c.args.tasks opened readers ends d deal;
       pumps = map (λ k. k.1.caller) d.connections.items;
-      drained = as_many_pumps m turns pumps c.args.cycles c.args.tasks opened readers ends d deal;
+      drained = as_many_pumps m turns pumps c.args.cycles c.args.chapter c.args.tasks opened readers ends d deal;
       spare = into_iter_items d.spare;
       workers = deal.workers;
       hired = deal.hired;
+      fresh = deal.fresh;
       dealt = deal.in_order;
       closed = closed;
-      served = all_served m turns pumps c.args.cycles c.args.tasks opened readers ends d deal g.I.Read.remaining g.O.Write.contents parted closed came.parted c.close_each-closed.ensures;
+      served = all_served m turns pumps c.args.cycles c.args.chapter c.args.tasks opened readers ends d deal g.I.Read.remaining g.O.Write.contents parted closed came.parted c.close_each-closed.ensures;
       ends_are = c.close_all.ensures.ends;
       left_is = c.close_all.ensures.left;
       done = done;
-      worked = all_worked m turns pumps c.args.cycles c.args.tasks opened readers ends d deal g.G.Gate.may_end done came.worked;
+      worked = all_worked m turns pumps c.args.cycles c.args.chapter c.args.tasks opened readers ends d deal g.G.Gate.may_end done came.worked;
       hung_up = c.close_all.ensures.hung_up;
+      chapters_are = c.close_all.ensures.chapters;
       unused = into_iter_items d.unused;
       lent = deal.readers_in_order;
       readers_back = c.close_all.ensures.readers;
@@ -126,8 +128,8 @@ returns-clause-callers g c =
     let put = each_length ClosedAs 0 c.in_ok-parted.parted.items c.close_each-closed.result.items c.close_each-closed.ensures in
     let all = each_length (PartedAs g.I.Read.remaining g.O.Write.contents) 0 d.connections.items c.in_ok-parted.parted.items c.in_ok-parted.ensures.parted in
     let tasks = each_length (DoneAs g.G.Gate.may_end) 0 d.tasks.items c.in_ok-parted.done.items c.in_ok-parted.ensures.worked in
-    let there = back_in_order _ _ _ _ _ _ _ _ _ c.in_ok-connections.ensures c.close_each-closed.result.items c.in_ok-parted.done.items (put ∙ all) tasks in
-    back ∙ (all_come_back _ _ _ _ _ c.close_all.ensures.hung_up ∙ (there ∙ opened))
+    let there = back_in_order _ _ _ _ _ _ _ _ _ _ c.in_ok-connections.ensures c.close_each-closed.result.items c.in_ok-parted.done.items (put ∙ all) tasks in
+    back ∙ (all_come_back _ _ _ _ _ _ c.close_all.ensures.hung_up ∙ (there ∙ opened))
 
 pub returns-clause-frames : goal.returns-clause-frames
 returns-clause-frames g c =
@@ -139,9 +141,9 @@ returns-clause-frames g c =
     let d = c.in_ok-connections.field-0 in
     let closed = c.close_each-closed.result.items in
     let readers = c.in_ok-readers.readers.items in
-    let deal : Dealt m turns pumps c.args.cycles c.args.tasks opened readers ends d = dealt_as _ m turns pumps c.args.cycles c.args.tasks _ opened _ readers ends d c.max_cto.ensures c.in_ok-locked.ensures.callers refl c.in_ok-connections.ensures in
-    all_count g.I.Read.remaining g.O.Write.contents m turns c.args.unnamed.layout c.args.unnamed.callers ends closed _ _ _ _ _ _ _ _ _ _ _ deal.in_order
-    (all_served m turns pumps c.args.cycles c.args.tasks opened readers ends d deal g.I.Read.remaining g.O.Write.contents c.in_ok-parted.parted.items closed c.in_ok-parted.ensures.parted c.close_each-closed.ensures) c.close_all.ensures.ends c.close_all.ensures.hung_up
+    let deal : Dealt m turns pumps c.args.cycles c.args.chapter c.args.tasks opened readers ends d = dealt_as _ m turns pumps c.args.cycles c.args.chapter c.args.tasks _ opened _ readers ends d c.max_cto.ensures c.in_ok-locked.ensures.callers refl c.in_ok-connections.ensures in
+    all_count g.I.Read.remaining g.O.Write.contents m turns c.args.unnamed.layout c.args.unnamed.callers ends closed _ _ _ _ _ _ _ _ _ _ _ _ deal.in_order
+    (all_served m turns pumps c.args.cycles c.args.chapter c.args.tasks opened readers ends d deal g.I.Read.remaining g.O.Write.contents c.in_ok-parted.parted.items closed c.in_ok-parted.ensures.parted c.close_each-closed.ensures) c.close_all.ensures.ends c.close_all.ensures.hung_up
 
 pub returns-clause-hangup : goal.returns-clause-hangup
-returns-clause-hangup g c = ends_session _ _ _ _ _ c.close_all.ensures.hung_up
+returns-clause-hangup g c = ends_session _ _ _ _ _ _ c.close_all.ensures.hung_up

@@ -1,10 +1,11 @@
-use Rattle.std.proofs.Common.{rules, ◌≡◌, ℕ, ◌+◌, List, [], ◌∷◌, Bool, true, false, true≢false, sym, subst}
+use Rattle.std.proofs.Common.{rules, ◌≡◌, ℕ, ◌+◌, List, [], ◌∷◌, Bool, true, false, true≢false, refl, sym, subst}
 use Rattle.xcp_locked.specs.Tasks.{Duty, Grew, closing_of, duty, event_of}
 use Rattle.xcp_locked.specs.private.Tasks.{Adds}
 use Rattle.xcp_locked.specs.declared.receipt.Receipt.{Receipt}
 use Rattle.xcp_locked.proofs.TaskPlanLemmas.{nothing_done, event_done, all_done}
 use Rattle.xcp_locked.proofs.TaskImageLaws.{took_it, took_nothing}
 use Rattle.xcp_locked.proofs.TaskOutcomeLemmas.{own_anyway}
+use Rattle.xcp_locked.proofs.HasCutLemmas.{cut_nothing}
 use Rattle.xcp_locked.proofs.tasks.cycle.Goals as goal
 
 pub returns-then-not-before-clause-grew : goal.returns-then-not-before-clause-grew
@@ -28,6 +29,13 @@ returns-in-Some-close-clause-grew g c old n is gr =
 -- the whole cycle was submitted
 whole_cycle : (p : Duty) (k n : ℕ) (whole : Bool) (old was mid now : List Receipt) → n ≡ k → Grew p n true old was → Adds (event_of p k ∷ []) was mid → Adds (closing_of p) mid now → Grew p (n + 1) whole old now
 whole_cycle p k n whole old was mid now is gr a b = subst (λ (j : ℕ). Grew p (j + 1) whole old now) (sym is) (all_done p k whole old was mid now (subst (λ (j : ℕ). Grew p j true old was) is gr) a b)
+
+pub returns-in-Some-cut_full-clause-grew : goal.returns-in-Some-cut_full-clause-grew
+returns-in-Some-cut_full-clause-grew g c old n is gr =
+    let p : Duty = duty c.args.worker.now.caller c.args.task in
+    let a : Adds (event_of p c.args.cycle ∷ []) c.args.worker.now.caller.receipts c.step.new.caller.receipts = search rules in
+    let b : Adds (closing_of p) c.step.new.caller.receipts c.close.new.caller.receipts = search rules in
+    whole_cycle p c.args.cycle n false old _ _ _ is gr a b
 
 pub returns-then-not-after-clause-grew : goal.returns-then-not-after-clause-grew
 returns-then-not-after-clause-grew g c old n is gr =
@@ -58,8 +66,20 @@ returns-in-Some-clause-took g c = took_nothing 1 false _ _ (λ e. absurd (true�
 pub returns-in-Some-close-clause-took : goal.returns-in-Some-close-clause-took
 returns-in-Some-close-clause-took g c = took_it false _ _ _ _ c.take_image.ensures
 
+pub returns-in-Some-cut_full-clause-took : goal.returns-in-Some-cut_full-clause-took
+returns-in-Some-cut_full-clause-took g c = took_it false _ _ _ _ c.take_image.ensures
+
 pub returns-then-not-after-clause-took : goal.returns-then-not-after-clause-took
 returns-then-not-after-clause-took g c = took_it false _ _ _ _ c.take_image.ensures
 
 pub returns-clause-took : goal.returns-clause-took
 returns-clause-took g c = c.take_image.ensures
+
+pub returns-then-not-before-clause-cut : goal.returns-then-not-before-clause-cut
+returns-then-not-before-clause-cut g c = cut_nothing 1 _ _ _ _ refl
+
+pub returns-in-Some-clause-cut : goal.returns-in-Some-clause-cut
+returns-in-Some-clause-cut g c = cut_nothing 1 _ _ _ _ refl
+
+pub returns-in-Some-close-clause-cut : goal.returns-in-Some-close-clause-cut
+returns-in-Some-close-clause-cut g c = cut_nothing 1 _ _ _ _ refl

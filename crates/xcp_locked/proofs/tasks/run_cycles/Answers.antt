@@ -4,6 +4,7 @@ use Rattle.xcp_locked.specs.Tasks.{Duty, Grew, duty}
 use Rattle.xcp_locked.proofs.TaskPlanLemmas.{duty_same, same_after, starts, stopped}
 use Rattle.xcp_locked.proofs.TaskOutcomeLemmas.{none_left}
 use Rattle.xcp_locked.proofs.TaskImageLaws.{took_less, took_more, took_nothing}
+use Rattle.xcp_locked.proofs.HasCutLemmas.{cut_less, cut_more, cut_nothing}
 use Rattle.xcp_locked.specs.TaskImages.{Took}
 use Rattle.xcp_locked.proofs.tasks.run_cycles.Goals as goal
 
@@ -25,8 +26,14 @@ returns-in-Some-clause-took g c =
     let more = took_more n (is_none c.cycle.result) _ _ _ _ _ _ c.loop-n.invariant.2 c.cycle.ensures.took in
     took_less (n + 1) c.args.cycles _ _ _ _ (subst (λ (o : _). Took (n + 1) (is_none o) w.reader c.cycle.new.worker.reader w.last c.cycle.new.worker.last) c.in-Some.is more)
 
+pub returns-in-Some-clause-cut : goal.returns-in-Some-clause-cut
+returns-in-Some-clause-cut g c =
+    let n : ℕ = c.loop-n.n in
+    let le : n + 1 ≤ c.args.cycles = search rules in
+    cut_less (n + 1) c.args.cycles _ _ _ _ le (cut_more n _ _ _ _ _ c.loop-n.invariant.3 c.cycle.ensures.cut)
+
 pub loop-n-init : goal.loop-n-init
-loop-n-init g c = (starts _ _, record { number = refl; events = refl; signals = refl }, took_nothing 0 true _ _ (λ _. refl))
+loop-n-init g c = (starts _ _, record { number = refl; events = refl; signals = refl }, took_nothing 0 true _ _ (λ _. refl), cut_nothing 0 _ _ _ _ refl)
 
 pub loop-n-preserved : goal.loop-n-preserved
 loop-n-preserved g c =
@@ -41,4 +48,5 @@ loop-n-preserved g c =
       subst (λ (b : Bool). Grew p (n + 1) b w.caller.receipts c.cycle.new.worker.caller.receipts) whole (one was.0),
       same_after _ _ _ was.1 c.cycle.ensures.same,
       subst (λ (b : Bool). Took (n + 1) b w.reader c.cycle.new.worker.reader w.last c.cycle.new.worker.last) whole more,
+      cut_more n _ _ _ _ _ was.3 c.cycle.ensures.cut,
     )

@@ -1,7 +1,11 @@
 use Rattle.std.proofs.Common.{true}
 use Rattle.xcp_locked.specs.TaskImages.{Took}
-use Rattle.xcp_locked.specs.Tasks.{Grew, Same, duty}
+use Rattle.xcp_locked.specs.Tasks.{Grew, HasCut, Same, duty}
 use Rattle.xcp_locked.proofs.tasks.run_cycles.Given as goal
 
 abbrev pub invariant-loop-n : goal.invariant-loop-n
-invariant-loop-n g l = Grew (duty l.fn.worker.caller l.task) l.n true l.fn.worker.caller.receipts l.worker.caller.receipts × Same l.fn.worker.caller l.worker.caller × Took l.n true l.fn.worker.reader l.worker.reader l.fn.worker.last l.worker.last
+invariant-loop-n g l =
+    Grew (duty l.fn.worker.caller l.task) l.n true l.fn.worker.caller.receipts l.worker.caller.receipts
+    × Same l.fn.worker.caller l.worker.caller
+    × Took l.n true l.fn.worker.reader l.worker.reader l.fn.worker.last l.worker.last
+    × HasCut l.n l.chapter l.task l.fn.worker.chapters.items l.worker.chapters.items

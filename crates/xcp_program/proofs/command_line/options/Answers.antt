@@ -1,10 +1,13 @@
-use Rattle.std.proofs.Common.{◌≡◌, List, [], map, Option, Result, Ok, Err, IfOk, ◌∙◌, ap, sym, subst, string_bytes}
+use Rattle.std.proofs.Common.{◌≡◌, ◌⊎◌, inl, inr, List, [], map, Option, Result, Ok, Err, IfOk, ◌∙◌, ap, sym, subst, string_bytes}
 use Rattle.std.proofs.lemmas.Result.{IfErr-weaker}
-use Rattle.clap.specs.Words.{App, Row, Text, fault_of, is_simple, is_simple_and_free, subcommand_of, subcommand_rows_of, takes}
-use Rattle.xcp_program.specs.CommandLine.{IsMistake, program}
+use Rattle.clap.specs.Words.{App, HasKind, Kinds, Row, Text, fault_of, kind_of, is_simple, is_simple_and_free, subcommand_of, subcommand_rows_of, takes}
+use Rattle.clap.specs.declared.error.Error.{Error}
+use Rattle.clap.specs.declared.error.kind.ErrorKind.TheVariants.{OutOfMemory}
+use Rattle.xcp_program.specs.CommandLine.{Asks, IsMistake, program}
 use Rattle.xcp_program.specs.private.CommandLine.{AsksSomething}
 use Rattle.xcp_program.specs.declared.purpose.Options.{Options}
 use Rattle.xcp_program.specs.declared.purpose.OptionsFault.{OptionsFault}
+use Rattle.xcp_program.specs.declared.purpose.OptionsFault.TheVariants.{Memory, Words}
 use Rattle.xcp_program.proofs.NoFaultLemmas.{words_ask}
 use Rattle.xcp_program.proofs.command_line.options.Goals as goal
 
@@ -17,6 +20,22 @@ of_ok (Err e) a = tt
 of_matches : (found named : Option (Text × List Row)) → found ≡ named → AsksSomething named → AsksSomething found
 of_matches found named same r = subst AsksSomething (sym same) r
 
+-- and what the matches ask for, the words do
+of_words : (found named : Option (Text × List Row)) (r : Result Options OptionsFault) → found ≡ named → IfOk r (λ o. Asks found o) → IfOk r (λ o. Asks named o)
+of_words found named r same h = subst (λ (f : Option (Text × List Row)). IfOk r (λ o. Asks f o)) same h
+
+-- clap's error says that memory ran out, or is a mistake
+of_error : (kinds : Kinds) (e : Error) (f : OptionsFault) → HasKind kinds e → (kind_of e ≡ OutOfMemory → f ≡ Memory) → (f ≡ Memory) ⊎ (f ≡ Words e) → IsMistake kinds f
+of_error kinds e f has memory which =
+    let spent : f ≡ Memory → IsMistake kinds f = λ same. subst (IsMistake kinds) (sym same) tt in
+    elim which [
+      | inl same ↦ spent same
+      | inr same ↦ elim has [
+        | inl out ↦ spent (memory out)
+        | inr among ↦ subst (IsMistake kinds) (sym same) among
+      ]
+    ]
+
 pub asked-requires : goal.asked-requires
 asked-requires c =
     let words = map string_bytes c.args.words.now in
@@ -25,6 +44,14 @@ asked-requires c =
     let same : subcommand_rows_of c.in-Ok.matches ≡ subcommand_of program words =
     (c.in-Ok.ensures.matches (ap is_simple program_is)).1 ∙ ap (λ (a : App). subcommand_of a words) program_is in
     of_matches _ _ same (words_ask words none)
+
+pub returns-in-Ok-clause-asked : goal.returns-in-Ok-clause-asked
+returns-in-Ok-clause-asked c =
+    let words = map string_bytes c.args.words.now in
+    let program_is = c.in_ok-command.ensures in
+    let same : subcommand_rows_of c.in-Ok.matches ≡ subcommand_of program words =
+    (c.in-Ok.ensures.matches (ap is_simple program_is)).1 ∙ ap (λ (a : App). subcommand_of a words) program_is in
+    of_words _ _ c.asked.result same c.asked.ensures.asked
 
 pub returns-in-Ok-clause-refused : goal.returns-in-Ok-clause-refused
 returns-in-Ok-clause-refused c = IfErr-weaker c.asked.result _ _ (λ e h taken. h) c.asked.ensures.refused
@@ -39,6 +66,14 @@ returns-in-Ok-clause-taken c =
 pub returns-in-Ok-clause-mistake : goal.returns-in-Ok-clause-mistake
 returns-in-Ok-clause-mistake c =
     IfErr-weaker c.asked.result _ _ (λ (e : OptionsFault) h. subst (IsMistake (fault_of program (map string_bytes c.args.words.now))) (sym h) tt) c.asked.ensures.refused
+
+pub returns-in-Err-clause-mistake : goal.returns-in-Err-clause-mistake
+returns-in-Err-clause-mistake c =
+    let words = map string_bytes c.args.words.now in
+    let program_is = c.in_ok-command.ensures in
+    let has : HasKind (fault_of program words) c.in-Err.e =
+    subst (λ (a : App). HasKind (fault_of a words) c.in-Err.e) program_is (c.in-Err.ensures.kinds (ap is_simple_and_free program_is)) in
+    of_error (fault_of program words) c.in-Err.e c.fault_of.result has c.fault_of.ensures.memory c.fault_of.ensures.which
 
 pub returns-in-Err-clause-refused : goal.returns-in-Err-clause-refused
 returns-in-Err-clause-refused c =

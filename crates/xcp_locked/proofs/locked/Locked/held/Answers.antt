@@ -12,12 +12,18 @@ invariant_of-self g c =
       record {
         list = k.list;
         published = k.published;
+        front = k.front;
+        fronts = k.fronts;
         images = c.held.ensures.same_publications ∙ k.images;
         places = k.places;
         few = k.few;
         last = k.last;
         named = c.held.ensures.same_bank ∙ k.named;
       },
+      c.self.invariant.5,
+      c.self.invariant.6,
+      c.self.invariant.7,
+      c.self.invariant.8,
     )
 
 pub returns-clause-same : goal.returns-clause-same

@@ -1,4 +1,4 @@
-use Rattle.rows_locked.proofs.rows.first_wrong.Given as goal
+use Rattle.rows_chapters.proofs.rows.first_wrong.Given as goal
 
 abbrev pub ghosts-first_wrong_of-N-Ledger : goal.ghosts-first_wrong_of-N-Ledger
 ghosts-first_wrong_of-N-Ledger a = record { name = a.unnamed.name; parts = a.unnamed.callers }

@@ -198,3 +198,35 @@ fn held_buffers_are_counted(rt: HostRuntime) -> Result<(), Fail> {
     assert_eq!(rt; first_wrong(rt.alloc(), HELD)?, None);
     Ok(())
 }
+
+// A cut publishes nothing. What a reader holds is the new chapter's first image, or an earlier one, also
+// over several cuts.
+const CUT: &str = "reader 2 acquires > newer
+FF 00 > FF 05 C0 20 40 00 01 01
+EB 03 00 01 > FF
+ED 02 00 00 00 10 00 00 AB CD > FF
+reader 0 acquires > newer
+reader 1 acquires > newer
+cut > 0 of 3
+reader 0 settles > 1 from 0 in 1
+reader 2 settles > earlier
+reader 3 settles > none
+ED 01 00 00 00 10 00 00 11 > FF
+cut > 1 of 1
+cut > 2 of 0
+reader 0 settles > earlier
+reader 1 settles > earlier
+reader 2 settles > earlier
+reader 2 reads > 00 01 02 03
+reader 0 acquires > newer
+reader 0 settles > 2 from 0 in 3
+ED 01 00 00 00 10 00 00 22 > FF
+reader 0 settles > 2 from 0 in 3
+reader 2 acquires > newer
+reader 2 settles > 3 from 1 in 3";
+
+#[test]
+fn readers_settle_by_chapters(rt: HostRuntime) -> Result<(), Fail> {
+    assert_eq!(rt; first_wrong(rt.alloc(), CUT)?, None);
+    Ok(())
+}

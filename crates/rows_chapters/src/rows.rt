@@ -1,16 +1,16 @@
 // Rows as texts: what is asked, and what comes of it. A command packet in hex, `drain` or `store`, and
-// its answer; `held`, and how many buffers are; or the number of a reader, and that it `acquires` (`newer`
-// or `same`), `reads` (the bytes that its image begins with: the rest is 0), `settles` (`1 from 7`, or
-// `none`), or, with `-`, that it `is told`, `leaves` or `is dropped`.
+// its answer; `held`, and how many buffers are; `cut`, and the number of the chapter and of its calls
+// (`0 of 7`); or the number of a reader, and that it `acquires` (`newer` or `same`), `reads` (the bytes
+// that its image begins with: the rest is 0), `settles` (`1 from 7` of chapter 0, `1 from 0 in 2` of
+// chapter 2, `none`, or `earlier`), or, with `-`, that it `is told`, `leaves` or `is dropped`.
 ghost use Rattle.std.specs.Prelude.{◌≡◌};
 
-use crate::images::held;
-use crate::openings::unnamed;
+use crate::slaves::small;
 use arrayvec::ArrayVec;
 use std::alloc::Global;
 use std::marker::Brand;
 use std::test::Fail;
-use xcp_locked::{Caller, Locked, Name, Opening, Reader, Settled, Taken, Unnamed};
+use xcp_locked::{Caller, Locked, LockedError, Name, Opening, Reader, Settled, Taken, Unnamed};
 use xcp_packet::Train;
 use xcp_slave::{Answer, Request};
 
@@ -63,14 +63,42 @@ fn taken(text: &str) -> Option<Taken> {
 }
 
 fn settled(text: &str) -> Option<Settled> {
-    let (number, from) = text.split_once(" from ")?;
+    let (number, place) = text.split_once(" from ")?;
+    let (from, chapter) = place.split_once(" in ").unwrap_or((place, "0"));
     Some(Settled {
         number: number.parse().ok()?,
+        chapter: chapter.parse().ok()?,
         from: from.parse().ok()?,
     })
 }
 
+fn settling(text: &str) -> Option<Result<Option<Settled>, LockedError>> {
+    match text {
+        "none" => Some(Ok(None)),
+        "earlier" => Some(Err(LockedError::Earlier)),
+        _ => Some(Ok(Some(settled(text)?))),
+    }
+}
+
+// Whether a chapter with this number and so many calls is cut off.
+fn cuts<N: Name>(alloc: Global, locked: &mut Locked<N>, said: &str) -> Option<bool> {
+    let (number, calls) = said.split_once(" of ")?;
+    let wanted: (u64, u64) = (number.parse().ok()?, calls.parse().ok()?);
+    let chapter = locked.cut(alloc).ok()?;
+    Some((chapter.number(), chapter.len()) == wanted)
+}
+
 // Whether the reader's image begins with these bytes, and all behind them is 0.
+// What a reader holds, whole, if it holds something.
+fn held<N: Name>(reader: &mut Reader<N>) -> Option<[u8; 2040]> {
+    if !reader.holds() {
+        return None;
+    }
+    let mut image = [0xEE; 2040];
+    reader.read(0, &mut image);
+    Some(image)
+}
+
 fn reads<N: Name>(reader: &mut Reader<N>, said: &str) -> Option<bool> {
     let wanted: ArrayVec<u8, 32> = bytes(said)?;
     let image = held(reader)?;
@@ -88,8 +116,7 @@ fn follows<N: Name>(
     match (deed, said) {
         ("acquires", _) => Some(reader.acquire() == taken(said)?),
         ("reads", _) => reads(reader, said),
-        ("settles", "none") => Some(locked.settle_reader(reader).is_none()),
-        ("settles", _) => Some(locked.settle_reader(reader)? == settled(said)?),
+        ("settles", _) => Some(locked.settle_reader(reader) == settling(said)?),
         ("is told", "-") => {
             locked.tell(reader);
             Some(true)
@@ -135,6 +162,7 @@ fn follows_or_goes<N: Name>(
 
 // Whether a row comes out as it says; none where it means nothing.
 fn holds<N: Name>(
+    alloc: Global,
     locked: &mut Locked<N>,
     caller: &mut Caller<N>,
     seats: &mut Seats<N>,
@@ -143,6 +171,9 @@ fn holds<N: Name>(
     let (question, said) = row;
     if question == "held" {
         return Some(locked.held() == said.parse::<u8>().ok()?);
+    }
+    if question == "cut" {
+        return cuts(alloc, locked, said);
     }
     let Some(rest) = question.strip_prefix("reader ") else {
         return answers(locked, caller, question, said);
@@ -166,11 +197,12 @@ fn first_wrong_of<N: Name>(
         readers,
     } = Locked::<N>::new(alloc, unnamed)?;
     let mut seats = seats(readers);
-    Ok(first_wrong_here(&mut locked, &mut callers, &mut seats, rows))
+    Ok(first_wrong_here(alloc, &mut locked, &mut callers, &mut seats, rows))
 }
 
 // The same of this slave, whose first caller asks.
 fn first_wrong_here<N: Name>(
+    alloc: Global,
     locked: &mut Locked<N>,
     callers: &mut [Caller<N>],
     seats: &mut Seats<N>,
@@ -180,7 +212,7 @@ fn first_wrong_here<N: Name>(
         let Some(caller) = callers.first_mut() else {
             return Some(number);
         };
-        if holds(locked, caller, seats, *row) != Some(true) {
+        if holds(alloc, locked, caller, seats, *row) != Some(true) {
             return Some(number);
         }
     }
@@ -195,6 +227,6 @@ pub fn first_wrong(alloc: Global, text: &'static str) -> Result<Option<usize>, F
         let (question, said) = line.split_once('>').ok_or("a row")?;
         rows.push((question.trim(), said.trim()))?;
     }
-    let unnamed = unnamed(alloc, 1)?;
+    let unnamed = small(alloc, 1)?;
     first_wrong_of::<Brand>(alloc, unnamed, &rows)
 }

@@ -1,0 +1,95 @@
+// Servers whose journal is cut into chapters.
+ghost use Rattle.std.specs.Prelude.{◌≡◌, ◌<◌, ◌≤◌, ◌+◌, vec_len};
+
+use crate::gate::Open;
+use crate::slaves::small;
+use std::alloc::Global;
+use std::io::{Read, Write};
+use std::marker::Brand;
+use std::sync::Wait;
+use std::test::Fail;
+use std::thread::Threads;
+use std::time::Clock;
+use xcp_framing::Watched;
+use xcp_locked::{Closing, Discord, Name, TaskError, Unnamed, run_server, settle_all};
+
+// How many chapters were cut, the tasks' fault, and what settling says.
+type Came = (usize, Option<TaskError>, Result<u64, Discord>);
+
+// Exchanges two chapters.
+fn exchange<N: Name, I: Read + Drop, O: Write + Drop>(
+    closing: &mut Closing<N, I, O>,
+    exchanged: bool,
+)
+    ensures { vec_len closing.new.callers ≡ vec_len closing.old.callers }
+{
+    if exchanged {
+        closing.chapters.reverse();
+    }
+}
+
+fn serve_named<N: Name + Send + Sync, R: Threads + Wait + Clock + Sync>(
+    rt: &R,
+    alloc: Global,
+    unnamed: Unnamed,
+    tasks: u8,
+    cycles: u32,
+    exchanged: bool,
+) -> Result<Came, Fail>
+    requires name { (unnamed.name ≡ N.name) × (unnamed.callers ≡ N.parts)
+        × (unnamed.layout ≡ N.layout) × (unnamed.bank ≡ N.bank) }
+    requires callers { 2 + tasks ≤ unnamed.callers }
+    requires readers { tasks ≤ 6 }
+{
+    let reader: &'static [u8] = &[];
+    let writer: Vec<u8> = Vec::new(alloc);
+    let ends = Vec::from_array(alloc, [(Watched::new(reader), Watched::new(writer))])?;
+    let mut closing: Closing<N, &'static [u8], Vec<u8>> = run_server(
+        rt,
+        alloc,
+        unnamed,
+        ends,
+        tasks,
+        cycles,
+        1,
+        1_000,
+        100_000_000,
+        &Open,
+    )?;
+    exchange(&mut closing, exchanged);
+    let settled = settle_all(&mut closing);
+    Ok((closing.chapters.len(), closing.fault, settled))
+}
+
+// What comes of one tool that sends nothing and of so many tasks, which cut a chapter where it has a call;
+// two chapters may be exchanged behind it.
+fn serve<R: Threads + Wait + Clock + Sync>(
+    rt: &R,
+    alloc: Global,
+    tasks: u8,
+    cycles: u32,
+    exchanged: bool,
+) -> Result<Came, Fail>
+    requires { tasks ≤ 6 }
+{
+    let unnamed = small(alloc, 8)?;
+    serve_named::<Brand, R>(rt, alloc, unnamed, tasks, cycles, exchanged)
+}
+
+// Two calls in each of two cycles, and the last Hangup.
+#[test]
+fn a_server_gives_its_chapters(rt: HostRuntime) -> Result<(), Fail> {
+    let good = serve(&rt, rt.alloc(), 1, 2, false)?;
+    let exchanged = serve(&rt, rt.alloc(), 1, 2, true)?;
+    assert!(rt; good == (2, None, Ok(5)));
+    assert!(rt; exchanged == (2, None, Err(Discord::Chapter(0))));
+    Ok(())
+}
+
+// Task 0 makes two calls in each of 200 cycles, task 1 one.
+#[test]
+fn many_chapters_are_one_run(rt: HostRuntime) -> Result<(), Fail> {
+    let many = serve(&rt, rt.alloc(), 2, 200, false)?;
+    assert_eq!(rt; many, (200, None, Ok(601)));
+    Ok(())
+}

@@ -1,0 +1,76 @@
+//! A slave that is copied is the same one, until one of both is asked something.
+use crate::layouts::{Kind, USUAL, slave};
+use crate::rows::request;
+use std::alloc::Global;
+use std::test::Fail;
+use xcp_slave::Slave;
+
+/// Each of these changes the slave in another way: that somebody is connected, a page's number, a mode, the
+/// MTA, a byte of a page, what may be allocated, lists, ODTs, entries, the pointer, an entry, a mode, that a
+/// list runs, signals and packets that wait, a store that is requested and that is finished, a block.
+const CHANGES: &str = "
+    FF 00
+    EB 02 00 01
+    E6 01 00
+    F6 00 00 00 00 10 00 00
+    F0 01 55
+    D6
+    D5 00 01 00
+    D4 00 00 00 01
+    D3 00 00 00 00 01
+    E2 00 00 00 00 00
+    E1 FF 02 00 00 80 00 00
+    E0 00 00 00 00 00 02 00
+    DE 01 00 00
+    event 0 01 02 03 04 05 06 07 08
+    event 0 01 02 03 04 05 06 07 08
+    drain
+    F9 01 00 00
+    store
+    F0 28 01 02 03 04 05 06 07 08 09 0A 0B 0C 0D 0E 0F 10 11 12 13 14 15 16 17 18 19 1A 1B 1C 1D 1E
+    hangup
+";
+
+/// Whether a copy is the same, another one once the slave was asked, and the same again once it was asked too.
+fn follows(alloc: Global, slave: &mut Slave, line: &str) -> Result<bool, Fail> {
+    let Some(request) = request(line) else {
+        return Ok(false);
+    };
+    let mut copy = slave.copy(alloc)?;
+    if !copy.same(slave) {
+        return Ok(false);
+    }
+    let _answer = slave.submit(&request);
+    if copy.same(slave) {
+        return Ok(false);
+    }
+    let _answer = copy.submit(&request);
+    Ok(copy.same(slave) && slave.same(&copy))
+}
+
+/// The first line whose change a copy doesn't show, and how many lines there were before.
+fn first_hidden<'a>(alloc: Global, lines: &'a str) -> Result<(Option<&'a str>, u32), Fail> {
+    let kind = Kind {
+        length: 64,
+        ..USUAL
+    };
+    let mut slave = slave(alloc, kind)?;
+    let mut shown = 0u32;
+    for line in lines.lines() {
+        let line = line.trim();
+        if line.is_empty() {
+            continue;
+        }
+        if !follows(alloc, &mut slave, line)? {
+            return Ok((Some(line), shown));
+        }
+        shown = shown.wrapping_add(1);
+    }
+    Ok((None, shown))
+}
+
+#[test]
+fn a_copy_is_the_same_until_one_changes(rt: HostRuntime) -> Result<(), Fail> {
+    assert_eq!(rt; first_hidden(rt.alloc(), CHANGES)?, (None, 20));
+    Ok(())
+}

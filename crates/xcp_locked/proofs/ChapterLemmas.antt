@@ -1,0 +1,78 @@
+-- What holds where a chapter ends and the next one begins.
+use Rattle.std.proofs.Common.{◌≡◌, ◌≤◌, ℕ, ◌+◌, ◌-◌, List, [], ◌∷◌, ◌++◌, length, refl, sym, ap, ◌∙◌, subst, arith, length-append, append_assoc}
+use Rattle.std.specs.Prelude.{vec_len}
+use Rattle.std.proofs.lemmas.List.{map-append}
+use Rattle.xcp_bank.specs.BankId.{BankId}
+use Rattle.xcp_memory.specs.Layout.{LayoutValue}
+use Rattle.xcp_slave.specs.declared.Exchange.{Exchange}
+use Rattle.xcp_slave.specs.SlaveValue.{SlaveValue, layout_of, opening}
+use Rattle.xcp_slave.specs.Run.{Run}
+use Rattle.xcp_slave.proofs.RunLaws.{run-layout}
+use Rattle.xcp_trace.specs.declared.Entry.{Entry}
+use Rattle.xcp_locked.specs.declared.publisher.Publisher.{Publisher}
+use Rattle.xcp_locked.specs.Journal.{exchanges}
+use Rattle.xcp_locked.specs.LockedSlave.{IsReached}
+use Rattle.xcp_locked.specs.Publications.{Publication, publication, image_of, images_of, Published}
+use Rattle.xcp_locked.specs.private.PublishingCalls.{IsKept}
+use Rattle.xcp_locked.proofs.PublicationLemmas.{exchanges_length, published_first}
+use Rattle.xcp_locked.proofs.PublicationLaws.{published_end}
+use Rattle.xcp_locked.proofs.SettledReaderLemmas.{images_length, places_length}
+
+-- one run behind another
+pub run_joined : (v m w : SlaveValue) (xs ys : List Exchange) → Run v xs m → Run m ys w → Run v (xs ++ ys) w
+run_joined v m w [] ys r s = subst (λ (z : SlaveValue). Run z ys w) r s
+run_joined v m w (x ∷ xs) ys r s = (r.0, r.1, run_joined r.0 m w xs ys r.2 s)
+
+-- nothing leads to the opening
+pub reached_first : (l : LayoutValue) (v : SlaveValue) → v ≡ opening l → IsReached l 0 v
+reached_first l v is = record { past = []; count = refl; run = is }
+
+-- a chapter's calls lead on
+pub reached_on : (l : LayoutValue) (n : ℕ) (base w : SlaveValue) (es : List Entry) → IsReached l n base → Run base (exchanges es) w → IsReached l (n + length es) w
+reached_on l n base w es r s = record {
+  past = r.past ++ exchanges es;
+  count = length-append r.past (exchanges es) ∙ ((λ i. r.count i + length (exchanges es)) ∙ ap (λ (k : ℕ). n + k) (exchanges_length es));
+  run = run_joined (opening l) base w r.past (exchanges es) r.run s;
+}
+
+-- the base has the layout of the opening
+pub reached_layout : (l : LayoutValue) (n : ℕ) (v : SlaveValue) → IsReached l n v → layout_of v ≡ l
+reached_layout l n v r = run-layout (opening l) r.past v r.run
+
+-- the chapter's first image is the newest one of the chapter before
+pub record Turned (p q : Publisher) : Type 0 where
+  pub writer : q.writer ≡ p.writer
+  pub first : q.first ≡ p.first + vec_len p.places - 1
+  pub places : q.places.items ≡ 0 ∷ []
+  pub last : q.last ≡ p.last
+
+pub kept_cut : (bank : BankId) (v w base : SlaveValue) (xs : List Exchange) (none : List Entry) (p q : Publisher) → Run v xs w → IsKept bank v xs w p → Turned p q → none ≡ [] → w ≡ base → IsKept bank base (exchanges none) w q
+kept_cut bank v w base xs none p q run k t empty is =
+    let e = published_end v xs w k.list k.published run in
+    let newest : images_of k.list ≡ images_of e.0 ++ image_of w ∷ [] = ap images_of e.2 ∙ map-append (λ (z : Publication). z.image) e.0 (publication e.1 (image_of w) ∷ []) in
+    let long : length k.list ≡ length e.0 + 1 = ap length e.2 ∙ length-append e.0 (publication e.1 (image_of w) ∷ []) in
+    let places : length p.places.items ≡ length k.list = ap length k.places ∙ places_length k.list in
+    let fronts = k.fronts in
+    let first = t.first in
+    let room : length p.places.items ≡ vec_len p.places = sym p.places.ok.0 in
+    let both : length (k.front ++ images_of e.0) ≡ length k.front + length e.0 = length-append k.front (images_of e.0) ∙ ap (λ (n : ℕ). length k.front + n) (images_length e.0) in
+    record {
+      list = publication 0 (image_of w) ∷ [];
+      published = subst (λ (z : SlaveValue). Published z (exchanges none) (publication 0 (image_of w) ∷ [])) is (subst (λ (z : List Entry). Published w (exchanges z) (publication 0 (image_of w) ∷ [])) (sym empty) (published_first w));
+      front = k.front ++ images_of e.0;
+      fronts = both ∙ omega (arith, long, places, fronts, first, room);
+      images = ap (λ z. z.publications) t.writer ∙ (k.images ∙ (ap (λ z. k.front ++ z) newest ∙ sym (append_assoc k.front (images_of e.0) (image_of w ∷ []))));
+      places = t.places;
+      few = omega arith;
+      last = t.last ∙ k.last;
+      named = ap (λ z. z.bank) t.writer ∙ k.named;
+    }
+
+-- a chapter publishes at most as often as it has calls
+pub few_more : (bank : BankId) (v w : SlaveValue) (es : List Entry) (p : Publisher) (before : ℕ) → IsKept bank v (exchanges es) w p → p.first ≤ before → p.first + vec_len p.places - 1 ≤ before + length es
+few_more bank v w es p before k low =
+    let places : length p.places.items ≡ length k.list = ap length k.places ∙ places_length k.list in
+    let room : length p.places.items ≡ vec_len p.places = sym p.places.ok.0 in
+    let few = k.few in
+    let l = exchanges_length es in
+    omega (arith, places, few, l, low, room)
