@@ -230,3 +230,63 @@ fn readers_settle_by_chapters(rt: HostRuntime) -> Result<(), Fail> {
     assert_eq!(rt; first_wrong(rt.alloc(), CUT)?, None);
     Ok(())
 }
+
+// What a reader holds stays whatever is cut meanwhile, and no cut publishes anything.
+const BETWEEN: &str = "reader 0 acquires > newer
+cut > 0 of 0
+FF 00 > FF 05 C0 20 40 00 01 01
+EB 02 00 01 > FF
+F6 00 00 00 00 10 00 00 > FF
+F0 02 AB CD > FF
+cut > 1 of 4
+EB 01 00 01 > FF
+reader 0 reads > 00 01 02 03
+cut > 2 of 1
+reader 0 reads > 00 01 02 03
+reader 0 acquires > newer
+reader 0 reads > AB CD 02 03
+cut > 3 of 0
+reader 0 acquires > same
+reader 0 settles > 1 from 0 in 4";
+
+// Six images, each published in a chapter of its own.
+const SIX_CHAPTERS: &str = "FF 00 > FF 05 C0 20 40 00 01 01
+EB 03 00 01 > FF
+reader 0 acquires > newer
+ED 04 00 00 00 10 00 00 11 11 11 11 > FF
+cut > 0 of 3
+reader 1 acquires > newer
+ED 04 00 00 00 10 00 00 22 22 22 22 > FF
+cut > 1 of 1
+reader 2 acquires > newer
+ED 04 00 00 00 10 00 00 33 33 33 33 > FF
+cut > 2 of 1
+reader 3 acquires > newer
+ED 04 00 00 00 10 00 00 44 44 44 44 > FF
+cut > 3 of 1
+reader 4 acquires > newer
+ED 04 00 00 00 10 00 00 55 55 55 55 > FF
+cut > 4 of 1
+reader 5 acquires > newer
+ED 04 00 00 00 10 00 00 66 66 66 66 > FF
+cut > 5 of 1
+ED 04 00 00 00 10 00 00 77 77 77 77 > FF
+ED 04 00 00 00 10 00 00 88 88 88 88 > FF
+reader 0 reads > 00 01 02 03
+reader 1 reads > 11 11 11 11
+reader 2 reads > 22 22 22 22
+reader 3 reads > 33 33 33 33
+reader 4 reads > 44 44 44 44
+reader 5 reads > 55 55 55 55
+reader 0 settles > earlier
+reader 5 settles > earlier
+reader 0 acquires > newer
+reader 0 reads > 88 88 88 88
+reader 0 settles > 8 from 2 in 6";
+
+#[test]
+fn readers_hold_their_images_over_cuts(rt: HostRuntime) -> Result<(), Fail> {
+    assert_eq!(rt; first_wrong(rt.alloc(), BETWEEN)?, None);
+    assert_eq!(rt; first_wrong(rt.alloc(), SIX_CHAPTERS)?, None);
+    Ok(())
+}

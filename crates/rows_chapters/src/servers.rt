@@ -4,7 +4,7 @@ ghost use Rattle.std.specs.Prelude.{◌≡◌, ◌<◌, ◌≤◌, ◌+◌, vec_
 use crate::gate::Open;
 use crate::slaves::small;
 use std::alloc::Global;
-use std::io::{Read, Write};
+use std::io::{self, Read, Write};
 use std::marker::Brand;
 use std::sync::Wait;
 use std::test::Fail;
@@ -12,6 +12,9 @@ use std::thread::Threads;
 use std::time::Clock;
 use xcp_framing::Watched;
 use xcp_locked::{Closing, Discord, Name, TaskError, Unnamed, run_server, settle_all};
+
+// The readers and writers of the connections.
+type Ends<I> = Vec<(Watched<I>, Watched<Vec<u8>>)>;
 
 // How many chapters were cut, the tasks' fault, and what settling says.
 type Came = (usize, Option<TaskError>, Result<u64, Discord>);
@@ -28,23 +31,22 @@ fn exchange<N: Name, I: Read + Drop, O: Write + Drop>(
     }
 }
 
-fn serve_named<N: Name + Send + Sync, R: Threads + Wait + Clock + Sync>(
+fn serve_named<N: Name + Send + Sync, I: Read + Send + Drop, R: Threads + Wait + Clock + Sync>(
     rt: &R,
     alloc: Global,
     unnamed: Unnamed,
+    ends: Ends<I>,
     tasks: u8,
     cycles: u32,
     exchanged: bool,
 ) -> Result<Came, Fail>
     requires name { (unnamed.name ≡ N.name) × (unnamed.callers ≡ N.parts)
         × (unnamed.layout ≡ N.layout) × (unnamed.bank ≡ N.bank) }
-    requires callers { 2 + tasks ≤ unnamed.callers }
+    requires some { 0 < vec_len ends }
+    requires callers { vec_len ends + tasks + vec_len ends ≤ unnamed.callers }
     requires readers { tasks ≤ 6 }
 {
-    let reader: &'static [u8] = &[];
-    let writer: Vec<u8> = Vec::new(alloc);
-    let ends = Vec::from_array(alloc, [(Watched::new(reader), Watched::new(writer))])?;
-    let mut closing: Closing<N, &'static [u8], Vec<u8>> = run_server(
+    let mut closing: Closing<N, I, Vec<u8>> = run_server(
         rt,
         alloc,
         unnamed,
@@ -61,8 +63,25 @@ fn serve_named<N: Name + Send + Sync, R: Threads + Wait + Clock + Sync>(
     Ok((closing.chapters.len(), closing.fault, settled))
 }
 
-// What comes of one tool that sends nothing and of so many tasks, which cut a chapter where it has a call;
-// two chapters may be exchanged behind it.
+// What comes of these tools and of so many tasks, which cut a chapter where it has a call; two chapters may
+// be exchanged behind it.
+fn serve_some<I: Read + Send + Drop, R: Threads + Wait + Clock + Sync>(
+    rt: &R,
+    alloc: Global,
+    ends: Ends<I>,
+    tasks: u8,
+    cycles: u32,
+    exchanged: bool,
+) -> Result<Came, Fail>
+    requires some { 0 < vec_len ends }
+    requires few { vec_len ends + tasks + vec_len ends ≤ 8 }
+    requires readers { tasks ≤ 6 }
+{
+    let unnamed = small(alloc, 8)?;
+    serve_named::<Brand, I, R>(rt, alloc, unnamed, ends, tasks, cycles, exchanged)
+}
+
+// The same of one tool that sends nothing.
 fn serve<R: Threads + Wait + Clock + Sync>(
     rt: &R,
     alloc: Global,
@@ -72,8 +91,10 @@ fn serve<R: Threads + Wait + Clock + Sync>(
 ) -> Result<Came, Fail>
     requires { tasks ≤ 6 }
 {
-    let unnamed = small(alloc, 8)?;
-    serve_named::<Brand, R>(rt, alloc, unnamed, tasks, cycles, exchanged)
+    let reader: &'static [u8] = &[];
+    let writer: Vec<u8> = Vec::new(alloc);
+    let ends = Vec::from_array(alloc, [(Watched::new(reader), Watched::new(writer))])?;
+    serve_some(rt, alloc, ends, tasks, cycles, exchanged)
 }
 
 // Two calls in each of two cycles, and the last Hangup.
@@ -91,5 +112,40 @@ fn a_server_gives_its_chapters(rt: HostRuntime) -> Result<(), Fail> {
 fn many_chapters_are_one_run(rt: HostRuntime) -> Result<(), Fail> {
     let many = serve(&rt, rt.alloc(), 2, 200, false)?;
     assert_eq!(rt; many, (200, None, Ok(601)));
+    Ok(())
+}
+
+// Gives a text, so many bytes at a read.
+#[derive(Drop)]
+struct Pieces {
+    text: &'static [u8],
+    most: usize,
+}
+
+impl Read for Pieces {
+    fn read(&mut self, buf: &mut [u8]) -> io::Result<usize> {
+        let count = buf.len().min(self.most);
+        self.text.read(&mut buf[..count])
+    }
+}
+
+// A tool that sends CONNECT and GET_STATUS so.
+fn tool(alloc: Global, most: usize) -> (Watched<Pieces>, Watched<Vec<u8>>) {
+    let text = &[2, 0, 0, 0, 0xFF, 0, 1, 0, 1, 0, 0xFD];
+    (
+        Watched::new(Pieces { text, most }),
+        Watched::new(Vec::new(alloc)),
+    )
+}
+
+// Two calls of each of two tools, three in each cycle of both tasks, and the last Hangup.
+#[test]
+fn cut_streams_settle_by_chapters(rt: HostRuntime) -> Result<(), Fail> {
+    let alloc = rt.alloc();
+    for most in 1..12 {
+        let ends = Vec::from_array(alloc, [tool(alloc, most), tool(alloc, most)])?;
+        let came = serve_some(&rt, alloc, ends, 2, 2, false)?;
+        assert!(rt; came == (2, None, Ok(11)), "{most} bytes at a read");
+    }
     Ok(())
 }

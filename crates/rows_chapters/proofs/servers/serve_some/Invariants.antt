@@ -1,4 +1,4 @@
-use Rattle.rows_chapters.proofs.servers.serve.Given as goal
+use Rattle.rows_chapters.proofs.servers.serve_some.Given as goal
 
 abbrev pub ghosts-serve_named-N-Ledger : goal.ghosts-serve_named-N-Ledger
 ghosts-serve_named-N-Ledger g a = record { name = a.unnamed.name; parts = a.unnamed.callers }
