@@ -6,8 +6,8 @@ use crate::outcome::Outcome;
 use crate::standing::Standing;
 use std::alloc::Global;
 use std::marker::Brand;
-use xcp_framing::{Line, parse_line};
 use xcp_locked::{Caller, Chapter, Locked, LockedError, Name, Opening, Unnamed};
+use xcp_script::{Line, parse_line};
 
 // The calls of a chapter.
 const ROWS: [&str; 3] = ["FF00", "EB030001", "ED02000000100000ABCD"];

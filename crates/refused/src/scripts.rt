@@ -3,8 +3,9 @@ use crate::layouts::{CONFIG, layout};
 use crate::outcome::Outcome;
 use crate::sheet::Sheet;
 use std::alloc::Global;
-use xcp_framing::{Desk, ReplayError, Watched, replay_on};
+use xcp_framing::{Desk, Watched};
 use xcp_program::{Fault, replay};
+use xcp_script::{ReplayError, replay_on};
 use xcp_slave::Slave;
 
 const TURNS: u32 = 100;

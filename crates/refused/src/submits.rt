@@ -6,8 +6,8 @@ use crate::outcome::Outcome;
 use crate::standing::{ROUNDS, Standing};
 use std::alloc::Global;
 use std::marker::Brand;
-use xcp_framing::{Line, parse_line};
 use xcp_locked::{Caller, Locked, LockedError, Name, Opening, Receipt, Unnamed};
+use xcp_script::{Line, parse_line};
 use xcp_slave::{Request, Slave};
 
 // Each row is another caller's, so that there is a receipt to be made room for at each. A session that

@@ -2,7 +2,7 @@
 use arrayvec::ArrayVec;
 use std::alloc::{AllocError, Global};
 use std::test::Fail;
-use xcp_framing::{LINE_BYTES, Line, parse_line, plain_lines};
+use xcp_script::{LINE_BYTES, Line, parse_line, plain_lines};
 use xcp_slave::Request;
 
 const MAX_CTO: u8 = 32;

@@ -1,8 +1,8 @@
 //! The text of each answer.
 use std::alloc::{AllocError, Global};
 use std::test::Fail;
-use xcp_framing::push_text;
 use xcp_packet::{Packet, Width};
+use xcp_script::push_text;
 use xcp_slave::Told;
 
 /// Whether an answer has this text, where FF 0A B0 01 05 06 07 08 are its packet if it is one, and its

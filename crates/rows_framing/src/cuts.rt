@@ -3,7 +3,8 @@ use crate::fakes::desk;
 use std::alloc::{AllocError, Global};
 use std::io::Read;
 use std::test::Fail;
-use xcp_framing::{ReplayError, Watched, replay_on};
+use xcp_framing::Watched;
+use xcp_script::{ReplayError, replay_on};
 
 /// How a script ends, and what is written of it.
 #[derive(Clone, Copy)]

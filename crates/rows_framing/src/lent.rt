@@ -4,7 +4,7 @@ use crate::stations::Pending;
 use arrayvec::ArrayVec;
 use std::alloc::Global;
 use std::test::Fail;
-use xcp_framing::{Station, StationError, told_of};
+use xcp_framing::{LentCommand, Station, StationError, told_of};
 use xcp_packet::{Packet, Train, Width};
 use xcp_slave::{Answer, Request};
 
@@ -198,4 +198,14 @@ fn first_wrong_value(alloc: Global) -> (Option<usize>, usize) {
 #[test]
 fn a_station_that_is_lent_packets_gives_answers(rt: HostRuntime) {
     assert!(rt; first_wrong_value(rt.alloc()) == (None, 4));
+}
+
+/// A lent command has the packet that was last put into it.
+#[test]
+fn a_command_is_filled_in_place(rt: HostRuntime) {
+    let mut command = LentCommand::new();
+    assert!(rt; *command.request() == request(Asks::Command(&[])));
+    command.fill(|packet| *packet = bytes(&[0xFF, 0]));
+    let length = command.fill(|packet| packet.len());
+    assert!(rt; length == 2 && command.into_request() == request(Asks::Command(&[0xFF, 0])));
 }

@@ -6,9 +6,8 @@ use crate::serves::synch_stream;
 use crate::stations::{Pending, Refusing};
 use std::alloc::Global;
 use std::test::Fail;
-use xcp_framing::{
-    ReplayError, ServeError, Served, Station, StationError, Watched, replay_on, serve,
-};
+use xcp_framing::{ServeError, Served, Station, StationError, Watched, serve};
+use xcp_script::{ReplayError, replay_on};
 
 /// Serves these pieces over a station, to a writer with so much room.
 fn served<S: Station + Drop>(

@@ -4,7 +4,8 @@ use crate::shelf::Shelf;
 use std::alloc::Global;
 use std::io::{self, Read};
 use std::test::Fail;
-use xcp_framing::{Watched, replay_on, serve, serve_by};
+use xcp_framing::{Watched, serve, serve_by};
+use xcp_script::replay_on;
 
 /// A reader at its end, which notes how many bytes it was asked for.
 #[derive(Drop)]

@@ -1,6 +1,6 @@
 //! Scripts, the streams that they run over, and what is wanted of them.
 use crate::fakes::Full;
-use xcp_framing::ReplayError;
+use xcp_script::ReplayError;
 
 const SCRIPT: &[u8] = b"FF00\nF600000000100000\nF504\n";
 

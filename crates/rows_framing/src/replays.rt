@@ -3,9 +3,8 @@ use crate::fakes::{Narrow, Pieces, desk};
 use crate::replay_rows::{GOOD, ROWS, Row};
 use std::alloc::{AllocError, Global};
 use std::test::Fail;
-use xcp_framing::{
-    Desk, ReplayError, Station, StationError, Watched, each_text_has_its_lines, replay_on,
-};
+use xcp_framing::{Desk, Station, StationError, Watched};
+use xcp_script::{ReplayError, each_text_has_its_lines, replay_on};
 use xcp_slave::{Answer, Exchange, Request};
 
 fn run(alloc: Global, row: &Row) -> Result<(Result<u64, ReplayError>, Vec<u8>, Desk), Fail> {

@@ -2,7 +2,7 @@
 use Rattle.std.proofs.Common.{◌≡◌, ℕ, List, [], ◌++◌, take, drop, sym, ◌∙◌, ap, append_assoc, subst, Option, Some, None}
 use Rattle.std.proofs.lemmas.List.{append-nil, take-append-drop}
 use Rattle.std.specs.Io.KnownBytes.{Appends, Keeps}
-use Rattle.xcp_framing.specs.Prefix.{IsFront, AppendsFront}
+use Rattle.xcp_framing.specs.Prefix.{AppendsFront}
 
 -- nothing was written
 pub appends_none : (a : Option (List ℕ)) → Appends a a []
@@ -51,11 +51,3 @@ written_front a b c before texts text whole h k p q = record {
     joined = append_assoc before k.written k.front.rest ∙ ap (λ (z : List ℕ). before ++ z) (k.front.joined ∙ p) ∙ q;
   };
 }
-
--- nothing is left to write after a text
-pub none_more : (text texts : List ℕ) → texts ≡ [] → text ++ texts ≡ text
-none_more text texts h = rw h (append-nil text)
-
--- a text is a front of itself
-pub front_all : (text : List ℕ) → IsFront text text
-front_all text = record { rest = []; joined = append-nil text }

@@ -6,17 +6,9 @@ pub mod RoundTripLaws
 pub mod PieceLemmas
 pub mod FrameCutLaws
 pub mod DrainLemmas
-pub mod LineFeedLemmas
-pub mod EventLineLemmas
 pub mod PartialFrameLemmas
-pub mod LongLineLemmas
-pub mod ScriptProgressLemmas
-pub mod HexDigitLemmas
 pub mod PutPacketLemmas
 pub mod ServeRefusalLemmas
 pub mod FrameOutputLemmas
-pub mod MemoryShortageLemmas
 pub mod StreamLemmas
-pub mod AnswerTextLemmas
-pub mod LineReadingLaws
 pub mod WholeFrameLaws

@@ -2,14 +2,10 @@ pub mod Desk
 pub mod FramerInput
 pub mod Frames
 pub mod Prefix
-pub mod Lines
-pub mod ScriptLine
 pub mod Pump
 pub mod ServeRefusal
-pub mod Replay
 pub mod Serve
 pub mod ServeBy
-pub mod AnswerText
 pub mod ServeParts
 pub mod CountedCalls
 pub mod Wire

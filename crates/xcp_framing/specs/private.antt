@@ -1,12 +1,9 @@
 -- Words that contracts of private functions and invariants cite. No contract of a public function needs them.
 pub mod AnsweredStream
-pub mod HexDigits
 pub mod FramerInput
 pub mod FrameOutput
 pub mod FramesAnswered
 pub mod LentRequests
-pub mod LineInSlot
-pub mod LineReading
 pub mod Serve
 pub mod ServeBy
 pub mod ServeParts

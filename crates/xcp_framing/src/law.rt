@@ -1,19 +1,11 @@
 //! Laws of the definitions.
-ghost use Rattle.std.specs.Prelude.{◌≡◌, ℕ, List, Option};
+ghost use Rattle.std.specs.Prelude.{ℕ, List, Option};
 ghost use Rattle.xcp_slave.specs.declared.Exchange.{Exchange};
 ghost use Rattle.xcp_slave.specs.declared.Request.{Request};
 ghost use Rattle.xcp_framing.specs.Desk.{DeskValue};
-ghost use Rattle.xcp_framing.specs.Lines.{Lines};
 ghost use Rattle.xcp_framing.specs.ServeRefusal.{ReadsNext, Refused};
 
 use crate::{Desk, Station, StationError};
-
-/// Does nothing: its contract says that each text has lines, and one list of them only.
-pub fn each_text_has_its_lines()
-    ensures some { (text : List ℕ) → (lines : List (List ℕ)) × Lines text lines }
-    ensures only { (text : List ℕ) (lines others : List (List ℕ))
-        → Lines text lines → Lines text others → lines ≡ others }
-{}
 
 /// Does nothing: its contract says that a desk refuses nothing with `JournalFull`, and so that no
 /// call of `serve` over a desk ends with it.

@@ -1,26 +1,19 @@
 //! What is lent for each command of a stream or of a script, so that no request and no packet is
 //! made anew for it.
-ghost use Rattle.std.specs.Prelude.{◌≡◌, ◌<◌, ℕ, MatchBool, Some, None, length};
+ghost use Rattle.std.specs.Prelude.{◌≡◌, ◌<◌, [], ℕ, length};
+ghost use Rattle.std.specs.Fn.{FnOnceReturnsAtMut};
 ghost use Rattle.xcp_slave.specs.declared.Request.TheVariants as requests;
-ghost use Rattle.xcp_framing.specs.private.LentRequests.{asked_for};
 ghost use Rattle.xcp_framing.specs.FramerInput.{Feeds, got_in, packets_given};
-ghost use Rattle.xcp_framing.specs.ScriptLine.{event_with, hex_bytes};
-ghost use Rattle.xcp_framing.specs.declared.line.Line.TheVariants.{Ask, Faulty};
 ghost use Rattle.xcp_framing.specs.Wire.{IsBadLength, len_of};
 
-use crate::parsing::read_hex;
 use crate::{Brought, Cut, Framer};
-use arrayvec::ArrayVec;
 use std::marker::Model;
 use xcp_packet::Packet;
 use xcp_slave::Request;
 
-/// The most bytes of an event's signals.
-const SIGNAL_BYTES: usize = 64;
-
 /// A command, whose packet is filled in place.
 #[derive(Drop)]
-pub(crate) struct LentCommand {
+pub struct LentCommand {
     request: Request,
 }
 
@@ -37,33 +30,36 @@ impl Model for LentCommand {
 }
 
 impl LentCommand {
-    pub(crate) fn new() -> LentCommand {
+    /// A command whose packet is empty.
+    pub fn new() -> LentCommand
+        ensures { result.items ≡ [] }
+    {
         LentCommand {
             request: Request::Command(Packet::new()),
         }
     }
 
     /// The command with its packet.
-    pub(crate) fn request(&self) -> &Request
+    pub fn request(&self) -> &Request
         ensures { result.now ≡ requests.Command self.now }
     {
         &self.request
     }
 
-    pub(crate) fn into_request(self) -> Request
+    /// The command itself, lent no more.
+    pub fn into_request(self) -> Request
         ensures { result ≡ requests.Command self }
     {
         self.request
     }
 
-    /// Reads the packet that hex digits write, if it has 1 to `max_cto` bytes. If it has not, any
-    /// may stand here.
-    pub(crate) fn read(&mut self, max_cto: u8, digits: &[u8]) -> bool
-        ensures { MatchBool result (hex_bytes max_cto digits.now ≡ Some self.new.items)
-            (hex_bytes max_cto digits.now ≡ None) }
+    /// Fills the command's packet in place.
+    pub fn fill<T, F: FnOnce(&mut Packet) -> T>(&mut self, fill: F) -> T
+        requires { F.IsAlwaysCallable fill }
+        ensures { FnOnceReturnsAtMut F.FnOnce fill self.old result self.new }
     {
         match &mut self.request {
-            Request::Command(packet) => read_hex(max_cto as usize, digits, packet),
+            Request::Command(packet) => fill(packet),
             _ => unreachable!(),
         }
     }
@@ -82,120 +78,6 @@ impl LentCommand {
         match &mut self.request {
             Request::Command(packet) => framer.feed_into(piece, packet),
             _ => unreachable!(),
-        }
-    }
-}
-
-/// An event, whose signals are filled in place.
-#[derive(Drop)]
-pub(crate) struct LentEvent {
-    request: Request,
-}
-
-impl Model for LentEvent {
-    ghost use Rattle.xcp_slave.specs.declared.Request.{Request};
-    ghost use Rattle.xcp_framing.specs.private.LentRequests.{IsEvent};
-
-    ghost Value = { Request };
-
-    ghost view = { λ e. e.request };
-
-    ghost invariant = { λ e. IsEvent e.request };
-}
-
-impl LentEvent {
-    pub(crate) fn new() -> LentEvent {
-        LentEvent {
-            request: Request::Event(0, ArrayVec::new()),
-        }
-    }
-
-    pub(crate) fn request(&self) -> &Request
-        ensures { result.now ≡ self.now }
-    {
-        &self.request
-    }
-
-    pub(crate) fn into_request(self) -> Request
-        ensures { result ≡ self }
-    {
-        self.request
-    }
-
-    /// Makes it an event of this channel with the signals that hex digits write, if these are 1 to
-    /// 64 bytes. If they are not, any event may stand here.
-    pub(crate) fn read(&mut self, channel: u16, digits: &[u8]) -> bool
-        ensures { MatchBool result
-            (event_with (Some channel) (hex_bytes 64 digits.now) ≡ Ask self.new)
-            (event_with (Some channel) (hex_bytes 64 digits.now) ≡ Faulty) }
-    {
-        match &mut self.request {
-            Request::Event(number, signals) => {
-                *number = channel;
-                read_hex(SIGNAL_BYTES, digits, signals)
-            }
-            _ => unreachable!(),
-        }
-    }
-}
-
-/// The requests that are words alone.
-#[derive(Clone, Copy, Debug, PartialEq, Eq)]
-pub(crate) enum Word {
-    Drain,
-    FinishStore,
-    Hangup,
-}
-
-impl Word {
-    pub(crate) fn request(self) -> Request
-        ensures { result ≡ asked_for self }
-    {
-        match self {
-            Word::Drain => Request::Drain,
-            Word::FinishStore => Request::FinishStore,
-            Word::Hangup => Request::Hangup,
-        }
-    }
-}
-
-/// One request for each word.
-#[derive(Drop)]
-pub(crate) struct LentWords {
-    drain: Request,
-    finish_store: Request,
-    hangup: Request,
-}
-
-impl Model for LentWords {
-    ghost use Rattle.std.specs.Prelude.{◌≡◌};
-    ghost use Rattle.xcp_framing.specs.declared.lent.Word.TheVariants as words;
-    ghost use Rattle.xcp_framing.specs.private.LentRequests.{asked_for};
-
-    ghost Value = { Unit {0} };
-
-    ghost view = { λ w. tt };
-
-    ghost invariant = { λ w. (w.drain ≡ asked_for words.Drain)
-        × (w.finish_store ≡ asked_for words.FinishStore) × (w.hangup ≡ asked_for words.Hangup) };
-}
-
-impl LentWords {
-    pub(crate) fn new() -> LentWords {
-        LentWords {
-            drain: Word::Drain.request(),
-            finish_store: Word::FinishStore.request(),
-            hangup: Word::Hangup.request(),
-        }
-    }
-
-    pub(crate) fn request(&self, word: Word) -> &Request
-        ensures { result.now ≡ asked_for word }
-    {
-        match word {
-            Word::Drain => &self.drain,
-            Word::FinishStore => &self.finish_store,
-            Word::Hangup => &self.hangup,
         }
     }
 }

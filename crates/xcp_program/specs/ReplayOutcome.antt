@@ -4,10 +4,10 @@ use Rattle.xcp_memory.specs.Layout.{LayoutValue}
 use Rattle.xcp_slave.specs.SlaveValue.{SlaveValue, opening}
 use Rattle.xcp_slave.specs.Run.{Run, requests_of}
 use Rattle.xcp_slave.specs.declared.Exchange.{Exchange}
-use Rattle.xcp_framing.specs.Replay.{EndsShort, OfLines, Replayed, Tells, asked}
-use Rattle.xcp_framing.specs.AnswerText.{answers_text}
-use Rattle.xcp_framing.specs.declared.ReplayError.{ReplayError}
-use Rattle.xcp_framing.specs.declared.ReplayError.TheVariants as errors
+use Rattle.xcp_script.specs.Replay.{EndsShort, OfLines, Replayed, Tells, asked}
+use Rattle.xcp_script.specs.AnswerText.{answers_text}
+use Rattle.xcp_script.specs.declared.ReplayError.{ReplayError}
+use Rattle.xcp_script.specs.declared.ReplayError.TheVariants as errors
 use Rattle.xcp_config.specs.declared.ConfigError.{ConfigError}
 use Rattle.xcp_config.specs.declared.ConfigError.TheVariants.{Text}
 use Rattle.xcp_config.specs.FaultNumbers.{number_of}

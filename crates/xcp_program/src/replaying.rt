@@ -6,8 +6,9 @@ use crate::fault::Fault;
 use crate::layout::layout_of;
 use std::alloc::Global;
 use std::io::{Read, Write};
-use xcp_framing::{Desk, ReplayError, Watched, replay_on};
+use xcp_framing::{Desk, Watched};
 use xcp_memory::Layout;
+use xcp_script::{ReplayError, replay_on};
 use xcp_slave::Slave;
 
 /// Answers the lines of a script, one line each, on a new slave of the layout that the

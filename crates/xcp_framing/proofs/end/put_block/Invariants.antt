@@ -1,4 +1,4 @@
-use Rattle.std.proofs.Common.{◌≡◌, ◌≤◌, ◌++◌, List, ℕ, length}
+use Rattle.std.proofs.Common.{◌≤◌, length}
 use Rattle.xcp_packet.specs.PacketTrains.{block_packets}
 use Rattle.xcp_framing.proofs.ExchangeLemmas.{PutPart}
 use Rattle.xcp_framing.proofs.end.put_block.Given as goal

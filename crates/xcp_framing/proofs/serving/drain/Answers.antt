@@ -1,4 +1,4 @@
-use Rattle.std.proofs.Common.{◌≡◌, ◌≢◌, [], refl, ◌∙◌, arith, Err}
+use Rattle.std.proofs.Common.{◌≢◌, [], refl, ◌∙◌, arith, Err}
 use Rattle.xcp_slave.specs.declared.Exchange.{Exchange}
 use Rattle.xcp_slave.specs.declared.Request.TheVariants as requests
 use Rattle.xcp_slave.specs.AnswerInBytes.{answer_in}

@@ -1,4 +1,4 @@
-use Rattle.std.proofs.Common.{◌≡◌, ◌≤◌, ◌+◌, ◌∙◌, [], length, arith, ℕ}
+use Rattle.std.proofs.Common.{◌≡◌, ◌+◌, ◌∙◌, [], arith}
 use Rattle.xcp_packet.specs.PacketTrains.{block_packets}
 use Rattle.xcp_packet.specs.BlockPacketLemmas.{block_most}
 use Rattle.xcp_framing.proofs.ExchangeLemmas.{on_ok, part_counted, part_cut, part_last, part_more_sent, part_room, passed_on}

@@ -1,7 +1,0 @@
-use Rattle.std.proofs.Common.{arith}
-use Rattle.xcp_framing.proofs.EventLineLemmas.{too_great_at}
-use Rattle.xcp_framing.proofs.parsing.parse_channel.Goals as goal
-
-pub returns-then-value-from : goal.returns-then-value-from
-returns-then-value-from c =
-    too_great_at c.loop-digit.value c.loop-digit.digit-index c.args.digits.now c.loop-digit-test.true (search c.if-not-is_ascii_digit.ensures.value) c.loop-digit.invariant.value (grind (arith, c.if-value-from.true, c.from.ensures, c.from-in-loop-digit.ensures))

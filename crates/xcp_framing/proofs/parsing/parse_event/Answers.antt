@@ -1,5 +1,0 @@
-use Rattle.xcp_framing.proofs.EventLineLemmas.{no_space}
-use Rattle.xcp_framing.proofs.parsing.parse_event.Goals as goal
-
-pub returns-in_default : goal.returns-in_default
-returns-in_default c = no_space c.args.text.now c.in_default.ensures

@@ -1,0 +1,9 @@
+pub mod LineFeedLemmas
+pub mod EventLineLemmas
+pub mod LongLineLemmas
+pub mod ScriptProgressLemmas
+pub mod HexDigitLemmas
+pub mod MemoryShortageLemmas
+pub mod AnswerTextLemmas
+pub mod LineReadingLaws
+pub mod FrontLemmas

@@ -1,0 +1,5 @@
+pub mod Lines
+pub mod ScriptLine
+pub mod Replay
+pub mod AnswerText
+pub mod private

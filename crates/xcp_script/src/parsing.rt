@@ -1,0 +1,191 @@
+//! The lines of a script, read one by one.
+ghost use Rattle.std.specs.Prelude.{◌≡◌, ◌≤◌, MatchBool, position, length, false, Some, None};
+ghost use Rattle.xcp_script.specs.ScriptLine.{meaning, channel_of, command_of, command_with, event_of, event_with, hex_bytes, is_skipped, is_space};
+ghost use Rattle.xcp_script.specs.private.LineInSlot.{line_in};
+
+use crate::Line;
+use crate::digits::{GREATEST_VALUE, digit_value};
+use crate::lent::Word;
+use crate::slot::{Parsed, Slot};
+use arrayvec::ArrayVec;
+
+/// The most bytes of a line, without its line feed and the carriage return before that.
+pub const LINE_BYTES: usize = 1024;
+
+/// What a line says, where packets have at most `max_cto` bytes (MAX_CTO).
+///
+/// A line of more than 1,024 bytes is faulty. An empty line and one that begins with `#` are
+/// skipped. `drain`, `store`, `hangup` and `event C HEX` are the requests of these names; any other
+/// line is a command packet in hex.
+pub fn parse_line(max_cto: u8, line: &[u8]) -> Line
+    ensures { result ≡ meaning max_cto line.now }
+{
+    let mut slot = Slot::new();
+    let parsed = parse_into(max_cto, line, &mut slot);
+    slot.with(parsed)
+}
+
+/// What a line says, as `parse_line` has it. A command or an event stands in the slot then.
+#[tactic(auto, unfolding(crate::specs::ScriptLine::meaning))]
+pub(crate) fn parse_into(max_cto: u8, line: &[u8], slot: &mut Slot) -> Parsed
+    ensures { line_in result slot.new ≡ meaning max_cto line.now }
+{
+    if line.len() > LINE_BYTES {
+        return Parsed::Faulty;
+    }
+    match line {
+        [] => Parsed::Skip,
+        [b'#', ..] => Parsed::Skip,
+        _ => parse_request(max_cto, line, slot),
+    }
+}
+
+#[tactic(auto, unfolding(crate::specs::ScriptLine::meaning))]
+fn parse_request(max_cto: u8, line: &[u8], slot: &mut Slot) -> Parsed
+    requires some { is_skipped line.now ≡ false }
+    requires short { length line.now ≤ 1024 }
+    ensures { line_in result slot.new ≡ meaning max_cto line.now }
+{
+    if line == b"drain".as_slice() {
+        return Parsed::Word(Word::Drain);
+    }
+    if line == b"store".as_slice() {
+        return Parsed::Word(Word::FinishStore);
+    }
+    if line == b"hangup".as_slice() {
+        return Parsed::Word(Word::Hangup);
+    }
+    match line.strip_prefix(b"event ") {
+        Some(text) => parse_event(text, slot),
+        None => parse_command(max_cto, line, slot),
+    }
+}
+
+/// What `event C HEX` says, from behind its first space.
+fn parse_event(text: &[u8], slot: &mut Slot) -> Parsed
+    ensures { line_in result slot.new ≡ event_of text.now }
+{
+    let Some(space) = first_space(text) else {
+        return Parsed::Faulty;
+    };
+    let Some(channel) = parse_channel(&text[..space]) else {
+        return Parsed::Faulty;
+    };
+    read_event(channel, &text[space + 1..], slot)
+}
+
+fn first_space(text: &[u8]) -> Option<usize>
+    ensures { result ≡ position is_space text.now }
+{
+    text.iter().position(|byte| *byte == b' ')
+}
+
+/// Reads an event's signals straight into the slot's event.
+fn read_event(channel: u16, digits: &[u8], slot: &mut Slot) -> Parsed
+    ensures { line_in result slot.new ≡ event_with (Some channel) (hex_bytes 64 digits.now) }
+{
+    if !slot.event.read(channel, digits) {
+        return Parsed::Faulty;
+    }
+    Parsed::Event
+}
+
+/// What a line says that is a command packet, if anything.
+fn parse_command(max_cto: u8, line: &[u8], slot: &mut Slot) -> Parsed
+    requires { length line.now ≤ 1024 }
+    ensures { line_in result slot.new ≡ command_of max_cto line.now }
+{
+    match read_command(max_cto, line, slot) {
+        // a space is no digit, so a line that is read has none
+        Parsed::Faulty => parse_faulty(max_cto, line, slot),
+        parsed => parsed,
+    }
+}
+
+/// What a line says whose bytes are no digits as they stand: spaces may stand between them.
+fn parse_faulty(max_cto: u8, line: &[u8], slot: &mut Slot) -> Parsed
+    requires faulty { command_with (hex_bytes max_cto line.now) ≡ Line.Faulty }
+    requires short { length line.now ≤ 1024 }
+    ensures { line_in result slot.new ≡ command_of max_cto line.now }
+{
+    if line.contains(&b' ') {
+        return parse_spaced(max_cto, line, slot);
+    }
+    Parsed::Faulty
+}
+
+/// The same of a line in which spaces stand: it is copied without them.
+fn parse_spaced(max_cto: u8, line: &[u8], slot: &mut Slot) -> Parsed
+    requires { length line.now ≤ 1024 }
+    ensures { line_in result slot.new ≡ command_of max_cto line.now }
+{
+    let mut digits: ArrayVec<u8, LINE_BYTES> = ArrayVec::new();
+    for byte in line {
+        if *byte != b' ' {
+            digits.push(*byte);
+        }
+    }
+    read_command(max_cto, digits.as_slice(), slot)
+}
+
+/// Reads a command packet straight into the slot's command.
+fn read_command(max_cto: u8, digits: &[u8], slot: &mut Slot) -> Parsed
+    ensures { line_in result slot.new ≡ command_with (hex_bytes max_cto digits.now) }
+{
+    let read = slot
+        .command
+        .fill(|packet| read_hex(max_cto as usize, digits, packet));
+    if !read {
+        return Parsed::Faulty;
+    }
+    Parsed::Command
+}
+
+/// Reads the bytes that hex digits write, if they are 1 to `most` bytes. If they are not, any may
+/// stand there.
+#[tactic(auto, unfolding(crate::specs::ScriptLine::hex_bytes))]
+pub(crate) fn read_hex<const N: usize>(
+    most: usize,
+    digits: &[u8],
+    read: &mut ArrayVec<u8, N>,
+) -> bool
+    requires bounded { most ≤ 255 }
+    requires room { most ≤ N }
+    ensures { MatchBool result (hex_bytes most digits.now ≡ Some read.new.items)
+        (hex_bytes most digits.now ≡ None) }
+{
+    read.clear();
+    if digits.is_empty() || digits.len() > 2 * most || digits.len() % 2 == 1 {
+        return false;
+    }
+    for i in 0..digits.len() / 2 {
+        let high = digit_value(digits[2 * i]);
+        let low = digit_value(digits[2 * i + 1]);
+        if high > GREATEST_VALUE || low > GREATEST_VALUE {
+            return false;
+        }
+        read.push(high * 16 + low);
+    }
+    true
+}
+
+/// The number of an event channel, if the digits write one.
+#[tactic(auto, unfolding(crate::specs::ScriptLine::channel_of))]
+fn parse_channel(digits: &[u8]) -> Option<u16>
+    ensures { result ≡ channel_of digits.now }
+{
+    if digits.is_empty() {
+        return None;
+    }
+    let mut value: u32 = 0;
+    for digit in digits {
+        if !digit.is_ascii_digit() {
+            return None;
+        }
+        value = value * 10 + u32::from(*digit - b'0');
+        if value > u32::from(u16::MAX) {
+            return None;
+        }
+    }
+    Some(value as u16)
+}
