@@ -1,10 +1,10 @@
 -- Digits that are read in pairs.
-use Rattle.std.proofs.Common.{◌≡◌, ◌<◌, ◌≤◌, ℕ, suc, ◌+◌, ◌*◌, ◌%◌, Bool, true, false, cond, List, [], ◌∷◌, ◌++◌, length, drop, refl, sym, ap, ◌∙◌, arith, Option, Some, None, Result, Ok, Err, append_assoc, drop-cons, ◌⊎◌, inl, inr}
+use Rattle.std.proofs.Common.{◌≡◌, ◌<◌, ◌≤◌, ℕ, suc, ◌+◌, ◌*◌, ◌/◌, ◌%◌, Bool, true, false, cond, List, [], ◌∷◌, ◌++◌, length, drop, refl, sym, ap, ◌∙◌, arith, Option, Some, None, Result, Ok, Err, append_assoc, drop-cons, ◌⊎◌, inl, inr}
 use Rattle.std.specs.Prelude.{slice_index, unwrap_or, is_some, filter, not, map, ◌==◌, ◌||◌}
 use Rattle.std.specs.List.{list_any, range_with_len}
 use Rattle.std.proofs.lemmas.List.{append-nil, drop_all}
 use Rattle.std.proofs.lemmas.List.FromFn.{get_or-map-range_with_len}
-use Rattle.hex.specs.Hex.{decode_pairs, digit_or_error, hex_digit_value, ◌>>=◌}
+use Rattle.hex.specs.Hex.{decode_pairs, digit_or_error, hex_digit_value, upper_digits, ◌>>=◌}
 use Rattle.hex.specs.declared.error.FromHexError.{FromHexError}
 use Rattle.xcp_script.specs.private.HexDigits.{value_or}
 use Rattle.xcp_script.specs.declared.line.Line.{Line}
@@ -18,6 +18,13 @@ use Rattle.xcp_script.specs.ScriptLine.{bytes_if_ok, command_of, command_with, h
 -- the table of all 256 bytes tells of each its value as a hex digit, and 255 where it is none
 pub in_table : (digit : ℕ) → digit < 256 → slice_index (map value_or (range_with_len 0 256)) digit ≡ value_or digit
 in_table digit h = get_or-map-range_with_len value_or 0 256 digit digit 0 h (omega arith)
+
+-- the tables of the digits of all 256 bytes tell of each its first, and its second
+pub high_in_table : (b : ℕ) → b < 256 → slice_index (map (λ (n : ℕ). slice_index upper_digits (n / 16)) (range_with_len 0 256)) b ≡ slice_index upper_digits (b / 16)
+high_in_table b h = get_or-map-range_with_len (λ (n : ℕ). slice_index upper_digits (n / 16)) 0 256 b b 0 h (omega arith)
+
+pub low_in_table : (b : ℕ) → b < 256 → slice_index (map (λ (n : ℕ). slice_index upper_digits (n % 16)) (range_with_len 0 256)) b ≡ slice_index upper_digits (b % 16)
+low_in_table b h = get_or-map-range_with_len (λ (n : ℕ). slice_index upper_digits (n % 16)) 0 256 b b 0 h (omega arith)
 
 -- bytes, and others behind them
 abbrev pub behind : List ℕ → Option (List ℕ) → Option (List ℕ)

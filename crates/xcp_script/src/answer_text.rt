@@ -1,15 +1,15 @@
 //! The text of an answer.
-ghost use Rattle.std.specs.Prelude.{◌≡◌, ◌++◌, ◌∷◌, [], OnOk, decimal, length, ◌≤◌, ◌+◌, vec_len, vec_capacity};
+ghost use Rattle.std.specs.Prelude.{◌≡◌, ◌++◌, ◌∷◌, [], OnOk, decimal, length, ◌≤◌, ◌+◌, ◌*◌, vec_len, vec_capacity};
 ghost use Rattle.hex.specs.Hex.{encode_upper};
 ghost use Rattle.xcp_slave.specs.AnswerInBytes.{answer_in};
 ghost use Rattle.xcp_script.specs.AnswerText.{packets_text, text_of};
 ghost use Rattle.xcp_packet.specs.PacketTrains.{block_packets};
 
+use crate::digits::{high_digit, low_digit};
 use std::alloc::AllocError;
+use std::mem;
 use xcp_packet::{Packet, Width};
 use xcp_slave::Told;
-
-const HEX_DIGITS: [u8; 16] = *b"0123456789ABCDEF";
 
 /// Appends the line of an answer, whose packet, if it is one, stands in the lent one. After an
 /// `Err` a front of it may have been appended.
@@ -67,12 +67,26 @@ fn push_ended(texts: &mut Vec<u8>, packet: &[u8], end: u8) -> Result<(), AllocEr
     ensures { OnOk result (texts.new.items ≡ texts.old.items ++ encode_upper packet.now ++ end ∷ []) }
 {
     texts.reserve(2 * packet.len() + 1)?;
+    // Of a `Vec` that is a local of its own, the length stays in a register.
+    let alloc = *texts.allocator();
+    let mut local = mem::replace(texts, Vec::new(alloc));
+    put_ended(&mut local, packet, end);
+    *texts = local;
+    Ok(())
+}
+
+/// Appends a packet in upper-case hex, and the character behind it, for which there is room.
+#[inline(always)]
+fn put_ended(texts: &mut Vec<u8>, packet: &[u8], end: u8)
+    requires few { length packet.now ≤ 255 }
+    requires room { vec_len texts.old + 2 * length packet.now + 1 ≤ vec_capacity texts.old }
+    ensures { texts.new.items ≡ texts.old.items ++ encode_upper packet.now ++ end ∷ [] }
+{
     for byte in packet {
-        texts.push_reserved(HEX_DIGITS[(*byte / 16) as usize]);
-        texts.push_reserved(HEX_DIGITS[(*byte % 16) as usize]);
+        texts.push_reserved(high_digit(*byte));
+        texts.push_reserved(low_digit(*byte));
     }
     texts.push_reserved(end);
-    Ok(())
 }
 
 /// Appends some words, a number in decimal, and a line feed.

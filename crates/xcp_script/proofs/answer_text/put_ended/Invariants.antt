@@ -1,6 +1,6 @@
 use Rattle.std.proofs.Common.{◌≡◌, ◌≤◌, ◌+◌, ◌-◌, ◌*◌, ◌++◌, length, drop, vec_len, vec_capacity}
 use Rattle.hex.specs.Hex.{encode_upper}
-use Rattle.xcp_script.proofs.answer_text.push_ended.Given as goal
+use Rattle.xcp_script.proofs.answer_text.put_ended.Given as goal
 
 abbrev pub invariant-loop-byte : goal.invariant-loop-byte
 invariant-loop-byte l = record {
