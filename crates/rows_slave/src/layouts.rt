@@ -14,10 +14,11 @@ pub struct Kind {
     pub order: Order,
     pub pages: i64,
     pub length: u8,
+    pub third: bool,
 }
 
 /// MAX_CTO 32, MAX_DTO 64, checksums of type ADD_14, Intel byte order, two pages of segment 0, which has
-/// 16 bytes.
+/// 16 bytes, and no segment behind segment 1.
 pub const USUAL: Kind = Kind {
     max_cto: 32,
     max_dto: 64,
@@ -25,6 +26,7 @@ pub const USUAL: Kind = Kind {
     order: Order::Intel,
     pages: 2,
     length: 16,
+    third: false,
 };
 
 /// So many bytes, which count from 0.
@@ -36,8 +38,13 @@ fn counted(alloc: Global, length: u8) -> Result<Vec<u8>, AllocError> {
     Ok(bytes)
 }
 
-/// Segment 0 with so many pages and bytes, and segment 1 with two pages.
-fn segments(alloc: Global, pages: i64, length: u8) -> Result<Vec<SegmentPart>, AllocError> {
+/// Segment 0 with so many pages and bytes, segment 1 with two pages, and there may be a segment 2 with two.
+fn segments(
+    alloc: Global,
+    pages: i64,
+    length: u8,
+    third: bool,
+) -> Result<Vec<SegmentPart>, AllocError> {
     let mut segments = Vec::new(alloc);
     segments.push(SegmentPart {
         address: 0x1000,
@@ -49,6 +56,13 @@ fn segments(alloc: Global, pages: i64, length: u8) -> Result<Vec<SegmentPart>, A
         bytes: [0xAA; 8].to_vec(alloc)?,
         pages: 2,
     })?;
+    if third {
+        segments.push(SegmentPart {
+            address: 0x3000,
+            bytes: [0xBB; 4].to_vec(alloc)?,
+            pages: 2,
+        })?;
+    }
     Ok(segments)
 }
 
@@ -64,8 +78,8 @@ fn events(alloc: Global) -> Result<Vec<EventPart>, AllocError> {
     Ok(events)
 }
 
-/// The identification `ECU1`, 00, 01 and so on at 0x1000, eight bytes AA at 0x2000, 8 bytes of signals at
-/// 0x8000, and the event channel `10ms`.
+/// The identification `ECU1`, 00, 01 and so on at 0x1000, eight bytes AA at 0x2000, four bytes BB at 0x3000
+/// where there is a segment 2, 8 bytes of signals at 0x8000, and the event channel `10ms`.
 fn layout(alloc: Global, kind: Kind) -> Result<Layout, Fail> {
     Ok(Layout::new(Parts {
         id: b"ECU1".to_vec(alloc)?,
@@ -73,7 +87,7 @@ fn layout(alloc: Global, kind: Kind) -> Result<Layout, Fail> {
         max_dto: kind.max_dto,
         checksum: kind.checksum,
         order: kind.order,
-        segments: segments(alloc, kind.pages, kind.length)?,
+        segments: segments(alloc, kind.pages, kind.length, kind.third)?,
         signals_address: 0x8000,
         signals_length: 8,
         events: events(alloc)?,

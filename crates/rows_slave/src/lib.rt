@@ -8,6 +8,8 @@ mod acquisition;
 #[cfg(test)]
 mod copies;
 #[cfg(test)]
+mod downloads;
+#[cfg(test)]
 mod layouts;
 #[cfg(test)]
 mod one_byte;

@@ -66,6 +66,45 @@ fn the_last_page_is_stored(rt: HostRuntime) -> Result<(), Fail> {
 }
 
 #[test]
+fn stored_segments_are_counted(rt: HostRuntime) -> Result<(), Fail> {
+    let rows = "
+        EB 82 00 01 > FF
+        ED 01 00 00 00 10 00 00 55 > FF
+        ED 01 00 00 00 20 00 00 66 > FF
+        ED 01 00 00 00 30 00 00 77 > FF
+        E6 01 00 > FF
+        E6 01 01 > FF
+        F9 01 00 00 > FF
+        store > stored 2
+        drain > FD 03
+        EB 82 00 00 > FF
+        F4 02 00 00 00 10 00 00 > FF 55 01
+        F4 02 00 00 00 20 00 00 > FF 66 AA
+        F4 02 00 00 00 30 00 00 > FF BB BB
+        # All three, of which two store page 0 over itself.
+        EB 02 02 01 > FF
+        E6 01 02 > FF
+        F9 01 00 00 > FF
+        store > stored 3
+        drain > FD 03
+        EB 02 02 00 > FF
+        F4 02 00 00 00 30 00 00 > FF 77 BB
+        F4 02 00 00 00 10 00 00 > FF 55 01
+        F4 02 00 00 00 20 00 00 > FF 66 AA
+        # The first and the last one.
+        E6 00 01 > FF
+        F9 01 00 00 > FF
+        store > stored 2
+    ";
+    let kind = Kind {
+        third: true,
+        ..USUAL
+    };
+    assert_eq!(rt; first_wrong_of(rt.alloc(), kind, rows)?, None);
+    Ok(())
+}
+
+#[test]
 fn a_block_goes_on_behind_a_store(rt: HostRuntime) -> Result<(), Fail> {
     let rows = "
         E6 01 00 > FF
