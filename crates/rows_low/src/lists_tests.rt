@@ -182,6 +182,32 @@ fn a_running_list_refuses(rt: HostRuntime) -> Result<(), Fail> {
     Ok(())
 }
 
+/// The mode has bit 0 of a list that is selected, bit 6 of one that runs; the event channel, the prescaler and
+/// the priority follow.
+#[test]
+fn a_list_tells_its_own_mode(rt: HostRuntime) -> Result<(), Fail> {
+    let rows = "
+        get_daq_list_mode 0 > FE 22
+        free_daq > FF
+        alloc_daq 2 > FF
+        get_daq_list_mode 1 > FF 00 00 00 01 00
+        set_daq_list_mode 0 1 0 5 7 > FF
+        get_daq_list_mode 1 > FF 00 00 00 05 07
+        start_stop_daq_list 2 1 > FF 00
+        get_daq_list_mode 1 > FF 01 00 00 05 07
+        start_stop_daq_list 1 1 > FF 00
+        get_daq_list_mode 1 > FF 41 00 00 05 07
+        start_stop_daq_list 0 1 > FF 00
+        get_daq_list_mode 1 > FF 01 00 00 05 07
+        clear_daq_list 1 > FF
+        get_daq_list_mode 1 > FF 00 00 00 05 07
+        get_daq_list_mode 0 > FF 00 00 00 01 00
+        get_daq_list_mode 2 > FE 22
+    ";
+    assert_eq!(rt; first_wrong_of(rt.alloc(), 64, rows)?, None);
+    Ok(())
+}
+
 #[test]
 fn an_odt_has_room_in_a_packet(rt: HostRuntime) -> Result<(), Fail> {
     let rows = "

@@ -143,6 +143,11 @@ fn orders(rt: HostRuntime) {
     assert_eq!(rt; (Order::Intel.bit(), Order::Motorola.bit()), (0, 1));
     assert_eq!(rt; Order::Intel.double_at(&bytes, 1), 0x0403_0201);
     assert_eq!(rt; Order::Motorola.double_at(&bytes, 1), 0x0102_0304);
+    let words = (
+        Order::Intel.word_at(&bytes, 3),
+        Order::Motorola.word_at(&bytes, 3),
+    );
+    assert_eq!(rt; words, (0x0403, 0x0304));
     let intel = Order::Intel.double_bytes(0x0403_0201);
     let motorola = Order::Motorola.double_bytes(0x0102_0304);
     assert_eq!(rt; (intel, motorola), ([1, 2, 3, 4], [1, 2, 3, 4]));

@@ -83,3 +83,31 @@ fn blocks_are_compared(rt: HostRuntime) {
     assert!(rt; longer.same(&one(&eight)) && !block.same(&longer));
     assert!(rt; short.same(&one(&[1])) && !short.same(&one(&[2])));
 }
+
+/// The width, if there are several packets, and the bytes.
+fn parts(train: &Train) -> (Option<u8>, &[u8]) {
+    let (width, bytes) = train.parts();
+    (width.map(|width| width.bytes()), bytes)
+}
+
+/// A packet is made of its bytes, and a block of its data bytes without an FF, and its width.
+#[test]
+fn a_block_has_its_parts(rt: HostRuntime) {
+    let eight = [1, 2, 3, 4, 5, 6, 7, 8];
+    let block = Train::cut(&eight, Width::new(7));
+    assert!(rt; parts(&block) == (Some(7), eight.as_slice()));
+    assert!(rt; parts(&one(&eight)) == (None, [0xFF, 1, 2, 3, 4, 5, 6, 7, 8].as_slice()));
+}
+
+/// The first packet of eight bytes, and the bytes behind it; and of as many as fill it.
+#[test]
+fn a_packet_is_cut_off(rt: HostRuntime) {
+    let eight = [1, 2, 3, 4, 5, 6, 7, 8];
+    let mut packet = Packet::new();
+    let rest = Width::new(7).cut(&eight, &mut packet);
+    assert!(rt; rest == Some([8].as_slice()));
+    assert!(rt; packet.as_slice() == [0xFF, 1, 2, 3, 4, 5, 6, 7].as_slice());
+    let rest = Width::new(8).cut(&eight, &mut packet);
+    assert!(rt; rest.is_none());
+    assert!(rt; packet.as_slice() == [0xFF, 1, 2, 3, 4, 5, 6, 7, 8].as_slice());
+}

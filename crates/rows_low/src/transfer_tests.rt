@@ -139,6 +139,23 @@ fn blocks(rt: HostRuntime) -> Result<(), Fail> {
     Ok(())
 }
 
+/// DOWNLOAD_MAX with MAX_CTO 8: seven bytes, all that a packet has room for. They move the MTA on.
+#[test]
+fn a_full_packet_is_written(rt: HostRuntime) -> Result<(), Fail> {
+    let rows = "
+        F6 00 00 00 01 10 00 00 > FF
+        EE D1 D2 D3 D4 D5 D6 D7 > FE 23
+        EB 02 00 01 > FF
+        EE D1 D2 D3 D4 D5 D6 > FE 21
+        EE D1 D2 D3 D4 D5 D6 D7 > FF
+        F5 02 > FF 08 09
+        F4 07 00 00 00 10 00 00 > FF 00 D1 D2 D3 D4 D5 D6
+        F5 02 > FF D7 08
+    ";
+    assert_eq!(rt; first_wrong_of(rt.alloc(), 8, rows)?, None);
+    Ok(())
+}
+
 /// Signals may come while a block is under way, whose range stays as it is.
 #[test]
 fn signals_leave_a_block(rt: HostRuntime) -> Result<(), Fail> {

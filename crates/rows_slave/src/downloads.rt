@@ -151,3 +151,19 @@ fn a_download_of_nine_packets_is_refused(rt: HostRuntime) -> Result<(), Fail> {
     }
     Ok(())
 }
+
+#[test]
+fn a_download_of_all_that_a_packet_holds(rt: HostRuntime) -> Result<(), Fail> {
+    let rows = "
+        F6 00 00 00 01 10 00 00 > FF
+        EE D1 D2 D3 D4 D5 D6 D7 > FE 23
+        EB 02 00 01 > FF
+        EE D1 D2 D3 D4 D5 D6 > FE 21
+        EE D1 D2 D3 D4 D5 D6 D7 > FF
+        F5 02 > FF 08 09
+        F4 07 00 00 00 10 00 00 > FF 00 D1 D2 D3 D4 D5 D6
+        F5 02 > FF D7 08
+    ";
+    assert_eq!(rt; first_wrong_of(rt.alloc(), long(8), rows)?, None);
+    Ok(())
+}
