@@ -6,6 +6,7 @@ use std::sync::atomic::{AtomicU64, Ordering};
 use std::test::Fail;
 use std::thread;
 use std::thread::join;
+use std::time::{Clock, Duration};
 use xcp_framing::Watched;
 use xcp_outlet::{DataEnd, ReplyEnd, SendEnd, SendError, outlet};
 
@@ -31,27 +32,32 @@ impl Write for Telling<'_> {
     }
 }
 
-// Whether so many bytes are written, after some looks.
-fn is_written(written: &AtomicU64, bytes: u64) -> bool {
+// Whether so many bytes are written, after some looks with a microsecond of sleep between them.
+fn is_written(clock: &impl Clock, written: &AtomicU64, bytes: u64) -> bool {
     for _ in 0..LOOKS {
         if written.load(Ordering::SeqCst) == bytes {
             return true;
         }
-        thread::yield_now();
+        thread::sleep(clock, Duration::from_micros(1));
     }
     false
 }
 
 // Puts three packets by turns, each one only when the one before is written. Then it puts the marks.
-fn put_by_turns<R: Wait>(rt: &R, replies: ReplyEnd, data: DataEnd, written: &AtomicU64) -> bool {
+fn put_by_turns<R: Wait + Clock>(
+    rt: &R,
+    replies: ReplyEnd,
+    data: DataEnd,
+    written: &AtomicU64,
+) -> bool {
     let mut replies = replies;
     let mut data = data;
     let _ = replies.put_reply(rt, numbered(REPLY, 0));
-    let first = is_written(written, 7);
+    let first = is_written(rt, written, 7);
     let _ = data.put_data(rt, numbered(DATA, 0));
-    let second = is_written(written, 14);
+    let second = is_written(rt, written, 14);
     let _ = replies.put_reply(rt, numbered(REPLY, 1));
-    let third = is_written(written, 21);
+    let third = is_written(rt, written, 21);
     let _ = replies.finish(rt);
     let _ = data.finish(rt);
     first && second && third
