@@ -5,52 +5,55 @@ use std::alloc::Global;
 use std::io::{self, Read, Write};
 use std::sync::atomic::{AtomicBool, AtomicUsize, Ordering};
 use std::thread;
+use std::time::{Clock, Duration};
 use xcp_locked::Gate;
 
 // How often one looks before one gives up.
-const LOOKS: u32 = 10_000_000;
+const LOOKS: u32 = 1_000_000;
 
-// How many bytes were written, whether all was asked, and whether the writer is gone.
+// By which clock one waits, how many bytes were written, whether all was asked, and whether the writer is gone.
 #[derive(Drop)]
-pub struct Tape {
+pub struct Tape<'c, C> {
+    clock: &'c C,
     pub written: AtomicUsize,
     pub asked: AtomicBool,
     pub closed: AtomicBool,
 }
 
-impl Tape {
-    pub fn new() -> Tape {
+impl<'c, C: Clock> Tape<'c, C> {
+    pub fn new(clock: &'c C) -> Tape<'c, C> {
         Tape {
+            clock,
             written: AtomicUsize::new(0),
             asked: AtomicBool::new(false),
             closed: AtomicBool::new(false),
         }
     }
 
-    // Whether so many bytes are written, after some looks.
+    // Whether so many bytes are written, after some looks with a microsecond of sleep between them.
     fn reaches(&self, bytes: usize) -> bool {
         for _ in 0..LOOKS {
             if self.written.load(Ordering::SeqCst) >= bytes {
                 return true;
             }
-            thread::yield_now();
+            thread::sleep(self.clock, Duration::from_micros(1));
         }
         false
     }
-}
 
-// Whether there is no flag, or it is set after some looks.
-fn is_set(flag: Option<&AtomicBool>) -> bool {
-    let Some(flag) = flag else {
-        return true;
-    };
-    for _ in 0..LOOKS {
-        if flag.load(Ordering::SeqCst) {
+    // Whether there is no flag, or it is set after such looks.
+    fn sees(&self, flag: Option<&AtomicBool>) -> bool {
+        let Some(flag) = flag else {
             return true;
+        };
+        for _ in 0..LOOKS {
+            if flag.load(Ordering::SeqCst) {
+                return true;
+            }
+            thread::sleep(self.clock, Duration::from_micros(1));
         }
-        thread::yield_now();
+        false
     }
-    false
 }
 
 // A frame of the tool, and how many bytes the slave has written when it comes.
@@ -91,22 +94,22 @@ pub fn steps(alloc: Global, rows: &[Row]) -> Option<(Vec<Step>, Vec<u8>)> {
 // A tool that sends each frame when it is due, the first one once a flag is set, and is gone once so
 // many bytes were written and another flag is set.
 #[derive(Drop)]
-pub struct Asking<'a> {
-    pub tape: &'a Tape,
+pub struct Asking<'a, 'c, C> {
+    pub tape: &'a Tape<'c, C>,
     pub begins: Option<&'a AtomicBool>,
     pub steps: &'a [Step],
     pub last: usize,
     pub ends: Option<&'a AtomicBool>,
 }
 
-impl Read for Asking<'_> {
+impl<C: Clock> Read for Asking<'_, '_, C> {
     fn read(&mut self, buf: &mut [u8]) -> io::Result<usize> {
-        if !is_set(self.begins) {
+        if !self.tape.sees(self.begins) {
             return Err(io::ErrorKind::TimedOut.into());
         }
         let Some((step, rest)) = self.steps.split_first() else {
             self.tape.asked.store(true, Ordering::SeqCst);
-            if !self.tape.reaches(self.last) || !is_set(self.ends) {
+            if !self.tape.reaches(self.last) || !self.tape.sees(self.ends) {
                 return Err(io::ErrorKind::TimedOut.into());
             }
             return Ok(0);
@@ -121,13 +124,13 @@ impl Read for Asking<'_> {
 }
 
 // Takes what is wanted alone, or anything, once the flag is set; and marks its tape when it is dropped.
-pub struct Checking<'a> {
-    pub tape: &'a Tape,
+pub struct Checking<'a, 'c, C> {
+    pub tape: &'a Tape<'c, C>,
     pub begins: Option<&'a AtomicBool>,
     pub wanted: Option<&'a [u8]>,
 }
 
-impl Drop for Checking<'_> {
+impl<C> Drop for Checking<'_, '_, C> {
     fn drop(self) {
         self.tape.closed.store(true, Ordering::SeqCst);
         let Checking {
@@ -138,9 +141,9 @@ impl Drop for Checking<'_> {
     }
 }
 
-impl Write for Checking<'_> {
+impl<C: Clock> Write for Checking<'_, '_, C> {
     fn write(&mut self, buf: &[u8]) -> io::Result<usize> {
-        if !is_set(self.begins) {
+        if !self.tape.sees(self.begins) {
             return Err(io::ErrorKind::TimedOut.into());
         }
         if let Some(wanted) = self.wanted {
@@ -165,19 +168,19 @@ impl Write for Checking<'_> {
 
 // Lets a task begin a cycle once the flag is set and so many bytes were written.
 #[derive(Drop)]
-pub struct Behind<'a> {
-    pub tape: &'a Tape,
+pub struct Behind<'a, 'c, C> {
+    pub tape: &'a Tape<'c, C>,
     pub begins: Option<&'a AtomicBool>,
     pub bytes: usize,
 }
 
-impl Gate for Behind<'_> {
+impl<C: Clock> Gate for Behind<'_, '_, C> {
     ghost use Rattle.std.specs.Prelude.{⊤};
 
     ghost may_end = { ⊤ };
 
     fn before(&self, _task: u8, _cycle: u32) -> bool {
-        is_set(self.begins) && self.tape.reaches(self.bytes)
+        self.tape.sees(self.begins) && self.tape.reaches(self.bytes)
     }
 
     fn after(&self, _task: u8, _cycle: u32) -> bool {
