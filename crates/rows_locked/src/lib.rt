@@ -10,6 +10,8 @@ mod crossings;
 #[cfg(test)]
 mod crowds;
 #[cfg(test)]
+mod full;
+#[cfg(test)]
 mod gates;
 #[cfg(test)]
 mod images;
