@@ -150,6 +150,31 @@ fn one_connection_of_two_fails(rt: HostRuntime) -> Result<(), Fail> {
     Ok(())
 }
 
+// What is told of one tool beside a task of 100 cycles; none where memory was refused before anybody began.
+fn short<R: Threads + Wait + Clock + Sync>(rt: &R, alloc: Global) -> Option<Result<Report, Fault>> {
+    let unnamed = small(alloc, 3)?;
+    let end = (Watched::new(CONNECT), Watched::new(Hole { room: 1_000 }));
+    let ends = Vec::from_array(alloc, [end]).ok()?;
+    let ending = serve_ends(rt, alloc, unnamed, ends, 1, 100, 65_536, 0).ok()?;
+    Some(ending.told)
+}
+
+// Passes whichever allocation is refused (`rt try --test --fail-alloc N`): who is refused memory tells that, and no other
+// fault. Where none is refused, there are two calls in each cycle, a CONNECT, and the last Hangup.
+#[test]
+fn want_of_memory_is_a_servers_fault(rt: HostRuntime) {
+    let told = match short(&rt, rt.alloc()) {
+        None => short(&rt, rt.alloc()),
+        told => told,
+    };
+    let good = match told {
+        Some(Ok(report)) if report.fault.is_none() => report.calls == 202,
+        Some(Ok(report)) => report.fault == Some(Fault::Memory),
+        _ => false,
+    };
+    assert!(rt; good);
+}
+
 // The last of three cycles begins two periods after the server, at the earliest.
 #[test]
 fn cycles_begin_by_the_period(rt: HostRuntime) -> Result<(), Fail> {
