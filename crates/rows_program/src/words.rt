@@ -3,7 +3,7 @@ use std::alloc::{AllocError, Global};
 use std::env::FillError;
 use std::rt::Env;
 use std::test::Fail;
-use xcp_program::{Options, Unasked, asked};
+use xcp_program::{Options, Unasked, asked, read_words};
 
 /// The words that a program was started with, cut at each `|`.
 #[derive(Drop)]
@@ -42,7 +42,7 @@ impl Env for Started<'_> {
 /// What a program that was started with these words does: the file of a replay, the file of a server with its port,
 /// tools, tasks, cycles, chapter and period, or the status, a blank and what it tells.
 fn told(alloc: Global, words: &[u8]) -> Result<String, AllocError> {
-    match asked(&(Started(words), alloc)) {
+    match asked(alloc, read_words(&(Started(words), alloc))) {
         Ok(Options::Replay { config }) => Ok(config),
         Ok(
             Options::Serve {

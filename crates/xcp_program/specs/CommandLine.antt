@@ -142,6 +142,12 @@ abbrev pub unasked_of : OptionsFault → Unasked
 unasked_of Memory = unasked.Memory
 unasked_of (Words e) = unasked.Words e
 
+-- Why words that the system gave ask for nothing, as the program tells it, by the same kinds: NoText is no fault of such words.
+abbrev pub IsUnaskedFor : Kinds → Unasked → Type 0
+IsUnaskedFor kinds unasked.Memory = ⊤
+IsUnaskedFor kinds unasked.NoText = ⊥
+IsUnaskedFor kinds (unasked.Words e) = IsMistake kinds (Words e)
+
 -- clap's error is a wish, for help or for the version, and no mistake
 abbrev pub IsWish : Error → Type 0
 IsWish e = (kind_of e ≡ DisplayHelp) ⊎ (kind_of e ≡ DisplayVersion)

@@ -19,4 +19,4 @@ pub use layout::layout_of;
 pub use purpose::{Options, OptionsFault};
 pub use replaying::replay;
 pub use source::{read_text, read_whole};
-pub use words::{Unasked, asked};
+pub use words::{Unasked, asked, read_words};

@@ -1,12 +1,14 @@
 //! The words that the program was started with.
-ghost use Rattle.std.specs.Prelude.{◌≡◌, IfOk};
+ghost use Rattle.std.specs.Prelude.{◌≡◌, [], map, true, Err, IfErr, IfOk, string_bytes};
 ghost use Rattle.std.specs.IoError.{error_kind};
-ghost use Rattle.xcp_program.specs.CommandLine.{EndsWith, InRange};
+ghost use Rattle.clap.specs.Words.{subcommand_of, takes};
+ghost use Rattle.clap.specs.Words.{fault_of as faults_in};
+ghost use Rattle.xcp_program.specs.CommandLine.{Asks, EndsWith, InRange, IsUnaskedFor, program};
 
 use crate::command_line::options;
 use crate::fault::Fault;
 use crate::purpose::{Options, OptionsFault};
-use std::alloc::{AllocError, AllocGlobal};
+use std::alloc::{AllocError, AllocGlobal, Global};
 use std::io::ErrorKind;
 use std::rt::Env;
 use std::{env, io};
@@ -76,14 +78,30 @@ fn unread(e: &io::Error) -> Unasked
     }
 }
 
-/// What the words that the program was started with ask for, as `options` reads them. A word that is no UTF-8 is `NoText`,
-/// before any of them is looked at.
-pub fn asked<R: Env + AllocGlobal>(rt: &R) -> Result<Options, Unasked>
-    ensures { IfOk result InRange }
+/// The words that the program was started with, its name first. That they are the system's no contract can say.
+pub fn read_words<R: Env + AllocGlobal>(rt: &R) -> io::Result<Vec<String>> {
+    Ok(env::args(rt)?.collect::<Vec<String>>(rt.alloc())?)
+}
+
+/// What the words that `read_words` gave ask for, as `options` reads them. Where the system gave none, since one is no UTF-8,
+/// that is `NoText`, and else `Memory`.
+pub fn asked(alloc: Global, words: io::Result<Vec<String>>) -> Result<Options, Unasked>
+    ensures asked { IfOk result (λ o. IfOk words (λ given.
+        Asks (subcommand_of program (map string_bytes given.items)) o)) }
+    ensures range { IfOk result InRange }
+    ensures taken { IfOk result (λ o. IfOk words (λ given.
+        faults_in program (map string_bytes given.items) ≡ [])) }
+    ensures mistake { IfErr result (λ e. IfOk words (λ given.
+        IsUnaskedFor (faults_in program (map string_bytes given.items)) e)) }
+    ensures refused { IfErr result (λ e. IfOk words (λ given.
+        takes program (map string_bytes given.items) ≡ true → e ≡ Unasked.Memory)) }
+    ensures text { IfErr words (λ e. error_kind e ≡ ErrorKind.InvalidData
+        → result ≡ Err Unasked.NoText) }
+    ensures memory { IfErr words (λ e. ¬ (error_kind e ≡ ErrorKind.InvalidData)
+        → result ≡ Err Unasked.Memory) }
 {
-    let words = match env::args(rt) {
-        Ok(words) => words.collect::<Vec<String>>(rt.alloc())?,
-        Err(e) => return Err(unread(&e)),
-    };
-    Ok(options(rt.alloc(), words.as_slice())?)
+    match words {
+        Ok(given) => Ok(options(alloc, given.as_slice())?),
+        Err(e) => Err(unread(&e)),
+    }
 }

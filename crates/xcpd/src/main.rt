@@ -10,7 +10,7 @@ use std::net::TcpListener;
 use std::process::ExitCode;
 use xcp_framing::Watched;
 use xcp_locked::Unnamed;
-use xcp_program::{Fault, Options, Unasked, asked, layout_of, read_text, replay};
+use xcp_program::{Fault, Options, Unasked, asked, layout_of, read_text, read_words, replay};
 use xcp_server::{Report, Tools, accept_tools, serve_ends};
 
 /// The most reads of one replay.
@@ -83,7 +83,7 @@ fn tell(rt: &HostRuntime, unasked: &Unasked) -> ExitCode {
 
 fn main(rt: HostRuntime) -> ExitCode {
     let alloc = rt.alloc();
-    let fault = match asked(&rt) {
+    let fault = match asked(alloc, read_words(&rt)) {
         Ok(Options::Replay { config }) => run(&rt, config.as_str()).err(),
         Ok(
             Options::Serve {
