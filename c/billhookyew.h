@@ -1,0 +1,153 @@
+/* Billhookyew: the proved XCP slave, for programs in C and C++.
+ *
+ * What the library promises of each call stands in docs/PROMISES.md, clause by clause. It is proved for calls that keep
+ * to what stands here: no proof sees the C side.
+ *
+ * ALL CALLS
+ *   - No pointer is null, also where a length is 0.
+ *   - What the pointers of one call point to doesn't overlap, is initialized (an xcp_answer too: `= {0}` once), stays as
+ *     it is while the call runs, and is memory that may be written where the parameter isn't const.
+ *   - No call from a signal handler, or from the forked child of a process with threads.
+ *   - malloc, realloc and free are those of one allocator, and a block is aligned to each power of two up to 16 that
+ *     divides its size.
+ *
+ * HANDLES (xcp_slave, xcp_reader, xcp_framer)
+ *   - A handle begins as XCP_CLOSED. The library alone writes to it, and it is never copied: what lies behind it would
+ *     have two owners.
+ *   - A handle that was never opened, or was closed, owns nothing. Each call refuses it, and never follows it.
+ *   - One call at a time for one handle. What takes an xcp_slave is called under a lock of yours, if more than one
+ *     thread calls it. An xcp_reader or an xcp_framer is used by one thread, and needs no lock. Whoever hands a handle to
+ *     another thread orders that by a lock, the start or the join of a thread, or a sequentially consistent atomic.
+ *   - Different handles need no order among each other: readers read while the slave publishes.
+ */
+#ifndef BILLHOOKYEW_H
+#define BILLHOOKYEW_H
+#include <stdbool.h>
+#include <stddef.h>
+#include <stdint.h>
+#ifdef __cplusplus
+extern "C" {
+#endif
+
+typedef struct { void *at; } xcp_slave;
+typedef struct { void *at; } xcp_reader;
+typedef struct { void *at; } xcp_framer;
+#define XCP_CLOSED { NULL }
+
+enum {
+    XCP_IMAGE_BYTES = 2040, /* an image: the controller's pages of all segments, in order, then zeros */
+    XCP_READERS = 6,        /* readers of one slave */
+    XCP_SIGNAL_BYTES = 64,  /* the most signals of an event */
+    XCP_PACKET_BYTES = 255, /* the longest packet */
+    XCP_FRAME_BYTES = 259   /* the longest frame */
+};
+
+/* What an opening answers. 1 to 6 are the faults of a layout file, as docs/LAYOUT.md has them. */
+enum {
+    XCP_OPENED = 0,
+    XCP_NO_DOCUMENT = 1, XCP_MISSING = 2, XCP_WRONG_TYPE = 3, XCP_OUT_OF_RANGE = 4, XCP_OVERLAP = 5, XCP_TOO_MANY = 6,
+    XCP_NO_MEMORY = 7,
+    XCP_NO_UTF8 = 8,
+    XCP_NO_READER = 9,     /* six were taken: a reader that is closed doesn't come back */
+    XCP_IS_OPEN = 10,      /* the handle that is to be opened owns something already */
+    XCP_SLAVE_CLOSED = 11  /* the slave's handle owns none */
+};
+
+/* What an xcp_answer tells. */
+enum {
+    XCP_SILENT = 0,      /* nothing is sent */
+    XCP_PACKETS = 1,     /* `count` packets for the tool: xcp_packet gives each */
+    XCP_SAMPLED = 2,     /* an event: `count` packets wait for xcp_drain */
+    XCP_OVERRUN = 3,     /* an event: no room for its packets, none is kept */
+    XCP_NO_CHANNEL = 4,  /* an event: the layout has no such channel */
+    XCP_BAD_SIGNALS = 5, /* an event: the signals aren't as many bytes as the layout's */
+    XCP_NOTHING = 6,     /* a drain: no packet waits */
+    XCP_STORED = 7,      /* a store: the working pages of `count` segments were stored */
+    XCP_NO_STORE = 8,    /* a store: none was asked for */
+    XCP_LATER = 9        /* a store: no room for its event packet yet, ask again */
+};
+
+/* `width` 0: `bytes` are one packet. Else they are the data bytes of a block, `width` to a packet, each behind FF. */
+typedef struct {
+    uint8_t told, count, width, length;
+    uint8_t bytes[XCP_PACKET_BYTES];
+} xcp_answer;
+
+typedef struct {
+    uint8_t length;
+    uint8_t bytes[XCP_PACKET_BYTES];
+} xcp_one_packet;
+
+typedef struct {
+    uint16_t length;
+    uint8_t bytes[XCP_FRAME_BYTES];
+} xcp_one_frame;
+
+/* What a framer made of a piece: `used` bytes of it were used, and then */
+enum { XCP_MORE = 0 /* no packet is whole yet */, XCP_ONE = 1 /* this packet came */, XCP_BAD_LEN = 2 /* `len` is above MAX_CTO */ };
+typedef struct {
+    size_t used;
+    uint16_t len;
+    uint8_t got, length;
+    uint8_t bytes[XCP_PACKET_BYTES];
+} xcp_fed;
+
+/* ---- The slave: under your lock ---- */
+
+/* Opens a slave by the text of a layout file, `length` bytes: XCP_OPENED, or a fault. All memory that the slave and its
+ * readers ever take is taken here. It wants some 200 kB of stack: not in a thread with a small one. */
+uint8_t xcp_open(const uint8_t *text, size_t length, xcp_slave *slave);
+
+/* Frees it. Its readers stay: they keep the image that they hold, and no newer one comes. */
+void xcp_close(xcp_slave *slave);
+
+/* Each executes one request, and publishes the controller's image for the readers where the request changed it. False:
+ * nothing was done, since the handle is closed, the packet has more than 255 bytes, or the signals more than 64. */
+bool xcp_command(xcp_slave *slave, const uint8_t *packet, size_t length, xcp_answer *answer);
+bool xcp_event(xcp_slave *slave, uint16_t channel, const uint8_t *signals, size_t length, xcp_answer *answer);
+bool xcp_drain(xcp_slave *slave, xcp_answer *answer);        /* takes the first packet that waits to be sent */
+bool xcp_finish_store(xcp_slave *slave, xcp_answer *answer); /* the controller has stored what was asked for */
+bool xcp_hangup(xcp_slave *slave, xcp_answer *answer);       /* the tool's connection is gone */
+
+/* 0 where the handle is closed. */
+uint8_t xcp_max_cto(xcp_slave *slave); /* the longest command, and packet that answers one: 8 to 255 bytes */
+uint8_t xcp_pending(xcp_slave *slave); /* packets that wait for xcp_drain: 0 to 64 */
+uint8_t xcp_held(xcp_slave *slave);    /* buffers beside the current one that readers hold: 0 to 6 */
+
+/* ---- An answer's packets: no lock ---- */
+
+/* The packet at an index, from 0 to `count` - 1. False: there is none, or the answer isn't one that a call gave. */
+bool xcp_packet(const xcp_answer *answer, uint8_t index, xcp_one_packet *packet);
+
+/* ---- Readers ---- */
+
+/* Takes one of the slave's readers: XCP_OPENED, XCP_NO_READER, XCP_IS_OPEN or XCP_SLAVE_CLOSED. It takes no memory.
+ * Under the slave's lock. */
+uint8_t xcp_reader_open(xcp_slave *slave, xcp_reader *reader);
+
+/* The rest without a lock, by the thread that has the reader. None waits, and none takes memory. */
+bool xcp_acquire(xcp_reader *reader); /* takes the newest image: true where it is newer than the one held before */
+bool xcp_read(xcp_reader *reader, size_t at, uint8_t *out, size_t length); /* copies bytes of the held image. False: none
+    * is held, it ends before, or the handle is closed */
+bool xcp_number(xcp_reader *reader, uint64_t *number); /* the held image's number, from 0, modulo 2^64. False: none is
+    * held, or the handle is closed */
+void xcp_reader_close(xcp_reader *reader); /* gives back what it holds, for good, and frees it */
+
+/* ---- The frames of a stream (XCP on Ethernet): no lock ---- */
+
+/* LEN, CTR and a packet; both words have their low byte first. False: the packet has more than 255 bytes. */
+bool xcp_frame(uint16_t ctr, const uint8_t *packet, size_t length, xcp_one_frame *frame);
+
+/* A framer of one connection: XCP_OPENED, XCP_NO_MEMORY or XCP_IS_OPEN. `max_cto` is what xcp_max_cto says. */
+uint8_t xcp_framer_open(uint8_t max_cto, xcp_framer *framer);
+
+/* Uses a front of a piece of the stream, at most to the end of the first frame that holds a packet: call it again with
+ * the rest until all is used. After XCP_BAD_LEN it uses nothing more. False: the handle is closed. */
+bool xcp_feed(xcp_framer *framer, const uint8_t *piece, size_t length, xcp_fed *fed);
+
+void xcp_framer_close(xcp_framer *framer);
+
+#ifdef __cplusplus
+}
+#endif
+#endif

@@ -1,0 +1,5 @@
+pub mod SlaveAsBox
+pub mod ReaderAsBox
+pub mod FramerAsBox
+pub mod Crossing
+pub mod Tested

@@ -1,0 +1,21 @@
+-- A handle and a box's place own what a box at the same types owns.
+use mir.Syntax.{impl, tnil, dnil}
+use mathlib.Core.List.{[]}
+use denote.Signature.{Slot, plain}
+use Rattle.std.proofs.BoxSteps.Form.{Bx}
+use Rattle.std.specs.contracts.alloc.Global as Heap
+use Rattle.std.specs.contracts.impls.GlobalAllocator.TheImpl.{ghosts, dict}
+use Rattle.std.proofs.alloc.Global.TheLaws as heap
+use Rattle.xcp_bank.specs.contracts.reader.Reader as Thing
+use Rattle.xcp_bank.proofs.reader.Reader.TheLaws as thing
+use Rattle.xcp_c.specs.contracts.place.Place as Place
+use Rattle.xcp_c.specs.contracts.reader_handle.ReaderHandle as Handle
+
+abbrev pub E : Bx
+E = record { row = Thing.the_row; laws = thing.the_row_laws; al = record { row = Heap.the_row; laws = heap.the_row_laws; g = ghosts; d = dict; drops = impl [] tnil dnil } }
+
+abbrev pub FromPlace : Slot 0
+FromPlace = plain (λ _. Place.the_row Thing.the_row Heap.the_row ghosts)
+
+abbrev pub FromHandle : Slot 0
+FromHandle = plain (λ _. Handle.the_row)

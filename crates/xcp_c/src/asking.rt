@@ -1,0 +1,57 @@
+//! What a C program asks of a slave, under its lock. Nothing changes for tools.
+ghost use Rattle.std.specs.Prelude.{◌≡◌, ◌⊎◌, MatchOption, None, length};
+ghost use Rattle.xcp_slave.specs.SlaveValue.{layout_of};
+ghost use Rattle.xcp_c.specs.Requests.{Counted};
+
+use crate::slave_handle::SlaveHandle;
+use std::alloc::Global;
+use std::mem;
+
+/// MAX_CTO: the greatest length of a command or of a packet that answers one, 8 to 255 bytes; 0 where
+/// the handle owns no slave.
+#[unsafe(no_mangle)]
+pub extern "C" fn xcp_max_cto(alloc: Global, slave: &mut SlaveHandle) -> u8
+    ensures max_cto { MatchOption slave.old.value (result ≡ 0)
+        (λ v. result ≡ (layout_of v.slave).max_cto) }
+    ensures same { slave.new.value ≡ slave.old.value }
+{
+    if !slave.is_open() {
+        return 0;
+    }
+    let controller = mem::replace(slave, SlaveHandle::closed(alloc)).into_box();
+    let most = controller.max_cto();
+    *slave = SlaveHandle::of(controller);
+    most
+}
+
+/// How many packets wait to be sent, 0 to 64: `xcp_drain` takes them. 0 where the handle owns no slave.
+#[unsafe(no_mangle)]
+pub extern "C" fn xcp_pending(alloc: Global, slave: &mut SlaveHandle) -> u8
+    ensures count { MatchOption slave.old.value (result ≡ 0)
+        (λ v. result ≡ length v.slave.outbox) }
+    ensures same { slave.new.value ≡ slave.old.value }
+{
+    if !slave.is_open() {
+        return 0;
+    }
+    let controller = mem::replace(slave, SlaveHandle::closed(alloc)).into_box();
+    let count = controller.pending();
+    *slave = SlaveHandle::of(controller);
+    count
+}
+
+/// How many buffers of images, beside the current one, readers hold: 0 to 6. 0 where the handle owns no
+/// slave.
+#[unsafe(no_mangle)]
+pub extern "C" fn xcp_held(alloc: Global, slave: &mut SlaveHandle) -> u8
+    ensures { Counted result slave.old.value slave.new.value
+        ⊎ ((result ≡ 0) × (slave.old.value ≡ None) × (slave.new.value ≡ None)) }
+{
+    if !slave.is_open() {
+        return 0;
+    }
+    let mut controller = mem::replace(slave, SlaveHandle::closed(alloc)).into_box();
+    let count = controller.held();
+    *slave = SlaveHandle::of(controller);
+    count
+}

@@ -1,0 +1,83 @@
+//! The handle of a framer.
+ghost use Rattle.std.specs.Prelude.{◌≡◌, MatchBool, Option, Some, None};
+ghost use Rattle.xcp_framing.specs.FramerInput.{FramerValue};
+ghost use Rattle.xcp_c.specs.Held.{IsOpen, coded_framer};
+
+use crate::place::Place;
+use std::alloc::Global;
+use std::marker::Model;
+use std::ptr::null_mut;
+use xcp_framing::Framer;
+
+/// The place of a boxed framer, or null.
+#[repr(C)]
+#[derive(Drop)]
+pub struct FramerHandle {
+    at: *mut u8,
+    alloc: Global,
+    pub ghost value: { Option FramerValue } by { coded_framer },
+}
+
+impl Model for FramerHandle {
+    ghost use Rattle.xcp_c.specs.Held.{held_framer};
+
+    ghost also_owns = { λ h. held_framer h.alloc h.at h.value };
+}
+
+impl FramerHandle {
+    /// A handle that owns nothing.
+    pub(crate) fn closed(alloc: Global) -> FramerHandle
+        ensures { result.value ≡ None }
+    {
+        FramerHandle {
+            at: null_mut(),
+            alloc,
+        }
+    }
+
+    /// A handle that owns this.
+    pub(crate) fn of(value: Box<Framer>) -> FramerHandle
+        ensures { result.value ≡ Some value.value }
+    {
+        FramerHandle::keep(Place::of(value))
+    }
+
+    /// What it owns.
+    pub(crate) fn into_box(self) -> Box<Framer>
+        requires { IsOpen self.value }
+        ensures { self.value ≡ Some result.value }
+    {
+        self.give().into_box()
+    }
+
+    /// Whether it owns a value.
+    pub(crate) fn is_open(&mut self) -> bool
+        ensures { MatchBool result (IsOpen self.old.value) (self.old.value ≡ None)
+            × (self.new ≡ self.old) }
+    {
+        !self.at.is_null()
+    }
+
+    fn keep(place: Place<Framer, Global>) -> FramerHandle
+        ensures { result.value ≡ Some place.value }
+    {
+        let Place { at, alloc } = place;
+        FramerHandle {
+            at: at as *mut u8,
+            alloc,
+        }
+    }
+
+    fn give(self) -> Place<Framer, Global>
+        requires { IsOpen self.value }
+        ensures { self.value ≡ Some result.value }
+    {
+        let FramerHandle { at, alloc } = self;
+        Place {
+            at: at as *mut Framer,
+            alloc,
+        }
+    }
+}
+
+unsafe impl Send for FramerHandle {}

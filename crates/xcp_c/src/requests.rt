@@ -1,0 +1,101 @@
+//! What a C program calls of a slave, under its lock.
+ghost use Rattle.std.specs.Prelude.{◌≡◌, ◌<◌, ◌⊎◌, IsTrue, None, false, length};
+ghost use Rattle.xcp_slave.specs.declared.Request.TheVariants as requests;
+ghost use Rattle.xcp_c.specs.Requests.{Commanded, Fired, Submitted};
+
+use crate::answer::XcpAnswer;
+use crate::slave_handle::SlaveHandle;
+use arrayvec::ArrayVec;
+use std::alloc::Global;
+use std::mem;
+use xcp_packet::Packet;
+use xcp_slave::Request;
+
+/// Executes a request with the slave behind a handle. False where the handle owns none: then nothing
+/// happens.
+fn submit(alloc: Global, slave: &mut SlaveHandle, request: &Request, answer: &mut XcpAnswer) -> bool
+    ensures done { IsTrue result → Submitted request.now slave.old.value answer.new slave.new.value }
+    ensures closed { result ≡ false → (slave.old.value ≡ None) × (slave.new ≡ slave.old) }
+{
+    if !slave.is_open() {
+        return false;
+    }
+    let mut controller = mem::replace(slave, SlaveHandle::closed(alloc)).into_box();
+    let mut packet = Packet::new();
+    let told = controller.submit_into(request, &mut packet);
+    answer.tell(told, &packet);
+    *slave = SlaveHandle::of(controller);
+    true
+}
+
+/// A command packet. False where the handle owns no slave, or where the packet has more than 255
+/// bytes: then nothing happens.
+#[unsafe(no_mangle)]
+pub extern "C" fn xcp_command(
+    alloc: Global,
+    slave: &mut SlaveHandle,
+    bytes: &[u8],
+    answer: &mut XcpAnswer,
+) -> bool
+    ensures done { IsTrue result → Commanded bytes.now slave.old.value answer.new slave.new.value }
+    ensures refused { result ≡ false → ((slave.old.value ≡ None) ⊎ (255 < length bytes.now))
+        × (slave.new ≡ slave.old) }
+{
+    let mut packet = Packet::new();
+    if packet.try_extend_from_slice(bytes).is_err() {
+        return false;
+    }
+    submit(alloc, slave, &Request::Command(packet), answer)
+}
+
+/// An event channel fires with these signals. False where the handle owns no slave, or where they are
+/// more than 64 bytes: then nothing happens.
+#[unsafe(no_mangle)]
+pub extern "C" fn xcp_event(
+    alloc: Global,
+    slave: &mut SlaveHandle,
+    channel: u16,
+    bytes: &[u8],
+    answer: &mut XcpAnswer,
+) -> bool
+    ensures done { IsTrue result → Fired channel bytes.now slave.old.value answer.new slave.new.value }
+    ensures refused { result ≡ false → ((slave.old.value ≡ None) ⊎ (64 < length bytes.now))
+        × (slave.new ≡ slave.old) }
+{
+    let mut signals = ArrayVec::new();
+    if signals.try_extend_from_slice(bytes).is_err() {
+        return false;
+    }
+    submit(alloc, slave, &Request::Event(channel, signals), answer)
+}
+
+/// Takes the first packet that waits to be sent. False where the handle owns no slave.
+#[unsafe(no_mangle)]
+pub extern "C" fn xcp_drain(alloc: Global, slave: &mut SlaveHandle, answer: &mut XcpAnswer) -> bool
+    ensures done { IsTrue result → Submitted requests.Drain slave.old.value answer.new slave.new.value }
+    ensures closed { result ≡ false → (slave.old.value ≡ None) × (slave.new ≡ slave.old) }
+{
+    submit(alloc, slave, &Request::Drain, answer)
+}
+
+/// The controller has stored what was asked for. False where the handle owns no slave.
+#[unsafe(no_mangle)]
+pub extern "C" fn xcp_finish_store(
+    alloc: Global,
+    slave: &mut SlaveHandle,
+    answer: &mut XcpAnswer,
+) -> bool
+    ensures done { IsTrue result → Submitted requests.FinishStore slave.old.value answer.new slave.new.value }
+    ensures closed { result ≡ false → (slave.old.value ≡ None) × (slave.new ≡ slave.old) }
+{
+    submit(alloc, slave, &Request::FinishStore, answer)
+}
+
+/// The tool's connection is gone. False where the handle owns no slave.
+#[unsafe(no_mangle)]
+pub extern "C" fn xcp_hangup(alloc: Global, slave: &mut SlaveHandle, answer: &mut XcpAnswer) -> bool
+    ensures done { IsTrue result → Submitted requests.Hangup slave.old.value answer.new slave.new.value }
+    ensures closed { result ≡ false → (slave.old.value ≡ None) × (slave.new ≡ slave.old) }
+{
+    submit(alloc, slave, &Request::Hangup, answer)
+}

@@ -1,0 +1,83 @@
+//! The handle of a slave.
+ghost use Rattle.std.specs.Prelude.{◌≡◌, MatchBool, Option, Some, None};
+ghost use Rattle.xcp_controller.specs.ControllerValue.{ControllerValue};
+ghost use Rattle.xcp_c.specs.Held.{IsOpen, coded_slave};
+
+use crate::place::Place;
+use std::alloc::Global;
+use std::marker::Model;
+use std::ptr::null_mut;
+use xcp_controller::Controller;
+
+/// The place of a boxed slave, or null.
+#[repr(C)]
+#[derive(Drop)]
+pub struct SlaveHandle {
+    at: *mut u8,
+    alloc: Global,
+    pub ghost value: { Option ControllerValue } by { coded_slave },
+}
+
+impl Model for SlaveHandle {
+    ghost use Rattle.xcp_c.specs.Held.{held_slave};
+
+    ghost also_owns = { λ h. held_slave h.alloc h.at h.value };
+}
+
+impl SlaveHandle {
+    /// A handle that owns nothing.
+    pub(crate) fn closed(alloc: Global) -> SlaveHandle
+        ensures { result.value ≡ None }
+    {
+        SlaveHandle {
+            at: null_mut(),
+            alloc,
+        }
+    }
+
+    /// A handle that owns this.
+    pub(crate) fn of(value: Box<Controller>) -> SlaveHandle
+        ensures { result.value ≡ Some value.value }
+    {
+        SlaveHandle::keep(Place::of(value))
+    }
+
+    /// What it owns.
+    pub(crate) fn into_box(self) -> Box<Controller>
+        requires { IsOpen self.value }
+        ensures { self.value ≡ Some result.value }
+    {
+        self.give().into_box()
+    }
+
+    /// Whether it owns a value.
+    pub(crate) fn is_open(&mut self) -> bool
+        ensures { MatchBool result (IsOpen self.old.value) (self.old.value ≡ None)
+            × (self.new ≡ self.old) }
+    {
+        !self.at.is_null()
+    }
+
+    fn keep(place: Place<Controller, Global>) -> SlaveHandle
+        ensures { result.value ≡ Some place.value }
+    {
+        let Place { at, alloc } = place;
+        SlaveHandle {
+            at: at as *mut u8,
+            alloc,
+        }
+    }
+
+    fn give(self) -> Place<Controller, Global>
+        requires { IsOpen self.value }
+        ensures { self.value ≡ Some result.value }
+    {
+        let SlaveHandle { at, alloc } = self;
+        Place {
+            at: at as *mut Controller,
+            alloc,
+        }
+    }
+}
+
+unsafe impl Send for SlaveHandle {}

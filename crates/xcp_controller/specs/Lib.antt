@@ -1,0 +1,3 @@
+pub mod ControllerValue
+pub mod KeptImages
+pub mod private
