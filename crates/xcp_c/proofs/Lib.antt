@@ -1,3 +1,4 @@
+pub mod PlaceSteps
 pub mod SlaveAsBox
 pub mod ReaderAsBox
 pub mod FramerAsBox

@@ -1,5 +1,6 @@
 -- What a handle owns: a boxed value, or nothing; then its pointer is null.
 use Rattle.std.specs.Prelude.{◌≡◌, Option, Some, None}
+use mir.Syntax.{Ty}
 use base.Fml.{Fml, feq}
 use base.Stored.{Coded}
 use denote.RattleType.{RattleType}
@@ -16,9 +17,13 @@ use Rattle.xcp_framing.specs.contracts.framer.Framer as framer
 abbrev pub IsOpen : {X : Type 0} → Option X → Type 0
 IsOpen {X} o = (x : X) × (o ≡ Some x)
 
+-- what is owned at a place: a boxed value with what lets it be freed; or nothing, and then the place is null
+abbrev pub lies_there : (Ty → Ptr → Fml) → (R : RattleType) → Ptr → Option R.Denot → Fml
+lies_there frees R p (Some x) = box_owns frees R p x
+lies_there frees R p None = feq Ptr p null_ptr
+
 abbrev pub held_at : (R : RattleType) → Global → Ptr → Option R.Denot → Fml
-held_at R alloc p (Some x) = box_owns (ghosts.dealloc_token alloc) R p x
-held_at R alloc p None = feq Ptr p null_ptr
+held_at R alloc = lies_there (ghosts.dealloc_token alloc) R
 
 abbrev pub held_slave : Global → Ptr → Option controller.the_row.Denot → Fml
 held_slave = held_at controller.the_row

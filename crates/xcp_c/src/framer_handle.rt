@@ -6,7 +6,6 @@ ghost use Rattle.xcp_c.specs.Held.{IsOpen, coded_framer};
 use crate::place::Place;
 use std::alloc::Global;
 use std::marker::Model;
-use std::ptr::null_mut;
 use xcp_framing::Framer;
 
 /// The place of a boxed framer, or null.
@@ -29,17 +28,14 @@ impl FramerHandle {
     pub(crate) fn closed(alloc: Global) -> FramerHandle
         ensures { result.value ≡ None }
     {
-        FramerHandle {
-            at: null_mut(),
-            alloc,
-        }
+        FramerHandle::keep(Place::none(alloc))
     }
 
     /// A handle that owns this.
-    pub(crate) fn of(value: Box<Framer>) -> FramerHandle
-        ensures { result.value ≡ Some value.value }
+    pub(crate) fn of(boxed: Box<Framer>) -> FramerHandle
+        ensures { result.value ≡ Some boxed.value }
     {
-        FramerHandle::keep(Place::of(value))
+        FramerHandle::keep(Place::of(boxed))
     }
 
     /// What it owns.
@@ -58,8 +54,9 @@ impl FramerHandle {
         !self.at.is_null()
     }
 
+    /// Forgets the type of the place.
     fn keep(place: Place<Framer, Global>) -> FramerHandle
-        ensures { result.value ≡ Some place.value }
+        ensures { result.value ≡ place.value }
     {
         let Place { at, alloc } = place;
         FramerHandle {
@@ -68,9 +65,9 @@ impl FramerHandle {
         }
     }
 
+    /// The place with its type.
     fn give(self) -> Place<Framer, Global>
-        requires { IsOpen self.value }
-        ensures { self.value ≡ Some result.value }
+        ensures { result.value ≡ self.value }
     {
         let FramerHandle { at, alloc } = self;
         Place {

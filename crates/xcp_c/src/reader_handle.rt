@@ -6,7 +6,6 @@ ghost use Rattle.xcp_c.specs.Held.{IsOpen, coded_reader};
 use crate::place::Place;
 use std::alloc::Global;
 use std::marker::Model;
-use std::ptr::null_mut;
 use xcp_bank::Reader;
 
 /// The place of a boxed reader, or null.
@@ -29,17 +28,14 @@ impl ReaderHandle {
     pub(crate) fn closed(alloc: Global) -> ReaderHandle
         ensures { result.value ≡ None }
     {
-        ReaderHandle {
-            at: null_mut(),
-            alloc,
-        }
+        ReaderHandle::keep(Place::none(alloc))
     }
 
     /// A handle that owns this.
-    pub(crate) fn of(value: Box<Reader>) -> ReaderHandle
-        ensures { result.value ≡ Some value.value }
+    pub(crate) fn of(boxed: Box<Reader>) -> ReaderHandle
+        ensures { result.value ≡ Some boxed.value }
     {
-        ReaderHandle::keep(Place::of(value))
+        ReaderHandle::keep(Place::of(boxed))
     }
 
     /// What it owns.
@@ -58,8 +54,9 @@ impl ReaderHandle {
         !self.at.is_null()
     }
 
+    /// Forgets the type of the place.
     fn keep(place: Place<Reader, Global>) -> ReaderHandle
-        ensures { result.value ≡ Some place.value }
+        ensures { result.value ≡ place.value }
     {
         let Place { at, alloc } = place;
         ReaderHandle {
@@ -68,9 +65,9 @@ impl ReaderHandle {
         }
     }
 
+    /// The place with its type.
     fn give(self) -> Place<Reader, Global>
-        requires { IsOpen self.value }
-        ensures { self.value ≡ Some result.value }
+        ensures { result.value ≡ self.value }
     {
         let ReaderHandle { at, alloc } = self;
         Place {

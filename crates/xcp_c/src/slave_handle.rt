@@ -6,7 +6,6 @@ ghost use Rattle.xcp_c.specs.Held.{IsOpen, coded_slave};
 use crate::place::Place;
 use std::alloc::Global;
 use std::marker::Model;
-use std::ptr::null_mut;
 use xcp_controller::Controller;
 
 /// The place of a boxed slave, or null.
@@ -29,17 +28,14 @@ impl SlaveHandle {
     pub(crate) fn closed(alloc: Global) -> SlaveHandle
         ensures { result.value ≡ None }
     {
-        SlaveHandle {
-            at: null_mut(),
-            alloc,
-        }
+        SlaveHandle::keep(Place::none(alloc))
     }
 
     /// A handle that owns this.
-    pub(crate) fn of(value: Box<Controller>) -> SlaveHandle
-        ensures { result.value ≡ Some value.value }
+    pub(crate) fn of(boxed: Box<Controller>) -> SlaveHandle
+        ensures { result.value ≡ Some boxed.value }
     {
-        SlaveHandle::keep(Place::of(value))
+        SlaveHandle::keep(Place::of(boxed))
     }
 
     /// What it owns.
@@ -58,8 +54,9 @@ impl SlaveHandle {
         !self.at.is_null()
     }
 
+    /// Forgets the type of the place.
     fn keep(place: Place<Controller, Global>) -> SlaveHandle
-        ensures { result.value ≡ Some place.value }
+        ensures { result.value ≡ place.value }
     {
         let Place { at, alloc } = place;
         SlaveHandle {
@@ -68,9 +65,9 @@ impl SlaveHandle {
         }
     }
 
+    /// The place with its type.
     fn give(self) -> Place<Controller, Global>
-        requires { IsOpen self.value }
-        ensures { self.value ≡ Some result.value }
+        ensures { result.value ≡ self.value }
     {
         let SlaveHandle { at, alloc } = self;
         Place {

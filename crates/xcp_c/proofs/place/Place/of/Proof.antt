@@ -37,6 +37,7 @@ use Rattle.std.proofs.alloc.Calls.{token, handle_tells, Goes-blank}
 use Rattle.std.specs.Box.Ownership.{box_owns}
 use Rattle.std.proofs.BoxSteps.Form.{Bx, D, τ, R, P, B, word, box_typed}
 use Rattle.std.proofs.BoxSteps.Steps.{box_out, box_in}
+use Rattle.std.specs.declared.option.Option.TheVariants.{Some}
 use Rattle.xcp_c.specs.contracts.place.Place as place
 use Rattle.std.specs.contracts.boxed.Box.into_raw_with_allocator as Ra
 use Rattle.std.proofs.boxed.Box.into_raw_with_allocator.Symbol as raw_sym
@@ -90,7 +91,7 @@ module _ (E : Bx) (dx : Dict) where
         in_a_block ! r.0 (λ p. box_owns (token E.al a) (R E) p v.value) (fst∗ 𝓤 (never 𝓤) (sem 𝓛 (token E.al a (bare (τ E)) null_ptr))) (λ b' o' e'.
         move ! (1 ∷ []) $ split ! $ move ! (1 ∷ []) $ fpick ! (λ vss. fsplit ! $ feq_l ! (λ eu. fsplit ! $ feq_l ! (λ ep. fsplit ! $ rewrite ! 0 (λ (s : E.al.row.Denot). ‵ (E.al.row.own_val s vss.1.0)) ea refl $ handle_tells E.al ! a vss.1.0 (λ hw eh fw.
         let d : D E = record { ptr = block_ptr b' o'; alloc = a; value = v.value } in
-        let made : To.Denot = record { at = block_ptr b' o'; alloc = a; value = v.value } in
+        let made : To.Denot = record { at = block_ptr b' o'; alloc = a; value = Some v.value } in
         lands_as ! (ap only (eu ∙ (λ j. vstruct (of_list ((ep ∙ ap (λ (p : Ptr). ptr_val p ∷ []) e') j ++ (eh j ++ []))) ∷ []))) refl (box_typed E hw b' o' fw) $
         sets ! (of_opd ! (get_in ! (fld ! refl (stop !)) (sub ! 0 refl (whole !)))) refl (tt, tt) $ sets ! (of_opd ! (get_in ! (fld ! refl (stop !)) (sub ! 1 refl (whole !)))) refl fw $ sets ! (of_opd ! (get ! refl)) refl fw $
         sets ! (agg ! (and_then ! (get ! refl) (and_then ! (get ! refl) (no_more !)))) refl (box_typed E hw b' o' fw) $ returns ! (look_at ! 0 refl) $ free_all ! refl $
