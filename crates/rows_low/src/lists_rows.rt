@@ -3,7 +3,6 @@
 use crate::answers::{answer, byte, refused, told};
 use crate::layouts::{Kind, USUAL, pages};
 use crate::rows::{Subject, words};
-use arrayvec::ArrayVec;
 use std::alloc::Global;
 use std::test::Fail;
 use xcp_daq::{Daq, ListMode};
@@ -15,6 +14,7 @@ use xcp_packet::{Code, Packet};
 pub struct Lists {
     pub pages: Pages,
     pub daq: Daq,
+    alloc: Global,
 }
 
 /// No lists yet, over pages whose signals are 1 to 8.
@@ -24,7 +24,7 @@ pub(crate) fn opened_lists(alloc: Global, max_dto: i64) -> Result<Lists, Fail> {
         pages.set_signals(&[1, 2, 3, 4, 5, 6, 7, 8]);
     }
     let daq = Daq::new();
-    Ok(Lists { pages, daq })
+    Ok(Lists { pages, daq, alloc })
 }
 
 fn byte_of(number: u32) -> Option<u8> {
@@ -144,7 +144,7 @@ fn processor_info(lists: &Lists) -> Packet {
 
 /// The packets of an event, each behind its length.
 fn event(lists: &mut Lists, channel: u16) -> Option<Packet> {
-    let mut packets = ArrayVec::new();
+    let mut packets = Vec::with_capacity(lists.alloc, 64).ok()?;
     lists.daq.sample(channel, &lists.pages, &mut packets);
     let mut joined = told(&[]);
     for packet in &packets {

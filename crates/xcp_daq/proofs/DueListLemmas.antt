@@ -1,5 +1,5 @@
 -- The packets of the lists that are due.
-use Rattle.std.proofs.Common.{◌≡◌, ℕ, ◌+◌, ◌<◌, ◌≤◌, Bool, true, false, ◌&&◌, List, [], ◌∷◌, ◌++◌, length, take, drop, get_or, Option, None, ap, sym, ◌∙◌, refl, arith, length-append, All}
+use Rattle.std.proofs.Common.{◌≡◌, ℕ, ◌+◌, ◌<◌, ◌≤◌, Bool, true, false, ◌&&◌, List, [], ◌∷◌, ◌++◌, length, take, drop, get_or, Option, None, ap, sym, ◌∙◌, refl, arith, append_assoc, length-append, All}
 use Rattle.std.specs.Prelude.{◌==◌, if◌then◌else◌}
 use Rattle.std.specs.List.{flat_map, enumerate_from}
 use Rattle.std.proofs.lemmas.Grind.{flat_map-append}
@@ -55,14 +55,15 @@ packets_more f lists i h =
     ∙ flat_map_more f [] (take i all) (get_or all i none)
     ∙ ap (flat_map f) (sym (take_more all i none below))
 
--- the loop over the lists has come one further
-pub due_more : (f : ℕ × DaqList → List (ArrayVec ℕ)) (ms : List Mode) (os : List Os) (i : ℕ) (out now : List (ArrayVec ℕ)) → length ms ≡ length os → i < length ms → out ≡ flat_map f (take i (enumerate_from 0 (lists_of ms os))) → now ≡ out ++ f (i, list_of (get_or ms i new_mode) (get_or os i [])) → now ≡ flat_map f (take (i + 1) (enumerate_from 0 (lists_of ms os)))
-due_more f ms os i out now same place so_far e =
+-- the loop over the lists has come one further: behind what was there before
+pub due_more : (f : ℕ × DaqList → List (ArrayVec ℕ)) (ms : List Mode) (os : List Os) (i : ℕ) (before out now : List (ArrayVec ℕ)) → length ms ≡ length os → i < length ms → out ≡ before ++ flat_map f (take i (enumerate_from 0 (lists_of ms os))) → now ≡ out ++ f (i, list_of (get_or ms i new_mode) (get_or os i [])) → now ≡ before ++ flat_map f (take (i + 1) (enumerate_from 0 (lists_of ms os)))
+due_more f ms os i before out now same place so_far e =
     let done : List (ArrayVec ℕ) = flat_map f (take i (enumerate_from 0 (lists_of ms os))) in
     e
     ∙ ap (λ (ps : List (ArrayVec ℕ)). ps ++ f (i, list_of (get_or ms i new_mode) (get_or os i []))) so_far
-    ∙ ap (λ (l : DaqList). done ++ f (i, l)) (sym (list_of_is ms os i same))
-    ∙ packets_more f (lists_of ms os) i (omega (arith, length-lists ms os same))
+    ∙ append_assoc before done (f (i, list_of (get_or ms i new_mode) (get_or os i [])))
+    ∙ ap (λ (l : DaqList). before ++ (done ++ f (i, l))) (sym (list_of_is ms os i same))
+    ∙ ap (λ (ps : List (ArrayVec ℕ)). before ++ ps) (packets_more f (lists_of ms os) i (omega (arith, length-lists ms os same)))
 
 -- what the first elements give is no more than what all give
 fewer : {X : Type 0} (f : X → List (ArrayVec ℕ)) (k : ℕ) (xs : List X) → length (flat_map f (take k xs)) ≤ length (flat_map f xs)
@@ -73,7 +74,7 @@ pub count_more : (f : ℕ × DaqList → List (ArrayVec ℕ)) (ms : List Mode) (
 count_more f ms os i n here same place so_far e =
     let out : List (ArrayVec ℕ) = flat_map f (take i (enumerate_from 0 (lists_of ms os))) in
     let next : List (ArrayVec ℕ) = f (i, list_of (get_or ms i new_mode) (get_or os i [])) in
-    omega (arith, length-append out next, ap length (due_more f ms os i out (out ++ next) same place refl refl))
+    omega (arith, length-append out next, ap length (due_more f ms os i [] out (out ++ next) same place refl refl))
 
 -- the packets of the first lists and of the next one are no more than those of all lists
 pub count_most : (f : ℕ × DaqList → List (ArrayVec ℕ)) (ms : List Mode) (os : List Os) (i n here : ℕ) → length ms ≡ length os → i < length ms → n ≡ length (flat_map f (take i (enumerate_from 0 (lists_of ms os)))) → here ≡ length (f (i, list_of (get_or ms i new_mode) (get_or os i []))) → n + here ≤ length (flat_map f (enumerate_from 0 (lists_of ms os)))

@@ -7,7 +7,6 @@ pub mod ErrorLaws
 pub mod PacketLengthLaws
 pub mod CommandExecutionLemmas
 pub mod PacketExecutionLemmas
-pub mod OutboxRingLemmas
 pub mod EventChannelLemmas
 pub mod ListInvariantLemmas
 pub mod TransferInvariantLemmas

@@ -24,7 +24,7 @@ mod told;
 pub use accepting::{
     a_block_gathers_its_bytes, a_copy_spares_the_reference_page, a_mode_is_of_its_segment,
     a_switch_gives_what_it_names, a_tool_is_told_its_bytes, a_tool_writes_its_bytes,
-    transfers_move_the_mta,
+    an_upload_is_cut_into_packets, transfers_move_the_mta,
 };
 pub use answer::Answer;
 pub use beside::{requests_beside_change_their_own, sessions_begin_and_end};

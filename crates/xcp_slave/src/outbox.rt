@@ -1,63 +1,71 @@
 //! The packets that wait to be sent.
-ghost use Rattle.std.specs.Prelude.{◌≡◌, ◌≢◌, MatchBool, ◌≤◌, ◌<◌, ◌+◌, [], ◌∷◌, ◌++◌, length, Option, Some, None, if◌then◌else◌, slice_index_or as get_or};
-ghost use Rattle.xcp_slave.specs.private.OutboxRing.{first_of, behind_first, wrapped};
+ghost use Rattle.std.specs.Prelude.{◌≡◌, ◌≢◌, MatchBool, IfOk, ◌≤◌, ◌<◌, ◌+◌, [], ◌∷◌, ◌++◌, drop, length, Some, None, if◌then◌else◌, slice_index_or as get_or, vec_capacity};
+ghost use Rattle.xcp_daq.specs.Sample.{after_event, sampled};
+ghost use Rattle.xcp_slave.specs.private.PacketRow.{IsRow, first_of, behind_first};
 
 use crate::packet::{copied, copy_into};
-use arrayvec::ArrayVec;
+use std::alloc::{AllocError, Global};
 use std::marker::Model;
+use xcp_daq::Daq;
+use xcp_memory::Pages;
 use xcp_packet::Packet;
 
 /// How many packets can wait.
 const CAPACITY: usize = 64;
 
+/// How many packets a row has before those that were taken out leave it.
+const LONG: usize = 128;
+
 /// Data and event packets (DTO) that wait to be sent, at most 64, in the order in which they came.
 ///
-/// They stand in a ring of slots, so that neither putting a packet in nor taking one out moves the
-/// others.
+/// They stand in a row, behind those that were taken out already: these leave it when no packet waits, or when the row is long.
+/// So neither putting a packet in nor taking one out moves the others, as long as packets are fetched in time. The row has
+/// room for all that it can ever have, so no memory is taken.
 #[derive(Drop)]
 pub(crate) struct Outbox {
-    slots: ArrayVec<Packet, 64>,
-    first: usize,
-    count: usize,
+    row: Vec<Packet>,
+    taken: usize,
 }
 
 impl Model for Outbox {
-    ghost use Rattle.std.specs.Prelude.{List, ℕ};
+    ghost use Rattle.std.specs.Prelude.{List, ℕ, drop, length, vec_capacity};
     ghost use Rattle.arrayvec.specs.ArrayVec.{ArrayVec};
-    ghost use Rattle.xcp_slave.specs.private.OutboxRing.{ring, IsRing};
+    ghost use Rattle.xcp_slave.specs.private.PacketRow.{IsRow};
 
     ghost Value = { List (ArrayVec ℕ) };
 
-    ghost view = { λ o. ring o.first o.count o.slots.items };
+    ghost view = { λ o. drop o.taken o.row.items };
 
-    ghost invariant = { λ o. IsRing o.first o.count o.slots.items };
+    ghost invariant = { λ o. IsRow o.taken (length o.row.items) (vec_capacity o.row) };
 }
 
 impl Outbox {
-    /// No packet waits.
-    pub(crate) fn new() -> Outbox
-        ensures { result ≡ [] }
+    /// No packet waits. The room for 192 packets is all the memory that it ever takes.
+    pub(crate) fn new(alloc: Global) -> Result<Outbox, AllocError>
+        ensures { IfOk result (λ o. o ≡ []) }
     {
-        let mut slots = ArrayVec::new();
-        for _slot in 0..CAPACITY {
-            slots.push(Packet::new());
-        }
-        Outbox {
-            slots,
-            first: 0,
-            count: 0,
-        }
+        let row = Vec::with_capacity(alloc, LONG + CAPACITY)?;
+        Ok(Outbox { row, taken: 0 })
     }
 
     /// An outbox in which equal packets wait.
-    pub(crate) fn copy(&self) -> Outbox
-        ensures { result ≡ self.now }
+    pub(crate) fn copy(&self, alloc: Global) -> Result<Outbox, AllocError>
+        ensures { IfOk result (λ o. o ≡ self.now) }
     {
-        Outbox {
-            slots: copy_slots(&self.slots),
-            first: self.first,
-            count: self.count,
+        let mut row = Vec::with_capacity(alloc, LONG + CAPACITY)?;
+        let waiting = self.waiting();
+        for packet in waiting {
+            row.push_reserved(copied(packet));
         }
+        Ok(Outbox { row, taken: 0 })
+    }
+
+    /// The packets that wait.
+    fn waiting(&self) -> &[Packet]
+        ensures value { result.now ≡ self.now }
+        ensures most { length result.now ≤ 64 }
+    {
+        &self.row[self.taken..]
     }
 
     /// Whether equal packets wait in both.
@@ -80,28 +88,29 @@ impl Outbox {
         requires { i < length self.now }
         ensures { result.now ≡ get_or self.now i result.now }
     {
-        &self.slots[around(self.first + i)]
+        &self.waiting()[i]
     }
 
     /// How many packets have room.
     pub(crate) fn room(&self) -> usize
         ensures { result + length self.now ≡ 64 }
     {
-        CAPACITY - self.count
+        CAPACITY - self.waiting().len()
     }
 
     /// How many packets wait.
     pub(crate) fn count(&self) -> u8
         ensures { result ≡ length self.now }
     {
-        self.count as u8
+        self.waiting().len() as u8
     }
 
     /// No packet waits any more.
     pub(crate) fn clear(&mut self)
         ensures { self.new ≡ [] }
     {
-        self.count = 0;
+        self.row.clear();
+        self.taken = 0;
     }
 
     /// Puts a packet behind the others.
@@ -109,19 +118,18 @@ impl Outbox {
         requires { length self.old < 64 }
         ensures { self.new ≡ self.old ++ packet ∷ [] }
     {
-        let behind = around(self.first + self.count);
-        self.slots[behind] = packet;
-        self.count += 1;
+        self.taken = shorten(&mut self.row, self.taken);
+        self.row.push_reserved(packet);
     }
 
-    /// Puts packets behind the others, in order.
-    pub(crate) fn append(&mut self, packets: &ArrayVec<Packet, 64>)
-        requires { length self.old + length packets.now.items ≤ 64 }
-        ensures { self.new ≡ self.old ++ packets.now.items }
+    /// Counts an event of a channel in the lists, and puts their data packets behind the others: they are sampled where they wait.
+    pub(crate) fn sample(&mut self, daq: &mut Daq, channel: u16, pages: &Pages)
+        requires { length self.old + length (sampled channel pages.now daq.old) ≤ 64 }
+        ensures packets { self.new ≡ self.old ++ sampled channel pages.now daq.old }
+        ensures lists { daq.new ≡ after_event channel daq.old }
     {
-        for packet in packets.as_slice() {
-            self.push(copied(packet));
-        }
+        self.taken = shorten(&mut self.row, self.taken);
+        daq.sample(channel, pages, &mut self.row);
     }
 
     /// Takes the first packet out, if there is one, into a packet that is lent.
@@ -129,22 +137,30 @@ impl Outbox {
         ensures packet { first_of self.old ≡ (if result then Some packet.new else None) }
         ensures others { self.new ≡ behind_first self.old }
     {
-        if self.count == 0 {
+        if self.taken == self.row.len() {
             return false;
         }
-        copy_into(&self.slots[self.first], packet);
-        self.first = around(self.first + 1);
-        self.count -= 1;
+        copy_into(&self.row[self.taken], packet);
+        self.taken += 1;
+        if self.taken == self.row.len() {
+            self.clear();
+        }
         true
     }
 }
 
-/// The slot of a number of slots counted on past the last one.
-fn around(n: usize) -> usize
-    requires { n < 128 }
-    ensures { result ≡ wrapped n }
+/// Lets those leave a long row that were taken out, and answers how many of the row are taken out then.
+fn shorten(row: &mut Vec<Packet>, taken: usize) -> usize
+    requires { IsRow taken (length row.old.items) (vec_capacity row.old) }
+    ensures waiting { drop result row.new.items ≡ drop taken row.old.items }
+    ensures row { IsRow result (length row.new.items) (vec_capacity row.new) }
+    ensures short { length row.new.items ≤ 128 }
 {
-    if n < CAPACITY { n } else { n - CAPACITY }
+    if row.len() <= LONG {
+        return taken;
+    }
+    drop(row.drain(..taken));
+    0
 }
 
 /// Whether both packets are equal.
@@ -152,15 +168,4 @@ fn same_packet(ours: &Packet, theirs: &Packet) -> bool
     ensures { MatchBool result (ours.now ≡ theirs.now) (ours.now ≢ theirs.now) }
 {
     ours == theirs
-}
-
-/// Equal packets in as many slots.
-fn copy_slots(slots: &ArrayVec<Packet, 64>) -> ArrayVec<Packet, 64>
-    ensures { result.items ≡ slots.now.items }
-{
-    let mut copies = ArrayVec::new();
-    for slot in slots.as_slice() {
-        copies.push(copied(slot));
-    }
-    copies
 }

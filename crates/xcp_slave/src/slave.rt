@@ -22,7 +22,6 @@ mod session;
 
 use crate::outbox::Outbox;
 use crate::{Answer, Request, Told};
-use arrayvec::ArrayVec;
 use std::alloc::{AllocError, Global};
 use std::marker::Model;
 use xcp_daq::Daq;
@@ -48,8 +47,6 @@ pub struct Slave {
     daq: Daq,
     outbox: Outbox,
     store: bool,
-    // The packets of the last event: here they take no time to be made anew.
-    sample: ArrayVec<Packet, 64>,
 }
 
 impl Model for Slave {
@@ -224,18 +221,19 @@ macro_rules! dispatch {
 }
 
 impl Slave {
-    /// A slave with this layout, at its opening. Its pages are all the memory that it ever takes.
+    /// A slave with this layout, at its opening. Its pages, and room for the packets that wait, are all the memory that it ever
+    /// takes.
     pub fn new(alloc: Global, layout: Layout) -> Result<Slave, AllocError>
         ensures { IfOk result (λ s. s ≡ opening layout) }
     {
         let pages = Pages::new(alloc, layout)?;
+        let outbox = Outbox::new(alloc)?;
         Ok(Slave {
             connected: false,
             transfer: Transfer::new(pages),
             daq: Daq::new(),
-            outbox: Outbox::new(),
+            outbox,
             store: false,
-            sample: ArrayVec::new(),
         })
     }
 
@@ -244,13 +242,13 @@ impl Slave {
         ensures { IfOk result (λ s. s ≡ self.now) }
     {
         let transfer = self.transfer.copy_all(alloc)?;
+        let outbox = self.outbox.copy(alloc)?;
         Ok(Slave {
             connected: self.connected,
             transfer,
             daq: self.daq.copy(),
-            outbox: self.outbox.copy(),
+            outbox,
             store: self.store,
-            sample: ArrayVec::new(),
         })
     }
 

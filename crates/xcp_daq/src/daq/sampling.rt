@@ -1,7 +1,6 @@
 //! The sample of an event.
-ghost use Rattle.std.specs.Prelude.{◌≡◌, ◌≤◌, ◌<◌, All, ◌+◌, ◌++◌, [], length, map, take, None, slice_index_or as get_or};
+ghost use Rattle.std.specs.Prelude.{◌≡◌, ◌≤◌, ◌<◌, All, ◌+◌, ◌++◌, [], length, map, take, None, slice_index_or as get_or, vec_len, vec_capacity};
 ghost use Rattle.xcp_daq.specs.DaqInvariant.{IsEntry, IsList};
-ghost use Rattle.arrayvec.specs.ArrayVec.{array_vec_len};
 ghost use Rattle.xcp_daq.specs.Sample.{sampled, list_packets, after_event};
 ghost use Rattle.xcp_daq.specs.Pools.{joined, list_of, lists_of};
 ghost use Rattle.xcp_daq.specs.private.Pools.{counted_mode};
@@ -9,7 +8,6 @@ ghost use Rattle.xcp_daq.specs.private.Pools.{counted_mode};
 use super::Daq;
 use crate::mode::{Mode, NEW_LIST};
 use crate::odts::Odts;
-use arrayvec::ArrayVec;
 use xcp_memory::Pages;
 use xcp_packet::Packet;
 
@@ -23,10 +21,12 @@ impl Daq {
     }
 
     /// Counts an event of a channel, and gives the data packets of the lists that are due: for each ODT with bytes its PID
-    /// and then what the controller has at its elements. `out` has to be empty; it gets up to 64 packets.
-    pub fn sample(&mut self, channel: u16, pages: &Pages, out: &mut ArrayVec<Packet, 64>)
-        requires { array_vec_len out.old ≡ 0 }
-        ensures packets { out.new.items ≡ sampled channel pages.now self.old }
+    /// and then what the controller has at its elements. They are put behind the packets of `out`, which needs room for 64
+    /// more, however few `sample_len` says: no memory is taken.
+    pub fn sample(&mut self, channel: u16, pages: &Pages, out: &mut Vec<Packet>)
+        requires { vec_len out.old + 64 ≤ vec_capacity out.old }
+        ensures packets { out.new.items ≡ out.old.items ++ sampled channel pages.now self.old }
+        ensures capacity { vec_capacity out.new ≡ vec_capacity out.old }
         ensures value { self.new ≡ after_event channel self.old }
     {
         sample_due(&self.modes, &self.odts, channel, pages, out);
@@ -71,18 +71,13 @@ fn count_list(modes: &[Mode], odts: &Odts, i: usize, channel: u16, pages: &Pages
 }
 
 /// Appends the packets of the lists that are due.
-fn sample_due(
-    modes: &[Mode],
-    odts: &Odts,
-    channel: u16,
-    pages: &Pages,
-    out: &mut ArrayVec<Packet, 64>,
-)
+fn sample_due(modes: &[Mode], odts: &Odts, channel: u16, pages: &Pages, out: &mut Vec<Packet>)
     requires same { length modes.now ≡ length odts.now }
     requires lists { All IsList (lists_of modes.now odts.now) }
     requires written { All IsEntry (joined (joined odts.now)) }
-    requires empty { array_vec_len out.old ≡ 0 }
-    ensures { out.new.items ≡ sampled channel pages.now (record { lists = lists_of modes.now odts.now; pointer = None; last = None }) }
+    requires room { vec_len out.old + 64 ≤ vec_capacity out.old }
+    ensures capacity { vec_capacity out.new ≡ vec_capacity out.old }
+    ensures items { out.new.items ≡ out.old.items ++ sampled channel pages.now (record { lists = lists_of modes.now odts.now; pointer = None; last = None }) }
 {
     for i in 0..modes.len() {
         sample_list(modes, odts, i, channel, pages, out);
@@ -96,15 +91,16 @@ fn sample_list(
     i: usize,
     channel: u16,
     pages: &Pages,
-    out: &mut ArrayVec<Packet, 64>,
+    out: &mut Vec<Packet>,
 )
     requires place { i < length modes.now }
     requires same { length modes.now ≡ length odts.now }
     requires lists { All IsList (lists_of modes.now odts.now) }
     requires written { All IsEntry (joined (joined odts.now)) }
-    requires room { array_vec_len out.old ≤ length (joined (take i odts.now)) }
+    requires room { vec_len out.old + 64 ≤ vec_capacity out.old + length (joined (take i odts.now)) }
     ensures items { out.new.items ≡ out.old.items ++ list_packets channel pages.now (record { lists = lists_of modes.now odts.now; pointer = None; last = None }) (i, list_of (get_or modes.now i NEW_LIST) (get_or odts.now i [])) }
-    ensures room { array_vec_len out.new ≤ length (joined (take (i + 1) odts.now)) }
+    ensures room { vec_len out.new + 64 ≤ vec_capacity out.new + length (joined (take (i + 1) odts.now)) }
+    ensures capacity { vec_capacity out.new ≡ vec_capacity out.old }
 {
     if modes[i].is_due(channel) {
         odts.sample(i, pages, out);

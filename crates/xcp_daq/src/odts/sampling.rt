@@ -1,5 +1,5 @@
 //! The data packets of a list.
-ghost use Rattle.std.specs.Prelude.{◌≡◌, ◌<◌, ◌≤◌, ◌+◌, ◌++◌, ◌∷◌, [], ◌^◌, All, length, take, slice_index_or as get_or, OnOk, OnErr, true, false, nat_lt};
+ghost use Rattle.std.specs.Prelude.{◌≡◌, ◌<◌, ◌≤◌, ◌+◌, ◌++◌, ◌∷◌, [], ◌^◌, All, length, take, slice_index_or as get_or, vec_len, vec_capacity, OnOk, OnErr, true, false, nat_lt};
 ghost use Rattle.xcp_memory.specs.ComputedAccess.{lies_inside, controller_bytes};
 ghost use Rattle.arrayvec.specs.ArrayVec.{array_vec_len};
 ghost use Rattle.xcp_daq.specs.DaqLists.{entry_size, odt_size};
@@ -11,7 +11,6 @@ ghost use Rattle.xcp_daq.specs.Sample.{element_bytes, entry_bytes, odt_bytes, pa
 use super::Odts;
 use crate::element::{Element, lies_inside};
 use crate::pools::cut;
-use arrayvec::ArrayVec;
 use xcp_memory::{Pages, controller_is_read};
 use xcp_packet::{Code, Packet};
 
@@ -30,13 +29,14 @@ impl Odts {
     }
 
     /// Appends the packets of a list.
-    pub(crate) fn sample(&self, i: usize, pages: &Pages, out: &mut ArrayVec<Packet, 64>)
+    pub(crate) fn sample(&self, i: usize, pages: &Pages, out: &mut Vec<Packet>)
         requires list { i < length self.now }
         requires fits { All (λ odt. odt_size odt ≤ 254) (get_or self.now i []) }
         requires written { All IsEntry (joined (joined self.now)) }
-        requires room { array_vec_len out.old ≤ length (joined (take i self.now)) }
+        requires room { vec_len out.old + 64 ≤ vec_capacity out.old + length (joined (take i self.now)) }
         ensures items { out.new.items ≡ out.old.items ++ packets_from pages.now (length (joined (take i self.now))) (get_or self.now i []) }
-        ensures len { array_vec_len out.new ≤ length (joined (take (i + 1) self.now)) }
+        ensures room { vec_len out.new + 64 ≤ vec_capacity out.new + length (joined (take (i + 1) self.now)) }
+        ensures capacity { vec_capacity out.new ≡ vec_capacity out.old }
     {
         let _odts = self.odt_count();
         let first = self.first_pid(i);
@@ -102,16 +102,17 @@ fn sample_odts(
     entries: &[Option<Element>],
     first: u8,
     pages: &Pages,
-    out: &mut ArrayVec<Packet, 64>,
+    out: &mut Vec<Packet>,
 )
     requires cut { total counts.now ≤ length entries.now }
     requires few { length entries.now ≤ 256 }
-    requires room { array_vec_len out.old + length counts.now ≤ 64 }
+    requires room { vec_len out.old + length counts.now ≤ vec_capacity out.old }
     requires pids { first + length counts.now ≤ 64 }
     requires written { All IsEntry entries.now }
     requires fits { All (λ odt. odt_size odt ≤ 254) (parts counts.now entries.now) }
     ensures items { out.new.items ≡ out.old.items ++ packets_from pages.now first (parts counts.now entries.now) }
-    ensures len { array_vec_len out.new ≤ array_vec_len out.old + length counts.now }
+    ensures len { vec_len out.new ≤ vec_len out.old + length counts.now }
+    ensures capacity { vec_capacity out.new ≡ vec_capacity out.old }
 {
     let mut at = 0;
     for j in 0..counts.len() {
@@ -122,15 +123,16 @@ fn sample_odts(
 }
 
 /// Appends the packet of an ODT, if it has bytes.
-fn push_packet(pid: u8, entries: &[Option<Element>], pages: &Pages, out: &mut ArrayVec<Packet, 64>)
-    requires room { array_vec_len out.old < 64 }
+fn push_packet(pid: u8, entries: &[Option<Element>], pages: &Pages, out: &mut Vec<Packet>)
+    requires room { vec_len out.old < vec_capacity out.old }
     requires written { All IsEntry entries.now }
     requires fits { odt_size entries.now ≤ 254 }
     ensures items { out.new.items ≡ out.old.items ++ packet_of pid (odt_bytes pages.now entries.now) }
-    ensures len { array_vec_len out.new ≤ array_vec_len out.old + 1 }
+    ensures len { vec_len out.new ≤ vec_len out.old + 1 }
+    ensures capacity { vec_capacity out.new ≡ vec_capacity out.old }
 {
     let place = out.len();
-    out.push(Packet::new());
+    out.push_reserved(Packet::new());
     fill(&mut out[place], pid, entries, pages);
     if out[place].len() == 1 {
         out.pop();

@@ -40,9 +40,7 @@ impl Slave {
             self.daq.count_event(channel);
             return Told::Overrun;
         }
-        self.sample.clear();
-        self.daq.sample(channel, pages, &mut self.sample);
-        self.outbox.append(&self.sample);
+        self.outbox.sample(&mut self.daq, channel, pages);
         Told::Sampled(count as u8)
     }
 

@@ -26,5 +26,6 @@ pub loop-j-preserved : goal.loop-j-preserved
 loop-j-preserved c = record {
   at = omega (arith, c.loop-j.invariant.at, total-more c.args.counts.now c.loop-j.j c.loop-j-test.true);
   room = omega (arith, c.loop-j.invariant.room, c.push_packet.ensures.len);
+  capacity = c.push_packet.ensures.capacity ∙ c.loop-j.invariant.capacity;
   rest = packets_step c.args.pages.now c.loop-j.out.items c.push_packet.new.out.items _ c.args.counts.now c.args.entries.now c.args.first c.loop-j.j c.loop-j.at c.loop-j-test.true c.loop-j.invariant.rest (c.push_packet.ensures.items ∙ ap (λ (odt : List (Option Element)). c.loop-j.out.items ++ packet_of (c.args.first + c.loop-j.j) (odt_bytes c.args.pages.now odt)) c.cut.ensures);
 }
