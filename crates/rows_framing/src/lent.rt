@@ -185,6 +185,7 @@ fn first_wrong_value(alloc: Global) -> (Option<usize>, usize) {
         exchanges: Vec::new(alloc),
         packets: 1,
         blocks: false,
+        waits: 0,
     };
     for (number, (asks, gives)) in DRAINED.iter().enumerate() {
         if station.submit(request(*asks)) != Ok(answer(*gives)) {

@@ -120,6 +120,12 @@ pub struct Noting<'a, S> {
 impl<S: Station> Station for Noting<'_, S> {
     ghost exchanges = { λ s. S.exchanges s.station };
 
+    ghost same = { λ old new. S.same old.station new.station };
+
+    ghost same_refl = { λ s. S.same_refl s.station };
+
+    ghost same_trans = { λ x y z p q. S.same_trans x.station y.station z.station p q };
+
     ghost refuses = { λ s request e. S.refuses s.station request e };
 
     fn submit_into(

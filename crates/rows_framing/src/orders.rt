@@ -120,6 +120,7 @@ fn pending(alloc: Global, packets: u32) -> Pending {
         exchanges: Vec::new(alloc),
         packets,
         blocks: false,
+        waits: 0,
     }
 }
 

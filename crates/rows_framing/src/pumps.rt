@@ -6,7 +6,6 @@ use arrayvec::ArrayVec;
 use std::alloc::Global;
 use std::sync::atomic::AtomicBool;
 use std::test::Fail;
-use std::time::Clock;
 use xcp_framing::{Desk, ServeError, Station, StationError, Watched, pump, serve_by};
 use xcp_slave::Request;
 
@@ -53,60 +52,61 @@ fn events_are_put_in_order(rt: HostRuntime) -> Result<(), Fail> {
     assert_eq!(rt; desk.pending(), 2);
     let mut data = shelf(rt.alloc(), 1000);
     let stop = AtomicBool::new(false);
-    assert_eq!(rt; pump(&rt, &mut desk, &mut data, &stop, 10), Ok(2));
+    assert_eq!(rt; pump(&mut desk, &mut data, &stop, 10), Ok(2));
     assert!(rt; are(&data.packets, &[&[0, 7], &[0, 9]]));
     assert_eq!(rt; desk.pending(), 0);
     Ok(())
 }
 
 /// Ten turns over a station that answers so many Drains with packets, and an end that hands one back:
-/// how it ended, how many were put, and how many Drains there were.
-fn pumped<R: Clock>(
-    rt: &R,
+/// how it ended, how many were put, how many Drains there were, and how often it waited.
+fn pumped(
     alloc: Global,
     packets: u32,
     blocks: bool,
     good: u32,
     stopped: bool,
-) -> (Result<u64, ServeError>, usize, usize) {
+) -> (Result<u64, ServeError>, usize, usize, u32) {
     let mut station = Pending {
         exchanges: Vec::new(alloc),
         packets,
         blocks,
+        waits: 0,
     };
     let mut data = shelf(alloc, good);
     let stop = AtomicBool::new(stopped);
-    let result = pump(rt, &mut station, &mut data, &stop, 10);
-    (result, data.packets.len(), station.exchanges.len())
+    let result = pump(&mut station, &mut data, &stop, 10);
+    (
+        result,
+        data.packets.len(),
+        station.exchanges.len(),
+        station.waits,
+    )
 }
 
-/// Nothing is drained where nothing waits, what waits is put as far as the turns go, and a packet
+/// Where nothing waits nothing is drained, and the pump waits; what waits is put as far as the turns go, and a packet
 /// that is handed back ends the call, also in the middle of a block.
 #[test]
 fn turns(rt: HostRuntime) {
     let rows = [
-        (0, false, 1000, false, (Ok(0), 0, 0)),
-        (3, false, 1000, false, (Ok(3), 3, 3)),
-        (12, false, 1000, false, (Ok(10), 10, 10)),
-        (3, false, 1000, true, (Ok(0), 0, 0)),
-        (3, false, 2, false, (Err(ServeError::Write), 2, 3)),
-        (3, true, 1000, false, (Ok(9), 9, 3)),
-        (3, true, 3, false, (Err(ServeError::Write), 3, 2)),
-        (3, true, 4, false, (Err(ServeError::Write), 4, 2)),
-        (3, true, 5, false, (Err(ServeError::Write), 5, 2)),
+        (0, false, 1000, false, (Ok(0), 0, 0, 10)),
+        (3, false, 1000, false, (Ok(3), 3, 3, 7)),
+        (12, false, 1000, false, (Ok(10), 10, 10, 0)),
+        (3, false, 1000, true, (Ok(0), 0, 0, 0)),
+        (3, false, 2, false, (Err(ServeError::Write), 2, 3, 0)),
+        (3, true, 1000, false, (Ok(9), 9, 3, 7)),
+        (3, true, 3, false, (Err(ServeError::Write), 3, 2, 0)),
+        (3, true, 4, false, (Err(ServeError::Write), 4, 2, 0)),
+        (3, true, 5, false, (Err(ServeError::Write), 5, 2, 0)),
     ];
     for (packets, blocks, good, stopped, wanted) in rows {
-        let came = pumped(&rt, rt.alloc(), packets, blocks, good, stopped);
+        let came = pumped(rt.alloc(), packets, blocks, good, stopped);
         assert_eq!(rt; came, wanted);
     }
 }
 
 /// How a station's refusal of a Drain ends the call.
-fn refused<R: Clock>(
-    rt: &R,
-    alloc: Global,
-    error: StationError,
-) -> Result<Result<u64, ServeError>, Fail> {
+fn refused(alloc: Global, error: StationError) -> Result<Result<u64, ServeError>, Fail> {
     let desk = sampled(alloc)?;
     let mut station = Refusing {
         desk,
@@ -115,14 +115,14 @@ fn refused<R: Clock>(
     };
     let mut data = shelf(alloc, 1000);
     let stop = AtomicBool::new(false);
-    Ok(pump(rt, &mut station, &mut data, &stop, 10))
+    Ok(pump(&mut station, &mut data, &stop, 10))
 }
 
 #[test]
 fn refusals(rt: HostRuntime) -> Result<(), Fail> {
-    let memory = refused(&rt, rt.alloc(), StationError::Memory)?;
+    let memory = refused(rt.alloc(), StationError::Memory)?;
     assert_eq!(rt; memory, Err(ServeError::Memory));
-    let full = refused(&rt, rt.alloc(), StationError::JournalFull)?;
+    let full = refused(rt.alloc(), StationError::JournalFull)?;
     assert_eq!(rt; full, Err(ServeError::JournalFull));
     Ok(())
 }

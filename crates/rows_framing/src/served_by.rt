@@ -115,6 +115,7 @@ fn nothing_is_drained(rt: HostRuntime) {
         exchanges: Vec::new(rt.alloc()),
         packets: 5,
         blocks: false,
+        waits: 0,
     };
     let mut reader = Watched::new(CONNECT);
     let mut shelf = Shelf {

@@ -157,6 +157,7 @@ fn drained(alloc: Global, packets: u32, blocks: bool) -> (Result<Served, ServeEr
         exchanges: Vec::new(alloc),
         packets,
         blocks,
+        waits: 0,
     };
     let mut reader = Watched::new(&[1, 0, 0, 0, 0xFC, 1, 0, 0, 0, 0xFC][..]);
     let mut writer = Watched::new(Vec::new(alloc));

@@ -1,9 +1,10 @@
 //! Stations that refuse, and one that always has more to send.
-ghost use Rattle.std.specs.Prelude.{◌≡◌, ◌⊎◌, ℕ, List};
+ghost use Rattle.std.specs.Prelude.{◌≡◌, ◌⊎◌, ⊤, ℕ, List};
 ghost use Rattle.xcp_slave.specs.declared.Exchange.{Exchange};
 ghost use Rattle.xcp_framing.specs.declared.station.StationError.TheVariants as refusals;
 
 use std::marker::Model;
+use std::sync::atomic::AtomicBool;
 use xcp_framing::{Desk, Station, StationError, told_of};
 use xcp_packet::{Packet, Train, Width};
 use xcp_slave::{Answer, Exchange, Request, Told};
@@ -19,6 +20,12 @@ pub struct Refusing {
 
 impl Station for Refusing {
     ghost exchanges = { λ s. s.desk.exchanges };
+
+    ghost same = { λ old new. ⊤ };
+
+    ghost same_refl = { λ s. tt };
+
+    ghost same_trans = { λ x y z p q. tt };
 
     ghost refuses = { λ s request e. (e ≡ refusals.Memory) ⊎ ((s.takes ≡ 0) × (e ≡ s.error)) };
 
@@ -41,12 +48,13 @@ impl Station for Refusing {
 }
 
 /// Has nothing for a command, and answers so many Drains with packets: each with one of one byte, or
-/// with a block of three.
+/// with a block of three. It counts how often a pump waited.
 #[derive(Drop)]
 pub struct Pending {
     pub exchanges: Vec<Exchange>,
     pub packets: u32,
     pub blocks: bool,
+    pub waits: u32,
 }
 
 impl Model for Pending {
@@ -57,6 +65,12 @@ impl Model for Pending {
 
 impl Station for Pending {
     ghost exchanges = { λ s. s.0 };
+
+    ghost same = { λ old new. ⊤ };
+
+    ghost same_refl = { λ s. tt };
+
+    ghost same_trans = { λ x y z p q. tt };
 
     ghost refuses = { λ s request e. e ≡ refusals.Memory };
 
@@ -86,6 +100,10 @@ impl Station for Pending {
 
     fn pending(&mut self) -> u8 {
         self.packets.min(64) as u8
+    }
+
+    fn wait(&mut self, _stop: &AtomicBool) {
+        self.waits = self.waits.saturating_add(1);
     }
 }
 

@@ -12,7 +12,6 @@ use std::sync::atomic::AtomicBool;
 use std::sync::{Mutex, Wait};
 use std::test::Fail;
 use std::thread::Threads;
-use std::time::Clock;
 use together::Work;
 use xcp_framing::ServeError;
 use xcp_locked::{Caller, Locked, Name, Opening, Pumping, Ran, TaskError, Unnamed, run_tasks};
@@ -56,8 +55,8 @@ fn fill<N: Name>(locked: &mut Locked<N>, caller: &mut Caller<N>, calls: u32) -> 
     Some(locked.pending())
 }
 
-// How the pump of a connection ends, in ten turns at most, and its caller.
-fn pumped<N: Name + Send + Sync, R: Wait + Clock + Sync>(
+// How the pump of a connection ends, whose one turn is a Drain where a packet waits, and its caller.
+fn pumped<N: Name + Send + Sync, R: Wait>(
     rt: &R,
     alloc: Global,
     lock: &Mutex<Locked<N>>,
@@ -68,10 +67,9 @@ fn pumped<N: Name + Send + Sync, R: Wait + Clock + Sync>(
     let pumping = Pumping {
         lock,
         caller,
-        clock: rt,
         samples,
         stop: &stop,
-        turns: 10,
+        turns: 1,
     };
     let pumped = pumping.run(rt);
     Ok((pumped.caller, pumped.end))
@@ -95,7 +93,7 @@ fn tasked<N: Name>(ran: &Ran<N>) -> Tasked {
 // how many calls it has made; and what comes of a task that comes when it is nearly full, and again when it is.
 type Came = (Option<u8>, [Result<u64, ServeError>; 2], usize, [Tasked; 2]);
 
-fn come<N: Name + Send + Sync, R: Threads + Wait + Clock + Sync>(
+fn come<N: Name + Send + Sync, R: Threads + Wait + Sync>(
     rt: &R,
     alloc: Global,
     unnamed: Unnamed,

@@ -126,25 +126,27 @@ none_put : (e : StationError) (p : List ℕ) (a b : List (List ℕ)) → b ≡ a
 none_put refusals.Memory p a b h = record { done = []; later = p ∷ []; packets_are = refl; answered = record { asked = refl; put = h ∙ sym (append-nil a) } }
 none_put refusals.JournalFull p a b h = record { done = []; later = p ∷ []; packets_are = refl; answered = record { asked = refl; put = h ∙ sym (append-nil a) } }
 
-module _ {S K O : Type 0} (exchanges_of : S → List Exchange) (refuses : S → Request → StationError → Type 0) (put_of : O → List (List ℕ)) (same_out : O → O → Type 0) where
+module _ {S K O : Type 0} (exchanges_of : S → List Exchange) (refuses : S → Request → StationError → Type 0) (same_station : S → S → Type 0) (put_of : O → List (List ℕ)) (same_out : O → O → Type 0) where
   -- no packet
-  pub puts_none : ((x : O) → same_out x x) → (sent_of : K → ℕ) (a : Stand S K O) → AnswersByPut exchanges_of refuses put_of same_out sent_of (Ok tt) [] a a
-  puts_none same_refl sent_of a = record {
+  pub puts_none : ((x : S) → same_station x x) → ((x : O) → same_out x x) → (sent_of : K → ℕ) (a : Stand S K O) → AnswersByPut exchanges_of refuses same_station put_of same_out sent_of (Ok tt) [] a a
+  puts_none station_refl same_refl sent_of a = record {
     exchanges = [];
     grown = sym (append-nil (exchanges_of a.station));
     puts = record { asked = refl; put = sym (append-nil (put_of a.out)) };
+    stays = station_refl a.station;
     kept = same_refl a.out;
     counted = omega arith;
     refused = tt;
   }
 
   -- packets, and then more
-  pub puts_behind : ((x y z : O) → same_out x y → same_out y z → same_out x z) → (sent_of : K → ℕ) (r : Result (Unit {0}) ServeError) (ps qs : List (List ℕ)) (a b c : Stand S K O)
-      → AnswersByPut exchanges_of refuses put_of same_out sent_of (Ok tt) ps a b → AnswersByPut exchanges_of refuses put_of same_out sent_of r qs b c → AnswersByPut exchanges_of refuses put_of same_out sent_of r (ps ++ qs) a c
-  puts_behind same_trans sent_of r ps qs a b c x y = record {
+  pub puts_behind : ((x y z : S) → same_station x y → same_station y z → same_station x z) → ((x y z : O) → same_out x y → same_out y z → same_out x z) → (sent_of : K → ℕ) (r : Result (Unit {0}) ServeError) (ps qs : List (List ℕ)) (a b c : Stand S K O)
+      → AnswersByPut exchanges_of refuses same_station put_of same_out sent_of (Ok tt) ps a b → AnswersByPut exchanges_of refuses same_station put_of same_out sent_of r qs b c → AnswersByPut exchanges_of refuses same_station put_of same_out sent_of r (ps ++ qs) a c
+  puts_behind station_trans same_trans sent_of r ps qs a b c x y = record {
     exchanges = x.exchanges ++ y.exchanges;
     grown = y.grown ∙ (ap (λ (z : List Exchange). z ++ y.exchanges) x.grown ∙ append_assoc (exchanges_of a.station) x.exchanges y.exchanges);
     puts = so_far_more r ps qs x.exchanges y.exchanges (put_of a.out) (put_of b.out) (put_of c.out) x.puts y.puts;
+    stays = station_trans a.station b.station c.station x.stays y.stays;
     kept = same_trans a.out b.out c.out x.kept y.kept;
     counted = counted_more r x.exchanges y.exchanges (sent_of a.state) (sent_of b.state) (sent_of c.state) x.counted y.counted;
     refused = on_refusal_all (Unit {0}) r _ _ (λ e k. refused_more exchanges_of refuses e (NextCommand qs) (NextCommand (ps ++ qs)) x.exchanges x.grown (λ ys q n. next_more ps qs x.exchanges ys q x.puts.asked n) k) y.refused;
@@ -152,11 +154,12 @@ module _ {S K O : Type 0} (exchanges_of : S → List Exchange) (refuses : S → 
 
   -- an interruption leaves the packets that come later
   pub puts_before : (sent_of : K → ℕ) (e : ServeError) (ps qs : List (List ℕ)) (a b : Stand S K O) → IsInterruption e
-      → AnswersByPut exchanges_of refuses put_of same_out sent_of (Err e) ps a b → AnswersByPut exchanges_of refuses put_of same_out sent_of (Err e) (ps ++ qs) a b
+      → AnswersByPut exchanges_of refuses same_station put_of same_out sent_of (Err e) ps a b → AnswersByPut exchanges_of refuses same_station put_of same_out sent_of (Err e) (ps ++ qs) a b
   puts_before sent_of e ps qs a b i x = record {
     exchanges = x.exchanges;
     grown = x.grown;
     puts = so_far_before e ps qs x.exchanges (put_of a.out) (put_of b.out) i x.puts;
+    stays = x.stays;
     kept = x.kept;
     counted = tt;
     refused = on_refusal_all (Unit {0}) (Err e) _ _ (λ f k. refused_as exchanges_of refuses f (NextCommand ps) (NextCommand (ps ++ qs)) (exchanges_of a.station) b.station (λ xs q n. next_before ps qs xs q n) k) x.refused;
@@ -164,26 +167,27 @@ module _ {S K O : Type 0} (exchanges_of : S → List Exchange) (refuses : S → 
 
   -- nothing was handed on
   pub puts_handed : (sent_of : K → ℕ) (r : Result (Unit {0}) ServeError) (ps : List (List ℕ)) (a b : Stand S K O) (k : K) (o : O)
-      → AnswersByPut exchanges_of refuses put_of same_out sent_of r ps a b → HandsNothingOn (Ok tt) b.state b.out k o
-      → AnswersByPut exchanges_of refuses put_of same_out sent_of r ps a (record { station = b.station; state = k; out = o })
+      → AnswersByPut exchanges_of refuses same_station put_of same_out sent_of r ps a b → HandsNothingOn (Ok tt) b.state b.out k o
+      → AnswersByPut exchanges_of refuses same_station put_of same_out sent_of r ps a (record { station = b.station; state = k; out = o })
   puts_handed sent_of r ps a b k o x h = rw (h.state_kept, h.out_kept) x
 
   -- what isn't held can't fail to be handed on
   pub puts_held : (sent_of : K → ℕ) (r : Result (Unit {0}) ServeError) (e : ServeError) (ps : List (List ℕ)) (a b : Stand S K O) (k : K) (o : O)
-      → AnswersByPut exchanges_of refuses put_of same_out sent_of r ps a b → HandsNothingOn (Err e) b.state b.out k o
-      → AnswersByPut exchanges_of refuses put_of same_out sent_of (Err e) ps a (record { station = b.station; state = k; out = o })
+      → AnswersByPut exchanges_of refuses same_station put_of same_out sent_of r ps a b → HandsNothingOn (Err e) b.state b.out k o
+      → AnswersByPut exchanges_of refuses same_station put_of same_out sent_of (Err e) ps a (record { station = b.station; state = k; out = o })
   puts_held sent_of r e ps a b k o x h = absurd h.fine
 
   -- one packet whose answer is none, or was put
   pub one_answer : (sent_of : K → ℕ) (x : Exchange) (p : List ℕ) (a b : Stand S K O) → x.request ≡ command p → exchanges_of b.station ≡ exchanges_of a.station ++ x ∷ []
-      → put_of b.out ≡ put_of a.out ++ packet_of x.answer → same_out a.out b.out → sent_of b.state ≡ sent_of a.state + length (packet_of x.answer)
-      → AnswersByPut exchanges_of refuses put_of same_out sent_of (Ok tt) (p ∷ []) a b
-  one_answer sent_of x p a b asked grown put kept counted =
+      → put_of b.out ≡ put_of a.out ++ packet_of x.answer → same_station a.station b.station → same_out a.out b.out → sent_of b.state ≡ sent_of a.state + length (packet_of x.answer)
+      → AnswersByPut exchanges_of refuses same_station put_of same_out sent_of (Ok tt) (p ∷ []) a b
+  one_answer sent_of x p a b asked grown put stays kept counted =
       let all : packets_of (x ∷ []) ≡ packet_of x.answer = append-nil (packet_of x.answer) in
       record {
         exchanges = x ∷ [];
         grown = grown;
         puts = record { asked = λ i. asked i ∷ []; put = put ∙ ap (λ (z : List (List ℕ)). put_of a.out ++ z) (sym all) };
+        stays = stays;
         kept = kept;
         counted = counted ∙ ap (λ (z : List (List ℕ)). sent_of a.state + length z) (sym all);
         refused = tt;
@@ -191,26 +195,28 @@ module _ {S K O : Type 0} (exchanges_of : S → List Exchange) (refuses : S → 
 
   -- one packet whose answer was handed back
   pub one_back : (sent_of : K → ℕ) (x : Exchange) (p : List ℕ) (a b : Stand S K O) → x.request ≡ command p → exchanges_of b.station ≡ exchanges_of a.station ++ x ∷ []
-      → IsHandedBack (packet_of x.answer) (put_of a.out) (put_of b.out) → same_out a.out b.out
-      → AnswersByPut exchanges_of refuses put_of same_out sent_of (Err errors.Write) (p ∷ []) a b
-  one_back sent_of x p a b asked grown handed kept = record {
+      → IsHandedBack (packet_of x.answer) (put_of a.out) (put_of b.out) → same_station a.station b.station → same_out a.out b.out
+      → AnswersByPut exchanges_of refuses same_station put_of same_out sent_of (Err errors.Write) (p ∷ []) a b
+  one_back sent_of x p a b asked grown handed stays kept = record {
     exchanges = x ∷ [];
     grown = grown;
     puts = record { done = []; packet = p; later = []; full = []; last = x; packets_are = refl; joined = refl; mid = put_of a.out; answered = record { asked = refl; put = sym (append-nil (put_of a.out)) }; asked = asked; handed = handed };
+    stays = stays;
     kept = kept;
     counted = tt;
     refused = tt;
   }
 
   -- one packet whose command was refused
-  pub one_refused : ((x : O) → same_out x x) → (sent_of : K → ℕ) (e : StationError) (p : List ℕ) (a b : Stand S K O) → b.station ≡ a.station → b.out ≡ a.out → refuses b.station (command p) e
-      → AnswersByPut exchanges_of refuses put_of same_out sent_of (Err (refused_with e)) (p ∷ []) a b
-  one_refused same_refl sent_of e p a b same out may =
+  pub one_refused : ((x : S) → same_station x x) → ((x : O) → same_out x x) → (sent_of : K → ℕ) (e : StationError) (p : List ℕ) (a b : Stand S K O) → b.station ≡ a.station → b.out ≡ a.out → refuses b.station (command p) e
+      → AnswersByPut exchanges_of refuses same_station put_of same_out sent_of (Err (refused_with e)) (p ∷ []) a b
+  one_refused station_refl same_refl sent_of e p a b same out may =
       let grown : exchanges_of b.station ≡ exchanges_of a.station ++ [] = ap exchanges_of same ∙ sym (append-nil (exchanges_of a.station)) in
       record {
         exchanges = [];
         grown = grown;
         puts = none_put e p (put_of a.out) (put_of b.out) (ap put_of out);
+        stays = subst (λ (z : S). same_station a.station z) (sym same) (station_refl a.station);
         kept = subst (λ (z : O). same_out a.out z) (sym out) (same_refl a.out);
         counted = tt;
         refused = on_refusal (Unit {0}) e _ (record {
@@ -251,9 +257,9 @@ by_memory m i old a = record {
   counts = tt;
 }
 
-module _ {S K O : Type 0} (exchanges_of : S → List Exchange) (refuses : S → Request → StationError → Type 0) (put_of : O → List (List ℕ)) (same_out : O → O → Type 0) (sent_of : K → ℕ) where
+module _ {S K O : Type 0} (exchanges_of : S → List Exchange) (refuses : S → Request → StationError → Type 0) (same_station : S → S → Type 0) (put_of : O → List (List ℕ)) (same_out : O → O → Type 0) (sent_of : K → ℕ) where
   -- a call whose packets were answered so
-  pub by_of : (m : ℕ) (r : Result Served ServeError) (i o : Option (List ℕ)) (a b : Stand S K O) → Streams (AnswersByPut exchanges_of refuses put_of same_out sent_of) m r i o a b
+  pub by_of : (m : ℕ) (r : Result Served ServeError) (i o : Option (List ℕ)) (a b : Stand S K O) → Streams (AnswersByPut exchanges_of refuses same_station put_of same_out sent_of) m r i o a b
       → sent_of a.state ≡ 0 → IfOk r (λ served. served.sent ≡ sent_of b.state)
       → ServesBy m r i o (exchanges_of a.station) (exchanges_of b.station) (put_of a.out) (put_of b.out)
   by_of m r i o a b s none sent =
@@ -270,7 +276,7 @@ module _ {S K O : Type 0} (exchanges_of : S → List Exchange) (refuses : S → 
       }
 
   -- the request that the station refused
-  pub refused_by : (F : StationError → Type 0) (m : ℕ) (r : Result Served ServeError) (i o : Option (List ℕ)) (a b : Stand S K O) → Streams (AnswersByPut exchanges_of refuses put_of same_out sent_of) m r i o a b
+  pub refused_by : (F : StationError → Type 0) (m : ℕ) (r : Result Served ServeError) (i o : Option (List ℕ)) (a b : Stand S K O) → Streams (AnswersByPut exchanges_of refuses same_station put_of same_out sent_of) m r i o a b
       → OnRefusal r (λ e. F e ⊎ Refused exchanges_of refuses e (CommandNext m i o) (exchanges_of a.station) b.station)
   refused_by F m r i o a b s =
       refusal_of r _ (on_refusal_all (Unit {0}) (outcome r) _ _

@@ -67,9 +67,16 @@ impl Desk {
 }
 
 impl Station for Desk {
+    ghost use Rattle.std.proofs.Common.{refl, ◌∙◌};
     ghost use Rattle.xcp_framing.specs.declared.station.StationError.TheVariants as refusals;
 
     ghost exchanges = { λ d. d.exchanges };
+
+    ghost same = { λ old new. layout_of new.slave ≡ layout_of old.slave };
+
+    ghost same_refl = { λ d. refl };
+
+    ghost same_trans = { λ x y z p q. q ∙ p };
 
     ghost refuses = { λ d request e. e ≡ refusals.Memory };
 

@@ -8,8 +8,6 @@ ghost use Rattle.xcp_framing.specs.private.Serve.{most_train};
 use crate::end::put_told;
 use crate::{End, ServeError, Station};
 use std::sync::atomic::{AtomicBool, Ordering};
-use std::thread;
-use std::time::{Clock, Duration};
 use xcp_packet::Packet;
 use xcp_slave::Request;
 
@@ -18,6 +16,7 @@ fn pump_one<S: Station, E: End>(station: &mut S, end: &mut E) -> Result<u64, Ser
     ensures pumps { Pumps result (S.exchanges station.old) (S.exchanges station.new)
         (E.put_so_far end.old) (E.put_so_far end.new) }
     ensures kept { E.same end.old end.new }
+    ensures stays { S.same station.old station.new }
     ensures most { IfOk result (λ n. n ≤ most_train) }
     ensures stops { IfErr result IsInterruption }
     ensures refused { OnRefusal result (λ e. Refused S.exchanges S.refuses e DrainAgain
@@ -29,9 +28,9 @@ fn pump_one<S: Station, E: End>(station: &mut S, end: &mut E) -> Result<u64, Ser
 }
 
 /// Submits `Drain` where a packet waits, and puts the packets, until it sees `stop` or its turns
-/// are spent. A turn without a packet sleeps a microsecond. `Ok` is the number of packets put.
-pub fn pump<R: Clock, S: Station, E: End>(
-    rt: &R,
+/// are spent. Where none waits, it waits at the station for one, or for `stop`: a turn is a `Drain`,
+/// or a wait that ended. `Ok` is the number of packets put.
+pub fn pump<S: Station, E: End>(
     station: &mut S,
     end: &mut E,
     stop: &AtomicBool,
@@ -41,6 +40,7 @@ pub fn pump<R: Clock, S: Station, E: End>(
     ensures pumps { Pumps result (S.exchanges station.old) (S.exchanges station.new)
         (E.put_so_far end.old) (E.put_so_far end.new) }
     ensures kept { E.same end.old end.new }
+    ensures stays { S.same station.old station.new }
     ensures stops { IfErr result IsInterruption }
     ensures refused { OnRefusal result (λ e. Refused S.exchanges S.refuses e DrainAgain
         (S.exchanges station.old) station.new) }
@@ -51,7 +51,7 @@ pub fn pump<R: Clock, S: Station, E: End>(
             return Ok(count);
         }
         if station.pending() == 0 {
-            thread::sleep(rt, Duration::from_micros(1));
+            station.wait(stop);
             continue;
         }
         count += pump_one(station, end)?;

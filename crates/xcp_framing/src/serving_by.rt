@@ -29,7 +29,7 @@ impl<S: Station, E: End> Answerer<S, Putting, E> for ByCommand {
 
     ghost rests = { λ k. ⊤ };
 
-    ghost answers = { AnswersByPut S.exchanges S.refuses E.put_so_far E.same (λ k. k.sent) };
+    ghost answers = { AnswersByPut S.exchanges S.refuses S.same E.put_so_far E.same (λ k. k.sent) };
 
     ghost hands = { HandsNothingOn };
 
@@ -70,6 +70,7 @@ pub fn serve_by<R: Read, S: Station, E: End>(
         (R.remaining reader.old.inner) (R.remaining reader.new.inner)
         (S.exchanges station.old) (S.exchanges station.new) (E.put_so_far end.old) (E.put_so_far end.new) }
     ensures kept { E.same end.old end.new }
+    ensures stays { S.same station.old station.new }
     ensures ends { EndsReader result (R.remaining reader.new.inner) }
     ensures read { result ≡ Err ServeError.Read → reader.old.failures < reader.new.failures }
     ensures read_quiet { result ≢ Err ServeError.Read

@@ -5,6 +5,7 @@ ghost use Rattle.xcp_slave.specs.declared.Request.{Request};
 ghost use Rattle.xcp_slave.specs.AnswerInBytes.{answer_in};
 ghost use Rattle.xcp_framing.specs.declared.station.StationError.{StationError};
 
+use std::sync::atomic::AtomicBool;
 use thiserror::Error;
 use xcp_packet::{Packet, Train};
 use xcp_slave::{Answer, Request, Told};
@@ -39,6 +40,9 @@ pub trait Station {
     /// The exchanges that it has had, in order.
     ghost exchanges: { Self → List Exchange };
 
+    /// They are two states of one and the same station.
+    ghost same: { Self → Self → Type 0 };
+
     /// What a refusal may mean: in this state it may refuse this request with this error.
     ghost refuses: { Self → Request → StationError → Type 0 };
 
@@ -49,12 +53,22 @@ pub trait Station {
         ensures ok { IfOk result (λ told. exchanges self.new ≡ exchanges self.old
             ++ record { request = request.now; answer = answer_in told packet.new } ∷ []) }
         ensures err { OnErr result (self.new ≡ self.old) }
-        ensures refused { IfErr result (λ e. refuses self.new request.now e) };
+        ensures refused { IfErr result (λ e. refuses self.new request.now e) }
+        ensures stays { same self.old self.new };
 
     /// How many packets wait for a `Drain`, where the station can tell. It is no exchange, and
     /// promises nothing of the next one.
     fn pending(&mut self) -> u8
-        ensures same { exchanges self.new ≡ exchanges self.old };
+        ensures same { exchanges self.new ≡ exchanges self.old }
+        ensures stays { same self.old self.new };
+
+    /// Waits until packets wait for a `Drain`, or `stop` is set, where others share the station. It is
+    /// no exchange, and promises nothing of the next one; that it ends, no clause says. A station of
+    /// one's own has nobody to wait for, and comes back at once.
+    fn wait(&mut self, _stop: &AtomicBool)
+        ensures same { exchanges self.new ≡ exchanges self.old }
+        ensures stays { same self.old self.new }
+    {}
 
     /// Answers a request, and has this exchange from then on. After an `Err` it is as it was.
     fn submit(&mut self, request: Request) -> Result<Answer, StationError>
@@ -62,11 +76,16 @@ pub trait Station {
             ≡ exchanges self.old ++ record { request = request; answer = answer } ∷ []) }
         ensures err { OnErr result (self.new ≡ self.old) }
         ensures refused { IfErr result (λ e. refuses self.new request e) }
+        ensures stays { same self.old self.new }
     {
         let mut packet = Packet::new();
         let told = self.submit_into(&request, &mut packet)?;
         Ok(told.with(packet))
     }
+
+    ghost same_refl: { (x : Self) → same x x };
+
+    ghost same_trans: { (x y z : Self) → same x y → same y z → same x z };
 }
 
 /// Lays an answer into a packet that is lent, for a station that has answers as values.

@@ -66,12 +66,12 @@ pub each_also : {A B X : Type 0} (R : ℕ → A → B → Type 0) (f : B → X) 
 each_also R f xs ys h = subst (λ zs. EachFrom (λ i x y. R i x y × (slice_get zs i ≡ Some (f y))) 0 xs ys) (append-nil (map f ys)) (each_at_place R f [] [] xs ys h)
 
 -- which place a connection has is not said of it
-pub at_any_place : {N I O C : Type 0} (m turns pumps k place : ℕ) (e : Watched I × Watched O) (c : Connection N I O C) → IsConnectionOf m turns pumps k e c → IsConnectionOf m turns pumps place e c
+pub at_any_place : {N I O : Type 0} (m turns pumps k place : ℕ) (e : Watched I × Watched O) (c : Connection N I O) → IsConnectionOf m turns pumps k e c → IsConnectionOf m turns pumps place e c
 at_any_place m turns pumps k place e c h = record { reader = h.reader; writer = h.writer; max_cto = h.max_cto; reads = h.reads; drains = h.drains; replies = h.replies; samples = h.samples }
 
-module _ {I O N C : Type 0} (remaining : I → Option (List ℕ)) (contents : O → Option (List ℕ)) where
+module _ {I O N : Type 0} (remaining : I → Option (List ℕ)) (contents : O → Option (List ℕ)) where
   -- the three parts of a connection have one outlet
-  pub one_outlet : (m turns pumps i : ℕ) (e : Watched I × Watched O) (c : Connection N I O C) (d : Parted N I O) → IsConnectionOf m turns pumps i e c → PartedAs remaining contents i c d → AreOfOneOutlet d
+  pub one_outlet : (m turns pumps i : ℕ) (e : Watched I × Watched O) (c : Connection N I O) (d : Parted N I O) → IsConnectionOf m turns pumps i e c → PartedAs remaining contents i c d → AreOfOneOutlet d
   one_outlet m turns pumps i e c d is h = record {
     replies = h.wrote.same ∙ sym (h.heard.outlet ∙ ap (λ (x : EndSeen). x.outlet) is.replies);
     samples = h.wrote.same ∙ sym (h.pumped.outlet ∙ ap (λ (x : EndSeen). x.outlet) is.samples);
@@ -79,7 +79,7 @@ module _ {I O N C : Type 0} (remaining : I → Option (List ℕ)) (contents : O 
     sample_side = h.pumped.side ∙ ap (λ (x : EndSeen). x.side) is.samples;
   }
 
-  pub one_outlet_each : (m turns pumps k : ℕ) (es : List (Watched I × Watched O)) (cs : List (Connection N I O C)) (ds : List (Parted N I O)) → EachFrom (IsConnectionOf m turns pumps) k es cs → EachFrom (PartedAs remaining contents) k cs ds → Each AreOfOneOutlet ds
+  pub one_outlet_each : (m turns pumps k : ℕ) (es : List (Watched I × Watched O)) (cs : List (Connection N I O)) (ds : List (Parted N I O)) → EachFrom (IsConnectionOf m turns pumps) k es cs → EachFrom (PartedAs remaining contents) k cs ds → Each AreOfOneOutlet ds
   one_outlet_each m turns pumps k [] [] [] is h = tt
   one_outlet_each m turns pumps k [] [] (d ∷ ds) is h = absurd h
   one_outlet_each m turns pumps k [] (c ∷ cs) ds is h = absurd is
@@ -88,7 +88,7 @@ module _ {I O N C : Type 0} (remaining : I → Option (List ℕ)) (contents : O 
   one_outlet_each m turns pumps k (e ∷ es) (c ∷ cs) (d ∷ ds) is h = (one_outlet m turns pumps k e c d is.0 h.0, one_outlet_each m turns pumps (k + 1) es cs ds is.1 h.1)
 
   -- what came of a connection, said of its reader and writer
-  pub served_at : (m turns pumps : ℕ) (tools drains : List CallerValue) (i : ℕ) (e : Watched I × Watched O) (c : Connection N I O C) (d : Parted N I O) (k : Closed N I O) → IsConnectionOf m turns pumps i e c → slice_get tools i ≡ Some c.0.caller → slice_get drains i ≡ Some c.1.caller → PartedAs remaining contents i c d → IsClosingOf d k → ServedAt remaining contents m turns tools drains i e k
+  pub served_at : (m turns pumps : ℕ) (tools drains : List CallerValue) (i : ℕ) (e : Watched I × Watched O) (c : Connection N I O) (d : Parted N I O) (k : Closed N I O) → IsConnectionOf m turns pumps i e c → slice_get tools i ≡ Some c.0.caller → slice_get drains i ≡ Some c.1.caller → PartedAs remaining contents i c d → IsClosingOf d k → ServedAt remaining contents m turns tools drains i e k
   served_at m turns pumps tools drains i e c d k is at_tool at_pump h k_is = record {
     tool = c.0.caller;
     tool_at = at_tool;
@@ -97,6 +97,7 @@ module _ {I O N C : Type 0} (remaining : I → Option (List ℕ)) (contents : O 
     attended = record {
       serves = rw (sym is.max_cto, sym is.reader, k_is.heard, k_is.reader, k_is.tool, k_is.replies_are) (rw (ap (λ (x : EndSeen). x.put) is.replies) at h.heard.serves);
       pumps = rw (k_is.pumped, k_is.pump, k_is.samples_are) (rw (ap (λ (x : EndSeen). x.put) is.samples) at h.pumped.pumps);
+      stops = rw (k_is.pumped) h.pumped.stops;
       sends = rw (k_is.sent, k_is.taken_is, sym is.writer, k_is.writer) h.wrote.sends;
       replies = k_is.replies;
       samples = k_is.samples;
@@ -107,16 +108,16 @@ module _ {I O N C : Type 0} (remaining : I → Option (List ℕ)) (contents : O 
       reads = rw (sym is.reader, sym is.reads, k_is.reader) h.heard.reads;
       spent = rw (k_is.heard, sym is.reader, sym is.reads, k_is.reader) h.heard.spent;
       refused = rw (sym is.max_cto, sym is.reader, k_is.heard, k_is.reader, k_is.tool, k_is.replies_are) (rw (ap (λ (x : EndSeen). x.put) is.replies) at h.heard.refused);
-      tool_number = ap (λ (x : CallerValue). x.number) k_is.tool ∙ h.heard.number;
-      pump_number = ap (λ (x : CallerValue). x.number) k_is.pump ∙ h.pumped.number;
+      same_tool = rw (k_is.tool) h.heard.same;
+      same_pump = rw (k_is.pump) h.pumped.same;
     };
   }
 
 -- what came of a connection, and of its parts
-abbrev Came : {I O N C : Type 0} → (I → Option (List ℕ)) → (O → Option (List ℕ)) → ℕ → Connection N I O C → Closed N I O → Type 0
+abbrev Came : {I O N : Type 0} → (I → Option (List ℕ)) → (O → Option (List ℕ)) → ℕ → Connection N I O → Closed N I O → Type 0
 Came {I} {O} {N} remaining contents i c k = (p : Parted N I O) × PartedAs remaining contents i c p × IsClosingOf p k
 
-module _ {N G I O C : Type 0} (m turns pumps cycles chapter tasks : ℕ) (opened : List CallerValue) (readers : List ReaderEnd) (ends : List (Watched I × Watched O)) (d : Duties N G I O C) (deal : Dealt m turns pumps cycles chapter tasks opened readers ends d) where
+module _ {N G I O : Type 0} (m turns pumps cycles chapter tasks : ℕ) (opened : List CallerValue) (readers : List ReaderEnd) (ends : List (Watched I × Watched O)) (d : Duties N G I O) (deal : Dealt m turns pumps cycles chapter tasks opened readers ends d) where
   abbrev tools : List CallerValue
   tools = map (λ c. c.0.caller) d.connections.items
 
@@ -166,10 +167,10 @@ module _ {N G I O C : Type 0} (m turns pumps cycles chapter tasks : ℕ) (opened
       (each_through (PartedAs remaining contents) ClosedAs (Came remaining contents) (λ i c p k x y. (p, x, y)) 0 d.connections.items parted closed came put)
 
   -- each task was done for the worker of its place
-  pub all_worked : (may_end : Type 0) (done : List (Done N)) → EachFrom (DoneAs may_end) 0 d.tasks.items done → EachFrom (WorkedAs may_end cycles chapter) 0 deal.workers done
-  all_worked may_end done =
-      each_through (IsTaskOf cycles chapter) (DoneAs may_end) (WorkedAs may_end cycles chapter)
-      (λ i w t k is h. worked_as may_end cycles t.cycles chapter t.chapter i t.task w t.worker k.worker k.fault is.number is.cycles_are is.chapter_is is.worker h) 0 deal.workers d.tasks.items done deal.numbered
+  pub all_worked : (layout : LayoutValue) (may_end : Type 0) (done : List (Done N)) → EachFrom (DoneAs layout may_end) 0 d.tasks.items done → EachFrom (WorkedAs layout may_end cycles chapter) 0 deal.workers done
+  all_worked layout may_end done =
+      each_through (IsTaskOf cycles chapter) (DoneAs layout may_end) (WorkedAs layout may_end cycles chapter)
+      (λ i w t k is h. worked_as layout may_end cycles t.cycles chapter t.chapter i t.task w t.worker k.worker k.fault is.number is.cycles_are is.chapter_is is.worker h) 0 deal.workers d.tasks.items done deal.numbered
 
   -- as many callers come back as were dealt out
   pub all_there : (closed : List (Closed N I O)) (done : List (Done N)) → length closed ≡ length d.connections.items → length done ≡ length d.tasks.items
@@ -192,7 +193,7 @@ module _ {N G I O C : Type 0} (m turns pumps cycles chapter tasks : ℕ) (opened
       omega (arith, there, x, y, z, p, q, r)
 
 -- the same MAX_CTO, the same callers and the same readers
-pub dealt_as : {N G I O C : Type 0} (m m' turns pumps cycles chapter tasks : ℕ) (opened opened' : List CallerValue) (readers readers' : List ReaderEnd) (ends : List (Watched I × Watched O)) (d : Duties N G I O C) → m ≡ m' → opened ≡ opened' → readers ≡ readers'
+pub dealt_as : {N G I O : Type 0} (m m' turns pumps cycles chapter tasks : ℕ) (opened opened' : List CallerValue) (readers readers' : List ReaderEnd) (ends : List (Watched I × Watched O)) (d : Duties N G I O) → m ≡ m' → opened ≡ opened' → readers ≡ readers'
     → Dealt m turns pumps cycles chapter tasks opened readers ends d → Dealt m' turns pumps cycles chapter tasks opened' readers' ends d
 dealt_as m m' turns pumps cycles chapter tasks opened opened' readers readers' ends d e f r h =
     subst (λ rs. Dealt m' turns pumps cycles chapter tasks opened' rs ends d) r (subst (λ k. Dealt k turns pumps cycles chapter tasks opened' readers ends d) e (subst (λ cs. Dealt m turns pumps cycles chapter tasks cs readers ends d) f h))

@@ -1,16 +1,21 @@
 -- What readers of tasks do, cycle by cycle.
-use Rattle.std.proofs.Common.{◌≡◌, ℕ, zero, suc, ◌+◌, ◌≤◌, Bool, true, false, true≢false, List, [], ◌∷◌, ◌++◌, length, take, drop, refl, sym, ap, ◌∙◌, subst, append-nil, cond, ⊎_elim, inl, inr, arith}
+use Rattle.std.proofs.Common.{◌≡◌, ℕ, zero, suc, ◌+◌, ◌-◌, ◌<◌, ◌≤◌, Bool, true, false, true≢false, List, [], ◌∷◌, ◌++◌, length, take, drop, refl, sym, ap, ◌∙◌, subst, append-nil, append_assoc, length-append, cond, ⊎_elim, inl, inr, arith}
 use Rattle.std.proofs.lemmas.List.{take_all}
 use Rattle.std.proofs.lemmas.List.Sums.{sum_by-append}
 use Rattle.std.specs.Prelude.{Option, Some, None, slice_index}
 use Rattle.xcp_bank.specs.PinHistory.{Deed, Does, has_read, reads_of}
 use Rattle.xcp_bank.specs.BankEnds.{AcquireDoes, Holds, HoldsNumber, ReadDoes, ReaderEnd, image_at, image_held}
-use Rattle.xcp_bank.specs.SeatKnowledge.{Begins}
+use Rattle.xcp_bank.specs.SeatKnowledge.{AllBegin, Begins}
 use Rattle.xcp_bank.specs.declared.taken.Taken.{Taken}
 use Rattle.xcp_bank.specs.declared.taken.Taken.TheVariants.{Same, Newer}
 use Rattle.xcp_bank.proofs.PrefixLemmas.{begins_again}
 use Rattle.xcp_bank.proofs.HistoryLemmas.{does_again, does_none}
+use Rattle.xcp_memory.specs.Layout.{LayoutValue}
+use Rattle.xcp_slave.specs.declared.Request.{Request}
+use Rattle.xcp_locked.specs.declared.receipt.Receipt.{Receipt}
 use Rattle.xcp_locked.specs.TaskImages.{Took, is_look, looks}
+use Rattle.xcp_locked.specs.Tasks.{Duty, IsFresh, closing_of, event_of}
+use Rattle.xcp_locked.specs.private.Tasks.{Adds, IsTold, TookImage}
 use Rattle.xcp_locked.proofs.TallyLemmas.{none≢some, some_same}
 
 -- looks of two rows of steps
@@ -97,20 +102,54 @@ reads_look_at_nothing r words k (suc n) =
     omega (arith, e, f)
 
 -- the current image is taken, and all of it is read
-pub took_image : (t : Taken) (a b c : ReaderEnd) (x y : List ℕ) (k n size : ℕ) → size ≡ 2040 → (b.bank ≡ a.bank) × (b.place ≡ a.place) → AcquireDoes t a b → Begins a.seen b.seen → ((p q : ℕ) → HoldsNumber a p → HoldsNumber b q → p ≤ q)
-    → ReadDoes k n b c → (c.bank ≡ b.bank) × (c.place ≡ b.place) → (c.held ≡ b.held) × (c.seen ≡ b.seen) → length (image_held b) ≡ 2040 → y ≡ take size (drop 0 (image_held b)) → Took 1 true a c x y
-took_image t a b c x y k n size all reader acquires seen rises reads again same whole bytes =
+pub took_image : (t : Taken) (a b c : ReaderEnd) (y : List ℕ) (k n size : ℕ) → size ≡ 2040 → (b.bank ≡ a.bank) × (b.place ≡ a.place) → AcquireDoes t a b → ((p q : ℕ) → HoldsNumber a p → HoldsNumber b q → p ≤ q)
+    → ReadDoes k n b c → (c.bank ≡ b.bank) × (c.place ≡ b.place) → (c.held ≡ b.held) × (c.seen ≡ b.seen) → length (image_held b) ≡ 2040 → y ≡ take size (drop 0 (image_held b)) → TookImage a c y
+took_image t a b c y k n size all reader acquires rises reads again same whole bytes =
     let more = reads_of b.place reads.words k n in
     let did : Does (suc a.place) b.history b.pending c.history c.pending more = subst (λ j. Does (suc j) b.history b.pending c.history c.pending more) reader.1 reads.did in
     let image : image_held b ≡ image_held c = (λ i. image_at (sym same.0 i) (sym same.1 i)) in
-    let read : y ≡ image_held c = bytes ∙ (take_all size (image_held b) (omega (arith, whole, all)) ∙ image) in record {
+    record {
       same_reader = (again.0 ∙ reader.0, again.1 ∙ reader.1);
       deeds = acquires.deeds ++ more;
       did = does_again (suc a.place) a.history a.pending b.history b.pending c.history c.pending acquires.deeds more acquires.did did;
-      looked = λ _. let one = acquire_looks t a b acquires in let e = looks_both acquires.deeds more in omega (arith, one, e);
-      seen = subst (λ s. Begins a.seen s) (sym same.1) seen;
-      holds = λ h e. none≢some _ (sym e ∙ (same.0 ∙ acquires.held));
+      looked = let one = acquire_looks t a b acquires in let e = looks_both acquires.deeds more in omega (arith, one, e);
+      holds = λ e. none≢some _ (sym e ∙ (same.0 ∙ acquires.held));
       rises = λ p q old new. rises p q old (new.0, sym same.0 ∙ new.1);
-      last = inr read;
-      taken = λ _ _. read;
+      read = bytes ∙ (take_all size (image_held b) (omega (arith, whole, all)) ∙ image);
     }
+
+-- what was taken is the newest of what was published when the reader was told
+pub newest : (a b c : ReaderEnd) (number : ℕ) → Begins a.seen b.seen → 0 < length b.seen → HoldsNumber b (length b.seen - 1) → c.held ≡ b.held → HoldsNumber c number → length a.seen ≤ number + 1
+newest a b c number seen some last held holds =
+    let same = same_number b number (length b.seen - 1) (holds.0, sym held ∙ holds.1) last in
+    let longer = ap length seen.1 ∙ length-append a.seen seen.0 in
+    omega (arith, same, longer, some)
+
+-- one cycle: a reader is told, and takes the current image
+pub took_told : (layout : LayoutValue) (caller : ℕ) (event : Request) (old new : List Receipt) (a b c : ReaderEnd) (x y : List ℕ) → IsTold layout caller event old new a b → AllBegin (b.seen ∷ b.past) c.seen → TookImage b c y → Took 1 true a c x y
+took_told layout caller event old new a b c x y told begins took =
+    let did : Does (suc a.place) b.history b.pending c.history c.pending took.deeds = subst (λ j. Does (suc j) b.history b.pending c.history c.pending took.deeds) told.same_reader.1 took.did in
+    let all : AllBegin (a.seen ∷ a.past) c.seen = subst (λ s. AllBegin s c.seen) told.past begins.1 in
+    record {
+      same_reader = (took.same_reader.0 ∙ told.same_reader.0, took.same_reader.1 ∙ told.same_reader.1);
+      deeds = told.deeds ++ took.deeds;
+      did = does_again (suc a.place) a.history a.pending b.history b.pending c.history c.pending told.deeds took.deeds told.did did;
+      looked = λ _. let e = looks_both told.deeds took.deeds in let two = told.twice in let one = took.looked in omega (arith, e, two, one);
+      seen = all.0;
+      holds = λ _. took.holds;
+      rises = λ p q before after. took.rises p q (before.0, told.held ∙ before.1) after;
+      last = inr took.read;
+      taken = λ _ _. took.read;
+    }
+
+-- the image that is taken then isn't older than the event
+pub is_fresh : (layout : LayoutValue) (p : Duty) (k caller : ℕ) (was mid now : List Receipt) (a b c : ReaderEnd) → IsTold layout caller (event_of p k) was mid a b → Adds (closing_of p) mid now → AllBegin (b.seen ∷ b.past) c.seen → ((number : ℕ) → HoldsNumber c number → length b.seen ≤ number + 1) → IsFresh layout p k caller now c
+is_fresh layout p k caller was mid now a b c told closing begins newest = record {
+  front = was;
+  event = told.call;
+  closing = closing.0;
+  joined = closing.2 ∙ (ap (λ z. z ++ closing.0) told.added ∙ append_assoc was (told.call ∷ []) closing.0);
+  asked = told.asked;
+  closed = closing.1;
+  image = record { before = told.calls; base = told.base; reached = told.reached; earlier = told.earlier; place = told.place; first = told.first; published = b.seen; images = told.images; seen = begins.0; holds = newest };
+}

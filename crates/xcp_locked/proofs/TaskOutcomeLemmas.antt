@@ -3,6 +3,7 @@ use Rattle.std.proofs.Common.{◌≡◌, ℕ, List, [], ◌∷◌, ◌++◌, ref
 use Rattle.std.specs.Prelude.{Option, Some, None, is_none, true, unwrap_or}
 use Rattle.std.specs.declared.alloc.Global.{Global}
 use Rattle.std.specs.declared.vec.Vec.{Vec}
+use Rattle.xcp_memory.specs.Layout.{LayoutValue}
 use Rattle.xcp_locked.specs.declared.tasks.TaskError.{TaskError}
 use Rattle.xcp_locked.specs.declared.tasks.TaskError.TheVariants as faults
 use Rattle.xcp_locked.specs.declared.tasks.Done.{Done}
@@ -26,10 +27,10 @@ first_fault-more [] d = or_else_none d.fault
 first_fault-more (x ∷ done) d = ap (λ z. or_else x.fault z) (first_fault-more done d) ∙ or_else_assoc x.fault (first_fault done) d.fault
 
 -- what a task did, said of its worker
-pub worked_as : {N : Type 0} (may_end : Type 0) (cycles cycles' chapter chapter' task task' : ℕ) (w w' new : Worker N) (fault : Option TaskError) → task' ≡ task → cycles' ≡ cycles → chapter' ≡ chapter → w' ≡ w → Worked may_end cycles' chapter' task' w' new fault → Worked may_end cycles chapter task w new fault
-worked_as {N} may_end cycles cycles' chapter chapter' task task' w w' new fault t n k e h =
-    subst (λ (x : Worker N). Worked may_end cycles chapter task x new fault) e
-    (subst (λ (i : ℕ). Worked may_end cycles i task w' new fault) k (subst (λ (i : ℕ). Worked may_end i chapter' task w' new fault) n (subst (λ (i : ℕ). Worked may_end cycles' chapter' i w' new fault) t h)))
+pub worked_as : {N : Type 0} (layout : LayoutValue) (may_end : Type 0) (cycles cycles' chapter chapter' task task' : ℕ) (w w' new : Worker N) (fault : Option TaskError) → task' ≡ task → cycles' ≡ cycles → chapter' ≡ chapter → w' ≡ w → Worked layout may_end cycles' chapter' task' w' new fault → Worked layout may_end cycles chapter task w new fault
+worked_as {N} layout may_end cycles cycles' chapter chapter' task task' w w' new fault t n k e h =
+    subst (λ (x : Worker N). Worked layout may_end cycles chapter task x new fault) e
+    (subst (λ (i : ℕ). Worked layout may_end cycles i task w' new fault) k (subst (λ (i : ℕ). Worked layout may_end i chapter' task w' new fault) n (subst (λ (i : ℕ). Worked layout may_end cycles' chapter' i w' new fault) t h)))
 
 -- a fault that no gate gave is the task's own, whatever its gate may do
 pub own_anyway : (may_end : Type 0) (task : ℕ) (f : TaskError) → IsOwn ⊥ task f → IsOwn may_end task f

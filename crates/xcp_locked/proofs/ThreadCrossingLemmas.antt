@@ -56,11 +56,11 @@ hearing_crosses κ N I g l i =
     struct_crosses (Hearing.the_type κ N I g l)
     (search (sendable, crosses, locked.the_send) depth 20, (caller.the_send N g l, (watched_crosses I i, (replies.the_send, (search (sendable, crosses) depth 20, (search (sendable, crosses) depth 20, (search sendable, (search sendable, tt))))))))
 
--- a connection's pump may cross to another thread, where threads may share its clock
-pub pumping_crosses : (κ : NamedLft) (N C : RattleType) (g : Name.Ghosts N.Denot) (l : Ledger.Ghosts N.Denot) → IsSync C → IsSend (Pumping.the_row κ N C g l)
-pumping_crosses κ N C g l s =
-    struct_crosses (Pumping.the_type κ N C g l)
-    (search (sendable, crosses, locked.the_send) depth 20, (caller.the_send N g l, (search (sendable, crosses, s) depth 20, (samples.the_send, (search (sendable, crosses) depth 20, (search sendable, tt))))))
+-- a connection's pump may cross to another thread
+pub pumping_crosses : (κ : NamedLft) (N : RattleType) (g : Name.Ghosts N.Denot) (l : Ledger.Ghosts N.Denot) → IsSend (Pumping.the_row κ N g l)
+pumping_crosses κ N g l =
+    struct_crosses (Pumping.the_type κ N g l)
+    (search (sendable, crosses, locked.the_send) depth 20, (caller.the_send N g l, (samples.the_send, (search (sendable, crosses) depth 20, (search sendable, tt)))))
 
 -- a connection's sending may cross to another thread, where its writer may
 pub sending_crosses : (O : RattleType) → IsSend O → IsSend (Sending.the_row O)

@@ -1,11 +1,12 @@
 -- What comes of a connection to a shared slave: of its reading, of its pump and of its sending, and of all three.
-use Rattle.std.specs.Prelude.{◌≡◌, ◌≢◌, ◌⊎◌, ◌+◌, ◌<◌, ◌≤◌, ℕ, Bool, true, false, List, [], ◌++◌, Option, Result, Ok, Err}
+use Rattle.std.specs.Prelude.{◌≡◌, ◌≢◌, ◌⊎◌, ◌+◌, ◌<◌, ◌≤◌, ℕ, Bool, true, false, List, [], ◌++◌, Option, Result, Ok, Err, IfErr}
 use Rattle.xcp_slave.specs.declared.Exchange.{Exchange}
 use Rattle.xcp_slave.specs.declared.Request.{Request}
 use Rattle.xcp_framing.specs.Prefix.{IsFront}
 use Rattle.xcp_framing.specs.Pump.{Pumps}
 use Rattle.xcp_framing.specs.Serve.{EndsReader}
 use Rattle.xcp_framing.specs.ServeBy.{CommandNext, ServesBy}
+use Rattle.xcp_framing.specs.ServeParts.{IsInterruption}
 use Rattle.xcp_framing.specs.ServeRefusal.{OnRefusal}
 use Rattle.xcp_framing.specs.CountedCalls.{Watched}
 use Rattle.xcp_framing.specs.declared.serving.ServeError.{ServeError}
@@ -23,6 +24,7 @@ use Rattle.xcp_locked.specs.declared.pumping.Pumped.{Pumped}
 use Rattle.xcp_locked.specs.declared.sending.Wrote.{Wrote}
 use Rattle.xcp_locked.specs.Caller.{CallerValue}
 use Rattle.xcp_locked.specs.Receipts.{exchanges_of}
+use Rattle.xcp_locked.specs.Tasks.{Same}
 
 -- how a connection ended: the fault of its reading, else of its pump, else Write where its sender has one
 abbrev pub end_of : Result Served ServeError → Result ℕ ServeError → Result ℕ SendError → Result Served ServeError
@@ -36,10 +38,12 @@ pub record Delivered (side : Bool) (taken : List Message) (put : List (List ℕ)
   pub begins : IsFront (packets (of side taken)) put
   pub all : has_mark (of side taken) ≡ true → packets (of side taken) ≡ put
 
--- What the pump of a connection did for this caller, and what its end has put.
+-- What the pump of a connection did for this caller, which is the same one, and what its end has put.
 pub record PumpedFor {N : Type 0} (caller : CallerValue) (samples : EndSeen) (d : Pumped N) : Type 0 where
   pub pumps : Pumps d.end (exchanges_of caller.receipts) (exchanges_of d.caller.receipts) samples.put d.put.put
-  pub number : d.caller.number ≡ caller.number
+  -- a packet was handed back, or a Drain was refused
+  pub stops : IfErr d.end IsInterruption
+  pub same : Same caller d.caller
   pub outlet : d.put.outlet ≡ samples.outlet
   pub side : d.put.side ≡ samples.side
 
@@ -69,7 +73,7 @@ module _ {I : Type 0} (remaining : I → Option (List ℕ)) where
     pub spent : d.end ≡ Err errors.TurnsSpent → d.reader.value.calls ≡ reader.calls + turns
     pub refused : RefusedWhere d.end ((d.reader.value ≡ reader) × (exchanges_of d.caller.receipts ≡ exchanges_of caller.receipts) × (d.put.put ≡ replies.put))
         (StopsAt m (remaining reader.inner) (remaining d.reader.value.inner) (exchanges_of caller.receipts) (exchanges_of d.caller.receipts))
-    pub number : d.caller.number ≡ caller.number
+    pub same : Same caller d.caller
     pub outlet : d.put.outlet ≡ replies.outlet
     pub side : d.put.side ≡ replies.side
 
@@ -87,6 +91,7 @@ module _ {I O : Type 0} (remaining : I → Option (List ℕ)) (contents : O → 
   pub record Attended {N : Type 0} (m turns : ℕ) (reader : Watched I) (writer : Watched O) (tool pump : CallerValue) (d : Closed N I O) : Type 0 where
     pub serves : ServesBy m d.heard (remaining reader.inner) (remaining d.left.reader.value.inner) (exchanges_of tool.receipts) (exchanges_of d.tool.receipts) [] d.left.replies.value.put
     pub pumps : Pumps d.pumped (exchanges_of pump.receipts) (exchanges_of d.pump.receipts) [] d.left.samples.value.put
+    pub stops : IfErr d.pumped IsInterruption
     pub sends : Sends d.sent d.left.took.value.taken (contents writer.inner) (contents d.left.writer.value.inner) writer.failures d.left.writer.value.failures
     pub replies : Delivered false d.left.took.value.taken d.left.replies.value.put
     pub samples : Delivered true d.left.took.value.taken d.left.samples.value.put
@@ -98,5 +103,5 @@ module _ {I O : Type 0} (remaining : I → Option (List ℕ)) (contents : O → 
     pub spent : d.heard ≡ Err errors.TurnsSpent → d.left.reader.value.calls ≡ reader.calls + turns
     pub refused : RefusedWhere d.heard ((d.left.reader.value ≡ reader) × (exchanges_of d.tool.receipts ≡ exchanges_of tool.receipts) × (d.left.replies.value.put ≡ []))
         (StopsAt m (remaining reader.inner) (remaining d.left.reader.value.inner) (exchanges_of tool.receipts) (exchanges_of d.tool.receipts))
-    pub tool_number : d.tool.number ≡ tool.number
-    pub pump_number : d.pump.number ≡ pump.number
+    pub same_tool : Same tool d.tool
+    pub same_pump : Same pump d.pump

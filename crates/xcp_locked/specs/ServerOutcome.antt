@@ -6,6 +6,7 @@ use Rattle.xcp_slave.specs.declared.Request.TheVariants as requests
 use Rattle.xcp_framing.specs.declared.serving.ServeError.{ServeError}
 use Rattle.xcp_framing.specs.declared.serving.Served.{Served}
 use Rattle.xcp_bank.specs.BankEnds.{ReaderEnd}
+use Rattle.xcp_memory.specs.Layout.{LayoutValue}
 use Rattle.xcp_framing.specs.CountedCalls.{Watched}
 use Rattle.xcp_locked.specs.declared.hearing.Hearing.{Hearing}
 use Rattle.xcp_locked.specs.declared.hearing.Heard.{Heard}
@@ -35,8 +36,8 @@ pub record SameClosing {N I O : Type 0} (old new : Closing N I O) : Type 0 where
   pub fault : new.fault ≡ old.fault
 
 -- the three parts of a connection
-abbrev pub Connection : Type 0 → Type 0 → Type 0 → Type 0 → Type 0
-Connection N I O C = Hearing N I × Pumping N C × Sending O
+abbrev pub Connection : Type 0 → Type 0 → Type 0 → Type 0
+Connection N I O = Hearing N I × Pumping N × Sending O
 
 -- what comes of them
 abbrev pub Parted : Type 0 → Type 0 → Type 0 → Type 0
@@ -57,13 +58,13 @@ CountTheirCommands ends callers = (i : ℕ) (served : Served) (c : CallerValue) 
 
 module _ {I O : Type 0} (remaining : I → Option (List ℕ)) (contents : O → Option (List ℕ)) where
   -- what came of the parts of a connection
-  pub record CameOf {N C : Type 0} (c : Connection N I O C) (d : Parted N I O) : Type 0 where
+  pub record CameOf {N : Type 0} (c : Connection N I O) (d : Parted N I O) : Type 0 where
     pub heard : HeardFor remaining c.0.max_cto c.0.turns c.0.reader c.0.caller c.0.replies d.0
     pub pumped : PumpedFor c.1.caller c.1.samples d.1
     pub wrote : WroteFor contents c.2.end.outlet c.2.writer d.2
 
   -- the same, at whichever place
-  abbrev pub PartedAs : {N C : Type 0} → ℕ → Connection N I O C → Parted N I O → Type 0
+  abbrev pub PartedAs : {N : Type 0} → ℕ → Connection N I O → Parted N I O → Type 0
   PartedAs place c d = CameOf c d
 
   -- the connection at this place was served for the callers of this place among those of tools and those of pumps
@@ -78,7 +79,7 @@ module _ {I O : Type 0} (remaining : I → Option (List ℕ)) (contents : O → 
   -- the next the connections' pumps, and all come back in order, the first one after a last Hangup. The readers that were opened
   -- come back too: the first of them as the tasks left them. The chapters are those that task 0 has cut. `may_end` says that the
   -- gate may end a task.
-  pub record Closes {N : Type 0} (may_end : Type 0) (m turns cycles chapter tasks : ℕ) (opened : List CallerValue) (readers : List ReaderEnd) (ends : List (Watched I × Watched O)) (r : Closing N I O) : Type 0 where
+  pub record Closes {N : Type 0} (layout : LayoutValue) (may_end : Type 0) (m turns cycles chapter tasks : ℕ) (opened : List CallerValue) (readers : List ReaderEnd) (ends : List (Watched I × Watched O)) (r : Closing N I O) : Type 0 where
     -- the callers
     pub tools : List CallerValue
     pub connected : length tools ≡ length ends
@@ -96,7 +97,7 @@ module _ {I O : Type 0} (remaining : I → Option (List ℕ)) (contents : O → 
     pub left_is : r.left.items ≡ map (λ d. d.left) closed
     -- the tasks
     pub done : List (Done N)
-    pub worked : EachFrom (WorkedAs may_end cycles chapter) 0 workers done
+    pub worked : EachFrom (WorkedAs layout may_end cycles chapter) 0 workers done
     pub hung_up : HungUp (first_fault done) r.fault (map (λ d. d.tool) closed ++ map (λ d. d.worker.caller) done ++ map (λ d. d.pump) closed ++ spare) r.callers.items r.locked.chapter r.locked.journal
     -- the chapters
     pub chapters_are : r.chapters.items ≡ chapters_of (map (λ d. d.worker) done)

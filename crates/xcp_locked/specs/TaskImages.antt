@@ -1,11 +1,18 @@
 -- Images that a task takes.
-use Rattle.std.specs.Prelude.{◌≡◌, ◌⊎◌, ◌<◌, ◌≤◌, ℕ, Bool, true, false, List}
+use Rattle.std.specs.Prelude.{◌≡◌, ◌⊎◌, ◌+◌, ◌*◌, ◌<◌, ◌≤◌, ℕ, Bool, true, false, List, [], ◌∷◌, ◌++◌, length}
 use Rattle.std.specs.List.{count_by}
 use Rattle.pin_core.specs.declared.events.Event.{Event}
 use Rattle.pin_core.specs.declared.events.Event.TheVariants as events
 use Rattle.xcp_bank.specs.PinHistory.{Deed}
 use Rattle.xcp_bank.specs.BankEnds.{Holds, HoldsNumber, ReaderDoes, ReaderEnd, image_held}
 use Rattle.xcp_bank.specs.SeatKnowledge.{Begins}
+use Rattle.xcp_memory.specs.Layout.{LayoutValue}
+use Rattle.xcp_slave.specs.SlaveValue.{SlaveValue}
+use Rattle.xcp_trace.specs.declared.Entry.{Entry}
+use Rattle.xcp_locked.specs.declared.receipt.Receipt.{Receipt}
+use Rattle.xcp_locked.specs.Journal.{entry, exchanges}
+use Rattle.xcp_locked.specs.LockedSlave.{IsReached}
+use Rattle.xcp_locked.specs.PublishingCalls.{AreImagesFrom}
 
 -- whether a reader's step tells it which image is current
 abbrev pub is_look : Event → Bool
@@ -20,10 +27,11 @@ looks deeds = count_by (λ d. is_look d.0) deeds
 -- What a reader did in so many cycles, and the image that was read last, before them and after.
 pub record Took (cycles : ℕ) (whole : Bool) (old new : ReaderEnd) (before after : List ℕ) : Type 0 where
   pub same_reader : (new.bank ≡ old.bank) × (new.place ≡ old.place)
-  -- its own steps, all of them and in order: a Look or a Pin for each cycle, where the whole work was done
+  -- its own steps, all of them and in order: for each cycle two Looks where it is told what was published, and a Look or a Pin
+  -- where it takes the image, if the whole work was done
   pub deeds : List Deed
   pub did : ReaderDoes old new deeds
-  pub looked : whole ≡ true → cycles ≤ looks deeds
+  pub looked : whole ≡ true → 3 * cycles ≤ looks deeds
   -- what it has seen only grows, and the number of what it holds never falls
   pub seen : Begins old.seen new.seen
   pub holds : Holds old → Holds new
@@ -31,3 +39,19 @@ pub record Took (cycles : ℕ) (whole : Bool) (old new : ReaderEnd) (before afte
   -- the image read last is that of the publication that it holds, unless nothing was done
   pub last : ((new ≡ old) × (after ≡ before)) ⊎ (after ≡ image_held new)
   pub taken : whole ≡ true → 0 < cycles → after ≡ image_held new
+
+-- An image that isn't older than this caller's call: when the call stood last in its chapter, `published` was all that was published
+-- for the readers, and the last of that is the controller's image behind the call. The reader has seen all of it, and holds the last
+-- of it or a later one.
+pub record IsNotOlder (layout : LayoutValue) (caller : ℕ) (call : Receipt) (reader : ReaderEnd) : Type 0 where
+  -- where the call's chapter begins, and the calls of the chapter before it
+  pub before : ℕ
+  pub base : SlaveValue
+  pub reached : IsReached layout before base
+  pub earlier : List Entry
+  pub place : length earlier ≡ call.at
+  pub first : ℕ
+  pub published : List (List ℕ)
+  pub images : AreImagesFrom first base (exchanges (earlier ++ entry caller call.request call.answer ∷ [])) published
+  pub seen : Begins published reader.seen
+  pub holds : (number : ℕ) → HoldsNumber reader number → length published ≤ number + 1

@@ -1,5 +1,6 @@
 -- What comes of tasks that run at the same time.
 use Rattle.std.specs.Prelude.{◌≡◌, ℕ, List, [], ◌∷◌, map, Option, Some, None}
+use Rattle.xcp_memory.specs.Layout.{LayoutValue}
 use Rattle.xcp_locked.specs.declared.tasks.TaskError.{TaskError}
 use Rattle.xcp_locked.specs.declared.worker.Worker.{Worker}
 use Rattle.xcp_locked.specs.declared.tasks.Done.{Done}
@@ -9,8 +10,8 @@ use Rattle.xcp_locked.specs.PairedLists.{EachFrom}
 use Rattle.xcp_locked.specs.Tasks.{Worked}
 
 -- what came of the worker's task of this number
-abbrev pub WorkedAs : {N : Type 0} → Type 0 → ℕ → ℕ → ℕ → Worker N → Done N → Type 0
-WorkedAs may_end cycles chapter task w d = Worked may_end cycles chapter task w d.worker d.fault
+abbrev pub WorkedAs : {N : Type 0} → LayoutValue → Type 0 → ℕ → ℕ → ℕ → Worker N → Done N → Type 0
+WorkedAs layout may_end cycles chapter task w d = Worked layout may_end cycles chapter task w d.worker d.fault
 
 -- the first of two faults
 abbrev pub or_else : Option TaskError → Option TaskError → Option TaskError
@@ -29,8 +30,8 @@ chapters_of (w ∷ more) = w.chapters.items
 
 -- One task for each worker, numbered from 0: all workers come back, each having done what its task has, and the fault is that
 -- of the least task number. `may_end` says that the gate may end a task.
-pub record RanTasks {N : Type 0} (may_end : Type 0) (cycles chapter : ℕ) (workers : List (Worker N)) (r : Ran N) : Type 0 where
+pub record RanTasks {N : Type 0} (layout : LayoutValue) (may_end : Type 0) (cycles chapter : ℕ) (workers : List (Worker N)) (r : Ran N) : Type 0 where
   pub done : List (Done N)
-  pub worked : EachFrom (WorkedAs may_end cycles chapter) 0 workers done
+  pub worked : EachFrom (WorkedAs layout may_end cycles chapter) 0 workers done
   pub back : r.workers.items ≡ map (λ d. d.worker) done
   pub fault : r.fault ≡ first_fault done

@@ -1,5 +1,5 @@
 -- What a task submits.
-use Rattle.std.specs.Prelude.{◌≡◌, ◌≢◌, ◌≤◌, ℕ, zero, suc, ◌%◌, Bool, true, List, [], ◌∷◌, ◌++◌, map, length, ◌==◌, if◌then◌else◌, replicate, Option, is_none, IfSome, All, ⊤}
+use Rattle.std.specs.Prelude.{◌≡◌, ◌≢◌, ◌≤◌, ◌+◌, ℕ, zero, suc, ◌%◌, Bool, true, List, [], ◌∷◌, ◌++◌, map, length, ◌==◌, if◌then◌else◌, replicate, Option, is_none, IfSome, All, ⊤}
 use Rattle.xcp_slave.specs.declared.Request.{Request}
 use Rattle.xcp_slave.specs.declared.Request.TheVariants as requests
 use Rattle.xcp_locked.specs.declared.receipt.Receipt.{Receipt}
@@ -10,7 +10,9 @@ use Rattle.xcp_locked.specs.declared.tasks.TaskError.TheVariants as faults
 use Rattle.xcp_locked.specs.declared.worker.Worker.{Worker}
 use Rattle.xcp_locked.specs.Caller.{CallerValue}
 use Rattle.xcp_locked.specs.LockedSlave.{ChapterValue}
-use Rattle.xcp_locked.specs.TaskImages.{Took}
+use Rattle.xcp_memory.specs.Layout.{LayoutValue}
+use Rattle.xcp_bank.specs.BankEnds.{ReaderEnd}
+use Rattle.xcp_locked.specs.TaskImages.{IsNotOlder, Took}
 
 -- A task's duty: by how many event channels and how many bytes of signals it goes, and its number.
 pub record Duty : Type 0 where
@@ -77,11 +79,24 @@ pub record HasCut (cycles chapter task : ℕ) (old new : List ChapterValue) : Ty
   pub full : All (λ (c : ChapterValue). chapter ≤ length c.entries) more
   pub first_only : task ≢ 0 → more ≡ []
 
+-- Of a cycle, the last one: the receipt of its event, behind which task 0 has that of its store, and an image that isn't older than
+-- the event.
+pub record IsFresh (layout : LayoutValue) (p : Duty) (cycle caller : ℕ) (receipts : List Receipt) (reader : ReaderEnd) : Type 0 where
+  pub front : List Receipt
+  pub event : Receipt
+  pub closing : List Receipt
+  pub joined : receipts ≡ front ++ event ∷ closing
+  pub asked : event.request ≡ event_of p cycle
+  pub closed : requests_of closing ≡ closing_of p
+  pub image : IsNotOlder layout caller event reader
+
 -- what a task of so many cycles did: its caller's receipts grew by its plan, where it has a fault by a beginning of it,
--- without a fault its reader looked for an image in each cycle, and task 0 has cut chapters of at least so many calls
-pub record Worked {N : Type 0} (may_end : Type 0) (cycles chapter task : ℕ) (old new : Worker N) (fault : Option TaskError) : Type 0 where
+-- without a fault its reader looked for an image in each cycle, and holds one that isn't older than its last event, and task 0 has
+-- cut chapters of at least so many calls
+pub record Worked {N : Type 0} (layout : LayoutValue) (may_end : Type 0) (cycles chapter task : ℕ) (old new : Worker N) (fault : Option TaskError) : Type 0 where
   pub grew : Grew (duty old.caller task) cycles (is_none fault) old.caller.receipts new.caller.receipts
   pub same : Same old.caller new.caller
   pub took : Took cycles (is_none fault) old.reader new.reader old.last new.last
+  pub fresh : is_none fault ≡ true → (last : ℕ) → cycles ≡ last + 1 → IsFresh layout (duty old.caller task) last old.caller.number new.caller.receipts new.reader
   pub cut : HasCut cycles chapter task old.chapters.items new.chapters.items
   pub own : IfSome fault (IsOwn may_end task)

@@ -15,7 +15,7 @@ use xcp_framing::{ServeError, Served, Watched};
 use xcp_outlet::{Put, SendError, Sent, Took};
 
 /// The three parts of a connection, which have one outlet between them.
-pub type Connection<'a, N, I, O, C> = (Hearing<'a, N, I>, Pumping<'a, N, C>, Sending<O>);
+pub type Connection<'a, N, I, O> = (Hearing<'a, N, I>, Pumping<'a, N>, Sending<O>);
 
 /// What comes of the three parts of a connection.
 pub type Parted<N, I, O> = (Heard<N, I>, Pumped<N>, Wrote<O>);

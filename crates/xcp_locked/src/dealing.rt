@@ -15,15 +15,14 @@ use std::alloc::{AllocError, Global};
 use std::io::{Read, Write};
 use std::sync::Mutex;
 use std::sync::atomic::AtomicBool;
-use std::time::Clock;
 use std::vec::IntoIter;
 use xcp_framing::{ServeError, Served, Watched};
 use xcp_outlet::outlet;
 
 /// Connections and tasks that have not begun, and the callers and readers that have nothing to do.
 #[derive(Drop)]
-pub struct Duties<'a, N: Name, G: Gate, I: Read + Drop, O: Write + Drop, C: Clock> {
-    pub connections: Vec<Connection<'a, N, I, O, C>>,
+pub struct Duties<'a, N: Name, G: Gate, I: Read + Drop, O: Write + Drop> {
+    pub connections: Vec<Connection<'a, N, I, O>>,
     pub tasks: Vec<Task<'a, N, G>>,
     pub spare: IntoIter<Caller<N>>,
     pub unused: IntoIter<Reader<N>>,
@@ -41,8 +40,7 @@ pub struct Limits {
 /// Deals the callers out: the first to the readers and writers, the next to so many tasks, the next
 /// to the connections' pumps. The first readers go to the tasks. Each connection has a stop of its
 /// own.
-pub fn deal<'a, N: Name, G: Gate, I: Read + Drop, O: Write + Drop, C: Clock>(
-    clock: &'a C,
+pub fn deal<'a, N: Name, G: Gate, I: Read + Drop, O: Write + Drop>(
     alloc: Global,
     lock: &'a Mutex<Locked<N>>,
     gate: &'a G,
@@ -54,7 +52,7 @@ pub fn deal<'a, N: Name, G: Gate, I: Read + Drop, O: Write + Drop, C: Clock>(
     cycles: u32,
     chapter: u32,
     limits: Limits,
-) -> Result<Duties<'a, N, G, I, O, C>, AllocError>
+) -> Result<Duties<'a, N, G, I, O>, AllocError>
     requires enough { vec_len ends + tasks + vec_len ends ≤ vec_len callers }
     requires few { (tasks ≤ 16) × (tasks ≤ vec_len readers) }
     requires stops { length stops.now ≡ vec_len ends }
@@ -65,7 +63,7 @@ pub fn deal<'a, N: Name, G: Gate, I: Read + Drop, O: Write + Drop, C: Clock>(
     let mut unused = readers.into_iter();
     let tools = next_callers(alloc, &mut spare, ends.len())?;
     let workers = employ(alloc, &mut spare, &mut unused, tasks)?;
-    let connections = connect(clock, alloc, lock, stops, ends, tools, &mut spare, limits)?;
+    let connections = connect(alloc, lock, stops, ends, tools, &mut spare, limits)?;
     let tasks = number_tasks(alloc, lock, workers, cycles, chapter, gate)?;
     Ok(Duties {
         connections,
@@ -97,8 +95,7 @@ pub fn next_callers<N: Name>(
 
 /// A connection for each reader and writer, in order, each with the next of these tools' callers, with
 /// the next of the other callers for its pump, and with an outlet of its own.
-pub fn connect<'a, N: Name, I: Read + Drop, O: Write + Drop, C: Clock>(
-    clock: &'a C,
+pub fn connect<'a, N: Name, I: Read + Drop, O: Write + Drop>(
     alloc: Global,
     lock: &'a Mutex<Locked<N>>,
     stops: &'a [AtomicBool],
@@ -106,7 +103,7 @@ pub fn connect<'a, N: Name, I: Read + Drop, O: Write + Drop, C: Clock>(
     tools: Vec<Caller<N>>,
     pumps: &mut IntoIter<Caller<N>>,
     limits: Limits,
-) -> Result<Vec<Connection<'a, N, I, O, C>>, AllocError>
+) -> Result<Vec<Connection<'a, N, I, O>>, AllocError>
     requires tools { vec_len tools ≡ vec_len ends }
     requires pumps { vec_len ends ≤ length (into_iter_items pumps.old) }
     requires stops { length stops.now ≡ vec_len ends }
@@ -127,15 +124,14 @@ pub fn connect<'a, N: Name, I: Read + Drop, O: Write + Drop, C: Clock>(
             unreachable!()
         };
         let stop = &stops[place];
-        connections.push_reserved(connection(clock, alloc, lock, stop, end, tool, pump, limits)?);
+        connections.push_reserved(connection(alloc, lock, stop, end, tool, pump, limits)?);
         place += 1;
     }
     Ok(connections)
 }
 
 /// A connection with a new outlet.
-fn connection<'a, N: Name, I: Read + Drop, O: Write + Drop, C: Clock>(
-    clock: &'a C,
+fn connection<'a, N: Name, I: Read + Drop, O: Write + Drop>(
     alloc: Global,
     lock: &'a Mutex<Locked<N>>,
     stop: &'a AtomicBool,
@@ -143,7 +139,7 @@ fn connection<'a, N: Name, I: Read + Drop, O: Write + Drop, C: Clock>(
     tool: Caller<N>,
     pump: Caller<N>,
     limits: Limits,
-) -> Result<Connection<'a, N, I, O, C>, AllocError>
+) -> Result<Connection<'a, N, I, O>, AllocError>
     ensures is { IfOk result (λ c. IsConnectionOf limits.max_cto limits.turns limits.pump_turns 0 end c) }
     ensures tool { IfOk result (λ c. c.0.caller ≡ tool) }
     ensures pump { IfOk result (λ c. c.1.caller ≡ pump) }
@@ -163,7 +159,6 @@ fn connection<'a, N: Name, I: Read + Drop, O: Write + Drop, C: Clock>(
     let pumping = Pumping {
         lock,
         caller: pump,
-        clock,
         samples,
         stop,
         turns: limits.pump_turns,

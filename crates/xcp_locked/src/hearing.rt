@@ -4,7 +4,7 @@ use crate::{Caller, Locked, Name, Tool};
 use std::alloc::Global;
 use std::io::Read;
 use std::snapshot::Snapshot;
-use std::sync::atomic::{AtomicBool, Ordering};
+use std::sync::atomic::AtomicBool;
 use std::sync::{Mutex, Wait};
 use together::Work;
 use xcp_framing::{ServeError, Served, Watched, serve_by};
@@ -50,17 +50,13 @@ impl<'a, N: Name + Send + Sync, I: Read + Send + Drop> Work<Heard<N, I>> for Hea
             max_cto,
             turns,
         } = self;
-        let number = caller.number;
         let mut tool = Tool::new(rt, lock, caller);
         let mut replies = PutReplies::new(rt, replies);
         let end = serve_by(alloc, &mut reader, &mut replies, &mut tool, max_cto, turns);
-        stop.store(true, Ordering::SeqCst);
+        lock.lock(rt).stop(stop);
         let put = replies.into_end().finish(rt);
-        let mut caller = tool.into_caller();
-        // Of a station `serve_by` tells its exchanges alone, so the number is written again.
-        caller.number = number;
         Heard {
-            caller,
+            caller: tool.into_caller(),
             end,
             reader: Snapshot::of(&reader),
             put,

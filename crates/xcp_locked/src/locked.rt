@@ -20,8 +20,9 @@ use crate::publisher::Publisher;
 use crate::{Caller, LockedError, Name, Receipt};
 use std::alloc::AllocError;
 use std::marker::Model;
-use std::sync::Arc;
+use std::sync::atomic::{AtomicBool, Ordering};
 use std::sync::ledger::Book;
+use std::sync::{Arc, Condvar};
 use xcp_packet::Packet;
 use xcp_slave::{Request, Slave, Told};
 use xcp_trace::Journal;
@@ -43,6 +44,9 @@ const DOWNLOAD: u8 = 0xF0;
 /// a run from the opening of the layout to the base; and the book of accepted calls has as many units
 /// as all chapters have entries. The bank's publications since the chapter's first image are the
 /// controller's images along its run: the base's, and each that differs from the one before it.
+///
+/// Who waits for packets waits at `waits`, which no contract sees: a submit that leaves more packets waiting
+/// than there were tells them.
 #[derive(Drop)]
 pub struct Locked<N: Name> {
     pub(crate) slave: Slave,
@@ -52,6 +56,7 @@ pub struct Locked<N: Name> {
     pub(crate) journal: Journal,
     pub(crate) book: Book<N>,
     pub(crate) publisher: Publisher,
+    pub(crate) waits: Arc<Condvar>,
 }
 
 impl<N: Name> Model for Locked<N> {
@@ -138,6 +143,7 @@ impl<N: Name> Locked<N> {
             journal,
             book,
             publisher,
+            waits,
             ..
         } = self;
         let Caller {
@@ -153,6 +159,7 @@ impl<N: Name> Locked<N> {
         }
         book.audit(share);
         let at = journal.len() as u64;
+        let before = slave.pending();
         let told = execute(slave, journal, publisher, *number, request, packet, at + 1);
         book.add(share, 1);
         *accepted += 1;
@@ -162,6 +169,7 @@ impl<N: Name> Locked<N> {
             request: request.copy(),
             answer: told.beside(packet),
         });
+        tell_waiting(waits, before, slave.pending());
         Ok(told)
     }
 
@@ -207,6 +215,12 @@ impl<N: Name> Locked<N> {
         self.slave.pending()
     }
 
+    /// Sets a stop, and tells those who wait. Under the lock, so that nobody who saw it unset begins to wait behind this.
+    pub(crate) fn stop(&self, stop: &AtomicBool) {
+        stop.store(true, Ordering::SeqCst);
+        self.waits.notify_all();
+    }
+
     /// Writes the ECU image out, and answers its place: the number of calls that the open chapter has.
     pub fn image(&self, out: &mut [u8; 2040]) -> u64
         ensures image { out.new ≡ ecu_image self.now.slave.transfer.pages }
@@ -237,6 +251,13 @@ impl<N: Name> Locked<N> {
             self.now.writer.publications }
     {
         let _ = &self.slave;
+    }
+}
+
+/// Tells those who wait for packets, where more wait than before.
+fn tell_waiting(waits: &Condvar, before: u8, after: u8) {
+    if before < after {
+        waits.notify_all();
     }
 }
 

@@ -12,6 +12,7 @@ use crate::{Caller, Locked, Name, Reader};
 use std::alloc::{AllocError, Global};
 use std::marker::Model;
 use std::sync::ledger::{Blank, Share};
+use std::sync::{Arc, Condvar};
 use xcp_bank::{Bank, Writer};
 use xcp_memory::Layout;
 use xcp_slave::Slave;
@@ -122,6 +123,7 @@ impl<N: Name> Locked<N> {
             journal: Journal::new(alloc),
             book,
             publisher: Publisher::new(alloc, writer, image)?,
+            waits: Arc::new(alloc, Condvar::new())?,
         };
         Ok(Opening {
             locked,

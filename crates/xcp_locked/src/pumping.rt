@@ -3,18 +3,16 @@
 use crate::{Caller, Locked, Name, Tool};
 use std::sync::atomic::AtomicBool;
 use std::sync::{Mutex, Wait};
-use std::time::Clock;
 use together::Work;
 use xcp_framing::{ServeError, pump};
 use xcp_outlet::{DataEnd, Put, PutData};
 
-/// The part of a connection that drains the packets which wait, until it sees `stop` or its turns are
-/// spent.
+/// The part of a connection that drains the packets which wait, and waits where none do, until it sees `stop` or its
+/// turns are spent.
 #[derive(Drop)]
-pub struct Pumping<'a, N: Name, C: Clock> {
+pub struct Pumping<'a, N: Name> {
     pub lock: &'a Mutex<Locked<N>>,
     pub caller: Caller<N>,
-    pub clock: &'a C,
     pub samples: DataEnd,
     pub stop: &'a AtomicBool,
     pub turns: u32,
@@ -28,7 +26,7 @@ pub struct Pumped<N: Name> {
     pub put: Put,
 }
 
-impl<'a, N: Name + Send + Sync, C: Clock + Sync> Work<Pumped<N>> for Pumping<'a, N, C> {
+impl<'a, N: Name + Send + Sync> Work<Pumped<N>> for Pumping<'a, N> {
     ghost use Rattle.xcp_locked.specs.ConnectionOutcome.{PumpedFor};
 
     ghost gives = { λ p d. PumpedFor p.caller p.samples d };
@@ -37,20 +35,19 @@ impl<'a, N: Name + Send + Sync, C: Clock + Sync> Work<Pumped<N>> for Pumping<'a,
         let Pumping {
             lock,
             caller,
-            clock,
             samples,
             stop,
             turns,
         } = self;
-        let number = caller.number;
         let mut tool = Tool::new(rt, lock, caller);
         let mut samples = PutData::new(rt, samples);
-        let end = pump(clock, &mut tool, &mut samples, stop, turns);
+        let end = pump(&mut tool, &mut samples, stop, turns);
         let put = samples.into_end().finish(rt);
-        let mut caller = tool.into_caller();
-        // Of a station `pump` tells its exchanges alone, so the number is written again.
-        caller.number = number;
-        Pumped { caller, end, put }
+        Pumped {
+            caller: tool.into_caller(),
+            end,
+            put,
+        }
     }
 
     fn leave(self) -> Pumped<N> {

@@ -30,7 +30,7 @@ pub fn run_tasks<N: Name + Send + Sync, G: Gate + Sync, R: Threads + Wait + Sync
     gate: &G,
 ) -> Result<Ran<N>, TaskError>
     requires { vec_len workers ≤ 16 }
-    ensures ran { IfOk result (λ r. RanTasks G.may_end cycles chapter workers.items r) }
+    ensures ran { IfOk result (λ r. RanTasks N.layout G.may_end cycles chapter workers.items r) }
     ensures err { IfErr result (λ e. e ≡ TaskError.Memory) }
 {
     let back = Vec::with_capacity(alloc, workers.len())?;

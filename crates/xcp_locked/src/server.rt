@@ -21,7 +21,6 @@ use std::io::{Read, Write};
 use std::sync::atomic::AtomicBool;
 use std::sync::{Mutex, Wait};
 use std::thread::Threads;
-use std::time::Clock;
 use together::run_crews;
 use xcp_framing::Watched;
 
@@ -39,7 +38,7 @@ pub fn run_server<
     G: Gate + Sync,
     I: Read + Send + Drop,
     O: Write + Send + Drop,
-    R: Threads + Wait + Clock + Sync,
+    R: Threads + Wait + Sync,
 >(
     rt: &R,
     alloc: Global,
@@ -57,7 +56,7 @@ pub fn run_server<
     requires some { 0 < vec_len ends }
     requires callers { vec_len ends + tasks + vec_len ends ≤ unnamed.callers }
     requires readers { tasks ≤ 6 }
-    ensures closes { IfOk result (λ r. Closes I.remaining O.contents G.may_end
+    ensures closes { IfOk result (λ r. Closes I.remaining O.contents unnamed.layout G.may_end
         unnamed.layout.max_cto turns cycles chapter tasks
         (callers_of unnamed.layout unnamed.callers)
         (six_readers unnamed.bank (image_of (opening unnamed.layout))) ends.items r) }
@@ -87,7 +86,7 @@ pub fn run_server<
         spare,
         unused,
     } = deal(
-        rt, alloc, &lock, gate, &stops, callers, readers, ends, tasks, cycles, chapter, limits,
+        alloc, &lock, gate, &stops, callers, readers, ends, tasks, cycles, chapter, limits,
     )?;
     let (parted, done) = run_all(rt, alloc, connections, tasks)?;
     let closed = close_each(parted, rooms.closed);
@@ -125,17 +124,16 @@ fn run_all<
     G: Gate + Sync,
     I: Read + Send + Drop,
     O: Write + Send + Drop,
-    C: Clock + Sync,
     R: Threads + Wait + Sync,
 >(
     rt: &R,
     alloc: Global,
-    connections: Vec<Connection<'a, N, I, O, C>>,
+    connections: Vec<Connection<'a, N, I, O>>,
     tasks: Vec<Task<'a, N, G>>,
 ) -> Results<N, I, O>
     ensures parted { IfOk result (λ r.
         EachFrom (PartedAs I.remaining O.contents) 0 connections.entry.items r.0.items) }
-    ensures worked { IfOk result (λ r. EachFrom (DoneAs G.may_end) 0 tasks.entry.items r.1.items) }
+    ensures worked { IfOk result (λ r. EachFrom (DoneAs N.layout G.may_end) 0 tasks.entry.items r.1.items) }
 {
     run_crews(rt, alloc, connections, tasks)
 }

@@ -5,8 +5,7 @@ ghost use Rattle.xcp_locked.specs.SettledReceipts.{DifferAt, DiffersFor, IsSettl
 ghost use Rattle.xcp_locked.specs.declared.receipt.Receipt.{Receipt};
 
 use crate::{Caller, Locked, Name, Receipt};
-use xcp_slave::{Answer, Request};
-use xcp_trace::{Entry, Journal};
+use xcp_trace::{Journal, LentEntry};
 
 /// The first index at which a caller's receipts are not the journal's.
 #[derive(Clone, Copy, Debug, PartialEq, Eq)]
@@ -52,10 +51,10 @@ pub(crate) fn settled(
     let mut next = first_from(later, chapter, receipts, 0);
     let mut met = 0;
     for at in 0..journal.len() {
-        let Some(entry) = entries.next() else {
+        let Some(entry) = entries.next_lent() else {
             unreachable!()
         };
-        if entry.caller != number {
+        if entry.caller() != number {
             continue;
         }
         if next >= receipts.len() || !is_receipt(chapter, at as u64, &entry, &receipts[next]) {
@@ -99,24 +98,9 @@ fn is_compared(later: bool, chapter: u64, other: u64) -> bool
 }
 
 /// Whether the receipt is that of the entry at this place.
-fn is_receipt(chapter: u64, at: u64, entry: &Entry, receipt: &Receipt) -> bool
+fn is_receipt(chapter: u64, at: u64, entry: &LentEntry<'_>, receipt: &Receipt) -> bool
     ensures { MatchBool result (receipt.now ≡ receipt_of chapter at entry.now)
         (receipt.now ≢ receipt_of chapter at entry.now) }
 {
-    receipt.chapter == chapter
-        && receipt.at == at
-        && same_request(&receipt.request, &entry.exchange.request)
-        && same_answer(&receipt.answer, &entry.exchange.answer)
-}
-
-fn same_request(a: &Request, b: &Request) -> bool
-    ensures { MatchBool result (a.now ≡ b.now) (a.now ≢ b.now) }
-{
-    a == b
-}
-
-fn same_answer(a: &Answer, b: &Answer) -> bool
-    ensures { MatchBool result (a.now ≡ b.now) (a.now ≢ b.now) }
-{
-    a.same(b)
+    receipt.chapter == chapter && receipt.at == at && entry.is(&receipt.request, &receipt.answer)
 }

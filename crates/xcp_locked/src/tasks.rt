@@ -1,9 +1,11 @@
 //! Tasks of the controller: what each submits, cycle by cycle.
-ghost use Rattle.std.specs.Prelude.{◌≡◌, ◌<◌, ◌≤◌, ◌+◌, ℕ, List, [], ◌∷◌, IfNone, IfSome, MatchBool, OnSome, is_none, replicate, true, vec_capacity, vec_len};
+ghost use Rattle.std.specs.Prelude.{◌≡◌, ◌<◌, ◌≤◌, ◌+◌, ℕ, List, [], ◌∷◌, IfNone, IfSome, MatchBool, OnSome, is_none, length, replicate, true, vec_capacity, vec_len};
+ghost use Rattle.xcp_bank.specs.BankEnds.{HoldsNumber};
+ghost use Rattle.xcp_bank.specs.SeatKnowledge.{AllBegin};
 ghost use Rattle.xcp_locked.specs.FaultNumbers.{task_number};
 ghost use Rattle.xcp_locked.specs.TaskImages.{Took};
-ghost use Rattle.xcp_locked.specs.Tasks.{Grew, HasCut, IsOwn, Same, closing_of, duty, event_of};
-ghost use Rattle.xcp_locked.specs.private.Tasks.{Adds, CutsFull};
+ghost use Rattle.xcp_locked.specs.Tasks.{Grew, HasCut, IsFresh, IsOwn, Same, closing_of, duty, event_of};
+ghost use Rattle.xcp_locked.specs.private.Tasks.{Adds, CutsFull, IsTold, TookImage};
 
 use crate::chapter::LAST_CHAPTER;
 use crate::{Caller, Chapter, Gate, Locked, LockedError, Name, Reader, Worker};
@@ -97,7 +99,7 @@ pub struct Ran<N: Name> {
 impl<'a, N: Name + Send + Sync, G: Gate + Sync> Work<Done<N>> for Task<'a, N, G> {
     ghost use Rattle.xcp_locked.specs.Tasks.{Worked};
 
-    ghost gives = { λ t d. Worked G.may_end t.cycles t.chapter t.task t.worker d.worker d.fault };
+    ghost gives = { λ t d. Worked N.layout G.may_end t.cycles t.chapter t.task t.worker d.worker d.fault };
 
     fn run<R: Wait>(self, rt: &R) -> Done<N> {
         let Task {
@@ -137,6 +139,9 @@ fn run_cycles<N: Name, G: Gate>(
     ensures same { Same worker.old.caller worker.new.caller }
     ensures took { Took cycles (is_none result) worker.old.reader worker.new.reader
         worker.old.last worker.new.last }
+    ensures fresh { is_none result ≡ true → (last : ℕ) → cycles ≡ last + 1
+        → IsFresh N.layout (duty worker.old.caller task) last worker.old.caller.number
+        worker.new.caller.receipts worker.new.reader }
     ensures cut { HasCut cycles chapter task worker.old.chapters.items worker.new.chapters.items }
     ensures own { IfSome result (IsOwn G.may_end task) }
 {
@@ -148,7 +153,8 @@ fn run_cycles<N: Name, G: Gate>(
     None
 }
 
-/// One cycle: the gate is asked, an event is submitted, an image is taken outside the lock, task 0
+/// One cycle: the gate is asked, an event is submitted and the reader told what was published by then, an image is
+/// taken outside the lock, which is no older, task 0
 /// finishes a store and cuts a full chapter, and the gate is asked again.
 fn cycle<N: Name, G: Gate>(
     rt: &impl Wait,
@@ -166,6 +172,8 @@ fn cycle<N: Name, G: Gate>(
     ensures same { Same worker.old.caller worker.new.caller }
     ensures took { Took 1 (is_none result) worker.old.reader worker.new.reader
         worker.old.last worker.new.last }
+    ensures fresh { is_none result ≡ true → IsFresh N.layout (duty worker.old.caller task) cycle
+        worker.old.caller.number worker.new.caller.receipts worker.new.reader }
     ensures cut { HasCut 1 chapter task worker.old.chapters.items worker.new.chapters.items }
     ensures own { IfSome result (IsOwn G.may_end task) }
 {
@@ -173,7 +181,7 @@ fn cycle<N: Name, G: Gate>(
         return Some(TaskError::GateSpent(task));
     }
     let event = event(&worker.caller, task, cycle);
-    if let Some(fault) = step(rt, lock, &mut worker.caller, event) {
+    if let Some(fault) = raise(rt, lock, &mut worker.caller, &mut worker.reader, event) {
         return Some(fault);
     }
     take_image(&mut worker.reader, &mut worker.last);
@@ -207,9 +215,57 @@ fn all_signals(length: usize, byte: u8) -> ArrayVec<u8, 64>
     signals
 }
 
+/// Submits an event, and tells the reader under the same hold of the lock.
+fn raise<N: Name>(
+    rt: &impl Wait,
+    lock: &Mutex<Locked<N>>,
+    caller: &mut Caller<N>,
+    reader: &mut Reader<N>,
+    event: Request,
+) -> Option<TaskError>
+    ensures adds { MatchBool (is_none result)
+        (Adds (event ∷ []) caller.old.receipts caller.new.receipts)
+        (caller.new.receipts ≡ caller.old.receipts) }
+    ensures same { Same caller.old caller.new }
+    ensures told { MatchBool (is_none result)
+        (IsTold N.layout caller.old.number event caller.old.receipts caller.new.receipts reader.old reader.new)
+        (reader.new ≡ reader.old) }
+    ensures own { (task : ℕ) → IfSome result (IsOwn ⊥ task) }
+{
+    submit_and_tell(&mut lock.lock(rt), caller, reader, event)
+}
+
+/// Submits an event, and tells the reader all that was published by then.
+fn submit_and_tell<N: Name>(
+    locked: &mut Locked<N>,
+    caller: &mut Caller<N>,
+    reader: &mut Reader<N>,
+    event: Request,
+) -> Option<TaskError>
+    ensures adds { MatchBool (is_none result)
+        (Adds (event ∷ []) caller.old.receipts caller.new.receipts)
+        (caller.new.receipts ≡ caller.old.receipts) }
+    ensures same { Same caller.old caller.new }
+    ensures told { MatchBool (is_none result)
+        (IsTold N.layout caller.old.number event caller.old.receipts caller.new.receipts reader.old reader.new)
+        (reader.new ≡ reader.old) }
+    ensures own { (task : ℕ) → IfSome result (IsOwn ⊥ task) }
+{
+    match locked.submit(caller, event) {
+        Ok(_) => {
+            locked.audit();
+            locked.tell(reader);
+            None
+        }
+        Err(error) => Some(TaskError::from(error)),
+    }
+}
+
 /// Takes the current image, and reads all of it. No lock is taken.
 fn take_image<N: Name>(reader: &mut Reader<N>, last: &mut [u8; 2040])
-    ensures { Took 1 true reader.old reader.new last.old last.new }
+    ensures took { TookImage reader.old reader.new last.new }
+    ensures seen { AllBegin (reader.old.seen ∷ reader.old.past) reader.new.seen }
+    ensures newest { (number : ℕ) → HoldsNumber reader.new number → length reader.old.seen ≤ number + 1 }
 {
     reader.acquire();
     reader.read(0, last);

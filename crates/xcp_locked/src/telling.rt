@@ -1,6 +1,7 @@
 //! What readers are told under the lock.
-ghost use Rattle.std.specs.Prelude.{◌≡◌, ◌↔◌, ◌∷◌, ◌≢◌, IfErr, IfOk, IfSome, Ok, Err, None};
-ghost use Rattle.xcp_bank.specs.BankEnds.{ReaderEnd};
+ghost use Rattle.std.specs.Prelude.{◌≡◌, ◌↔◌, [], ◌∷◌, ◌≢◌, IfErr, IfOk, IfSome, Ok, Err, None};
+ghost use Rattle.xcp_bank.specs.BankEnds.{ReaderDoes, ReaderEnd};
+ghost use Rattle.xcp_bank.specs.PinHistory.{looked_at};
 ghost use Rattle.xcp_bank.specs.SeatKnowledge.{AllBegin};
 ghost use Rattle.xcp_locked.specs.Journal.{exchanges};
 ghost use Rattle.xcp_locked.specs.PublishingCalls.{AreImagesFrom};
@@ -26,6 +27,8 @@ impl<N: Name> Locked<N> {
         ensures past { reader.new.past ≡ reader.old.seen ∷ reader.old.past }
         ensures history { reader.new.history ≡ reader.old.history }
         ensures held { reader.new.held ≡ reader.old.held }
+        ensures does { ReaderDoes reader.old reader.new (looked_at reader.old.place self.old.writer.current
+            ∷ looked_at reader.old.place self.old.writer.current ∷ []) }
         ensures same { self.new ≡ self.old }
         ensures same_reader { (reader.new.bank ≡ reader.old.bank)
             × (reader.new.place ≡ reader.old.place) }

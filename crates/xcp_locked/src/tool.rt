@@ -1,8 +1,10 @@
 //! A station that submits under a lock.
 ghost use Rattle.std.specs.Prelude.{◌≡◌};
+ghost use Rattle.xcp_locked.specs.Tasks.{Same};
 
 use crate::{Caller, Locked, LockedError, Name};
-use std::sync::{Mutex, Wait};
+use std::sync::atomic::{AtomicBool, Ordering};
+use std::sync::{Arc, Mutex, Wait};
 use xcp_framing::{Station, StationError};
 use xcp_packet::Packet;
 use xcp_slave::{Request, Told};
@@ -34,9 +36,17 @@ impl<'a, N: Name, R: Wait> Tool<'a, N, R> {
 
 impl<'a, N: Name, R: Wait> Station for Tool<'a, N, R> {
     ghost use Rattle.xcp_locked.specs.Receipts.{exchanges_of};
+    ghost use Rattle.std.proofs.Common.{refl, ◌∙◌};
     ghost use Rattle.xcp_locked.specs.CallRefusal.{MayRefuse};
+    ghost use Rattle.xcp_locked.specs.Tasks.{Same};
 
     ghost exchanges = { λ t. exchanges_of t.caller.receipts };
+
+    ghost same = { λ old new. Same old.caller new.caller };
+
+    ghost same_refl = { λ t. record { number = refl; events = refl; signals = refl } };
+
+    ghost same_trans = { λ x y z p q. record { number = q.number ∙ p.number; events = q.events ∙ p.events; signals = q.signals ∙ p.signals } };
 
     ghost refuses = { λ t request e. MayRefuse e };
 
@@ -59,7 +69,23 @@ impl<'a, N: Name, R: Wait> Station for Tool<'a, N, R> {
     /// How many packets wait in the shared slave's outbox. Others may empty it at once.
     fn pending(&mut self) -> u8
         ensures kept { self.new ≡ self.old }
+        ensures stays { Same self.old.caller self.new.caller }
     {
         self.lock.lock(self.rt).pending()
+    }
+
+    /// Waits until packets wait in the shared slave's outbox, or `stop` is set. Whoever submits what leaves more of them
+    /// waiting tells it, and so does who sets the stop under the lock.
+    fn wait(&mut self, stop: &AtomicBool)
+        ensures kept { self.new ≡ self.old }
+        ensures stays { Same self.old.caller self.new.caller }
+    {
+        let locked = self.lock.lock(self.rt);
+        let Ok(waits) = Arc::try_clone(&locked.waits) else {
+            return;
+        };
+        let _locked = waits.wait_while(self.rt, locked, |held| {
+            held.pending() == 0 && !stop.load(Ordering::SeqCst)
+        });
     }
 }

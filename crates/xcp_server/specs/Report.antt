@@ -74,7 +74,7 @@ pub record IsReport {N I O : Type 0} (layout : LayoutValue) (c : Closing N I O) 
 -- the work, the journal of its open chapter, which is a run from where the chapter begins, and its connections as the work left them.
 pub record IsServed {I O : Type 0} (N : Type 0) (remaining : I → Option (List ℕ)) (contents : O → Option (List ℕ)) (layout : LayoutValue) (turns cycles chapter tasks callers : ℕ) (bank : BankId) (ends : List (Watched I × Watched O)) (ending : Ending I O) : Type 0 where
   pub closing : Closing N I O
-  pub closes : Closes remaining contents ⊥ layout.max_cto turns cycles chapter tasks (callers_of layout callers) (six_readers bank (image_of (opening layout))) ends closing
+  pub closes : Closes remaining contents layout ⊥ layout.max_cto turns cycles chapter tasks (callers_of layout callers) (six_readers bank (image_of (opening layout))) ends closing
   pub frames : CountTheirCommands closing.ends.items closing.callers.items
   pub hangup : EndsSession closing.fault closing.callers.items closing.locked.chapter closing.locked.journal
   pub run : Run closing.locked.base (exchanges closing.locked.journal) closing.locked.slave

@@ -17,7 +17,7 @@ use xcp_program::Fault;
 /// The most reads of one connection.
 const TURNS: u32 = 1_000_000;
 
-/// The most turns of one connection's pump, each a Drain or a microsecond of sleep.
+/// The most turns of one connection's pump, each a Drain or a wait that ended.
 const PUMP_TURNS: u32 = 4_000_000_000;
 
 /// Serves each reader and writer by frames on this slave, and runs so many tasks of so many cycles,

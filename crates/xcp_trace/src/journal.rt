@@ -5,7 +5,7 @@ ghost use Rattle.xcp_trace.specs.EntrySpelling.{entry_in, room_for_any_entry};
 ghost use Rattle.xcp_trace.specs.private.EntrySpelling.{IsEntry};
 
 use crate::spelling::{EXCHANGE_BYTES, read_exchange, spell, spell_told};
-use crate::{Strings, Tape};
+use crate::{LentEntry, Strings, Tape};
 use std::alloc::{AllocError, Global};
 use std::marker::Model;
 use xcp_packet::Packet;
@@ -145,6 +145,15 @@ impl<'a> Entries<'a> {
     {
         let string = self.strings.next()?;
         Some(read_entry(string))
+    }
+
+    /// The next entry, if there is one, where it stands.
+    pub fn next_lent(&mut self) -> Option<LentEntry<'a>>
+        ensures { MatchOption result ((self.old ≡ []) × (self.new ≡ []))
+            (λ entry. self.old ≡ entry ∷ self.new) }
+    {
+        let string = self.strings.next()?;
+        Some(LentEntry::new(string))
     }
 }
 

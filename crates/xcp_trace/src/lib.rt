@@ -8,11 +8,13 @@
 
 mod journal;
 mod law;
+mod lent;
 mod spelling;
 mod tape;
 mod trace;
 
 pub use journal::{Entries, Entry, Journal};
 pub use law::what_is_written_is_read_again;
+pub use lent::LentEntry;
 pub use tape::{Strings, Tape};
 pub use trace::{Exchanges, Trace};

@@ -19,12 +19,13 @@ pub record NextCommand (packets : List (List ℕ)) (exchanges : List Exchange) (
   pub asked : requests_of exchanges ≡ commands done
   pub next : request ≡ command packet
 
--- Packets were answered, up to the interruption that ended it: by which exchanges, whose packets were put at the same end; how
--- many those are; and the request that the station refused, if it did.
-pub record AnswersByPut {S K O : Type 0} (exchanges_of : S → List Exchange) (refuses : S → Request → StationError → Type 0) (put_of : O → List (List ℕ)) (same_out : O → O → Type 0) (sent_of : K → ℕ) (result : Result (Unit {0}) ServeError) (packets : List (List ℕ)) (old new : Stand S K O) : Type 0 where
+-- Packets were answered, up to the interruption that ended it: by which exchanges, by the same station, whose packets were
+-- put at the same end; how many those are; and the request that the station refused, if it did.
+pub record AnswersByPut {S K O : Type 0} (exchanges_of : S → List Exchange) (refuses : S → Request → StationError → Type 0) (same_station : S → S → Type 0) (put_of : O → List (List ℕ)) (same_out : O → O → Type 0) (sent_of : K → ℕ) (result : Result (Unit {0}) ServeError) (packets : List (List ℕ)) (old new : Stand S K O) : Type 0 where
   pub exchanges : List Exchange
   pub grown : exchanges_of new.station ≡ exchanges_of old.station ++ exchanges
   pub puts : PutsSoFar result packets exchanges (put_of old.out) (put_of new.out)
+  pub stays : same_station old.station new.station
   pub kept : same_out old.out new.out
   pub counted : OnOk result (sent_of new.state ≡ sent_of old.state + length (packets_of exchanges))
   pub refused : OnRefusal result (λ e. Refused exchanges_of refuses e (NextCommand packets) (exchanges_of old.station) new.station)

@@ -12,7 +12,7 @@ use Rattle.xcp_locked.specs.private.ServerOutcome.{IsConnectionOf}
 
 -- The first of these callers have a connection for each reader and writer, the next a task each, the next a pump for each
 -- connection, and the others are spare. The first of these readers have a task each too. No task has cut a chapter yet.
-pub record Dealt {N G I O C : Type 0} (m turns pumps cycles chapter tasks : ℕ) (callers : List CallerValue) (readers : List ReaderEnd) (ends : List (Watched I × Watched O)) (d : Duties N G I O C) : Type 0 where
+pub record Dealt {N G I O : Type 0} (m turns pumps cycles chapter tasks : ℕ) (callers : List CallerValue) (readers : List ReaderEnd) (ends : List (Watched I × Watched O)) (d : Duties N G I O) : Type 0 where
   pub connections : EachFrom (IsConnectionOf m turns pumps) 0 ends d.connections.items
   pub workers : List (Worker N)
   pub hired : length workers ≡ tasks

@@ -4,7 +4,7 @@ use Rattle.xcp_framing.specs.CountedCalls.{Watched}
 use Rattle.xcp_locked.specs.ServerOutcome.{Connection}
 
 -- the connection of this reader and this writer, at whichever place, whose pump has so many turns
-pub record IsConnectionOf {N I O C : Type 0} (m turns pumps place : ℕ) (end : Watched I × Watched O) (c : Connection N I O C) : Type 0 where
+pub record IsConnectionOf {N I O : Type 0} (m turns pumps place : ℕ) (end : Watched I × Watched O) (c : Connection N I O) : Type 0 where
   pub reader : c.0.reader ≡ end.0
   pub writer : c.2.writer ≡ end.1
   pub max_cto : c.0.max_cto ≡ m

@@ -24,6 +24,7 @@ pub loop-turn-preserved : goal.loop-turn-preserved
 loop-turn-preserved g c =
     record {
       pumps = pumps_more c.loop-turn.count _ (pumps_kept _ _ _ _ _ _ c.pending.ensures.same c.loop-turn.invariant.pumps) c.in_ok-count.ensures.pumps;
+      stays = g.met.S.Station.same_trans _ _ _ c.loop-turn.invariant.stays (g.met.S.Station.same_trans _ _ _ c.pending.ensures.stays c.in_ok-count.ensures.stays);
       kept = g.met.E.End.same_trans _ _ _ c.loop-turn.invariant.kept c.in_ok-count.ensures.kept;
       bound = omega (arith, c.loop-turn.invariant.bound, c.in_ok-count.ensures.most);
     }

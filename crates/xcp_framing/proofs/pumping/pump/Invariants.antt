@@ -5,6 +5,7 @@ use Rattle.xcp_framing.proofs.pumping.pump.Given as goal
 abbrev pub invariant-loop-turn : goal.invariant-loop-turn
 invariant-loop-turn g l = record {
   pumps : Pumps (Ok l.count) (g.S.Station.exchanges l.fn.station) (g.S.Station.exchanges l.station) (g.E.End.put_so_far l.fn.end) (g.E.End.put_so_far l.end);
+  stays : g.S.Station.same l.fn.station l.station;
   kept : g.E.End.same l.fn.end l.end;
   bound : l.count ≤ 37 * l._turn;
 }

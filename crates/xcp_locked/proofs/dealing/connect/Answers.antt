@@ -18,7 +18,7 @@ loop-end-preserved g c =
     let drained = c.in-Some-next-2.ensures.items in
     let one_heard = ap length heard in
     let one_drained = ap length drained in
-    let Of = IsConnectionOf {N = g.row.N.Denot} {I = g.row.I.Denot} {O = g.row.O.Denot} {C = g.row.C.Denot} c.args.limits.max_cto c.args.limits.turns c.args.limits.pump_turns in (
+    let Of = IsConnectionOf {N = g.row.N.Denot} {I = g.row.I.Denot} {O = g.row.O.Denot} c.args.limits.max_cto c.args.limits.turns c.args.limits.pump_turns in (
       turn at.yielded _ _ _ c.in-Some.end was.0 steps.0,
       omega (arith, short, gone, was.1),
       omega (arith, gone, pushed, room, was.2),
@@ -35,7 +35,7 @@ pub returns-clause-each : goal.returns-clause-each
 returns-clause-each g c =
     let at = c.loop-end in
     let was = at.invariant in
-    let Of = IsConnectionOf {N = g.row.N.Denot} {I = g.row.I.Denot} {O = g.row.O.Denot} {C = g.row.C.Denot} c.args.limits.max_cto c.args.limits.turns c.args.limits.pump_turns in
+    let Of = IsConnectionOf {N = g.row.N.Denot} {I = g.row.I.Denot} {O = g.row.O.Denot} c.args.limits.max_cto c.args.limits.turns c.args.limits.pump_turns in
     subst (λ xs. EachFrom Of 0 xs at.connections.items) (finish at.yielded _ _ c.args.ends.items _ was.0 was.1 c.in-None.ensures.steps.0 c.into_iter-end-iterator.ensures.into_iter_gives.0) was.3
 
 pub returns-clause-tools : goal.returns-clause-tools

@@ -19,9 +19,9 @@ pub returns-clause-ran : goal.returns-clause-ran
 returns-clause-ran g c =
     let came = c.in_ok-_none.ensures.others in record {
       done = c.in_ok-_none.done.items;
-      worked = each_through (IsTaskOf {N = g.row.N.Denot} {G = g.row.G.Denot} c.args.cycles c.args.chapter) (λ n t d. Worked g.G.Gate.may_end t.cycles t.chapter t.task t.worker d.worker d.fault) (WorkedAs {N = g.row.N.Denot} g.G.Gate.may_end c.args.cycles c.args.chapter)
-          (λ n w t d is h. worked_as g.G.Gate.may_end c.args.cycles t.cycles c.args.chapter t.chapter n t.task w t.worker d.worker d.fault is.number is.cycles_are is.chapter_is is.worker h) 0 c.args.workers.items c.in_ok-tasks.tasks.items c.in_ok-_none.done.items
-          c.in_ok-tasks.ensures (each_of (λ t d. Worked g.G.Gate.may_end t.cycles t.chapter t.task t.worker d.worker d.fault) 0 c.in_ok-tasks.tasks.items c.in_ok-_none.done.items came.all came.each);
+      worked = each_through (IsTaskOf {N = g.row.N.Denot} {G = g.row.G.Denot} c.args.cycles c.args.chapter) (λ n t d. Worked g.N.Name.layout g.G.Gate.may_end t.cycles t.chapter t.task t.worker d.worker d.fault) (WorkedAs {N = g.row.N.Denot} g.N.Name.layout g.G.Gate.may_end c.args.cycles c.args.chapter)
+          (λ n w t d is h. worked_as g.N.Name.layout g.G.Gate.may_end c.args.cycles t.cycles c.args.chapter t.chapter n t.task w t.worker d.worker d.fault is.number is.cycles_are is.chapter_is is.worker h) 0 c.args.workers.items c.in_ok-tasks.tasks.items c.in_ok-_none.done.items
+          c.in_ok-tasks.ensures (each_of (λ t d. Worked g.N.Name.layout g.G.Gate.may_end t.cycles t.chapter t.task t.worker d.worker d.fault) 0 c.in_ok-tasks.tasks.items c.in_ok-_none.done.items came.all came.each);
       back = c.collect.ensures.workers;
       fault = c.collect.ensures.fault;
     }

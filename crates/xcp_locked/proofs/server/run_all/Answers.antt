@@ -29,4 +29,4 @@ pub returns-clause-parted : goal.returns-clause-parted
 returns-clause-parted g c = if_ok c.run_crews.result (λ r h. each_of (λ k d. CameOf g.I.Read.remaining g.O.Write.contents k d) 0 c.args.connections.items r.0.items h.all (λ i x y low. let gave = h.each i x y low in record { heard = gave.first; pumped = gave.second; wrote = gave.third })) c.run_crews.ensures.crews
 
 pub returns-clause-worked : goal.returns-clause-worked
-returns-clause-worked g c = if_ok c.run_crews.result (λ r h. each_of (λ t d. Worked g.G.Gate.may_end t.cycles t.chapter t.task t.worker d.worker d.fault) 0 c.args.tasks.items r.1.items h.all h.each) c.run_crews.ensures.works
+returns-clause-worked g c = if_ok c.run_crews.result (λ r h. each_of (λ t d. Worked g.N.Name.layout g.G.Gate.may_end t.cycles t.chapter t.task t.worker d.worker d.fault) 0 c.args.tasks.items r.1.items h.all h.each) c.run_crews.ensures.works

@@ -1,11 +1,14 @@
-use Rattle.std.proofs.Common.{rules, ◌≡◌, length, map, vec_len, ap, refl, sym, ◌∙◌, arith}
+use Rattle.std.proofs.Common.{rules, ◌≡◌, length, map, vec_len, ap, refl, subst, sym, ◌∙◌, arith}
 use Rattle.std.specs.Vec.Iter.{into_iter_items}
 use Rattle.xcp_bank.specs.BankEnds.{six_readers}
+use Rattle.xcp_memory.specs.Layout.{LayoutValue}
 use Rattle.xcp_slave.specs.SlaveValue.{opening}
 use Rattle.xcp_locked.specs.private.ConnectionOutcome.{ClosedAs}
 use Rattle.xcp_locked.specs.Caller.{callers_of}
 use Rattle.xcp_locked.specs.private.DealtCallers.{Dealt}
+use Rattle.xcp_locked.specs.PairedLists.{EachFrom}
 use Rattle.xcp_locked.specs.Publications.{image_of}
+use Rattle.xcp_locked.specs.TaskOutcome.{WorkedAs}
 use Rattle.xcp_locked.specs.private.TaskOutcome.{DoneAs}
 use Rattle.xcp_locked.specs.ServerOutcome.{PartedAs}
 use Rattle.xcp_locked.proofs.CommandCountLemmas.{all_count, ends_session}
@@ -54,7 +57,7 @@ close_all-requires-clause-ended g c =
     let d = c.in_ok-connections.field-0 in
     let put = each_length ClosedAs 0 c.in_ok-parted.parted.items c.close_each-closed.result.items c.close_each-closed.ensures in
     let all = each_length (PartedAs g.I.Read.remaining g.O.Write.contents) 0 d.connections.items c.in_ok-parted.parted.items c.in_ok-parted.ensures.parted in
-    let tasks = each_length (DoneAs g.G.Gate.may_end) 0 d.tasks.items c.in_ok-parted.done.items c.in_ok-parted.ensures.worked in
+    let tasks = each_length (DoneAs g.N.Name.layout g.G.Gate.may_end) 0 d.tasks.items c.in_ok-parted.done.items c.in_ok-parted.ensures.worked in
     let connected = as_many_connections _ _ _ _ _ _ _ _ _ _ c.in_ok-connections.ensures in
     let there = all_there _ _ _ _ _ _ _ _ _ _ c.in_ok-connections.ensures c.close_each-closed.result.items c.in_ok-parted.done.items (put ∙ all) tasks in
     let asked = c.len.ensures in
@@ -65,7 +68,7 @@ pub close_all-requires-clause-workers : goal.close_all-requires-clause-workers
 close_all-requires-clause-workers g c =
     let done : vec_len c.in_ok-parted.done ≡ length c.in_ok-parted.done.items = search rules in
     let d = c.in_ok-connections.field-0 in
-    let tasks = each_length (DoneAs g.G.Gate.may_end) 0 d.tasks.items c.in_ok-parted.done.items c.in_ok-parted.ensures.worked in
+    let tasks = each_length (DoneAs g.N.Name.layout g.G.Gate.may_end) 0 d.tasks.items c.in_ok-parted.done.items c.in_ok-parted.ensures.worked in
     let hired = as_many_tasks _ _ _ _ _ _ _ _ _ _ c.in_ok-connections.ensures in
     let room = c.in_ok-rooms.ensures.for_workers in
     (c.in_ok-rooms.ensures.no_worker, omega (arith, done, tasks, hired, room))
@@ -74,7 +77,7 @@ pub close_all-requires-clause-readers : goal.close_all-requires-clause-readers
 close_all-requires-clause-readers g c =
     let done : vec_len c.in_ok-parted.done ≡ length c.in_ok-parted.done.items = search rules in
     let d = c.in_ok-connections.field-0 in
-    let tasks = each_length (DoneAs g.G.Gate.may_end) 0 d.tasks.items c.in_ok-parted.done.items c.in_ok-parted.ensures.worked in
+    let tasks = each_length (DoneAs g.N.Name.layout g.G.Gate.may_end) 0 d.tasks.items c.in_ok-parted.done.items c.in_ok-parted.ensures.worked in
     let hired = as_many_tasks _ _ _ _ _ _ _ _ _ _ c.in_ok-connections.ensures in
     let lent = as_many_readers _ _ _ _ _ _ _ _ _ _ c.in_ok-connections.ensures in
     let readers = c.in_ok-readers.readers.ok.0 in
@@ -112,7 +115,7 @@ returns-clause-closes g c =
       ends_are = c.close_all.ensures.ends;
       left_is = c.close_all.ensures.left;
       done = done;
-      worked = all_worked m turns pumps c.args.cycles c.args.chapter c.args.tasks opened readers ends d deal g.G.Gate.may_end done came.worked;
+      worked = subst (λ (l : LayoutValue). EachFrom (WorkedAs l g.G.Gate.may_end c.args.cycles c.args.chapter) 0 deal.workers done) (sym c.requires.name.2) (all_worked m turns pumps c.args.cycles c.args.chapter c.args.tasks opened readers ends d deal g.N.Name.layout g.G.Gate.may_end done came.worked);
       hung_up = c.close_all.ensures.hung_up;
       chapters_are = c.close_all.ensures.chapters;
       unused = into_iter_items d.unused;
@@ -127,7 +130,7 @@ returns-clause-callers g c =
     let d = c.in_ok-connections.field-0 in
     let put = each_length ClosedAs 0 c.in_ok-parted.parted.items c.close_each-closed.result.items c.close_each-closed.ensures in
     let all = each_length (PartedAs g.I.Read.remaining g.O.Write.contents) 0 d.connections.items c.in_ok-parted.parted.items c.in_ok-parted.ensures.parted in
-    let tasks = each_length (DoneAs g.G.Gate.may_end) 0 d.tasks.items c.in_ok-parted.done.items c.in_ok-parted.ensures.worked in
+    let tasks = each_length (DoneAs g.N.Name.layout g.G.Gate.may_end) 0 d.tasks.items c.in_ok-parted.done.items c.in_ok-parted.ensures.worked in
     let there = back_in_order _ _ _ _ _ _ _ _ _ _ c.in_ok-connections.ensures c.close_each-closed.result.items c.in_ok-parted.done.items (put ∙ all) tasks in
     back ∙ (all_come_back _ _ _ _ _ _ c.close_all.ensures.hung_up ∙ (there ∙ opened))
 

@@ -9,7 +9,7 @@ use Rattle.xcp_locked.proofs.settling.settled.Goals.{then-next-receipts-via-then
 pub returns-then-next-receipts : goal.returns-then-next-receipts
 returns-then-next-receipts c =
     let was = c.loop-at.invariant in
-    wrong _ c.args.chapter _ _ _ (receipts_for c.args.later c.args.chapter c.args.receipts.now) _ _ c.in-Some.entry was.0 was.1.few c.in-Some.ensures c.if-entry-number.false (λ same.
+    wrong _ c.args.chapter _ _ _ (receipts_for c.args.later c.args.chapter c.args.receipts.now) _ _ c.in-Some.entry was.0 was.1.few c.in-Some.ensures (sym c.caller.ensures ∙ c.if-caller-number.false) (λ same.
     elim c.then-next-receipts.branch [
       | then-next-receipts-via-then-next-receipts w ↦ none≢some _ (sym (slice_get_past c.args.receipts.now c.loop-at.next w.if-next-receipts.true) ∙ (sym was.1.stands ∙ same))
       | then-next-receipts-via-else-next-receipts+then-not-is_receipt w ↦
@@ -38,7 +38,7 @@ loop-at-preserved c =
     let is = c.if-not-is_receipt.ensures {u = tt} in
     let met = was.1.stands ∙ stands in
     let on = c.first_from-next-in-loop-at.ensures.within in (
-      meets _ c.args.chapter _ _ _ (receipts_for c.args.later c.args.chapter c.args.receipts.now) _ _ c.in-Some.entry was.0 c.in-Some.ensures c.if-entry-number.false (met ∙ ap Some is),
+      meets _ c.args.chapter _ _ _ (receipts_for c.args.later c.args.chapter c.args.receipts.now) _ _ c.in-Some.entry was.0 c.in-Some.ensures (sym c.caller.ensures ∙ c.if-caller-number.false) (met ∙ ap Some is),
       at_next _ _ _ _ _ _ c.index-receipts-next.result was.1 stands on.0 on.1 c.first_from-next-in-loop-at.ensures.rest c.first_from-next-in-loop-at.ensures.stands (is_own _ _ _ _ _ met),
       (let l = ap length c.in-Some.ensures in let before = was.2 in omega (arith, l, before)),
     )

@@ -1,6 +1,6 @@
-use Rattle.std.proofs.Common.{true}
+use Rattle.std.proofs.Common.{◌≡◌, ◌+◌, ℕ, true}
 use Rattle.xcp_locked.specs.TaskImages.{Took}
-use Rattle.xcp_locked.specs.Tasks.{Grew, HasCut, Same, duty}
+use Rattle.xcp_locked.specs.Tasks.{Grew, HasCut, IsFresh, Same, duty}
 use Rattle.xcp_locked.proofs.tasks.run_cycles.Given as goal
 
 abbrev pub invariant-loop-n : goal.invariant-loop-n
@@ -9,3 +9,4 @@ invariant-loop-n g l =
     × Same l.fn.worker.caller l.worker.caller
     × Took l.n true l.fn.worker.reader l.worker.reader l.fn.worker.last l.worker.last
     × HasCut l.n l.chapter l.task l.fn.worker.chapters.items l.worker.chapters.items
+    × ((last : ℕ) → l.n ≡ last + 1 → IsFresh g.N.Name.layout (duty l.fn.worker.caller l.task) last l.fn.worker.caller.number l.worker.caller.receipts l.worker.reader)

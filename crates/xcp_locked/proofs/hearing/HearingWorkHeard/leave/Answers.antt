@@ -11,7 +11,7 @@ returns g c = record {
   reads = search rules;
   spent = search rules;
   refused = inl (refl, (c.of.ensures, refl, c.give_up.ensures.put));
-  number = refl;
+  same = record { number = refl; events = refl; signals = refl };
   outlet = c.give_up.ensures.outlet;
   side = search rules;
 }
