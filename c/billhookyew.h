@@ -95,7 +95,7 @@ typedef struct {
 /* ---- The slave: under your lock ---- */
 
 /* Opens a slave by the text of a layout file, `length` bytes: XCP_OPENED, or a fault. All memory that the slave and its
- * readers ever take is taken here. It wants some 200 kB of stack: not in a thread with a small one. */
+ * readers ever take is taken here. It wants some 31 kB of stack. */
 uint8_t xcp_open(const uint8_t *text, size_t length, xcp_slave *slave);
 
 /* Frees it. Its readers stay: they keep the image that they hold, and no newer one comes. */

@@ -1,6 +1,7 @@
 #!/bin/bash
-# Tells how much stack the program needs (kB, by halves): with each layout file that is shipped, and with the deepest
-# keys, arrays and tables that the reader accepts.
+# Tells how much stack the program needs (kB, by halves): `replay` with each layout file that is shipped, and with the
+# deepest keys, arrays and tables that the reader accepts; and `serve` with the shipped ones, six tasks that cut chapters,
+# and two tools that connect.
 here=$(cd "$(dirname "$0")/../.." && pwd)
 room=$(mktemp -d)
 trap 'rm -rf "$room"' EXIT
@@ -27,4 +28,32 @@ for file in "$here/crates/xcpd/data/L.toml" "$here/crates/xcpd/data/engine.toml"
     if stands "$file" $middle; then high=$middle; else low=$middle; fi
   done
   echo "$(basename "$file"): $high kB"
+done
+
+# Whether `serve` ends by itself so, with its tools answered or not.
+serves() {
+  local port=$((20000 + RANDOM % 20000)) process status
+  (ulimit -s "$2" && exec timeout 10 "$program" serve --config "$1" --port $port --tools 2 --tasks 6 --cycles 20 --chapter 5) \
+    >"$room/out" 2>/dev/null &
+  process=$!
+  for _ in $(seq 60); do
+    if grep -q listening "$room/out" || ! kill -0 $process 2>/dev/null; then break; fi
+    sleep 0.05
+  done
+  for _ in 1 2; do
+    (exec 3<>/dev/tcp/127.0.0.1/$port && printf '\x02\x00\x00\x00\xff\x00' >&3 && timeout 3 head -c 12 <&3 >/dev/null) 2>/dev/null
+  done
+  wait $process 2>/dev/null
+  status=$?
+  [ $status -lt 124 ]
+}
+
+for file in "$here/crates/xcpd/data/L.toml" "$here/crates/xcpd/data/engine.toml"; do
+  low=16 high=8192
+  serves "$file" $high 2>/dev/null || { echo "serve, $(basename "$file"): more than $high kB"; continue; }
+  while [ $((high - low)) -gt 8 ]; do
+    middle=$(((low + high) / 2))
+    if serves "$file" $middle 2>/dev/null; then high=$middle; else low=$middle; fi
+  done
+  echo "serve, $(basename "$file"): $high kB"
 done
