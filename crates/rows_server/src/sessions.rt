@@ -144,7 +144,7 @@ const STREAMS: [(Row, Result<Served, ServeError>); 4] = [
     (("", ""), Ok(Served { frames: 0, sent: 0 })),
 ];
 
-type End<'a, 'c, C> = (Watched<Asking<'a, 'c, C>>, Watched<Checking<'a, 'c, C>>);
+type End<'a> = (Watched<Asking<'a>>, Watched<Checking<'a>>);
 
 // The ends of the connections, the tasks' fault, and what settling says.
 type Came = (
@@ -156,11 +156,11 @@ type Came = (
 // How many tasks there are, and how many cycles each has.
 type Tasks = (u8, u32);
 
-fn serve_named<'a, 'c, N: Name + Send + Sync, G: Gate + Sync, R: Threads + Wait + Clock + Sync>(
+fn serve_named<'a, N: Name + Send + Sync, G: Gate + Sync, R: Threads + Wait + Clock + Sync>(
     rt: &R,
     alloc: Global,
     unnamed: Unnamed,
-    ends: Vec<End<'a, 'c, R>>,
+    ends: Vec<End<'a>>,
     tasks: Tasks,
     gate: &G,
 ) -> Result<Came, Fail>
@@ -171,7 +171,7 @@ fn serve_named<'a, 'c, N: Name + Send + Sync, G: Gate + Sync, R: Threads + Wait 
     requires readers { tasks.0 ≤ 6 }
 {
     let (tasks, cycles) = tasks;
-    let mut closing: Closing<N, Asking<'a, 'c, R>, Checking<'a, 'c, R>> = run_server(
+    let mut closing: Closing<N, Asking<'a>, Checking<'a>> = run_server(
         rt,
         alloc,
         unnamed,
@@ -188,11 +188,11 @@ fn serve_named<'a, 'c, N: Name + Send + Sync, G: Gate + Sync, R: Threads + Wait 
 }
 
 // What comes of a server of these connections and tasks.
-fn serve_all<'a, 'c, G: Gate + Sync, R: Threads + Wait + Clock + Sync>(
+fn serve_all<'a, G: Gate + Sync, R: Threads + Wait + Clock + Sync>(
     rt: &R,
     alloc: Global,
     unnamed: Unnamed,
-    ends: Vec<End<'a, 'c, R>>,
+    ends: Vec<End<'a>>,
     tasks: Tasks,
     gate: &G,
 ) -> Result<Came, Fail>
@@ -204,12 +204,12 @@ fn serve_all<'a, 'c, G: Gate + Sync, R: Threads + Wait + Clock + Sync>(
 }
 
 // A tool that sends these rows and takes what they say, the first one once the flag is set.
-fn exact<'a, 'c, C>(
-    tape: &'a Tape<'c, C>,
+fn exact<'a>(
+    tape: &'a Tape,
     begins: Option<&'a AtomicBool>,
     steps: &'a [Step],
     wanted: &'a [u8],
-) -> End<'a, 'c, C> {
+) -> End<'a> {
     let reader = Asking {
         tape,
         begins,
@@ -237,7 +237,7 @@ fn engine(alloc: Global, callers: u8) -> Result<Unnamed, Fail>
 fn data_packets_come_by_themselves(rt: HostRuntime) -> Result<(), Fail> {
     let alloc = rt.alloc();
     let (steps, wanted) = steps(alloc, &SESSION).ok_or("a session")?;
-    let tape = Tape::new(&rt);
+    let tape = Tape::new();
     let gate = Behind {
         tape: &tape,
         begins: None,
@@ -261,8 +261,8 @@ fn data_packets_come_by_themselves(rt: HostRuntime) -> Result<(), Fail> {
 fn a_connection_ends_for_itself(rt: HostRuntime) -> Result<(), Fail> {
     let alloc = rt.alloc();
     let (steps, wanted) = steps(alloc, &SESSION).ok_or("a session")?;
-    let gone = Tape::new(&rt);
-    let tape = Tape::new(&rt);
+    let gone = Tape::new();
+    let tape = Tape::new();
     let gate = Behind {
         tape: &tape,
         begins: None,
@@ -292,7 +292,7 @@ fn a_connection_ends_for_itself(rt: HostRuntime) -> Result<(), Fail> {
 fn the_first_data_packet_is_of_the_first_cycle(rt: HostRuntime) -> Result<(), Fail> {
     let alloc = rt.alloc();
     let (steps, wanted) = steps(alloc, &FIRST).ok_or("a session")?;
-    let tape = Tape::new(&rt);
+    let tape = Tape::new();
     let gate = Behind {
         tape: &tape,
         begins: None,
@@ -318,7 +318,7 @@ fn stream<R: Threads + Wait + Clock + Sync>(
     row: Row,
 ) -> Result<Vec<Result<Served, ServeError>>, Fail> {
     let (steps, wanted) = steps(alloc, &[row]).ok_or("a stream")?;
-    let tape = Tape::new(rt);
+    let tape = Tape::new();
     let gate = Behind {
         tape: &tape,
         begins: None,
@@ -351,8 +351,8 @@ fn a_tool_that_takes_nothing_holds_nobody(rt: HostRuntime) -> Result<(), Fail> {
     let alloc = rt.alloc();
     let (slow, _) = steps(alloc, &FIRST).ok_or("a session")?;
     let (quick, said) = steps(alloc, &ASKING).ok_or("a session")?;
-    let held = Tape::new(&rt);
-    let free = Tape::new(&rt);
+    let held = Tape::new();
+    let free = Tape::new();
     let gate = Behind {
         tape: &free,
         begins: Some(&held.asked),

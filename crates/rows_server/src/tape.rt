@@ -5,55 +5,52 @@ use std::alloc::Global;
 use std::io::{self, Read, Write};
 use std::sync::atomic::{AtomicBool, AtomicUsize, Ordering};
 use std::thread;
-use std::time::{Clock, Duration};
 use xcp_locked::Gate;
 
 // How often one looks before one gives up.
-const LOOKS: u32 = 1_000_000;
+const LOOKS: u32 = 10_000_000;
 
-// By which clock one waits, how many bytes were written, whether all was asked, and whether the writer is gone.
+// How many bytes were written, whether all was asked, and whether the writer is gone.
 #[derive(Drop)]
-pub struct Tape<'c, C> {
-    clock: &'c C,
+pub struct Tape {
     pub written: AtomicUsize,
     pub asked: AtomicBool,
     pub closed: AtomicBool,
 }
 
-impl<'c, C: Clock> Tape<'c, C> {
-    pub fn new(clock: &'c C) -> Tape<'c, C> {
+impl Tape {
+    pub fn new() -> Tape {
         Tape {
-            clock,
             written: AtomicUsize::new(0),
             asked: AtomicBool::new(false),
             closed: AtomicBool::new(false),
         }
     }
 
-    // Whether so many bytes are written, after some looks with a microsecond of sleep between them.
+    // Whether so many bytes are written, after some looks.
     fn reaches(&self, bytes: usize) -> bool {
         for _ in 0..LOOKS {
             if self.written.load(Ordering::SeqCst) >= bytes {
                 return true;
             }
-            thread::sleep(self.clock, Duration::from_micros(1));
+            thread::yield_now();
         }
         false
     }
+}
 
-    // Whether there is no flag, or it is set after such looks.
-    fn sees(&self, flag: Option<&AtomicBool>) -> bool {
-        let Some(flag) = flag else {
+// Whether there is no flag, or it is set after some looks.
+fn is_set(flag: Option<&AtomicBool>) -> bool {
+    let Some(flag) = flag else {
+        return true;
+    };
+    for _ in 0..LOOKS {
+        if flag.load(Ordering::SeqCst) {
             return true;
-        };
-        for _ in 0..LOOKS {
-            if flag.load(Ordering::SeqCst) {
-                return true;
-            }
-            thread::sleep(self.clock, Duration::from_micros(1));
         }
-        false
+        thread::yield_now();
     }
+    false
 }
 
 // A frame of the tool, and how many bytes the slave has written when it comes.
@@ -94,22 +91,22 @@ pub fn steps(alloc: Global, rows: &[Row]) -> Option<(Vec<Step>, Vec<u8>)> {
 // A tool that sends each frame when it is due, the first one once a flag is set, and is gone once so
 // many bytes were written and another flag is set.
 #[derive(Drop)]
-pub struct Asking<'a, 'c, C> {
-    pub tape: &'a Tape<'c, C>,
+pub struct Asking<'a> {
+    pub tape: &'a Tape,
     pub begins: Option<&'a AtomicBool>,
     pub steps: &'a [Step],
     pub last: usize,
     pub ends: Option<&'a AtomicBool>,
 }
 
-impl<C: Clock> Read for Asking<'_, '_, C> {
+impl Read for Asking<'_> {
     fn read(&mut self, buf: &mut [u8]) -> io::Result<usize> {
-        if !self.tape.sees(self.begins) {
+        if !is_set(self.begins) {
             return Err(io::ErrorKind::TimedOut.into());
         }
         let Some((step, rest)) = self.steps.split_first() else {
             self.tape.asked.store(true, Ordering::SeqCst);
-            if !self.tape.reaches(self.last) || !self.tape.sees(self.ends) {
+            if !self.tape.reaches(self.last) || !is_set(self.ends) {
                 return Err(io::ErrorKind::TimedOut.into());
             }
             return Ok(0);
@@ -124,13 +121,13 @@ impl<C: Clock> Read for Asking<'_, '_, C> {
 }
 
 // Takes what is wanted alone, or anything, once the flag is set; and marks its tape when it is dropped.
-pub struct Checking<'a, 'c, C> {
-    pub tape: &'a Tape<'c, C>,
+pub struct Checking<'a> {
+    pub tape: &'a Tape,
     pub begins: Option<&'a AtomicBool>,
     pub wanted: Option<&'a [u8]>,
 }
 
-impl<C> Drop for Checking<'_, '_, C> {
+impl Drop for Checking<'_> {
     fn drop(self) {
         self.tape.closed.store(true, Ordering::SeqCst);
         let Checking {
@@ -141,9 +138,9 @@ impl<C> Drop for Checking<'_, '_, C> {
     }
 }
 
-impl<C: Clock> Write for Checking<'_, '_, C> {
+impl Write for Checking<'_> {
     fn write(&mut self, buf: &[u8]) -> io::Result<usize> {
-        if !self.tape.sees(self.begins) {
+        if !is_set(self.begins) {
             return Err(io::ErrorKind::TimedOut.into());
         }
         if let Some(wanted) = self.wanted {
@@ -168,19 +165,19 @@ impl<C: Clock> Write for Checking<'_, '_, C> {
 
 // Lets a task begin a cycle once the flag is set and so many bytes were written.
 #[derive(Drop)]
-pub struct Behind<'a, 'c, C> {
-    pub tape: &'a Tape<'c, C>,
+pub struct Behind<'a> {
+    pub tape: &'a Tape,
     pub begins: Option<&'a AtomicBool>,
     pub bytes: usize,
 }
 
-impl<C: Clock> Gate for Behind<'_, '_, C> {
+impl Gate for Behind<'_> {
     ghost use Rattle.std.specs.Prelude.{⊤};
 
     ghost may_end = { ⊤ };
 
     fn before(&self, _task: u8, _cycle: u32) -> bool {
-        self.tape.sees(self.begins) && self.tape.reaches(self.bytes)
+        is_set(self.begins) && self.tape.reaches(self.bytes)
     }
 
     fn after(&self, _task: u8, _cycle: u32) -> bool {
