@@ -23,8 +23,9 @@ impl Standing {
         let mut image = [0; 2040];
         let calls = locked.image(&mut image);
         let mut receipts = [None, None, None, None, None, None];
-        for (copy, receipt) in receipts.iter_mut().zip(caller.receipts.iter()) {
-            *copy = Some(receipt.copy());
+        let mut left = caller.receipts.iter();
+        for receipt in receipts.iter_mut() {
+            *receipt = left.next();
         }
         Standing {
             chapter: locked.chapter(),

@@ -2,7 +2,7 @@
 ghost use Rattle.std.specs.Prelude.{◌≡◌};
 
 use crate::calls::{CALLS, Call, chapter_of, settled, submit_all};
-use crate::slaves::small;
+use fixtures::unnamed;
 use std::alloc::Global;
 use std::marker::Brand;
 use std::slice;
@@ -89,7 +89,7 @@ fn cut_named<N: Name>(alloc: Global, unnamed: Unnamed, place: usize) -> Result<O
 
 // What comes of the ten calls, where the chapter is cut off behind so many of them.
 fn cut(alloc: Global, place: usize) -> Result<Option<Came>, Fail> {
-    let unnamed = small(alloc, 2)?;
+    let unnamed = unnamed(alloc, 2)?;
     cut_named::<Brand>(alloc, unnamed, place)
 }
 

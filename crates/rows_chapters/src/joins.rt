@@ -2,7 +2,7 @@
 ghost use Rattle.std.specs.Prelude.{◌≡◌};
 
 use crate::calls::{CALLS, chapter_of, settled, submit_all};
-use crate::slaves::small;
+use fixtures::unnamed;
 use std::alloc::Global;
 use std::marker::Brand;
 use std::test::Fail;
@@ -75,7 +75,7 @@ fn join_named<N: Name>(
 
 // What comes of four chapters, where these stand in this order.
 fn join(alloc: Global, order: &[usize]) -> Result<Option<Came>, Fail> {
-    let unnamed = small(alloc, 2)?;
+    let unnamed = unnamed(alloc, 2)?;
     join_named::<Brand>(alloc, unnamed, order)
 }
 

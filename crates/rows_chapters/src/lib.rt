@@ -7,8 +7,6 @@ mod calls;
 #[cfg(test)]
 mod cuts;
 #[cfg(test)]
-mod gate;
-#[cfg(test)]
 mod joins;
 #[cfg(test)]
 mod readers;
@@ -16,9 +14,5 @@ mod readers;
 mod receipts;
 #[cfg(test)]
 mod rows;
-#[cfg(test)]
-mod servers;
-#[cfg(test)]
-mod slaves;
 #[cfg(test)]
 mod tasks;

@@ -2,7 +2,7 @@
 ghost use Rattle.std.specs.Prelude.{◌≡◌};
 
 use crate::calls::{Asked, Call, chapter_of, settled, submit_all};
-use crate::slaves::small;
+use fixtures::{put_chapter, unnamed};
 use std::alloc::Global;
 use std::marker::Brand;
 use std::slice;
@@ -33,7 +33,7 @@ fn came<N: Name>(
     let chapter = chapter_of(alloc, locked, callers, &FIRST)?;
     submit_all(locked, callers, &REST)?;
     let caller = callers.get_mut(1)?;
-    caller.receipts.get_mut(at)?.chapter = number;
+    put_chapter(alloc, caller, at, number)?;
     let first = chapter.settle(caller);
     let open = locked.settle(caller);
     let all = settled(locked, slice::from_ref(&chapter), callers)?;
@@ -60,7 +60,7 @@ fn alter_named<N: Name>(
 
 // What comes of these calls, where the receipt at an index gets this chapter's number.
 fn alter(alloc: Global, at: usize, number: u64) -> Result<Option<Came>, Fail> {
-    let unnamed = small(alloc, 2)?;
+    let unnamed = unnamed(alloc, 2)?;
     alter_named::<Brand>(alloc, unnamed, at, number)
 }
 

@@ -5,8 +5,8 @@
 // chapter 2, `none`, or `earlier`), or, with `-`, that it `is told`, `leaves` or `is dropped`.
 ghost use Rattle.std.specs.Prelude.{◌≡◌};
 
-use crate::slaves::small;
 use arrayvec::ArrayVec;
+use fixtures::unnamed;
 use std::alloc::Global;
 use std::marker::Brand;
 use std::test::Fail;
@@ -227,6 +227,6 @@ pub fn first_wrong(alloc: Global, text: &'static str) -> Result<Option<usize>, F
         let (question, said) = line.split_once('>').ok_or("a row")?;
         rows.push((question.trim(), said.trim()))?;
     }
-    let unnamed = small(alloc, 1)?;
+    let unnamed = unnamed(alloc, 1)?;
     first_wrong_of::<Brand>(alloc, unnamed, &rows)
 }

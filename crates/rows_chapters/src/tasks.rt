@@ -1,8 +1,7 @@
 // Tasks, of which task 0 cuts chapters.
 ghost use Rattle.std.specs.Prelude.{◌≡◌, ◌≤◌, IfOk, vec_len};
 
-use crate::gate::Open;
-use crate::slaves::small;
+use fixtures::{Open, unnamed, workers};
 use std::alloc::Global;
 use std::marker::Brand;
 use std::sync::{Mutex, Wait};
@@ -11,24 +10,6 @@ use std::thread::Threads;
 use xcp_locked::{
     Caller, Chapter, Locked, Name, Opening, Reader, TaskError, Unnamed, Worker, run_tasks,
 };
-
-// A worker for each of these callers, at most six: each has a reader.
-fn workers<N: Name>(
-    alloc: Global,
-    callers: Vec<Caller<N>>,
-    readers: [Reader<N>; 6],
-) -> Result<Vec<Worker<N>>, Fail>
-    ensures { IfOk result (λ workers. vec_len workers ≤ 6) }
-{
-    let mut workers = Vec::new(alloc);
-    for (caller, reader) in callers.into_iter().zip(readers) {
-        workers.push(Worker::new(alloc, caller, reader))?;
-    }
-    if workers.len() > 6 {
-        return Err("more than six workers".into());
-    }
-    Ok(workers)
-}
 
 // How many calls each of these chapters has.
 fn lengths<N: Name>(alloc: Global, chapters: &[Chapter<N>]) -> Result<Vec<u64>, Fail> {
@@ -79,7 +60,7 @@ fn run<R: Threads + Wait + Sync>(
 ) -> Result<Came, Fail>
     requires { (1 ≤ tasks) × (tasks ≤ 6) }
 {
-    let unnamed = small(alloc, tasks)?;
+    let unnamed = unnamed(alloc, tasks)?;
     run_named::<Brand, R>(rt, alloc, unnamed, cycles, chapter)
 }
 

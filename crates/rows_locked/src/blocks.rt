@@ -1,8 +1,7 @@
 // Blocks of packets by a slave under its lock, and receipts of them that are altered.
 ghost use Rattle.std.specs.Prelude.{◌≡◌};
 
-use crate::asking::asks;
-use crate::openings::narrow;
+use fixtures::{asks, narrow, put_answer};
 use std::alloc::Global;
 use std::marker::Brand;
 use std::test::Fail;
@@ -34,7 +33,11 @@ fn trains() -> [Train; 5] {
 // of the last answer.
 type Settlings = [Result<(), Mismatch>; 6];
 
-fn settlings<N: Name>(locked: &mut Locked<N>, caller: &mut Caller<N>) -> Option<Settlings> {
+fn settlings<N: Name>(
+    alloc: Global,
+    locked: &mut Locked<N>,
+    caller: &mut Caller<N>,
+) -> Option<Settlings> {
     for command in COMMANDS {
         if !asks(locked, caller, command) {
             return None;
@@ -42,7 +45,7 @@ fn settlings<N: Name>(locked: &mut Locked<N>, caller: &mut Caller<N>) -> Option<
     }
     let mut settlings = [locked.settle(caller); 6];
     for (settling, train) in settlings[1..].iter_mut().zip(trains()) {
-        caller.receipts.get_mut(2)?.answer = Answer::Packets(train);
+        put_answer(alloc, caller, 2, Answer::Packets(train))?;
         *settling = locked.settle(caller);
     }
     Some(settlings)
@@ -58,7 +61,7 @@ fn altered<N: Name>(alloc: Global, unnamed: Unnamed) -> Result<Option<Settlings>
         ..
     } = Locked::<N>::new(alloc, unnamed)?;
     let caller = callers.first_mut().ok_or("a caller")?;
-    Ok(settlings(&mut locked, caller))
+    Ok(settlings(alloc, &mut locked, caller))
 }
 
 #[test]

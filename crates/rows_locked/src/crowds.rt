@@ -1,9 +1,8 @@
 // Two tools that write blocks and switch pages, beside six readers that look at every image.
 ghost use Rattle.std.specs.Prelude.{◌≡◌};
 
-use crate::asking::asks;
 use crate::images::held;
-use crate::openings::blank;
+use fixtures::{asks, blank};
 use std::alloc::{AllocError, Global};
 use std::marker::Brand;
 use std::sync::atomic::{AtomicU32, Ordering};

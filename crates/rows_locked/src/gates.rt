@@ -1,32 +1,16 @@
 // Tasks that wait for one another: one after another they would spend their gate.
 ghost use Rattle.std.specs.Prelude.{◌≡◌};
 
-use crate::images::workers;
-use crate::openings::unnamed;
+use fixtures::{Spent, seen, unnamed, workers};
 use std::alloc::Global;
 use std::marker::Brand;
 use std::process::Abort;
 use std::sync::atomic::{AtomicBool, Ordering};
 use std::sync::{Mutex, Wait};
 use std::test::Fail;
-use std::thread;
 use std::thread::Threads;
-use std::time::{Clock, Duration};
+use std::time::Clock;
 use xcp_locked::{Gate, Locked, Name, Opening, Settled, TaskError, Unnamed, Worker, run_tasks};
-
-// How often a gate looks before it gives up.
-const LOOKS: u32 = 1_000_000;
-
-// Whether the flag is set, after some looks with a microsecond of sleep between them.
-pub fn seen(clock: &impl Clock, flag: &AtomicBool) -> bool {
-    for _ in 0..LOOKS {
-        if flag.load(Ordering::SeqCst) {
-            return true;
-        }
-        thread::sleep(clock, Duration::from_micros(1));
-    }
-    false
-}
 
 // Holds one task before its cycle until another one is behind its own.
 #[derive(Drop)]
@@ -88,28 +72,6 @@ fn workers_run_at_one_time(rt: HostRuntime) -> Result<(), Fail> {
     let second = run_held::<Brand, _>(&rt, rt.alloc(), second, 1)?;
     assert!(rt; first == (None, 3) && second == (None, 3));
     Ok(())
-}
-
-// Ends one task before or after one of its cycles.
-#[derive(Drop)]
-pub struct Spent {
-    pub task: u8,
-    pub cycle: u32,
-    pub is_before: bool,
-}
-
-impl Gate for Spent {
-    ghost use Rattle.std.specs.Prelude.{⊤};
-
-    ghost may_end = { ⊤ };
-
-    fn before(&self, task: u8, cycle: u32) -> bool {
-        !self.is_before || task != self.task || cycle != self.cycle
-    }
-
-    fn after(&self, task: u8, cycle: u32) -> bool {
-        self.is_before || task != self.task || cycle != self.cycle
-    }
 }
 
 // The tasks' fault, how many workers came back and settle, and how many calls there were.

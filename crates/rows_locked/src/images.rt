@@ -1,8 +1,7 @@
 // Images that are taken while the slave is locked, and the image that a task took last.
 ghost use Rattle.std.specs.Prelude.{◌≡◌, ◌≤◌, IfOk, vec_len};
 
-use crate::asking::asks;
-use crate::openings::unnamed;
+use fixtures::{asks, unnamed, workers};
 use std::alloc::Global;
 use std::marker::Brand;
 use std::sync::{Mutex, Wait};
@@ -125,26 +124,6 @@ fn run_beside<'r, 'l, N: Name + Send + Sync, R: Threads + Wait + Sync>(
         tool: Mutex::new(tool),
     };
     Ok(run_tasks(rt, alloc, lock, workers, 5, 65_536, &gate)?)
-}
-
-// A worker for each of these callers, at most six: each has a reader.
-pub fn workers<N: Name>(
-    alloc: Global,
-    callers: Vec<Caller<N>>,
-    readers: [Reader<N>; 6],
-) -> Result<Vec<Worker<N>>, Fail>
-    ensures { IfOk result (λ workers. vec_len workers ≤ 6) }
-{
-    let mut workers = Vec::new(alloc);
-    let mut readers = Vec::from_array(alloc, readers)?;
-    for caller in callers {
-        let reader = readers.pop().ok_or("a reader")?;
-        workers.push(Worker::new(alloc, caller, reader))?;
-    }
-    if workers.len() > 6 {
-        return Err("more than six workers".into());
-    }
-    Ok(workers)
 }
 
 // The last of these callers for a tool, and a worker for each other one.

@@ -1,7 +1,7 @@
 // A journal that is filled, and receipts that are altered.
 ghost use Rattle.std.specs.Prelude.{◌≡◌};
 
-use crate::openings::unnamed;
+use fixtures::{lose_last, put_answer, unnamed};
 use std::alloc::Global;
 use std::marker::Brand;
 use std::test::Fail;
@@ -96,24 +96,16 @@ fn full_journal_refuses(rt: HostRuntime) -> Result<(), Fail> {
     Ok(())
 }
 
-// Alters the answer of one receipt.
-fn spoil<N: Name>(caller: &mut Caller<N>, at: usize) {
-    if let Some(receipt) = caller.receipts.get_mut(at) {
-        receipt.answer = Answer::Silent;
-    }
-}
-
-// Loses the last receipt.
-fn lose<N: Name>(caller: &mut Caller<N>) {
-    caller.receipts.pop();
-}
-
 // What settling says of one caller and of another, before and after.
 type Settlings = [Result<(), Mismatch>; 4];
 
 // Two callers in turn, four calls each; then the last answer of one is altered, and a receipt of
 // the other is lost.
-fn settlings<N: Name>(locked: &mut Locked<N>, callers: &mut [Caller<N>]) -> Option<Settlings> {
+fn settlings<N: Name>(
+    alloc: Global,
+    locked: &mut Locked<N>,
+    callers: &mut [Caller<N>],
+) -> Option<Settlings> {
     let [other, one] = callers else {
         return None;
     };
@@ -123,8 +115,8 @@ fn settlings<N: Name>(locked: &mut Locked<N>, callers: &mut [Caller<N>]) -> Opti
     }
     let before = locked.settle(one);
     let beside = locked.settle(other);
-    spoil(one, 3);
-    lose(other);
+    put_answer(alloc, one, 3, Answer::Silent)?;
+    lose_last(alloc, other)?;
     Some([before, beside, locked.settle(one), locked.settle(other)])
 }
 
@@ -137,7 +129,7 @@ fn altered<N: Name>(alloc: Global, unnamed: Unnamed) -> Result<Option<Settlings>
         mut callers,
         ..
     } = Locked::<N>::new(alloc, unnamed)?;
-    Ok(settlings(&mut locked, &mut callers))
+    Ok(settlings(alloc, &mut locked, &mut callers))
 }
 
 #[test]

@@ -2,15 +2,9 @@
 #![tactic(auto)]
 
 #[cfg(test)]
-mod asking;
-#[cfg(test)]
 mod blocks;
 #[cfg(test)]
-mod crossings;
-#[cfg(test)]
 mod crowds;
-#[cfg(test)]
-mod full;
 #[cfg(test)]
 mod gates;
 #[cfg(test)]
@@ -21,11 +15,3 @@ mod journals;
 mod meetings;
 #[cfg(test)]
 mod numbers;
-#[cfg(test)]
-mod openings;
-#[cfg(test)]
-mod servers;
-#[cfg(test)]
-mod sessions;
-#[cfg(test)]
-mod streams;

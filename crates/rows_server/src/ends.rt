@@ -1,6 +1,7 @@
 // Streams over memory.
-use crate::flaky::{Given, Hole};
+
 use crate::slaves::small;
+use fixtures::{Hole, Pieces};
 use std::alloc::Global;
 use std::sync::Wait;
 use std::test::Fail;
@@ -97,6 +98,16 @@ fn a_journal_is_given_back(rt: HostRuntime) -> Result<(), Fail> {
     Ok(())
 }
 
+// Gives CONNECT, and fails once it has been read so often.
+fn given(good_reads: u32) -> Pieces<'static> {
+    Pieces {
+        text: CONNECT,
+        first: 512,
+        most: 512,
+        good_reads,
+    }
+}
+
 // A connection that fails after so many reads, or whose writer takes so many bytes, beside a good one.
 fn one_fails<R: Threads + Wait + Clock + Sync>(
     rt: &R,
@@ -105,21 +116,9 @@ fn one_fails<R: Threads + Wait + Clock + Sync>(
     room: usize,
 ) -> Result<Report, Fail> {
     let unnamed = small(alloc, 4).ok_or("a slave")?;
-    let failing = Given {
-        text: CONNECT,
-        good_reads,
-    };
-    let good = Given {
-        text: CONNECT,
-        good_reads: 2,
-    };
-    let ends = Vec::from_array(
-        alloc,
-        [
-            (Watched::new(good), Watched::new(Hole { room: 1_000 })),
-            (Watched::new(failing), Watched::new(Hole { room })),
-        ],
-    )?;
+    let mut ends = Vec::new(alloc);
+    ends.push((Watched::new(given(2)), Watched::new(Hole { room: 1_000 })))?;
+    ends.push((Watched::new(given(good_reads)), Watched::new(Hole { room })))?;
     let ending = serve_ends(rt, alloc, unnamed, ends, 0, 1, 65_536, 0)
         .ok()
         .ok_or("an end")?;

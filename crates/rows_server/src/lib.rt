@@ -4,8 +4,6 @@
 #[cfg(test)]
 mod ends;
 #[cfg(test)]
-mod flaky;
-#[cfg(test)]
 mod loopback;
 #[cfg(test)]
 mod mismatches;

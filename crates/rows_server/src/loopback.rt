@@ -1,4 +1,5 @@
 // Tools over TCP, in threads of the same process.
+
 use crate::slaves::small;
 use std::alloc::Global;
 use std::io::{Read, Write};

@@ -3,6 +3,7 @@
 ghost use Rattle.std.specs.Prelude.{◌≡◌, ◌<◌, ◌≤◌, vec_len};
 
 use crate::slaves::small;
+use fixtures::{Open, put_answer};
 use std::alloc::Global;
 use std::io::{Read, Write};
 use std::marker::Brand;
@@ -11,32 +12,15 @@ use std::test::Fail;
 use std::thread::Threads;
 use std::time::Clock;
 use xcp_framing::Watched;
-use xcp_locked::{Closing, Gate, Name, Unnamed, run_server};
+use xcp_locked::{Name, Unnamed};
 use xcp_program::Fault;
-use xcp_server::{Report, conclude};
+use xcp_server::{Closing, Report, conclude, run_server};
 use xcp_slave::Answer;
 
 // CONNECT, and GET_STATUS three times.
 const ASKED: &[u8] = &[
     2, 0, 0, 0, 0xff, 0, 1, 0, 1, 0, 0xfd, 1, 0, 2, 0, 0xfd, 1, 0, 3, 0, 0xfd,
 ];
-
-// A gate that holds nobody.
-struct Open;
-
-impl Gate for Open {
-    ghost use Rattle.std.specs.Prelude.{⊤};
-
-    ghost may_end = { ⊤ };
-
-    fn before(&self, _task: u8, _cycle: u32) -> bool {
-        true
-    }
-
-    fn after(&self, _task: u8, _cycle: u32) -> bool {
-        true
-    }
-}
 
 // What is altered.
 #[derive(Clone, Copy)]
@@ -48,25 +32,30 @@ enum Altered {
     Chapters,
 }
 
-fn alter<N: Name, I: Read + Drop, O: Write + Drop>(closing: &mut Closing<N, I, O>, altered: Altered)
+fn alter<N: Name, I: Read + Drop, O: Write + Drop>(
+    alloc: Global,
+    closing: &mut Closing<N, I, O>,
+    altered: Altered,
+)
     ensures { vec_len closing.new.callers ≡ vec_len closing.old.callers }
 {
     match altered {
         Altered::Nothing => {}
-        Altered::Receipt => alter_receipt(closing),
+        Altered::Receipt => alter_receipt(alloc, closing),
         Altered::Chapters => closing.chapters.reverse(),
     }
 }
 
-fn alter_receipt<N: Name, I: Read + Drop, O: Write + Drop>(closing: &mut Closing<N, I, O>)
+fn alter_receipt<N: Name, I: Read + Drop, O: Write + Drop>(
+    alloc: Global,
+    closing: &mut Closing<N, I, O>,
+)
     ensures { vec_len closing.new.callers ≡ vec_len closing.old.callers }
 {
     let Some(caller) = closing.callers.get_mut(1) else {
         return;
     };
-    if let Some(receipt) = caller.receipts.get_mut(3) {
-        receipt.answer = Answer::Silent;
-    }
+    let _ = put_answer(alloc, caller, 3, Answer::Silent);
 }
 
 // What is told of two tools that ask this, beside so many tasks of two cycles, where a chapter is cut from
@@ -108,7 +97,7 @@ fn told_named<N: Name + Send + Sync, R: Threads + Wait + Clock + Sync>(
     let mut closing = run_server::<N, _, _, _, _>(
         rt, alloc, unnamed, ends, tasks, 2, chapter, 1_000, 1_000_000, &Open,
     )?;
-    alter(&mut closing, altered);
+    alter(alloc, &mut closing, altered);
     Ok(conclude(&mut closing))
 }
 

@@ -12,8 +12,9 @@ use std::test::Fail;
 use std::thread::Threads;
 use std::time::Clock;
 use xcp_framing::{ServeError, Served, Watched};
-use xcp_locked::{Closing, Discord, Gate, Name, TaskError, Unnamed, run_server, settle_all};
+use xcp_locked::{Discord, Gate, Name, TaskError, Unnamed};
 use xcp_program::layout_of;
+use xcp_server::{Closing, run_server, settle_all};
 
 // What the tool sends, and what the slave sends behind it.
 pub type Row = (&'static str, &'static str);

@@ -41,7 +41,11 @@ impl Counts {
 /// How many packets of this caller's receipts begin by FF, by FE, and by another byte.
 pub fn kinds_of<N: Name>(caller: &Caller<N>) -> [u32; 3] {
     let mut kinds = [0u32; 3];
-    for receipt in caller.receipts.iter() {
+    let mut left = caller.receipts.iter();
+    for _ in 0..caller.receipts.len() {
+        let Some(receipt) = left.next() else {
+            break;
+        };
         if let Answer::Packets(train) = &receipt.answer {
             add_kinds(&mut kinds, train);
         }

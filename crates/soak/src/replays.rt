@@ -1,22 +1,36 @@
 //! Whether the calls of a journal come out alike on a fresh slave.
 use std::alloc::Global;
-use std::io;
-use xcp_locked::{Caller, Locked, Name, Receipt};
+use std::{io, mem};
+use xcp_locked::{Caller, Locked, Name, Receipt, ReceiptsLeft};
 use xcp_memory::Layout;
 use xcp_slave::Slave;
 
+// A caller's receipts that are left, of which the next is at hand.
+#[derive(Drop)]
+struct Left<'a> {
+    next: Option<Receipt>,
+    behind: ReceiptsLeft<'a>,
+}
+
+// All receipts of these callers.
+fn all_left<'a, N: Name>(alloc: Global, callers: &'a [Caller<N>]) -> io::Result<Vec<Left<'a>>> {
+    let mut all = Vec::new(alloc);
+    for caller in callers {
+        let mut behind = caller.receipts.iter();
+        let next = behind.next();
+        all.push(Left { next, behind })?;
+    }
+    Ok(all)
+}
+
 // The receipt of this place, if it is the next one of a caller.
-fn next<'a, N: Name>(
-    callers: &'a [Caller<N>],
-    taken: &mut [usize; 10],
-    at: u64,
-) -> Option<&'a Receipt> {
-    for (caller, taken) in callers.iter().zip(taken.iter_mut()) {
-        if let Some(receipt) = caller.receipts.get(*taken) {
-            if receipt.at == at {
-                *taken = taken.wrapping_add(1);
-                return Some(receipt);
+fn next(all: &mut [Left<'_>], at: u64) -> Option<Receipt> {
+    for left in all.iter_mut() {
+        match &left.next {
+            Some(receipt) if receipt.at == at => {
+                return mem::replace(&mut left.next, left.behind.next());
             }
+            _ => {}
         }
     }
     None
@@ -31,9 +45,9 @@ pub fn replays<N: Name>(
     callers: &[Caller<N>],
 ) -> io::Result<bool> {
     let mut slave = Slave::new(alloc, layout)?;
-    let mut taken = [0; 10];
+    let mut left = all_left(alloc, callers)?;
     for at in 0..locked.len() {
-        let Some(receipt) = next(callers, &mut taken, at) else {
+        let Some(receipt) = next(&mut left, at) else {
             return Ok(false);
         };
         if slave.submit(&receipt.request) != receipt.answer {

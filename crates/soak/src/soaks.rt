@@ -16,8 +16,9 @@ use std::sync::Wait;
 use std::thread::Threads;
 use std::time::Clock;
 use xcp_config::read_layout;
-use xcp_locked::{Closing, Name, Unnamed, run_server, settle_all};
+use xcp_locked::{Name, Unnamed};
 use xcp_memory::Layout;
+use xcp_server::{Closing, run_server, settle_all};
 
 // (More than a connection's text has bytes.)
 const TURNS: u32 = 10_000_000;

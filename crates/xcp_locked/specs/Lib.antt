@@ -1,7 +1,5 @@
-pub mod ConnectionOutcome
 pub mod Caller
 pub mod Chapters
-pub mod LastHangup
 pub mod Journal
 pub mod LockedSlave
 pub mod FaultNumbers
@@ -12,7 +10,6 @@ pub mod PublishingCalls
 pub mod Receipts
 pub mod CallRefusal
 pub mod TaskOutcome
-pub mod ServerOutcome
 pub mod SettledReceipts
 pub mod TaskImages
 pub mod Tasks

@@ -17,3 +17,9 @@ receipt_of chapter at e = receipt chapter at e.exchange.request e.exchange.answe
 -- the exchanges that receipts have, in order
 abbrev pub exchanges_of : List Receipt → List Exchange
 exchanges_of receipts = map (λ (r : Receipt). record { request = r.request; answer = r.answer }) receipts
+
+-- Receipts as contracts see them: the list, and how many more places and bytes they can take before they need more memory.
+pub record ReceiptsValue : Type 0 where
+  pub list : List Receipt
+  pub places : ℕ
+  pub bytes : ℕ

@@ -1,7 +1,8 @@
 //! Who calls a slave under its lock.
 ghost use Rattle.std.specs.Prelude.{◌≡◌};
 
-use crate::{Name, Receipt};
+use crate::{Name, Receipts};
+use std::alloc::AllocError;
 use std::marker::Model;
 use std::sync::ledger::Share;
 
@@ -11,7 +12,7 @@ pub struct Caller<N: Name> {
     pub(crate) number: u8,
     pub(crate) events: usize,
     pub(crate) signals: usize,
-    pub receipts: Vec<Receipt>,
+    pub receipts: Receipts,
     pub(crate) accepted: u64,
     pub(crate) share: Share<N>,
 }
@@ -22,7 +23,7 @@ impl<N: Name> Model for Caller<N> {
 
     ghost Value = { CallerValue };
 
-    ghost view = { λ c. record { number = c.number; events = c.events; signals = c.signals; receipts = c.receipts.items; accepted = c.accepted } };
+    ghost view = { λ c. record { number = c.number; events = c.events; signals = c.signals; receipts = c.receipts.list; accepted = c.accepted } };
 
     ghost invariant = { λ c. (c.share.parts ≡ 1) × (c.share.amount ≡ c.accepted) × (1 ≤ c.events) × (c.events ≤ 8) × (c.signals ≤ 64) };
 }
@@ -33,5 +34,13 @@ impl<N: Name> Caller<N> {
         ensures { result ≡ self.now.number }
     {
         self.number
+    }
+
+    /// Makes room for the receipt of the next call. `Locked::submit` makes it where there is none; made before
+    /// the lock is taken, it copies nothing under the lock.
+    pub fn reserve(&mut self) -> Result<(), AllocError>
+        ensures { self.new ≡ self.old }
+    {
+        self.receipts.reserve()
     }
 }

@@ -1,6 +1,6 @@
 //! Laws of what is published of a run, of settled callers, and of what a task's reader does. Each is the contract of a function
 //! with an empty body.
-ghost use Rattle.std.specs.Prelude.{◌≡◌, ◌≢◌, ◌↔◌, ◌<◌, ◌≤◌, ◌+◌, ◌⊎◌, ℕ, suc, Bool, List, [], ◌∷◌, ◌++◌, length, take, Some, Result, Ok, Err, IsOk, IsErr};
+ghost use Rattle.std.specs.Prelude.{◌≡◌, ◌≢◌, ◌↔◌, ◌<◌, ◌≤◌, ◌+◌, ℕ, suc, Bool, List, [], ◌∷◌, ◌++◌, length, take, Some};
 ghost use Rattle.std.specs.List.{slice_get};
 ghost use Rattle.xcp_slave.specs.declared.exchange.Exchange.{Exchange};
 ghost use Rattle.xcp_slave.specs.declared.Request.{Request};
@@ -9,12 +9,7 @@ ghost use Rattle.xcp_bank.specs.PinHistory.{reads_of};
 ghost use Rattle.xcp_bank.specs.BankEnds.{AcquireDoes, ReaderEnd, image_held};
 ghost use Rattle.xcp_bank.specs.SeatKnowledge.{AllBegin};
 ghost use Rattle.xcp_bank.specs.declared.taken.Taken.{Taken};
-ghost use Rattle.xcp_framing.specs.declared.serving.ServeError.{ServeError};
-ghost use Rattle.xcp_framing.specs.declared.serving.ServeError.TheVariants as errors;
-ghost use Rattle.xcp_framing.specs.declared.serving.Served.{Served};
-ghost use Rattle.xcp_outlet.specs.declared.fault.SendError.{SendError};
 ghost use Rattle.xcp_trace.specs.declared.Entry.{Entry};
-ghost use Rattle.xcp_locked.specs.ConnectionOutcome.{end_of};
 ghost use Rattle.xcp_locked.specs.Caller.{CallerValue};
 ghost use Rattle.xcp_locked.specs.Chapters.{AreJoined, IsFirstGap};
 ghost use Rattle.xcp_locked.specs.Journal.{entry};
@@ -56,14 +51,6 @@ pub fn receipts_are_entries()
 pub fn a_gap_is_no_join()
     ensures apart { (layout : LayoutValue) (chapters : List ChapterValue) (number before : ℕ) (base : SlaveValue) (k : ℕ) → IsFirstGap layout chapters number before base k → ¬ AreJoined layout chapters number before base }
     ensures within { (layout : LayoutValue) (chapters : List ChapterValue) (number before : ℕ) (base : SlaveValue) (k : ℕ) → IsFirstGap layout chapters number before base k → k ≤ length chapters }
-{}
-
-/// A connection ends well exactly where its reading, its pump and its sender did; else its fault is that of its reading, or of its
-/// pump, or it is Write and its sender has one. Where its reading has a fault, it is that one.
-pub fn a_connection_ends_as_its_parts()
-    ensures well { (heard : Result Served ServeError) (pumped : Result ℕ ServeError) (sent : Result ℕ SendError) (s : Served) → (end_of heard pumped sent ≡ Ok s) ↔ ((heard ≡ Ok s) × IsOk pumped × IsOk sent) }
-    ensures fault { (heard : Result Served ServeError) (pumped : Result ℕ ServeError) (sent : Result ℕ SendError) (e : ServeError) → end_of heard pumped sent ≡ Err e → (heard ≡ Err e) ⊎ ((pumped ≡ Err e) ⊎ ((e ≡ errors.Write) × IsErr sent)) }
-    ensures reading { (heard : Result Served ServeError) (pumped : Result ℕ ServeError) (sent : Result ℕ SendError) (e : ServeError) → heard ≡ Err e → end_of heard pumped sent ≡ Err e }
 {}
 
 /// A reader that is settled has the image that it held before: where what it had seen begins what it sees then, the publication that

@@ -7,12 +7,8 @@
 
 mod caller;
 mod chapter;
-mod closing;
-mod connection;
-mod dealing;
 mod errors;
 mod gate;
-mod hearing;
 mod holding;
 mod joining;
 mod laws;
@@ -21,12 +17,10 @@ mod locked;
 mod name;
 mod opening;
 mod publisher;
-mod pumping;
 mod reader;
 mod receipt;
+mod receipts;
 mod running;
-mod sending;
-mod server;
 mod settling;
 mod tasks;
 mod telling;
@@ -35,26 +29,21 @@ mod worker;
 
 pub use caller::Caller;
 pub use chapter::Chapter;
-pub use closing::{Closing, settle_all};
-pub use connection::{Closed, Connection, Left, Parted};
 pub use errors::LockedError;
 pub use gate::Gate;
-pub use hearing::{Heard, Hearing};
 pub use joining::{Discord, check_joined, settle_chapters};
 pub use laws::{
-    a_connection_ends_as_its_parts, a_gap_is_no_join, a_settled_image_is_the_one_held,
-    acquiring_is_looking, places_are_the_least, publications_follow_the_run, receipts_are_entries,
+    a_gap_is_no_join, a_settled_image_is_the_one_held, acquiring_is_looking, places_are_the_least,
+    publications_follow_the_run, receipts_are_entries,
 };
 pub use ledger::Unsettled;
 pub use locked::{JOURNAL, Locked};
 pub use name::Name;
 pub use opening::{Opening, Unnamed};
-pub use pumping::{Pumped, Pumping};
 pub use reader::Reader;
 pub use receipt::Receipt;
-pub use running::run_tasks;
-pub use sending::{Sending, Wrote};
-pub use server::run_server;
+pub use receipts::{Receipts, ReceiptsLeft};
+pub use running::{collect_workers, number_tasks, run_tasks};
 pub use settling::Mismatch;
 pub use tasks::{Done, Ran, Task, TaskError};
 pub use telling::Settled;

@@ -1,8 +1,7 @@
 //! What lies under the lock: a slave and its journal.
-ghost use Rattle.std.specs.Prelude.{◌≡◌, ◌≢◌, ◌↔◌, ◌⊎◌, ◌+◌, ◌*◌, ◌<◌, ◌≤◌, IfErr, [], ◌∷◌, ◌++◌, length, slice_index, OnErr, OnOk, IfOk, Err, true, vec_capacity, vec_len};
+ghost use Rattle.std.specs.Prelude.{◌≡◌, ◌≢◌, ◌↔◌, ◌⊎◌, ◌+◌, ◌*◌, ◌<◌, ◌≤◌, IfErr, [], ◌∷◌, ◌++◌, length, OnErr, OnOk, IfOk, Err, vec_capacity, vec_len};
 ghost use Rattle.xcp_memory.specs.EcuImage.{ecu_image};
 ghost use Rattle.xcp_slave.specs.Run.{Run};
-ghost use Rattle.xcp_slave.specs.MemoryEffects.{IsNoWrite};
 ghost use Rattle.xcp_slave.specs.Step.{Answers};
 ghost use Rattle.xcp_slave.specs.AnswerInBytes.{answer_in};
 ghost use Rattle.xcp_slave.specs.declared.Answer.{Answer};
@@ -12,32 +11,26 @@ ghost use Rattle.xcp_locked.specs.Journal.{entry, exchanges, journal_limit};
 ghost use Rattle.xcp_locked.specs.LockedSlave.{IsReached, SameChapter};
 ghost use Rattle.xcp_locked.specs.Publications.{image_of};
 ghost use Rattle.xcp_locked.specs.PublishingCalls.{AreImagesFrom, Publishes};
-ghost use Rattle.xcp_locked.specs.private.PublishingCalls.{KeepsImage, Offers};
+ghost use Rattle.xcp_locked.specs.private.PublishingCalls.{Offers};
 ghost use Rattle.xcp_locked.specs.Receipts.{receipt};
 ghost use Rattle.xcp_trace.specs.EntrySpelling.{room_for_any_entry};
+ghost use Rattle.xcp_trace.specs.ExchangeSpelling.{room_for_any};
 
 use crate::publisher::Publisher;
-use crate::{Caller, LockedError, Name, Receipt};
+use crate::receipts::Place;
+use crate::{Caller, LockedError, Name, Receipt, Receipts};
 use std::alloc::AllocError;
 use std::marker::Model;
 use std::sync::atomic::{AtomicBool, Ordering};
 use std::sync::ledger::Book;
 use std::sync::{Arc, Condvar};
+use xcp_controller::keeps_image;
 use xcp_packet::Packet;
 use xcp_slave::{Request, Slave, Told};
 use xcp_trace::Journal;
 
 /// The most entries of a journal.
 pub const JOURNAL: usize = 65_536;
-
-/// The code of COPY_CAL_PAGE.
-const COPY_CAL_PAGE: u8 = 0xE4;
-
-/// The code of SET_CAL_PAGE. The codes behind it, up to that of DOWNLOAD, are those of the commands
-/// that write: MODIFY_BITS, SHORT_DOWNLOAD, DOWNLOAD_MAX, DOWNLOAD_NEXT and DOWNLOAD.
-const SET_CAL_PAGE: u8 = 0xEB;
-
-const DOWNLOAD: u8 = 0xF0;
 
 /// A slave with its journal, which has chapters: the open one, and those before it that were cut off.
 /// The open chapter is a run of the slave, from its base to the slave as it is; the calls before it are
@@ -163,12 +156,11 @@ impl<N: Name> Locked<N> {
         let told = execute(slave, journal, publisher, *number, request, packet, at + 1);
         book.add(share, 1);
         *accepted += 1;
-        receipts.push_reserved(Receipt {
+        let place = Place {
             chapter: *chapter,
             at,
-            request: request.copy(),
-            answer: told.beside(packet),
-        });
+        };
+        receipts.push_told(place, request, &told, packet);
         tell_waiting(waits, before, slave.pending());
         Ok(told)
     }
@@ -216,7 +208,7 @@ impl<N: Name> Locked<N> {
     }
 
     /// Sets a stop, and tells those who wait. Under the lock, so that nobody who saw it unset begins to wait behind this.
-    pub(crate) fn stop(&self, stop: &AtomicBool) {
+    pub fn stop(&self, stop: &AtomicBool) {
         stop.store(true, Ordering::SeqCst);
         self.waits.notify_all();
     }
@@ -266,21 +258,21 @@ fn tell_waiting(waits: &Condvar, before: u8, after: u8) {
 fn make_room(
     journal: &mut Journal,
     publisher: &mut Publisher,
-    receipts: &mut Vec<Receipt>,
+    receipts: &mut Receipts,
 ) -> Result<(), AllocError>
     ensures entry { OnOk result (room_for_any_entry ≤ journal.new.room) }
     ensures place { OnOk result (vec_len publisher.new.places < vec_capacity publisher.new.places) }
-    ensures receipt { OnOk result (vec_len receipts.new < vec_capacity receipts.new) }
+    ensures receipt { OnOk result ((0 < receipts.new.places) × (room_for_any ≤ receipts.new.bytes)) }
     ensures entries { journal.new.entries ≡ journal.old.entries }
     ensures writer { publisher.new.writer ≡ publisher.old.writer }
     ensures places { publisher.new.places.items ≡ publisher.old.places.items }
     ensures last { publisher.new.last ≡ publisher.old.last }
     ensures first { publisher.new.first ≡ publisher.old.first }
-    ensures receipts { receipts.new.items ≡ receipts.old.items }
+    ensures receipts { receipts.new.list ≡ receipts.old.list }
 {
     journal.reserve()?;
     publisher.reserve()?;
-    receipts.reserve(1)
+    receipts.reserve()
 }
 
 /// Executes a request, stores it with its answer and its caller, and publishes the image that it
@@ -320,26 +312,4 @@ fn publish(publisher: &mut Publisher, slave: &Slave, request: &Request, place: u
         return;
     }
     publisher.offer(slave, place);
-}
-
-/// Whether this is a request after which the controller's image is the same, whichever slave it is.
-fn keeps_image(request: &Request) -> bool
-    ensures { result ≡ true → KeepsImage request.now }
-{
-    match request {
-        Request::Command(packet) => is_reading(packet.as_slice()),
-        Request::Event(_, _) | Request::Drain | Request::Hangup => true,
-        Request::FinishStore => false,
-    }
-}
-
-/// Whether a command packet neither writes nor switches nor copies a page, by its code.
-fn is_reading(packet: &[u8]) -> bool
-    ensures { result ≡ true → (slice_index packet.now 0 ≢ 0xEB) × (slice_index packet.now 0 ≢ 0xE4)
-        × IsNoWrite packet.now }
-{
-    match packet {
-        [] => true,
-        [code, ..] => *code != COPY_CAL_PAGE && (*code < SET_CAL_PAGE || DOWNLOAD < *code),
-    }
 }

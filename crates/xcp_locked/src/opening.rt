@@ -8,7 +8,7 @@ ghost use Rattle.xcp_locked.specs.Publications.{image_of};
 
 use crate::chapter::share;
 use crate::publisher::Publisher;
-use crate::{Caller, Locked, Name, Reader};
+use crate::{Caller, Locked, Name, Reader, Receipts};
 use std::alloc::{AllocError, Global};
 use std::marker::Model;
 use std::sync::ledger::{Blank, Share};
@@ -161,7 +161,7 @@ fn new_caller<N: Name>(alloc: Global, number: u8, layout: &Layout, share: Share<
         number,
         events: layout.event_count(),
         signals: layout.signals_length(),
-        receipts: Vec::new(alloc),
+        receipts: Receipts::new(alloc),
         accepted: 0,
         share,
     }

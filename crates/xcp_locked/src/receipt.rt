@@ -1,6 +1,4 @@
 //! A caller's receipt for an entry of the journal.
-ghost use Rattle.std.specs.Prelude.{◌≡◌};
-
 use xcp_slave::{Answer, Request};
 
 /// What a caller has of a call: its chapter and its place there, both counted from 0, the request and
@@ -11,18 +9,4 @@ pub struct Receipt {
     pub at: u64,
     pub request: Request,
     pub answer: Answer,
-}
-
-impl Receipt {
-    /// An equal receipt. It takes no memory and always succeeds.
-    pub fn copy(&self) -> Receipt
-        ensures { result ≡ self.now }
-    {
-        Receipt {
-            chapter: self.chapter,
-            at: self.at,
-            request: self.request.copy(),
-            answer: self.answer.copy(),
-        }
-    }
 }

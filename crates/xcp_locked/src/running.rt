@@ -1,8 +1,7 @@
 //! Tasks, each in a thread of its own.
 ghost use Rattle.std.specs.Prelude.{◌≡◌, ◌<◌, ◌≤◌, [], IfErr, IfOk, map, length, vec_len, vec_capacity};
 ghost use Rattle.xcp_locked.specs.PairedLists.{EachFrom};
-ghost use Rattle.xcp_locked.specs.TaskOutcome.{RanTasks, first_fault};
-ghost use Rattle.xcp_locked.specs.private.TaskOutcome.{IsTaskOf};
+ghost use Rattle.xcp_locked.specs.TaskOutcome.{IsTaskOf, RanTasks, first_fault};
 
 use crate::{Done, Gate, Locked, Name, Ran, Task, TaskError, Worker};
 use std::alloc::{AllocError, Global};
@@ -37,11 +36,12 @@ pub fn run_tasks<N: Name + Send + Sync, G: Gate + Sync, R: Threads + Wait + Sync
     let tasks = number_tasks(alloc, lock, workers, cycles, chapter, gate)?;
     let none: Vec<Task<N, G>> = Vec::new(alloc);
     let (_none, done) = run_both(rt, alloc, none, tasks)?;
-    Ok(collect(done, back))
+    Ok(collect_workers(done, back))
 }
 
-/// The tasks of the workers, in order.
-pub(crate) fn number_tasks<'a, N: Name, G: Gate>(
+/// A task for each worker, at most 16 of them, in order and numbered from 0, with so many cycles each; from `chapter`
+/// calls on, 1 to 65,536, task 0 cuts the open chapter.
+pub fn number_tasks<'a, N: Name, G: Gate>(
     alloc: Global,
     lock: &'a Mutex<Locked<N>>,
     workers: Vec<Worker<N>>,
@@ -69,8 +69,9 @@ pub(crate) fn number_tasks<'a, N: Name, G: Gate>(
     Ok(tasks)
 }
 
-/// The workers of the tasks that are done, for which there is room, and the first fault.
-pub(crate) fn collect<N: Name>(done: Vec<Done<N>>, room: Vec<Worker<N>>) -> Ran<N>
+/// The workers of the tasks that are done, in order, for which there is room, and the fault of the least task number
+/// that has one.
+pub fn collect_workers<N: Name>(done: Vec<Done<N>>, room: Vec<Worker<N>>) -> Ran<N>
     requires { (room.items ≡ []) × (vec_len done ≤ vec_capacity room) }
     ensures workers { result.workers.items ≡ map (λ d. d.worker) done.items }
     ensures fault { result.fault ≡ first_fault done.items }

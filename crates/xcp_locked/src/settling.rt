@@ -1,10 +1,11 @@
 //! Whether a caller's receipts are the journal's.
-ghost use Rattle.std.specs.Prelude.{◌≡◌, ◌≢◌, ◌≤◌, MatchBool, MatchResult, Some, drop, length, true, slice_get};
+ghost use Rattle.std.specs.Prelude.{◌≡◌, ◌≢◌, MatchBool, MatchResult, Some, true};
 ghost use Rattle.xcp_locked.specs.Receipts.{receipt_of};
 ghost use Rattle.xcp_locked.specs.SettledReceipts.{DifferAt, DiffersFor, IsSettledFor, compared, receipts_for, tally};
-ghost use Rattle.xcp_locked.specs.declared.receipt.Receipt.{Receipt};
+ghost use Rattle.xcp_locked.specs.private.PlacedExchanges.{ahead};
 
-use crate::{Caller, Locked, Name, Receipt};
+use crate::receipts::LentReceipt;
+use crate::{Caller, Locked, Name, Receipts, ReceiptsLeft};
 use xcp_trace::{Journal, LentEntry};
 
 /// The first index at which a caller's receipts are not the journal's.
@@ -40,15 +41,16 @@ pub(crate) fn settled(
     chapter: u64,
     later: bool,
     journal: &Journal,
-    receipts: &[Receipt],
+    receipts: &Receipts,
 ) -> Result<(), Mismatch>
     ensures { MatchResult result
-        (λ _. receipts_for later chapter receipts.now ≡ tally number chapter 0 journal.now.entries)
-        (λ m. DifferAt m.at (receipts_for later chapter receipts.now)
+        (λ _. receipts_for later chapter receipts.now.list ≡ tally number chapter 0 journal.now.entries)
+        (λ m. DifferAt m.at (receipts_for later chapter receipts.now.list)
         (tally number chapter 0 journal.now.entries)) }
 {
     let mut entries = journal.entries();
-    let mut next = first_from(later, chapter, receipts, 0);
+    let mut left = receipts.iter();
+    let mut next = next_compared(later, chapter, &mut left);
     let mut met = 0;
     for at in 0..journal.len() {
         let Some(entry) = entries.next_lent() else {
@@ -57,33 +59,35 @@ pub(crate) fn settled(
         if entry.caller() != number {
             continue;
         }
-        if next >= receipts.len() || !is_receipt(chapter, at as u64, &entry, &receipts[next]) {
+        if !is_receipt(chapter, at as u64, &entry, &next) {
             return Err(Mismatch { at: met });
         }
         met += 1;
-        next = first_from(later, chapter, receipts, next + 1);
+        next = next_compared(later, chapter, &mut left);
     }
-    if next < receipts.len() {
-        return Err(Mismatch { at: met });
+    match next {
+        Some(_) => Err(Mismatch { at: met }),
+        None => Ok(()),
     }
-    Ok(())
 }
 
-/// The first receipt from a place on that is compared, or how many there are.
-fn first_from(later: bool, chapter: u64, receipts: &[Receipt], from: usize) -> usize
-    requires { from ≤ length receipts.now }
-    ensures within { (from ≤ result) × (result ≤ length receipts.now) }
-    ensures rest { receipts_for later chapter (drop from receipts.now)
-        ≡ receipts_for later chapter (drop result receipts.now) }
-    ensures stands { (r : Receipt) → slice_get receipts.now result ≡ Some r
-        → compared later chapter r.chapter ≡ true }
+/// The next of the receipts that are left which is compared, if there is one. Those before it are passed over.
+fn next_compared<'a>(
+    later: bool,
+    chapter: u64,
+    left: &mut ReceiptsLeft<'a>,
+) -> Option<LentReceipt<'a>>
+    ensures { receipts_for later chapter left.old ≡ ahead result (receipts_for later chapter left.new) }
 {
-    for at in from..receipts.len() {
-        if is_compared(later, chapter, receipts[at].chapter) {
-            return at;
+    for _passed in 0..left.len() {
+        let Some(receipt) = left.next_lent() else {
+            unreachable!()
+        };
+        if is_compared(later, chapter, receipt.chapter()) {
+            return Some(receipt);
         }
     }
-    receipts.len()
+    None
 }
 
 /// Whether receipts of this chapter are compared with that one's calls.
@@ -97,10 +101,18 @@ fn is_compared(later: bool, chapter: u64, other: u64) -> bool
     }
 }
 
-/// Whether the receipt is that of the entry at this place.
-fn is_receipt(chapter: u64, at: u64, entry: &LentEntry<'_>, receipt: &Receipt) -> bool
-    ensures { MatchBool result (receipt.now ≡ receipt_of chapter at entry.now)
-        (receipt.now ≢ receipt_of chapter at entry.now) }
+/// Whether there is a receipt, and it is that of the entry at this place.
+fn is_receipt(
+    chapter: u64,
+    at: u64,
+    entry: &LentEntry<'_>,
+    receipt: &Option<LentReceipt<'_>>,
+) -> bool
+    ensures { MatchBool result (receipt.now ≡ Some (receipt_of chapter at entry.now))
+        (receipt.now ≢ Some (receipt_of chapter at entry.now)) }
 {
-    receipt.chapter == chapter && receipt.at == at && entry.is(&receipt.request, &receipt.answer)
+    match receipt {
+        None => false,
+        Some(receipt) => receipt.is_of(chapter, at, entry),
+    }
 }

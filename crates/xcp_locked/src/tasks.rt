@@ -232,6 +232,8 @@ fn raise<N: Name>(
         (reader.new ≡ reader.old) }
     ensures own { (task : ℕ) → IfSome result (IsOwn ⊥ task) }
 {
+    // What grows is made before the lock is taken. Where there is no memory, submit says so.
+    let _ = caller.reserve();
     submit_and_tell(&mut lock.lock(rt), caller, reader, event)
 }
 
@@ -284,6 +286,7 @@ fn step<N: Name>(
     ensures same { Same caller.old caller.new }
     ensures own { (task : ℕ) → IfSome result (IsOwn ⊥ task) }
 {
+    let _ = caller.reserve();
     match lock.lock(rt).submit(caller, request) {
         Ok(_) => None,
         Err(error) => Some(TaskError::from(error)),

@@ -55,6 +55,8 @@ impl<'a, N: Name, R: Wait> Station for Tool<'a, N, R> {
         request: &Request,
         packet: &mut Packet,
     ) -> Result<Told, StationError> {
+        // What grows is made before the lock is taken. Where there is no memory, submit says so.
+        let _ = self.caller.reserve();
         let submitted = self
             .lock
             .lock(self.rt)

@@ -1,0 +1,5 @@
+pub mod CommandCountLemmas
+pub mod ConnectionEndLaws
+pub mod ConnectionOutcomeLemmas
+pub mod ServerOutcomeLemmas
+pub mod ThreadCrossingLemmas

@@ -1,1 +1,5 @@
+pub mod ConnectionOutcome
+pub mod LastHangup
 pub mod Report
+pub mod ServerOutcome
+pub mod private

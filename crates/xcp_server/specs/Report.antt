@@ -14,11 +14,11 @@ use Rattle.xcp_framing.specs.declared.serving.Served.{Served}
 use Rattle.xcp_locked.specs.Caller.{CallerValue, callers_of}
 use Rattle.xcp_locked.specs.Chapters.{Disagree, IsWhole, entries_of}
 use Rattle.xcp_locked.specs.Journal.{exchanges}
-use Rattle.xcp_locked.specs.LastHangup.{EndsSession}
+use Rattle.xcp_server.specs.LastHangup.{EndsSession}
 use Rattle.xcp_locked.specs.LockedSlave.{IsReached}
 use Rattle.xcp_locked.specs.Publications.{image_of}
-use Rattle.xcp_locked.specs.ServerOutcome.{Closes, CountTheirCommands}
-use Rattle.xcp_locked.specs.declared.closing.Closing.{Closing}
+use Rattle.xcp_server.specs.ServerOutcome.{Closes, CountTheirCommands}
+use Rattle.xcp_server.specs.declared.closing.Closing.{Closing}
 use Rattle.xcp_locked.specs.declared.joining.Discord.{Discord}
 use Rattle.xcp_locked.specs.declared.joining.Discord.TheVariants as discords
 use Rattle.xcp_locked.specs.declared.tasks.TaskError.{TaskError}

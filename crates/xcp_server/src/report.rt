@@ -1,12 +1,13 @@
 //! What is told at the end of a server.
 ghost use Rattle.std.specs.Prelude.{◌≡◌, ◌<◌, IfOk, MatchResult, sum_by, vec_len};
 ghost use Rattle.xcp_locked.specs.Caller.{accepted_by};
-ghost use Rattle.xcp_locked.specs.ServerOutcome.{SameClosing};
+ghost use Rattle.xcp_server.specs.ServerOutcome.{SameClosing};
 ghost use Rattle.xcp_server.specs.Report.{IsMismatch, IsReport, fault_of_end, fault_of_ends, fault_of_tasks, first_of};
 
+use crate::{Closing, Left, settle_all};
 use std::io::{Read, Write};
 use xcp_framing::{ServeError, Served};
-use xcp_locked::{Closing, Discord, Journal, Left, Name, TaskError, settle_all};
+use xcp_locked::{Discord, Journal, Name, TaskError};
 use xcp_program::Fault;
 
 /// What is told of a server whose callers are all settled.

@@ -3,6 +3,7 @@ ghost use Rattle.std.specs.Prelude.{◌≡◌, ◌<◌, ◌≤◌, ◌+◌, Matc
 ghost use Rattle.xcp_server.specs.Report.{IsServed};
 
 use crate::report::{Ending, conclude};
+use crate::server::run_server;
 use crate::timetable::Timetable;
 use std::alloc::Global;
 use std::io::{Read, Write};
@@ -11,7 +12,7 @@ use std::sync::Wait;
 use std::thread::Threads;
 use std::time::Clock;
 use xcp_framing::Watched;
-use xcp_locked::{Name, Unnamed, run_server};
+use xcp_locked::{Name, Unnamed};
 use xcp_program::Fault;
 
 /// The most reads of one connection.

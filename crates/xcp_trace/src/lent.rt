@@ -1,10 +1,12 @@
-//! Entries where they stand on their tape.
-ghost use Rattle.std.specs.Prelude.{◌≡◌, ◌≢◌, ◌++◌, IfSome, MatchBool, true};
+//! Entries and exchanges where they stand on their tape.
+ghost use Rattle.std.specs.Prelude.{◌≡◌, ◌≢◌, MatchBool, true};
+ghost use Rattle.xcp_trace.specs.ExchangeSpelling.{exchange_in};
 ghost use Rattle.xcp_trace.specs.private.EntrySpelling.{IsEntry};
+ghost use Rattle.xcp_trace.specs.private.ExchangeSpelling.{IsSpelling};
 
-use crate::spelling::{read_exchange, spell};
+use crate::spelling::read_exchange;
 use std::marker::Model;
-use xcp_slave::{Answer, Exchange, Request};
+use xcp_slave::{Exchange, Request};
 
 /// An entry of a journal where it stands: it takes no memory, and what isn't asked for isn't read.
 #[derive(Drop)]
@@ -48,33 +50,52 @@ impl<'a> LentEntry<'a> {
     {
         read_exchange(&self.string[1..])
     }
-
-    /// Whether its exchange is that of this request and this answer.
-    pub fn is(&self, request: &Request, answer: &Answer) -> bool
-        ensures { MatchBool result
-            (self.now.exchange ≡ record { request = request.now; answer = answer.now })
-            (self.now.exchange ≢ record { request = request.now; answer = answer.now }) }
-    {
-        // An exchange is as a rule spelled as it is here: then no owned one is made of the string.
-        let parts = spell(request, answer);
-        if is_spelled(&self.string[1..], &parts.head, parts.asked, parts.told) {
-            return true;
-        }
-        is_exchange(&self.exchange(), request, answer)
-    }
 }
 
-/// Whether a string is these parts, one behind another.
-fn is_spelled(string: &[u8], head: &[u8], asked: &[u8], told: &[u8]) -> bool
-    ensures { result ≡ true → string.now ≡ head.now ++ asked.now ++ told.now }
-{
-    let Some(behind) = begins(string, head) else {
-        return false;
-    };
-    let Some(behind) = begins(behind, asked) else {
-        return false;
-    };
-    same_bytes(behind, told)
+/// An exchange of a trace where it stands: it takes no memory, and what isn't asked for isn't read.
+#[derive(Drop)]
+pub struct LentExchange<'a> {
+    string: &'a [u8],
+}
+
+impl<'a> Model for LentExchange<'a> {
+    ghost use Rattle.xcp_slave.specs.declared.Exchange.{Exchange};
+    ghost use Rattle.xcp_trace.specs.ExchangeSpelling.{exchange_in};
+    ghost use Rattle.xcp_trace.specs.private.ExchangeSpelling.{IsSpelling};
+
+    ghost Value = { Exchange };
+
+    ghost view = { λ e. exchange_in e.string.now };
+
+    ghost invariant = { λ e. IsSpelling e.string.now };
+}
+
+impl<'a> LentExchange<'a> {
+    /// The exchange that a string spells.
+    pub(crate) fn new(string: &'a [u8]) -> LentExchange<'a>
+        requires { IsSpelling string.now }
+        ensures { result ≡ exchange_in string.now }
+    {
+        LentExchange { string }
+    }
+
+    /// The exchange.
+    pub fn read(&self) -> Exchange
+        ensures { result ≡ self.now }
+    {
+        read_exchange(self.string)
+    }
+
+    /// Whether it is the exchange of an entry.
+    pub fn is_of(&self, entry: &LentEntry<'_>) -> bool
+        ensures { MatchBool result (self.now ≡ entry.now.exchange) (self.now ≢ entry.now.exchange) }
+    {
+        // The same exchange is as a rule spelled alike: then no owned one is made of either string.
+        if same_bytes(self.string, &entry.string[1..]) {
+            return true;
+        }
+        same_exchange(&self.read(), &entry.exchange())
+    }
 }
 
 fn same_bytes(ours: &[u8], theirs: &[u8]) -> bool
@@ -83,23 +104,10 @@ fn same_bytes(ours: &[u8], theirs: &[u8]) -> bool
     ours == theirs
 }
 
-/// What stands behind a part with which a string begins.
-fn begins<'a>(string: &'a [u8], part: &[u8]) -> Option<&'a [u8]>
-    ensures { IfSome result (λ behind. string.now ≡ part.now ++ behind.now) }
+fn same_exchange(ours: &Exchange, theirs: &Exchange) -> bool
+    ensures { MatchBool result (ours.now ≡ theirs.now) (ours.now ≢ theirs.now) }
 {
-    if string.len() < part.len() {
-        return None;
-    }
-    let (front, behind) = string.split_at(part.len());
-    if front == part { Some(behind) } else { None }
-}
-
-fn is_exchange(exchange: &Exchange, request: &Request, answer: &Answer) -> bool
-    ensures { MatchBool result
-        (exchange.now ≡ record { request = request.now; answer = answer.now })
-        (exchange.now ≢ record { request = request.now; answer = answer.now }) }
-{
-    same_request(&exchange.request, request) && exchange.answer.same(answer)
+    same_request(&ours.request, &theirs.request) && ours.answer.same(&theirs.answer)
 }
 
 fn same_request(a: &Request, b: &Request) -> bool

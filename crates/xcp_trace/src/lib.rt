@@ -15,6 +15,6 @@ mod trace;
 
 pub use journal::{Entries, Entry, Journal};
 pub use law::what_is_written_is_read_again;
-pub use lent::LentEntry;
+pub use lent::{LentEntry, LentExchange};
 pub use tape::{Strings, Tape};
 pub use trace::{Exchanges, Trace};

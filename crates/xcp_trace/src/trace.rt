@@ -4,7 +4,7 @@ ghost use Rattle.xcp_slave.specs.AnswerInBytes.{answer_in};
 ghost use Rattle.xcp_trace.specs.ExchangeSpelling.{room_for_any};
 
 use crate::spelling::{EXCHANGE_BYTES, read_exchange, spell, spell_told};
-use crate::{Strings, Tape};
+use crate::{LentExchange, Strings, Tape};
 use std::alloc::{AllocError, Global};
 use std::marker::Model;
 use xcp_packet::Packet;
@@ -124,5 +124,14 @@ impl<'a> Exchanges<'a> {
     {
         let string = self.strings.next()?;
         Some(read_exchange(string))
+    }
+
+    /// The next exchange, if there is one, where it stands.
+    pub fn next_lent(&mut self) -> Option<LentExchange<'a>>
+        ensures { MatchOption result ((self.old ≡ []) × (self.new ≡ []))
+            (λ exchange. self.old ≡ exchange ∷ self.new) }
+    {
+        let string = self.strings.next()?;
+        Some(LentExchange::new(string))
     }
 }

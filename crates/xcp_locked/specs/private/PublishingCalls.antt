@@ -1,10 +1,7 @@
--- When a submit publishes, and when it needn't look at the image.
+-- When a submit publishes.
 use Rattle.std.specs.Prelude.{◌≡◌, ◌≢◌, ◌≤◌, ◌+◌, ◌⊎◌, ℕ, List, [], ◌∷◌, ◌++◌, length}
 use Rattle.xcp_bank.specs.BankId.{BankId}
 use Rattle.xcp_slave.specs.declared.Exchange.{Exchange}
-use Rattle.xcp_slave.specs.declared.Request.{Request}
-use Rattle.xcp_slave.specs.declared.Answer.{Answer}
-use Rattle.xcp_slave.specs.Step.{Answers}
 use Rattle.xcp_slave.specs.SlaveValue.{SlaveValue}
 use Rattle.xcp_locked.specs.declared.publisher.Publisher.{Publisher}
 use Rattle.xcp_locked.specs.Publications.{Publication, Published, image_of, images_of}
@@ -29,7 +26,3 @@ pub record Offers (place : ℕ) (image : List ℕ) (old new : Publisher) : Type 
   pub first : new.first ≡ old.first
   pub last : new.last ≡ image
   pub outcome : ((image ≡ old.last) × (new.writer.publications ≡ old.writer.publications) × (new.places.items ≡ old.places.items)) ⊎ ((image ≢ old.last) × (new.writer.publications ≡ old.writer.publications ++ image ∷ []) × (new.places.items ≡ old.places.items ++ place ∷ []))
-
--- No slave has another image after such a request.
-abbrev pub KeepsImage : Request → Type 0
-KeepsImage q = (v : SlaveValue) (a : Answer) (w : SlaveValue) → Answers v q a w → image_of w ≡ image_of v

@@ -1,6 +1,6 @@
 use Rattle.std.proofs.Common.{◌∷◌, [], ◌++◌, length, length-append, ap, refl, subst, sym, arith}
 use Rattle.xcp_locked.specs.PairedLists.{EachFrom}
-use Rattle.xcp_locked.specs.private.TaskOutcome.{IsTaskOf}
+use Rattle.xcp_locked.specs.TaskOutcome.{IsTaskOf}
 use Rattle.xcp_locked.proofs.PairedListLemmas.{turn, each_more}
 use Rattle.xcp_locked.proofs.running.number_tasks.Goals as goal
 

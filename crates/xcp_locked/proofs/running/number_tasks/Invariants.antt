@@ -1,7 +1,7 @@
 use Rattle.std.specs.Prelude.{◌≡◌, ◌+◌, ◌≤◌, ◌++◌, length, vec_len, vec_capacity}
 use Rattle.std.specs.Vec.Iter.{into_iter_items, into_iter_len}
 use Rattle.xcp_locked.specs.PairedLists.{EachFrom}
-use Rattle.xcp_locked.specs.private.TaskOutcome.{IsTaskOf}
+use Rattle.xcp_locked.specs.TaskOutcome.{IsTaskOf}
 use Rattle.xcp_locked.proofs.running.number_tasks.Given as goal
 
 abbrev pub invariant-loop-worker : goal.invariant-loop-worker

@@ -1,0 +1,226 @@
+-- Connections that were served, and the callers that come back.
+use Rattle.std.proofs.Common.{◌≡◌, ℕ, zero, suc, ◌+◌, ◌≤◌, List, [], ◌∷◌, ◌++◌, length, map, refl, sym, ap, ◌∙◌, subst, append_assoc, append-nil, length-append, length-set, ⊎_elim, arith}
+use Rattle.std.specs.Prelude.{Option, Some}
+use Rattle.std.specs.List.{slice_get}
+use Rattle.std.specs.Vec.Iter.{into_iter_items}
+use Rattle.xcp_bank.specs.BankEnds.{ReaderEnd}
+use Rattle.xcp_framing.specs.CountedCalls.{Watched}
+use Rattle.xcp_memory.specs.Layout.{LayoutValue}
+use Rattle.xcp_trace.specs.declared.Entry.{Entry}
+use Rattle.xcp_server.specs.declared.connection.Closed.{Closed}
+use Rattle.xcp_server.specs.declared.dealing.Ended.{Ended}
+use Rattle.xcp_server.specs.declared.dealing.Duties.{Duties}
+use Rattle.xcp_locked.specs.declared.tasks.Done.{Done}
+use Rattle.xcp_locked.specs.declared.tasks.TaskError.{TaskError}
+use Rattle.xcp_outlet.specs.OutletEnds.{EndSeen}
+use Rattle.xcp_server.specs.private.ConnectionOutcome.{AreOfOneOutlet, ClosedAs, IsClosingOf}
+use Rattle.xcp_locked.specs.Caller.{CallerValue, callers_of, fresh_caller}
+use Rattle.xcp_server.specs.private.DealtCallers.{Dealt}
+use Rattle.xcp_server.specs.LastHangup.{HungUp}
+use Rattle.xcp_locked.specs.PairedLists.{EachFrom}
+use Rattle.xcp_server.specs.private.PairedLists.{Each}
+use Rattle.xcp_server.specs.private.ServerRoom.{IsEndedRoom}
+use Rattle.xcp_locked.specs.TaskOutcome.{WorkedAs}
+use Rattle.xcp_locked.specs.TaskOutcome.{DoneAs, IsTaskOf}
+use Rattle.xcp_server.specs.ServerOutcome.{Connection, Parted, PartedAs, ServedAt}
+use Rattle.xcp_server.specs.private.ServerOutcome.{IsConnectionOf}
+use Rattle.xcp_locked.proofs.PairedListLemmas.{each_length, each_through}
+use Rattle.xcp_locked.proofs.TaskOutcomeLemmas.{worked_as}
+
+-- the list of n callers that have made no call has n of them
+pub length-callers_of : (l : LayoutValue) (n : ℕ) → length (callers_of l n) ≡ n
+length-callers_of l zero = refl
+length-callers_of l (suc n) = let e = length-callers_of l n in let m = length-append (callers_of l n) (fresh_caller l n ∷ []) in omega (arith, e, m)
+
+-- a list that is made of another one, element by element, is as long
+pub length_map : {A B : Type 0} (f : A → B) (xs : List A) → length (map f xs) ≡ length xs
+length_map f [] = refl
+length_map f (x ∷ xs) = let e = length_map f xs in omega (arith, e)
+
+-- to map a list by one function and then by another is to map it once by both
+pub map_map : {A B C : Type 0} (f : A → B) (g : B → C) (xs : List A) → map g (map f xs) ≡ map (λ x. g (f x)) xs
+map_map f g [] = refl
+map_map f g (x ∷ xs) = ap (λ z. g (f x) ∷ z) (map_map f g xs)
+
+get_after : {A : Type 0} (xs : List A) (x : A) (more : List A) → slice_get (xs ++ x ∷ more) (length xs) ≡ Some x
+get_after [] x more = refl
+get_after (y ∷ xs) x more = get_after xs x more
+
+-- each element has what is read off it at its place
+each_at_place : {A B X : Type 0} (R : ℕ → A → B → Type 0) (f : B → X) (front rest : List X) (xs : List A) (ys : List B) → EachFrom R (length front) xs ys
+    → EachFrom (λ i x y. R i x y × (slice_get (front ++ (map f ys ++ rest)) i ≡ Some (f y))) (length front) xs ys
+each_at_place R f front rest [] [] h = tt
+each_at_place R f front rest [] (y ∷ ys) h = absurd h
+each_at_place R f front rest (x ∷ xs) [] h = absurd h
+each_at_place {A} {B} {X} R f front rest (x ∷ xs) (y ∷ ys) h =
+    let longer : length (front ++ f y ∷ []) ≡ length front + 1 = length-append front (f y ∷ []) in
+    let next = each_at_place R f (front ++ f y ∷ []) rest xs ys (subst (λ n. EachFrom R n xs ys) (sym longer) h.1) in
+    let same : (front ++ f y ∷ []) ++ (map f ys ++ rest) ≡ front ++ (map f (y ∷ ys) ++ rest) = append_assoc front (f y ∷ []) (map f ys ++ rest) in (
+      (h.0, get_after front (f y) (map f ys ++ rest)),
+      subst (λ zs. EachFrom (λ i a b. R i a b × (slice_get zs i ≡ Some (f b))) (length front + 1) xs ys) same
+          (subst (λ n. EachFrom (λ i a b. R i a b × (slice_get ((front ++ f y ∷ []) ++ (map f ys ++ rest)) i ≡ Some (f b))) n xs ys) longer next),
+    )
+
+-- of lists that belong together, what is read off the second one's elements stands at their places
+pub each_also : {A B X : Type 0} (R : ℕ → A → B → Type 0) (f : B → X) (xs : List A) (ys : List B) → EachFrom R 0 xs ys → EachFrom (λ i x y. R i x y × (slice_get (map f ys) i ≡ Some (f y))) 0 xs ys
+each_also R f xs ys h = subst (λ zs. EachFrom (λ i x y. R i x y × (slice_get zs i ≡ Some (f y))) 0 xs ys) (append-nil (map f ys)) (each_at_place R f [] [] xs ys h)
+
+-- which place a connection has is not said of it
+pub at_any_place : {N I O : Type 0} (m turns pumps k place : ℕ) (e : Watched I × Watched O) (c : Connection N I O) → IsConnectionOf m turns pumps k e c → IsConnectionOf m turns pumps place e c
+at_any_place m turns pumps k place e c h = record { reader = h.reader; writer = h.writer; max_cto = h.max_cto; reads = h.reads; drains = h.drains; replies = h.replies; samples = h.samples }
+
+module _ {I O N : Type 0} (remaining : I → Option (List ℕ)) (contents : O → Option (List ℕ)) where
+  -- the three parts of a connection have one outlet
+  pub one_outlet : (m turns pumps i : ℕ) (e : Watched I × Watched O) (c : Connection N I O) (d : Parted N I O) → IsConnectionOf m turns pumps i e c → PartedAs remaining contents i c d → AreOfOneOutlet d
+  one_outlet m turns pumps i e c d is h = record {
+    replies = h.wrote.same ∙ sym (h.heard.outlet ∙ ap (λ (x : EndSeen). x.outlet) is.replies);
+    samples = h.wrote.same ∙ sym (h.pumped.outlet ∙ ap (λ (x : EndSeen). x.outlet) is.samples);
+    reply_side = h.heard.side ∙ ap (λ (x : EndSeen). x.side) is.replies;
+    sample_side = h.pumped.side ∙ ap (λ (x : EndSeen). x.side) is.samples;
+  }
+
+  pub one_outlet_each : (m turns pumps k : ℕ) (es : List (Watched I × Watched O)) (cs : List (Connection N I O)) (ds : List (Parted N I O)) → EachFrom (IsConnectionOf m turns pumps) k es cs → EachFrom (PartedAs remaining contents) k cs ds → Each AreOfOneOutlet ds
+  one_outlet_each m turns pumps k [] [] [] is h = tt
+  one_outlet_each m turns pumps k [] [] (d ∷ ds) is h = absurd h
+  one_outlet_each m turns pumps k [] (c ∷ cs) ds is h = absurd is
+  one_outlet_each m turns pumps k (e ∷ es) [] ds is h = absurd is
+  one_outlet_each m turns pumps k (e ∷ es) (c ∷ cs) [] is h = absurd h
+  one_outlet_each m turns pumps k (e ∷ es) (c ∷ cs) (d ∷ ds) is h = (one_outlet m turns pumps k e c d is.0 h.0, one_outlet_each m turns pumps (k + 1) es cs ds is.1 h.1)
+
+  -- what came of a connection, said of its reader and writer
+  pub served_at : (m turns pumps : ℕ) (tools drains : List CallerValue) (i : ℕ) (e : Watched I × Watched O) (c : Connection N I O) (d : Parted N I O) (k : Closed N I O) → IsConnectionOf m turns pumps i e c → slice_get tools i ≡ Some c.0.caller → slice_get drains i ≡ Some c.1.caller → PartedAs remaining contents i c d → IsClosingOf d k → ServedAt remaining contents m turns tools drains i e k
+  served_at m turns pumps tools drains i e c d k is at_tool at_pump h k_is = record {
+    tool = c.0.caller;
+    tool_at = at_tool;
+    pump = c.1.caller;
+    pump_at = at_pump;
+    attended = record {
+      serves = rw (sym is.max_cto, sym is.reader, k_is.heard, k_is.reader, k_is.tool, k_is.replies_are) (rw (ap (λ (x : EndSeen). x.put) is.replies) at h.heard.serves);
+      pumps = rw (k_is.pumped, k_is.pump, k_is.samples_are) (rw (ap (λ (x : EndSeen). x.put) is.samples) at h.pumped.pumps);
+      stops = rw (k_is.pumped) h.pumped.stops;
+      sends = rw (k_is.sent, k_is.taken_is, sym is.writer, k_is.writer) h.wrote.sends;
+      replies = k_is.replies;
+      samples = k_is.samples;
+      end = k_is.end;
+      ends = rw (k_is.heard, k_is.reader) h.heard.ends;
+      read = rw (k_is.heard, sym is.reader, k_is.reader) h.heard.read;
+      quiet = rw (k_is.heard, sym is.reader, k_is.reader) h.heard.quiet;
+      reads = rw (sym is.reader, sym is.reads, k_is.reader) h.heard.reads;
+      spent = rw (k_is.heard, sym is.reader, sym is.reads, k_is.reader) h.heard.spent;
+      refused = rw (sym is.max_cto, sym is.reader, k_is.heard, k_is.reader, k_is.tool, k_is.replies_are) (rw (ap (λ (x : EndSeen). x.put) is.replies) at h.heard.refused);
+      same_tool = rw (k_is.tool) h.heard.same;
+      same_pump = rw (k_is.pump) h.pumped.same;
+    };
+  }
+
+-- what came of a connection, and of its parts
+abbrev Came : {I O N : Type 0} → (I → Option (List ℕ)) → (O → Option (List ℕ)) → ℕ → Connection N I O → Closed N I O → Type 0
+Came {I} {O} {N} remaining contents i c k = (p : Parted N I O) × PartedAs remaining contents i c p × IsClosingOf p k
+
+module _ {N G I O : Type 0} (m turns pumps cycles chapter tasks : ℕ) (opened : List CallerValue) (readers : List ReaderEnd) (ends : List (Watched I × Watched O)) (d : Duties N G I O) (deal : Dealt m turns pumps cycles chapter tasks opened readers ends d) where
+  abbrev tools : List CallerValue
+  tools = map (λ c. c.0.caller) d.connections.items
+
+  abbrev hired : List CallerValue
+  hired = map (λ w. w.caller) deal.workers
+
+  abbrev drains : List CallerValue
+  drains = map (λ c. c.1.caller) d.connections.items
+
+  pub as_many_connections : length d.connections.items ≡ length ends
+  as_many_connections = each_length (IsConnectionOf m turns pumps) 0 ends d.connections.items deal.connections
+
+  pub as_many_tools : length (map (λ c. c.0.caller) d.connections.items) ≡ length ends
+  as_many_tools = length_map (λ c. c.0.caller) d.connections.items ∙ as_many_connections
+
+  pub as_many_pumps : length (map (λ c. c.1.caller) d.connections.items) ≡ length ends
+  as_many_pumps = length_map (λ c. c.1.caller) d.connections.items ∙ as_many_connections
+
+  pub as_many_tasks : length d.tasks.items ≡ tasks
+  as_many_tasks = each_length (IsTaskOf cycles chapter) 0 deal.workers d.tasks.items deal.numbered ∙ deal.hired
+
+  pub as_many_callers : length opened ≡ length ends + (tasks + (length ends + length (into_iter_items d.spare)))
+  as_many_callers =
+      let whole = ap length deal.in_order in
+      let a = length-append (tools ++ hired ++ drains) (into_iter_items d.spare) in
+      let b = length-append (tools ++ hired) drains in
+      let f = length-append tools hired in
+      let w = length_map (λ w. w.caller) deal.workers in
+      let t = as_many_tools in let p = as_many_pumps in let n = deal.hired in omega (arith, whole, a, b, f, w, t, p, n)
+
+  -- the tasks' readers and the unused ones are all
+  pub as_many_readers : tasks + length (into_iter_items d.unused) ≡ length readers
+  as_many_readers =
+      let whole = ap length deal.readers_in_order in
+      let a = length-append (map (λ w. w.reader) deal.workers) (into_iter_items d.unused) in
+      let w = length_map (λ w. w.reader) deal.workers in
+      let n = deal.hired in omega (arith, whole, a, w, n)
+
+  -- each connection was served for the callers of its place
+  pub all_served : (remaining : I → Option (List ℕ)) (contents : O → Option (List ℕ)) (parted : List (Parted N I O)) (closed : List (Closed N I O)) → EachFrom (PartedAs remaining contents) 0 d.connections.items parted → EachFrom ClosedAs 0 parted closed
+      → EachFrom (ServedAt remaining contents m turns tools drains) 0 ends closed
+  all_served remaining contents parted closed came put =
+      each_through (λ i e c. (IsConnectionOf m turns pumps i e c × (slice_get tools i ≡ Some c.0.caller)) × (slice_get drains i ≡ Some c.1.caller)) (Came remaining contents) (ServedAt remaining contents m turns tools drains)
+      (λ i e c k is h. served_at remaining contents m turns pumps tools drains i e c h.0 k is.0.0 is.0.1 is.1 h.1 h.2) 0 ends d.connections.items closed
+      (each_also (λ i e c. IsConnectionOf m turns pumps i e c × (slice_get tools i ≡ Some c.0.caller)) (λ c. c.1.caller) ends d.connections.items
+      (each_also (IsConnectionOf m turns pumps) (λ c. c.0.caller) ends d.connections.items deal.connections))
+      (each_through (PartedAs remaining contents) ClosedAs (Came remaining contents) (λ i c p k x y. (p, x, y)) 0 d.connections.items parted closed came put)
+
+  -- each task was done for the worker of its place
+  pub all_worked : (layout : LayoutValue) (may_end : Type 0) (done : List (Done N)) → EachFrom (DoneAs layout may_end) 0 d.tasks.items done → EachFrom (WorkedAs layout may_end cycles chapter) 0 deal.workers done
+  all_worked layout may_end done =
+      each_through (IsTaskOf cycles chapter) (DoneAs layout may_end) (WorkedAs layout may_end cycles chapter)
+      (λ i w t k is h. worked_as layout may_end cycles t.cycles chapter t.chapter i t.task w t.worker k.worker k.fault is.number is.cycles_are is.chapter_is is.worker h) 0 deal.workers d.tasks.items done deal.numbered
+
+  -- as many callers come back as were dealt out
+  pub all_there : (closed : List (Closed N I O)) (done : List (Done N)) → length closed ≡ length d.connections.items → length done ≡ length d.tasks.items
+      → ((length closed + length done) + length closed) + length (into_iter_items d.spare) ≡ length opened
+  all_there closed done a b = let tools_are = as_many_connections in let tasks_are = as_many_tasks in let whole = as_many_callers in omega (arith, a, b, tools_are, tasks_are, whole)
+
+  pub back_in_order : (closed : List (Closed N I O)) (done : List (Done N)) → length closed ≡ length d.connections.items → length done ≡ length d.tasks.items
+      → length (map (λ k. k.tool) closed ++ map (λ k. k.worker.caller) done ++ map (λ k. k.pump) closed ++ into_iter_items d.spare) ≡ length opened
+  back_in_order closed done a b =
+      let there = all_there closed done a b in
+      let first = map (λ k. k.tool) closed in
+      let next = map (λ k. k.worker.caller) done in
+      let last = map (λ k. k.pump) closed in
+      let x = length-append (first ++ next ++ last) (into_iter_items d.spare) in
+      let y = length-append (first ++ next) last in
+      let z = length-append first next in
+      let p = length_map (λ k. k.tool) closed in
+      let q = length_map (λ k. k.worker.caller) done in
+      let r = length_map (λ k. k.pump) closed in
+      omega (arith, there, x, y, z, p, q, r)
+
+-- the same MAX_CTO, the same callers and the same readers
+pub dealt_as : {N G I O : Type 0} (m m' turns pumps cycles chapter tasks : ℕ) (opened opened' : List CallerValue) (readers readers' : List ReaderEnd) (ends : List (Watched I × Watched O)) (d : Duties N G I O) → m ≡ m' → opened ≡ opened' → readers ≡ readers'
+    → Dealt m turns pumps cycles chapter tasks opened readers ends d → Dealt m' turns pumps cycles chapter tasks opened' readers' ends d
+dealt_as m m' turns pumps cycles chapter tasks opened opened' readers readers' ends d e f r h =
+    subst (λ rs. Dealt m' turns pumps cycles chapter tasks opened' rs ends d) r (subst (λ k. Dealt k turns pumps cycles chapter tasks opened' readers ends d) e (subst (λ cs. Dealt m turns pumps cycles chapter tasks cs readers ends d) f h))
+
+-- what is left behind the first ones
+pub left_behind : {A : Type 0} (first rest all : List A) → first ++ rest ≡ all → length first + length rest ≡ length all
+left_behind first rest all whole = sym (length-append first rest) ∙ ap length whole
+
+-- what the last Hangup did, said of an equal fault before it and of equal callers
+pub hung_up_as : (before before' after : Option TaskError) (old old' new : List CallerValue) (ch : ℕ) (journal : List Entry) → before ≡ before' → old ≡ old' → HungUp before after old new ch journal → HungUp before' after old' new ch journal
+hung_up_as before before' after old old' new ch journal e f h = subst (λ b. HungUp b after old' new ch journal) e (subst (λ cs. HungUp before after cs new ch journal) f h)
+
+-- room for so many callers and connections is room for fewer
+pub room_for_fewer : {N I O : Type 0} (k k' e e' : ℕ) (r : Ended N I O) → k' ≤ k → e' ≤ e → IsEndedRoom k e r → IsEndedRoom k' e' r
+room_for_fewer k k' e e' r a b h =
+    let callers = h.for_callers in let pumps = h.for_pumps in let ends = h.for_ends in let left = h.for_left in
+    record {
+      no_caller = h.no_caller;
+      no_pump = h.no_pump;
+      no_end = h.no_end;
+      nothing_left = h.nothing_left;
+      for_callers = omega (arith, a, callers);
+      for_pumps = omega (arith, b, pumps);
+      for_ends = omega (arith, b, ends);
+      for_left = omega (arith, b, left);
+    }
+
+-- as many callers as before the last Hangup
+pub all_come_back : (before after : Option TaskError) (old new : List CallerValue) (ch : ℕ) (journal : List Entry) → HungUp before after old new ch journal → length new ≡ length old
+all_come_back before after old new ch journal h = ⊎_elim (λ accepted. ap length accepted.3 ∙ length-set old 0 _) (λ refused. ap length refused.1) h.outcome

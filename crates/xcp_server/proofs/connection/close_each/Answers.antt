@@ -1,0 +1,31 @@
+use Rattle.std.proofs.Common.{◌∷◌, [], ◌++◌, length, ap, sym, subst, arith}
+use Rattle.xcp_server.specs.private.ConnectionOutcome.{AreOfOneOutlet, ClosedAs}
+use Rattle.xcp_locked.specs.PairedLists.{EachFrom}
+use Rattle.xcp_server.proofs.ConnectionOutcomeLemmas.{each_of_one, each_of_others}
+use Rattle.xcp_locked.proofs.PairedListLemmas.{turn, finish, each_more}
+use Rattle.xcp_server.proofs.connection.close_each.Goals as goal
+
+pub close-requires : goal.close-requires
+close-requires g c = each_of_one AreOfOneOutlet _ _ c.in-Some.one c.loop-one.invariant.3 c.in-Some.ensures.steps.0
+
+pub loop-one-preserved : goal.loop-one-preserved
+loop-one-preserved g c =
+    let at = c.loop-one in
+    let was = at.invariant in
+    let steps = c.in-Some.ensures.steps in
+    let short = ap length steps.0 in
+    let gone = steps.1 in
+    let pushed = c.push_reserved.ensures.len in
+    let room = c.push_reserved.ensures.capacity in (
+      turn at.yielded _ _ _ c.in-Some.one was.0 steps.0,
+      omega (arith, short, gone, was.1),
+      omega (arith, gone, pushed, room, was.2),
+      each_of_others AreOfOneOutlet _ _ c.in-Some.one was.3 steps.0,
+      subst (λ z. EachFrom ClosedAs 0 (at.yielded ++ c.in-Some.one ∷ []) z) (sym c.push_reserved.ensures.items) (each_more ClosedAs 0 at.yielded at.closed.items c.in-Some.one _ was.4 c.close.ensures),
+    )
+
+pub returns : goal.returns
+returns g c =
+    let at = c.loop-one in
+    let was = at.invariant in
+    subst (λ xs. EachFrom ClosedAs 0 xs at.closed.items) (finish at.yielded _ _ c.args.parted.items _ was.0 was.1 c.in-None.ensures.steps.0 c.into_iter-one-iterator.ensures.into_iter_gives.0) was.4

@@ -1,0 +1,12 @@
+use Rattle.std.specs.Prelude.{◌≡◌, ◌+◌, ◌≤◌, ◌++◌, length, vec_len, vec_capacity}
+use Rattle.std.specs.Vec.Iter.{into_iter_items, into_iter_len}
+use Rattle.xcp_server.proofs.dealing.add_rest.Given as goal
+
+abbrev pub invariant-loop-one : goal.invariant-loop-one
+invariant-loop-one g l =
+    let rest = l.one-iterator in let first = l.initial.one-iterator in
+    (l.yielded ++ into_iter_items rest ≡ into_iter_items first)
+    × (into_iter_len rest ≡ length (into_iter_items rest))
+    × (vec_len l.all + into_iter_len rest ≤ vec_capacity l.all)
+    × (l.all.items ≡ l.initial.all.items ++ l.yielded)
+    × (vec_capacity l.all ≡ vec_capacity l.initial.all)

@@ -1,0 +1,6 @@
+-- Words that contracts of private functions cite. No contract of a public function needs them.
+pub mod ConnectionOutcome
+pub mod DealtCallers
+pub mod PairedLists
+pub mod ServerOutcome
+pub mod ServerRoom

@@ -1,0 +1,275 @@
+//! Callers are dealt to connections and tasks, and gathered again.
+ghost use Rattle.std.specs.Prelude.{◌≡◌, ◌≤◌, ◌+◌, ◌++◌, [], All, IfOk, map, length, vec_len, vec_capacity};
+ghost use Rattle.std.specs.Vec.Iter.{into_iter_items, into_iter_len};
+ghost use Rattle.xcp_server.specs.private.DealtCallers.{Dealt};
+ghost use Rattle.xcp_locked.specs.PairedLists.{EachFrom};
+ghost use Rattle.xcp_locked.specs.TaskOutcome.{chapters_of};
+ghost use Rattle.xcp_server.specs.private.ServerOutcome.{IsConnectionOf};
+
+use crate::hearing::Hearing;
+use crate::pumping::Pumping;
+use crate::sending::Sending;
+use crate::{Closed, Connection, Left};
+use std::alloc::{AllocError, Global};
+use std::io::{Read, Write};
+use std::sync::Mutex;
+use std::sync::atomic::AtomicBool;
+use std::vec::IntoIter;
+use xcp_framing::{ServeError, Served, Watched};
+use xcp_locked::{Caller, Chapter, Gate, Locked, Name, Reader, Task, Worker, number_tasks};
+use xcp_outlet::outlet;
+
+/// Connections and tasks that have not begun, and the callers and readers that have nothing to do.
+#[derive(Drop)]
+pub struct Duties<'a, N: Name, G: Gate, I: Read + Drop, O: Write + Drop> {
+    pub connections: Vec<Connection<'a, N, I, O>>,
+    pub tasks: Vec<Task<'a, N, G>>,
+    pub spare: IntoIter<Caller<N>>,
+    pub unused: IntoIter<Reader<N>>,
+}
+
+/// How long connections may go on: the largest packet, and how many turns their reads and their
+/// pumps have.
+#[derive(Clone, Copy)]
+pub struct Limits {
+    pub max_cto: u8,
+    pub turns: u32,
+    pub pump_turns: u32,
+}
+
+/// Deals the callers out: the first to the readers and writers, the next to so many tasks, the next
+/// to the connections' pumps. The first readers go to the tasks. Each connection has a stop of its
+/// own.
+pub fn deal<'a, N: Name, G: Gate, I: Read + Drop, O: Write + Drop>(
+    alloc: Global,
+    lock: &'a Mutex<Locked<N>>,
+    gate: &'a G,
+    stops: &'a [AtomicBool],
+    callers: Vec<Caller<N>>,
+    readers: Vec<Reader<N>>,
+    ends: Vec<(Watched<I>, Watched<O>)>,
+    tasks: u8,
+    cycles: u32,
+    chapter: u32,
+    limits: Limits,
+) -> Result<Duties<'a, N, G, I, O>, AllocError>
+    requires enough { vec_len ends + tasks + vec_len ends ≤ vec_len callers }
+    requires few { (tasks ≤ 16) × (tasks ≤ vec_len readers) }
+    requires stops { length stops.now ≡ vec_len ends }
+    ensures { IfOk result (λ d. Dealt limits.max_cto limits.turns limits.pump_turns cycles chapter tasks
+        callers.items readers.items ends.items d) }
+{
+    let mut spare = callers.into_iter();
+    let mut unused = readers.into_iter();
+    let tools = next_callers(alloc, &mut spare, ends.len())?;
+    let workers = employ(alloc, &mut spare, &mut unused, tasks)?;
+    let connections = connect(alloc, lock, stops, ends, tools, &mut spare, limits)?;
+    let tasks = number_tasks(alloc, lock, workers, cycles, chapter, gate)?;
+    Ok(Duties {
+        connections,
+        tasks,
+        spare,
+        unused,
+    })
+}
+
+/// So many of the next callers.
+pub fn next_callers<N: Name>(
+    alloc: Global,
+    callers: &mut IntoIter<Caller<N>>,
+    count: usize,
+) -> Result<Vec<Caller<N>>, AllocError>
+    requires { count ≤ length (into_iter_items callers.old) }
+    ensures count { IfOk result (λ cs. vec_len cs ≡ count) }
+    ensures dealt { IfOk result (λ cs. cs.items ++ into_iter_items callers.new ≡ into_iter_items callers.old) }
+{
+    let mut taken = Vec::with_capacity(alloc, count)?;
+    for _one in 0..count {
+        let Some(caller) = callers.next() else {
+            unreachable!()
+        };
+        taken.push_reserved(caller);
+    }
+    Ok(taken)
+}
+
+/// A connection for each reader and writer, in order, each with the next of these tools' callers, with
+/// the next of the other callers for its pump, and with an outlet of its own.
+pub fn connect<'a, N: Name, I: Read + Drop, O: Write + Drop>(
+    alloc: Global,
+    lock: &'a Mutex<Locked<N>>,
+    stops: &'a [AtomicBool],
+    ends: Vec<(Watched<I>, Watched<O>)>,
+    tools: Vec<Caller<N>>,
+    pumps: &mut IntoIter<Caller<N>>,
+    limits: Limits,
+) -> Result<Vec<Connection<'a, N, I, O>>, AllocError>
+    requires tools { vec_len tools ≡ vec_len ends }
+    requires pumps { vec_len ends ≤ length (into_iter_items pumps.old) }
+    requires stops { length stops.now ≡ vec_len ends }
+    ensures each { IfOk result (λ cs. EachFrom
+        (IsConnectionOf limits.max_cto limits.turns limits.pump_turns) 0 ends.items cs.items) }
+    ensures tools { IfOk result (λ cs. map (λ c. c.0.caller) cs.items ≡ tools.items) }
+    ensures dealt { IfOk result (λ cs.
+        map (λ c. c.1.caller) cs.items ++ into_iter_items pumps.new ≡ into_iter_items pumps.old) }
+{
+    let mut connections = Vec::with_capacity(alloc, ends.len())?;
+    let mut tools = tools.into_iter();
+    let mut place = 0;
+    for end in ends {
+        let Some(tool) = tools.next() else {
+            unreachable!()
+        };
+        let Some(pump) = pumps.next() else {
+            unreachable!()
+        };
+        let stop = &stops[place];
+        connections.push_reserved(connection(alloc, lock, stop, end, tool, pump, limits)?);
+        place += 1;
+    }
+    Ok(connections)
+}
+
+/// A connection with a new outlet.
+fn connection<'a, N: Name, I: Read + Drop, O: Write + Drop>(
+    alloc: Global,
+    lock: &'a Mutex<Locked<N>>,
+    stop: &'a AtomicBool,
+    end: (Watched<I>, Watched<O>),
+    tool: Caller<N>,
+    pump: Caller<N>,
+    limits: Limits,
+) -> Result<Connection<'a, N, I, O>, AllocError>
+    ensures is { IfOk result (λ c. IsConnectionOf limits.max_cto limits.turns limits.pump_turns 0 end c) }
+    ensures tool { IfOk result (λ c. c.0.caller ≡ tool) }
+    ensures pump { IfOk result (λ c. c.1.caller ≡ pump) }
+{
+    let (reader, writer) = end;
+    let (replies, samples, sender) = outlet(alloc)?;
+    let hearing = Hearing {
+        lock,
+        caller: tool,
+        reader,
+        replies,
+        stop,
+        alloc,
+        max_cto: limits.max_cto,
+        turns: limits.turns,
+    };
+    let pumping = Pumping {
+        lock,
+        caller: pump,
+        samples,
+        stop,
+        turns: limits.pump_turns,
+    };
+    let sending = Sending {
+        end: sender,
+        writer,
+    };
+    Ok((hearing, pumping, sending))
+}
+
+/// So many workers, with the next callers and the next readers.
+pub fn employ<N: Name>(
+    alloc: Global,
+    callers: &mut IntoIter<Caller<N>>,
+    readers: &mut IntoIter<Reader<N>>,
+    tasks: u8,
+) -> Result<Vec<Worker<N>>, AllocError>
+    requires callers { tasks ≤ length (into_iter_items callers.old) }
+    requires readers { tasks ≤ length (into_iter_items readers.old) }
+    ensures count { IfOk result (λ ws. vec_len ws ≡ tasks) }
+    ensures dealt { IfOk result (λ ws.
+        map (λ w. w.caller) ws.items ++ into_iter_items callers.new ≡ into_iter_items callers.old) }
+    ensures lent { IfOk result (λ ws.
+        map (λ w. w.reader) ws.items ++ into_iter_items readers.new ≡ into_iter_items readers.old) }
+    ensures fresh { IfOk result (λ ws. All (λ w. w.chapters.items ≡ []) ws.items) }
+{
+    let mut workers = Vec::with_capacity(alloc, tasks as usize)?;
+    for _task in 0..tasks {
+        let Some(caller) = callers.next() else {
+            unreachable!()
+        };
+        let Some(reader) = readers.next() else {
+            unreachable!()
+        };
+        workers.push_reserved(Worker::new(alloc, caller, reader));
+    }
+    Ok(workers)
+}
+
+/// What came of the connections, taken apart, for which there is room.
+#[derive(Drop)]
+pub struct Ended<N: Name, I: Read + Drop, O: Write + Drop> {
+    pub callers: Vec<Caller<N>>,
+    pub pumps: Vec<Caller<N>>,
+    pub ends: Vec<Result<Served, ServeError>>,
+    pub left: Vec<Left<I, O>>,
+}
+
+/// Takes what came of the connections apart.
+pub fn take_apart<N: Name, I: Read + Drop, O: Write + Drop>(
+    closed: Vec<Closed<N, I, O>>,
+    room: Ended<N, I, O>,
+) -> Ended<N, I, O>
+    requires empty { (room.callers.items ≡ []) × (room.pumps.items ≡ [])
+        × (room.ends.items ≡ []) × (room.left.items ≡ []) }
+    requires room { (vec_len closed ≤ vec_capacity room.callers) × (vec_len closed ≤ vec_capacity room.pumps)
+        × (vec_len closed ≤ vec_capacity room.ends) × (vec_len closed ≤ vec_capacity room.left) }
+    ensures callers { result.callers.items ≡ map (λ d. d.tool) closed.items }
+    ensures pumps { result.pumps.items ≡ map (λ d. d.pump) closed.items }
+    ensures ends { result.ends.items ≡ map (λ d. d.end) closed.items }
+    ensures left { result.left.items ≡ map (λ d. d.left) closed.items }
+    ensures capacity { vec_capacity result.callers ≡ vec_capacity room.callers }
+{
+    let mut ended = room;
+    for one in closed {
+        ended.callers.push_reserved(one.tool);
+        ended.pumps.push_reserved(one.pump);
+        ended.ends.push_reserved(one.end);
+        ended.left.push_reserved(one.left);
+    }
+    ended
+}
+
+/// Puts the workers' callers behind the others and their readers behind the others, for which there
+/// is room, and hands on the chapters that the first worker has cut: only task 0 cuts.
+pub fn dismiss<N: Name>(
+    alloc: Global,
+    workers: Vec<Worker<N>>,
+    callers: Vec<Caller<N>>,
+    readers: Vec<Reader<N>>,
+) -> (Vec<Caller<N>>, Vec<Reader<N>>, Vec<Chapter<N>>)
+    requires callers { vec_len callers + vec_len workers ≤ vec_capacity callers }
+    requires readers { vec_len readers + vec_len workers ≤ vec_capacity readers }
+    ensures callers { result.0.items ≡ callers.items ++ map (λ w. w.caller) workers.items }
+    ensures capacity { vec_capacity result.0 ≡ vec_capacity callers }
+    ensures readers { result.1.items ≡ readers.items ++ map (λ w. w.reader) workers.items }
+    ensures room { vec_capacity result.1 ≡ vec_capacity readers }
+    ensures chapters { result.2.items ≡ chapters_of workers.items }
+{
+    let mut callers = callers;
+    let mut readers = readers;
+    let mut chapters = None;
+    for worker in workers {
+        callers.push_reserved(worker.caller);
+        readers.push_reserved(worker.reader);
+        chapters = chapters.or(Some(worker.chapters));
+    }
+    (callers, readers, chapters.unwrap_or(Vec::new(alloc)))
+}
+
+/// Puts the callers, or the readers, that had nothing to do behind the others, for which there is
+/// room.
+pub fn add_rest<T: Drop>(rest: IntoIter<T>, others: Vec<T>) -> Vec<T>
+    requires { vec_len others + length (into_iter_items rest) ≤ vec_capacity others }
+    ensures items { result.items ≡ others.items ++ into_iter_items rest }
+    ensures capacity { vec_capacity result ≡ vec_capacity others }
+{
+    let mut all = others;
+    for one in rest {
+        all.push_reserved(one);
+    }
+    all
+}

@@ -1,0 +1,140 @@
+//! Connections and tasks of one slave, all at the same time.
+ghost use Rattle.std.specs.Prelude.{◌≡◌, ◌<◌, ◌≤◌, ◌+◌, IfOk, vec_len};
+ghost use Rattle.xcp_bank.specs.BankEnds.{six_readers};
+ghost use Rattle.xcp_locked.specs.Caller.{callers_of};
+ghost use Rattle.xcp_server.specs.LastHangup.{EndsSession};
+ghost use Rattle.xcp_locked.specs.PairedLists.{EachFrom};
+ghost use Rattle.xcp_locked.specs.Publications.{image_of};
+ghost use Rattle.xcp_locked.specs.TaskOutcome.{DoneAs};
+ghost use Rattle.xcp_locked.specs.Journal.{exchanges};
+ghost use Rattle.xcp_locked.specs.LockedSlave.{IsReached};
+ghost use Rattle.xcp_slave.specs.Run.{Run};
+ghost use Rattle.xcp_slave.specs.SlaveValue.{opening};
+ghost use Rattle.xcp_server.specs.ServerOutcome.{Closes, CountTheirCommands, PartedAs};
+
+use crate::closing::{close_all, make_rooms};
+use crate::connection::close_each;
+use crate::dealing::{Duties, Limits, deal};
+use crate::{Closing, Connection, Parted};
+use std::alloc::{AllocError, Global};
+use std::io::{Read, Write};
+use std::sync::atomic::AtomicBool;
+use std::sync::{Mutex, Wait};
+use std::thread::Threads;
+use together::run_crews;
+use xcp_framing::Watched;
+use xcp_locked::{Done, Gate, Locked, Name, Opening, Task, Unnamed};
+
+/// Opens a slave, serves each reader and writer by frames, and runs so many tasks, all at the same
+/// time; joins them all; and submits a last `Hangup` as the first caller. A task has a thread of its
+/// own. A connection has three: one hears the tool, a pump drains what the slave samples, and a sender
+/// writes the answers and the data packets as they come. The first callers are those of the tools, the
+/// next those of the tasks, which also have the first readers, and the next those of the pumps. Each
+/// connection has at most `turns` reads, and is closed when it ends; its pump has `pump_turns`. Task 0
+/// cuts the open chapter from `chapter` calls on, 1 to 65,536.
+///
+/// Where memory or a thread is refused the answer is `Err`, and nobody has begun.
+pub fn run_server<
+    N: Name + Send + Sync,
+    G: Gate + Sync,
+    I: Read + Send + Drop,
+    O: Write + Send + Drop,
+    R: Threads + Wait + Sync,
+>(
+    rt: &R,
+    alloc: Global,
+    unnamed: Unnamed,
+    ends: Vec<(Watched<I>, Watched<O>)>,
+    tasks: u8,
+    cycles: u32,
+    chapter: u32,
+    turns: u32,
+    pump_turns: u32,
+    gate: &G,
+) -> Result<Closing<N, I, O>, AllocError>
+    requires name { (unnamed.name ≡ N.name) × (unnamed.callers ≡ N.parts)
+        × (unnamed.layout ≡ N.layout) × (unnamed.bank ≡ N.bank) }
+    requires some { 0 < vec_len ends }
+    requires callers { vec_len ends + tasks + vec_len ends ≤ unnamed.callers }
+    requires readers { tasks ≤ 6 }
+    ensures closes { IfOk result (λ r. Closes I.remaining O.contents unnamed.layout G.may_end
+        unnamed.layout.max_cto turns cycles chapter tasks
+        (callers_of unnamed.layout unnamed.callers)
+        (six_readers unnamed.bank (image_of (opening unnamed.layout))) ends.items r) }
+    ensures callers { IfOk result (λ r. vec_len r.callers ≡ unnamed.callers) }
+    ensures frames { IfOk result (λ r. CountTheirCommands r.ends.items r.callers.items) }
+    ensures hangup { IfOk result (λ r. EndsSession r.fault r.callers.items r.locked.chapter r.locked.journal) }
+    ensures run { IfOk result (λ r. Run r.locked.base (exchanges r.locked.journal) r.locked.slave) }
+    ensures reached { IfOk result (λ r. IsReached unnamed.layout r.locked.before r.locked.base) }
+{
+    let limits = Limits {
+        max_cto: unnamed.max_cto(),
+        turns,
+        pump_turns,
+    };
+    let Opening {
+        locked,
+        callers,
+        readers,
+    } = Locked::<N>::new(alloc, unnamed)?;
+    let readers = Vec::from_array(alloc, readers)?;
+    let rooms = make_rooms(alloc, callers.len(), ends.len(), tasks, readers.len())?;
+    let stops = make_stops(alloc, ends.len())?;
+    let lock = Mutex::new(locked);
+    let Duties {
+        connections,
+        tasks,
+        spare,
+        unused,
+    } = deal(
+        alloc, &lock, gate, &stops, callers, readers, ends, tasks, cycles, chapter, limits,
+    )?;
+    let (parted, done) = run_all(rt, alloc, connections, tasks)?;
+    let closed = close_each(parted, rooms.closed);
+    Ok(close_all(
+        alloc,
+        lock.into_inner(),
+        closed,
+        done,
+        spare,
+        unused,
+        rooms.ended,
+        rooms.workers,
+        rooms.readers,
+    ))
+}
+
+/// A stop for each connection, which its reading sets when it ends.
+fn make_stops(alloc: Global, count: usize) -> Result<Vec<AtomicBool>, AllocError>
+    ensures { IfOk result (λ s. vec_len s ≡ count) }
+{
+    let mut stops = Vec::with_capacity(alloc, count)?;
+    for _one in 0..count {
+        stops.push_reserved(AtomicBool::new(false));
+    }
+    Ok(stops)
+}
+
+/// What comes of connections and of tasks, each at its place.
+type Results<N, I, O> = Result<(Vec<Parted<N, I, O>>, Vec<Done<N>>), AllocError>;
+
+/// Runs connections and tasks, each part of a connection and each task in a thread of its own.
+fn run_all<
+    'a,
+    N: Name + Send + Sync,
+    G: Gate + Sync,
+    I: Read + Send + Drop,
+    O: Write + Send + Drop,
+    R: Threads + Wait + Sync,
+>(
+    rt: &R,
+    alloc: Global,
+    connections: Vec<Connection<'a, N, I, O>>,
+    tasks: Vec<Task<'a, N, G>>,
+) -> Results<N, I, O>
+    ensures parted { IfOk result (λ r.
+        EachFrom (PartedAs I.remaining O.contents) 0 connections.entry.items r.0.items) }
+    ensures worked { IfOk result (λ r. EachFrom (DoneAs N.layout G.may_end) 0 tasks.entry.items r.1.items) }
+{
+    run_crews(rt, alloc, connections, tasks)
+}
