@@ -3,7 +3,7 @@ ghost use Rattle.std.specs.Prelude.{◌≡◌, ◌⊎◌, codes, true, Some, Non
 ghost use Rattle.toml.specs.Data.{get};
 ghost use Rattle.toml.specs.View.{view};
 ghost use Rattle.xcp_memory.specs.declared.Key.TheVariants as key;
-ghost use Rattle.xcp_memory.specs.LayoutParts.{number, checksum_of as kind_of};
+ghost use Rattle.xcp_memory.specs.LayoutParts.{number, kind_numbered};
 ghost use Rattle.xcp_memory.specs.Limits.{is_within};
 ghost use Rattle.xcp_packet.specs.Rows.{first_holding};
 ghost use Rattle.xcp_config.specs.TomlValues.{byte_orders, checksums, integer_of, named, text_of};
@@ -97,7 +97,7 @@ impl Own {
         ensures max_cto { IfOk result (λ o. o.max_cto ≡ integer_of (get (codes "max_cto") (view table.now))) }
         ensures max_dto { IfOk result (λ o. o.max_dto ≡ integer_of (get (codes "max_dto") (view table.now))) }
         ensures order { IfOk result (λ o. o.order ≡ order_in (view table.now)) }
-        ensures checksum { IfOk result (λ o. kind_of (number o.checksum) ≡ checksum_in (view table.now)) }
+        ensures checksum { IfOk result (λ o. kind_numbered (number o.checksum) ≡ checksum_in (view table.now)) }
         ensures range { IfOk result (λ o. is_within 1 6 o.checksum ≡ true) }
         ensures refused { IfErr result (λ e. (e ≡ ConfigError.Memory) ⊎ (first_holding (own_checks (view table.now)) ≡ Some e)) }
     {

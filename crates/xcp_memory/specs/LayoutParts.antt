@@ -20,8 +20,8 @@ abbrev pub size : SegmentPart → ℕ
 size s = length s.bytes.items
 
 -- the type of checksums with this number
-abbrev pub checksum_of : ℕ → ChecksumKind
-checksum_of n =
+abbrev pub kind_numbered : ℕ → ChecksumKind
+kind_numbered n =
     if n == 1 then Add11
     else (if n == 2 then Add12
     else (if n == 3 then Add14
@@ -41,7 +41,7 @@ layout_of p = record {
   id = p.id.items;
   max_cto = number p.max_cto;
   max_dto = number p.max_dto;
-  checksum = checksum_of (number p.checksum);
+  checksum = kind_numbered (number p.checksum);
   order = p.order;
   segments = map segment_of_part p.segments.items;
   signals_address = number p.signals_address;

@@ -2,7 +2,7 @@
 ghost use Rattle.std.specs.Prelude.{◌≡◌, ◌≤◌, ◌<◌, Bool, not, [], ◌∷◌, Some, OnOk, IfErr};
 ghost use Rattle.xcp_packet.specs.Rows.{first_holding};
 ghost use Rattle.xcp_memory.specs.Checksum.{checksum_number, unit, sum_refusal};
-ghost use Rattle.xcp_memory.specs.LayoutParts.{checksum_of};
+ghost use Rattle.xcp_memory.specs.LayoutParts.{kind_numbered};
 
 use xcp_packet::Code;
 
@@ -31,14 +31,14 @@ impl ChecksumKind {
         ensures value { result ≡ checksum_number self }
         ensures least { 1 ≤ result }
         ensures most { result ≤ 6 }
-        ensures kind { checksum_of result ≡ self }
+        ensures kind { kind_numbered result ≡ self }
     {
         self as u8
     }
 
     /// The type with a number from 1 to 6.
     pub(crate) fn of_number(number: u8) -> ChecksumKind
-        ensures { result ≡ checksum_of number }
+        ensures { result ≡ kind_numbered number }
     {
         match number {
             1 => ChecksumKind::Add11,

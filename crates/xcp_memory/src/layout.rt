@@ -3,7 +3,7 @@ ghost use Rattle.std.specs.Prelude.{◌≡◌, ◌≢◌, MatchBool, ◌+◌, �
 ghost use Rattle.xcp_memory.specs.Pages.{no_segment};
 ghost use Rattle.xcp_memory.specs.Layout.{IsLayout, IsPrintable, signals_extent, no_event};
 ghost use Rattle.xcp_memory.specs.declared.key.LayoutFault.{LayoutFault};
-ghost use Rattle.xcp_memory.specs.LayoutParts.{layout_of, number, checksum_of};
+ghost use Rattle.xcp_memory.specs.LayoutParts.{layout_of, number, kind_numbered};
 ghost use Rattle.xcp_packet.specs.Rows.{first_holding};
 ghost use Rattle.xcp_memory.specs.Limits.{first_fault, own_limits};
 ghost use Rattle.xcp_memory.specs.ComputedAccess.{segment_of, is_inside, Located};
@@ -43,7 +43,7 @@ struct OwnValues {
 
 impl OwnValues {
     fn read(parts: &Parts) -> Result<OwnValues, LayoutFault>
-        ensures ok { IfOk result (λ o. (first_holding (own_limits parts.now) ≡ None) × (o.max_cto ≡ number parts.now.max_cto) × (o.max_dto ≡ number parts.now.max_dto) × (o.checksum ≡ checksum_of (number parts.now.checksum))) }
+        ensures ok { IfOk result (λ o. (first_holding (own_limits parts.now) ≡ None) × (o.max_cto ≡ number parts.now.max_cto) × (o.max_dto ≡ number parts.now.max_dto) × (o.checksum ≡ kind_numbered (number parts.now.checksum))) }
         ensures refused { IfErr result (λ e. first_holding (own_limits parts.now) ≡ Some e) }
     {
         checks::check_text(&parts.id, MAX_ID, Key::Id)?;

@@ -17,10 +17,10 @@ Refused Unknown p = (p ≢ []) × ((c : Command) → byte_at 0 p ≢ code c)
 Refused Short p = (p ≢ []) × ((c : Command) × (byte_at 0 p ≡ code c) × (length p < least c))
 
 -- the number of a reason
-abbrev pub number_of : Refuse → ℕ
-number_of Empty = 1
-number_of Unknown = 2
-number_of Short = 3
+abbrev pub refuse_number : Refuse → ℕ
+refuse_number Empty = 1
+refuse_number Unknown = 2
+refuse_number Short = 3
 
 -- what the packet p decodes to: a command that it spells, or why it is none
 abbrev pub Decodes : Order → List ℕ → Result Command Refuse → Type 0

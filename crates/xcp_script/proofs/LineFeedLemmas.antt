@@ -6,7 +6,7 @@ use Rattle.std.proofs.lemmas.List.Elements.{All-head, All-tail}
 use Rattle.xcp_script.specs.Lines.{HasNoFeed}
 use Rattle.xcp_script.specs.declared.liner.Lined.TheVariants as lineds
 use Rattle.xcp_script.specs.ScriptLine.{meaning}
-use Rattle.xcp_script.specs.private.LineReading.{asked_before, ended_line, faulty_from, lines_from, line_in, LineCut}
+use Rattle.xcp_script.specs.private.LineReading.{asked_before, ended_line, faulty_from, lines_from, whole_line, LineCut}
 use Rattle.xcp_script.specs.Replay.{asked_by, is_faulty}
 use Rattle.xcp_slave.specs.declared.Request.{Request}
 use Rattle.xcp_script.proofs.LineReadingLaws.{line_read}
@@ -25,7 +25,7 @@ none_ends begun (b ∷ bytes) rest h =
     rw other (none_ends (begun ++ b ∷ []) bytes rest (All-tail (λ x. x ≢ 10) b bytes h) ∙ ap (λ (xs : List ℕ). lines_from xs rest) (append_assoc begun (b ∷ []) bytes))
 
 -- the line that ends in a piece, and those behind it
-pub line_cut : (end : ℕ) (begun piece held behind line rest : List ℕ) → LineCut begun piece (lineds.Line end) held → line ≡ line_in held (take end piece) → behind ≡ drop (end + 1) piece
+pub line_cut : (end : ℕ) (begun piece held behind line rest : List ℕ) → LineCut begun piece (lineds.Line end) held → line ≡ whole_line held (take end piece) → behind ≡ drop (end + 1) piece
     → lines_from begun (piece ++ rest) ≡ line ∷ lines_from [] (behind ++ rest)
 line_cut end begun piece held behind line rest c l d =
     line_of_piece begun piece (take end piece) (drop (end + 1) piece) rest c.0 c.1
@@ -44,11 +44,11 @@ pub fault_more : (m n : ℕ) (line : List ℕ) (later : List (List ℕ)) → is_
 fault_more m n line later f = rw f refl
 
 -- a line that lies in one piece
-pub lies_in_piece : (held last : List ℕ) → true ≡ (length held == 0) → line_in held last ≡ ended_line held last
+pub lies_in_piece : (held last : List ℕ) → true ≡ (length held == 0) → whole_line held last ≡ ended_line held last
 lies_in_piece [] last h = refl
 lies_in_piece (b ∷ held) last h = grind (arith, nat_tests)
 
 -- a line that began in an earlier one
-pub began_before : (held last : List ℕ) → false ≡ (length held == 0) → line_in (held ++ last) last ≡ ended_line held last
+pub began_before : (held last : List ℕ) → false ≡ (length held == 0) → whole_line (held ++ last) last ≡ ended_line held last
 began_before [] last h = absurd (cc)
 began_before (b ∷ held) last h = refl

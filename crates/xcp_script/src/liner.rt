@@ -1,7 +1,7 @@
 //! The lines of a text that comes in pieces.
 ghost use Rattle.std.specs.Prelude.{◌≡◌, ◌<◌, ◌+◌, ◌++◌, ◌∷◌, [], MatchBool, MatchOption, drop, length, take};
 ghost use Rattle.xcp_script.specs.Lines.{HasNoFeed, without_return};
-ghost use Rattle.xcp_script.specs.private.LineReading.{LineCut, line_in};
+ghost use Rattle.xcp_script.specs.private.LineReading.{LineCut, whole_line};
 
 use arrayvec::ArrayVec;
 use memchr::memchr;
@@ -59,7 +59,7 @@ impl Liner {
     /// The line that has ended, of which these are the last bytes in the piece, without the carriage
     /// return at its end.
     pub(crate) fn line<'a>(&'a self, last: &'a [u8]) -> &'a [u8]
-        ensures { result.now ≡ line_in self.now.held.items last.now }
+        ensures { result.now ≡ whole_line self.now.held.items last.now }
     {
         if self.held.is_empty() {
             return without_return(last);

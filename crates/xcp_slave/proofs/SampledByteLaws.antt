@@ -20,7 +20,7 @@ use Rattle.xcp_daq.proofs.DaqInvariantLemmas.{all_left, all_right, entries_by_li
 use Rattle.xcp_slave.specs.declared.request.Request.TheVariants as requests
 use Rattle.xcp_slave.specs.declared.answer.Answer.TheVariants as answers
 use Rattle.xcp_slave.specs.PacketQueue.{event_packets}
-use Rattle.xcp_slave.specs.SampledBytes.{Gathers, OdtPackets, DuePackets}
+use Rattle.xcp_slave.specs.SampledBytes.{ReadsOdt, OdtPackets, DuePackets}
 use Rattle.xcp_slave.specs.SlaveInvariant.{LiesWritten, IsSlave}
 use Rattle.xcp_slave.specs.SlaveValue.{SlaveValue, layout_of}
 use Rattle.xcp_slave.specs.Step.{Answers, Fires, with_signals}
@@ -35,7 +35,7 @@ element-reads pages e l f h =
     let inside = inside_computes pages.layout e.address e.size h in
     controller_reads pages e.address e.size (element_bytes pages e) l f inside (ap (λ (b : Bool). if b then controller_bytes pages e.address e.size else []) inside)
 
-odt-gathers : (pages : PagesValue) (odt : List (Option Element)) → IsLayout pages.layout → IsPages pages → All (LiesWritten pages.layout) odt → Gathers pages odt (odt_bytes pages odt)
+odt-gathers : (pages : PagesValue) (odt : List (Option Element)) → IsLayout pages.layout → IsPages pages → All (LiesWritten pages.layout) odt → ReadsOdt pages odt (odt_bytes pages odt)
 odt-gathers pages [] l f h = refl
 odt-gathers pages (None ∷ odt) l f h = odt-gathers pages odt l f (All-tail (LiesWritten pages.layout) None odt h)
 odt-gathers pages (Some e ∷ odt) l f h =

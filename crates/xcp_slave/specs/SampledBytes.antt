@@ -9,17 +9,17 @@ use Rattle.xcp_daq.specs.DaqLists.{DaqValue, DaqList, first_pid}
 use Rattle.xcp_daq.specs.Sample.{due, packet_of}
 
 -- These are the bytes of an ODT: entry by entry those that the controller reads there; an unwritten entry has none.
-abbrev pub Gathers : PagesValue → List (Option Element) → List ℕ → Type 0
-Gathers pages [] bytes = bytes ≡ []
-Gathers pages (None ∷ odt) bytes = Gathers pages odt bytes
-Gathers pages (Some e ∷ odt) bytes =
-    (own : List ℕ) × (rest : List ℕ) × Reads Controller pages e.address e.size own × Gathers pages odt rest × (bytes ≡ own ++ rest)
+abbrev pub ReadsOdt : PagesValue → List (Option Element) → List ℕ → Type 0
+ReadsOdt pages [] bytes = bytes ≡ []
+ReadsOdt pages (None ∷ odt) bytes = ReadsOdt pages odt bytes
+ReadsOdt pages (Some e ∷ odt) bytes =
+    (own : List ℕ) × (rest : List ℕ) × Reads Controller pages e.address e.size own × ReadsOdt pages odt rest × (bytes ≡ own ++ rest)
 
 -- These are the packets of ODTs, whose PIDs are the numbers from the first one on: of each ODT its PID and its bytes.
 abbrev pub OdtPackets : PagesValue → ℕ → List (List (Option Element)) → List (ArrayVec ℕ) → Type 0
 OdtPackets pages pid [] packets = packets ≡ []
 OdtPackets pages pid (odt ∷ odts) packets =
-    (bytes : List ℕ) × (rest : List (ArrayVec ℕ)) × Gathers pages odt bytes × OdtPackets pages (pid + 1) odts rest
+    (bytes : List ℕ) × (rest : List (ArrayVec ℕ)) × ReadsOdt pages odt bytes × OdtPackets pages (pid + 1) odts rest
     × (packets ≡ packet_of pid bytes ++ rest)
 
 -- These are an event's packets of the lists from list i on: those of each list that is due, from its first PID on.

@@ -4,7 +4,7 @@ use Rattle.toml.specs.Data.{Data, get}
 use Rattle.xcp_memory.specs.declared.SegmentPart.{SegmentPart}
 use Rattle.xcp_memory.specs.declared.EventPart.{EventPart}
 use Rattle.xcp_memory.specs.declared.Parts.{Parts}
-use Rattle.xcp_memory.specs.LayoutParts.{number, checksum_of as kind_of}
+use Rattle.xcp_memory.specs.LayoutParts.{number, kind_numbered}
 use Rattle.xcp_memory.specs.Limits.{is_within}
 use Rattle.xcp_config.specs.TomlValues.{text_of, integer_of}
 use Rattle.xcp_config.specs.TableLayout.{order_in, checksum_in, segments_of, signals_of, events_of, address_of, data_of, pages_of, length_of, setting}
@@ -44,7 +44,7 @@ pub record Reads (p : Parts) (t : Data) : Type 0 where
   pub id : p.id.items ≡ text_of (get (codes "id") t)
   pub max_cto : p.max_cto ≡ integer_of (get (codes "max_cto") t)
   pub max_dto : p.max_dto ≡ integer_of (get (codes "max_dto") t)
-  pub checksum : kind_of (number p.checksum) ≡ checksum_in t
+  pub checksum : kind_numbered (number p.checksum) ≡ checksum_in t
   pub known : is_within 1 6 p.checksum ≡ true
   pub order : p.order ≡ order_in t
   pub segments : map segment_read p.segments.items ≡ map segment_written (segments_of t)

@@ -22,9 +22,9 @@ abbrev pub ended_line : List ℕ → List ℕ → List ℕ
 ended_line begun last = without_return (begun ++ last)
 
 -- the line that has ended, of which these bytes are held, or if none are, of which these are the last in the piece
-abbrev pub line_in : List ℕ → List ℕ → List ℕ
-line_in [] last = without_return last
-line_in (b ∷ held) last = without_return (b ∷ held)
+abbrev pub whole_line : List ℕ → List ℕ → List ℕ
+whole_line [] last = without_return last
+whole_line (b ∷ held) last = without_return (b ∷ held)
 
 -- a line that has begun with more than 1,025 bytes by somewhere in the piece
 pub record IsTooLong (held piece : List ℕ) : Type 0 where
@@ -38,7 +38,7 @@ pub record IsTooLong (held piece : List ℕ) : Type 0 where
 abbrev pub LineCut : List ℕ → List ℕ → Lined → List ℕ → Type 0
 LineCut held piece lineds.More left = HasNoFeed piece × (left ≡ held ++ piece)
 LineCut held piece (lineds.Line end) left =
-    HasNoFeed (take end piece) × (piece ≡ take end piece ++ 10 ∷ drop (end + 1) piece) × (end < length piece) × (line_in left (take end piece) ≡ ended_line held (take end piece))
+    HasNoFeed (take end piece) × (piece ≡ take end piece ++ 10 ∷ drop (end + 1) piece) × (end < length piece) × (whole_line left (take end piece) ≡ ended_line held (take end piece))
 LineCut held piece lineds.TooLong left = IsTooLong held piece
 
 -- the requests of the lines before the first faulty one
