@@ -8,6 +8,7 @@ pub mod PairedLists
 pub mod Publications
 pub mod PublishingCalls
 pub mod Receipts
+pub mod Sheaves
 pub mod CallRefusal
 pub mod TaskOutcome
 pub mod SettledReceipts

@@ -6,7 +6,8 @@ use std::alloc::AllocError;
 use std::marker::Model;
 use std::sync::ledger::Share;
 
-/// A caller of one opening, with a receipt for each of its calls that was accepted.
+/// A caller of one opening, with a receipt for each of its calls that was accepted, up to those that it has handed
+/// over (`Locked::take_receipts`).
 #[derive(Drop)]
 pub struct Caller<N: Name> {
     pub(crate) number: u8,

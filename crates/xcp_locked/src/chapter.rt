@@ -148,6 +148,13 @@ impl<N: Name> Chapter<N> {
         &self.cut.last
     }
 
+    /// The slave where it ends, for another owner too.
+    pub fn share_last(&self) -> Result<Arc<Slave>, AllocError>
+        ensures { IfOk result (λ s. arc_value s ≡ self.now.last) }
+    {
+        Arc::try_clone(&self.cut.last)
+    }
+
     /// How many calls it has.
     pub fn len(&self) -> u64
         ensures { result ≡ length self.now.entries }

@@ -107,7 +107,7 @@ impl<N: Name> Locked<N> {
 
     /// Executes a request that is lent, as `submit` does. The answer's packet, or the data bytes of its
     /// block, stand in the lent packet, which has any bytes otherwise.
-    pub(crate) fn submit_into(
+    pub fn submit_into(
         &mut self,
         caller: &mut Caller<N>,
         request: &Request,

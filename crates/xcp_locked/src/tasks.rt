@@ -197,8 +197,9 @@ fn cycle<N: Name, G: Gate>(
     None
 }
 
-/// The event that a task submits in a cycle.
-fn event<N: Name>(caller: &Caller<N>, task: u8, cycle: u32) -> Request
+/// The event that a task submits in a cycle: on the channel of its number, modulo the number of channels, with all
+/// signals the cycle's number, modulo 256.
+pub fn event<N: Name>(caller: &Caller<N>, task: u8, cycle: u32) -> Request
     ensures { result ≡ event_of (duty caller.now task) cycle }
 {
     let channel = (task as usize % caller.events) as u16;

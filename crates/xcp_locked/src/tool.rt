@@ -2,9 +2,9 @@
 ghost use Rattle.std.specs.Prelude.{◌≡◌};
 ghost use Rattle.xcp_locked.specs.Tasks.{Same};
 
-use crate::{Caller, Locked, LockedError, Name};
-use std::sync::atomic::{AtomicBool, Ordering};
-use std::sync::{Arc, Mutex, Wait};
+use crate::{Caller, Locked, LockedError, Name, wait_for_packets};
+use std::sync::atomic::AtomicBool;
+use std::sync::{Mutex, Wait};
 use xcp_framing::{Station, StationError};
 use xcp_packet::Packet;
 use xcp_slave::{Request, Told};
@@ -82,12 +82,6 @@ impl<'a, N: Name, R: Wait> Station for Tool<'a, N, R> {
         ensures kept { self.new ≡ self.old }
         ensures stays { Same self.old.caller self.new.caller }
     {
-        let locked = self.lock.lock(self.rt);
-        let Ok(waits) = Arc::try_clone(&locked.waits) else {
-            return;
-        };
-        let _locked = waits.wait_while(self.rt, locked, |held| {
-            held.pending() == 0 && !stop.load(Ordering::SeqCst)
-        });
+        wait_for_packets(self.rt, self.lock, stop);
     }
 }
