@@ -40,7 +40,8 @@ impl Env for Started<'_> {
 }
 
 /// What a program that was started with these words does: the file of a replay, the file of a server with its port,
-/// tools, tasks, cycles, chapter and period, or the status, a blank and what it tells.
+/// tools, tasks, cycles, chapter and period, the file of a description with its host and port, or the status, a blank and what
+/// it tells.
 fn told(alloc: Global, words: &[u8]) -> Result<String, AllocError> {
     match asked(alloc, read_words(&(Started(words), alloc))) {
         Ok(Options::Replay { config }) => Ok(config),
@@ -55,6 +56,7 @@ fn told(alloc: Global, words: &[u8]) -> Result<String, AllocError> {
                 period,
             },
         ) => format!(in alloc; "{config} {port} {tools} {tasks} {cycles} {chapter} {period}"),
+        Ok(Options::Describe { config, host, port }) => format!(in alloc; "{config} {host} {port}"),
         Err(e) => format!(in alloc; "{} {e}", e.status()),
     }
 }
@@ -64,9 +66,10 @@ const PROGRAM_HELP: &str = "0 A calibration slave: XCP of ASAM MCD-1, major vers
 Usage: xcpd <COMMAND>
 
 Commands:
-  replay  Answers command packets in hex, one line of standard input each, by one line of standard output each
-  serve   Answers calibration tools over TCP on 127.0.0.1, while tasks of the controller raise events
-  help    Print this message or the help of the given subcommand(s)
+  replay    Answers command packets in hex, one line of standard input each, by one line of standard output each
+  serve     Answers calibration tools over TCP on 127.0.0.1, while tasks of the controller raise events
+  describe  Prints the A2L file of the slave: ASAP2 1.6, on standard output
+  help      Print this message or the help of the given subcommand(s)
 
 Options:
   -h, --help     Print help
@@ -127,6 +130,66 @@ with one line there, and this status:
   5  mismatch chapter K: chapter K of the journal doesn't follow the one before
   5  mismatch caller C at I: what caller C was answered differs from the journal, first at its call I
 ";
+
+const DESCRIBE_HELP: &str = "0 Prints the A2L file of the slave: ASAP2 1.6, on standard output
+
+Usage: xcpd describe [OPTIONS] --config <FILE>
+
+Options:
+      --config <FILE>  The layout file, in TOML: identification, packet lengths, segments, signals, events
+      --host <HOST>    The host at which tools reach the slave [default: 127.0.0.1]
+      --port <PORT>    The port at which they do, 1,024 to 65,535 [default: 5555]
+  -h, --help           Print help
+
+Tools read it: the slave's protocol layer, lists, event channels, segments and pages, as the slave tells them.
+
+Wrong words end the program with status 1, and what is wrong with them on standard error. Any other fault ends it
+with one line there, and this status:
+  1  configuration N: the file can't be read (0), is no TOML (1), lacks a key (2), has a value of the wrong
+     type (3), out of its range (4), areas that overlap (5), or too many segments, bytes or events (6)
+  3  stream 2: writing failed
+  4  memory: an allocation failed
+";
+
+/// What the program does with words of `describe` behind a configuration file F.
+const DESCRIPTIONS: [(&[u8], &str); 9] = [
+    (b"xcpd|describe|--config|F", "F 127.0.0.1 5555"),
+    (b"xcpd|describe|--config|F|--port|1024", "F 127.0.0.1 1024"),
+    (
+        b"xcpd|describe|--host|ecu.example|--config|F",
+        "F ecu.example 5555",
+    ),
+    (
+        b"xcpd|describe|--port=65535|--host=10.0.0.7|--config=F",
+        "F 10.0.0.7 65535",
+    ),
+    (b"xcpd|describe|--help", DESCRIBE_HELP),
+    (
+        b"xcpd|describe",
+        "1 error: the following required arguments were not provided:\n  --config <FILE>\n\nUsage: xcpd describe --config <FILE>\n\nFor more information, try '--help'.\n",
+    ),
+    (
+        b"xcpd|describe|--config|F|--port|1023",
+        "1 error: invalid value '1023' for '--port <PORT>': 1023 is not in 1024..=65535\n\nFor more information, try '--help'.\n",
+    ),
+    (
+        b"xcpd|describe|--config|F|--port|65536",
+        "1 error: invalid value '65536' for '--port <PORT>': 65536 is not in 1024..=65535\n\nFor more information, try '--help'.\n",
+    ),
+    (
+        b"xcpd|describe|--config|F|more",
+        "1 error: unexpected argument 'more' found\n\nUsage: xcpd describe [OPTIONS] --config <FILE>\n\nFor more information, try '--help'.\n",
+    ),
+];
+
+#[test]
+fn the_words_of_a_description(rt: HostRuntime) -> Result<(), Fail> {
+    for (words, text) in DESCRIPTIONS {
+        let found = told(rt.alloc(), words)?;
+        assert_eq!(rt; found.as_str(), text);
+    }
+    Ok(())
+}
 
 /// What the program does with words of `serve` behind a configuration file F and a port.
 const SERVERS: [(&[u8], &str); 12] = [

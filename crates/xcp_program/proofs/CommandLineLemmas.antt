@@ -1,12 +1,12 @@
 -- What clap's matches say of the options of a subcommand.
-use Rattle.std.proofs.Common.{◌≡◌, ℕ, List, Option, Some, None, IfSome, Bor, Box, refl, sym, ◌∙◌, ap, subst}
+use Rattle.std.proofs.Common.{◌≡◌, ℕ, codes, List, Option, Some, None, IfSome, Bor, Box, refl, sym, ◌∙◌, ap, subst}
 use Rattle.std.specs.Option.{option_map, option_and_then}
 use Rattle.std.specs.Box.{box_value}
 use Rattle.clap.specs.Words.{Row, Text, first_of, subcommand_rows}
 use Rattle.clap.specs.declared.parser.matches.SubCommand.{SubCommand}
 use Rattle.clap.specs.declared.parser.matches.ArgMatches.TheViews.{out-SubCommand}
 use Rattle.std.specs.Str.Parse.{digits_value, without_leading_plus}
-use Rattle.xcp_program.specs.CommandLine.{HasNumber, HasText, Numeric, Spells}
+use Rattle.xcp_program.specs.CommandLine.{HasNumber, HasNumberIn, HasText, Numeric, Spells, SpellsIn}
 
 -- the name that stands beside a subcommand's rows
 pub name_beside_rows : {Z : Type 0} (o : Option (Box SubCommand Z)) → option_map (λ p. p.0) (subcommand_rows o) ≡ option_map (λ b. (out-SubCommand (box_value b)).name.now) o
@@ -42,9 +42,12 @@ pub same_text : {command option a b : Text} {found : Option (Text × List Row)} 
 same_text {command} {option} {a} {b} h k = some_is a b (sym h.value ∙ k.value)
 
 -- and so one number
-pub same_number : (found : Option (Text × List Row)) (option : Text) (n m : ℕ) → Spells found option n → Spells found option m → n ≡ m
-same_number found option n m h k = h.number ∙ ap (λ (t : Text). digits_value 10 (without_leading_plus t)) (same_text h.value k.value) ∙ sym k.number
+pub same_number : (found : Option (Text × List Row)) (command option : Text) (n m : ℕ) → SpellsIn found command option n → SpellsIn found command option m → n ≡ m
+same_number found command option n m h k = h.number ∙ ap (λ (t : Text). digits_value 10 (without_leading_plus t)) (same_text h.value k.value) ∙ sym k.number
 
 -- the number that an option's text spells is the one that it has
+pub has_spelt_in : (found : Option (Text × List Row)) (command : Text) (o : Numeric) (n m : ℕ) → HasNumberIn found command o n → SpellsIn found command o.name m → HasNumberIn found command o m
+has_spelt_in found command o n m h k = subst (λ (x : ℕ). HasNumberIn found command o x) (same_number found command o.name n m h.spelt k) h
+
 pub has_spelt : (found : Option (Text × List Row)) (o : Numeric) (n m : ℕ) → HasNumber found o n → Spells found o.name m → HasNumber found o m
-has_spelt found o n m h k = subst (λ (x : ℕ). HasNumber found o x) (same_number found o.name n m h.spelt k) h
+has_spelt found = has_spelt_in found (codes "serve")

@@ -1,4 +1,4 @@
--- Words in which clap finds no fault name a replay with its file, or a server with its file and its numbers.
+-- Words in which clap finds no fault name a replay with its file, a server with its file and its numbers, or a description.
 use Rattle.std.proofs.Common.{◌≡◌, inl, inr, ◌∙◌, ◌||◌, ℕ, Bool, codes, true, false, not, refl, sym, ap, subst, true≢false, List, [], ◌∷◌, drop, take, Option, Some, None, IfSome, is_some, if◌then◌else◌, option_and_then, option_map, find, slice_get, bytes_eq, unwrap_or}
 use Rattle.std.specs.Option.{option_map_or}
 use Rattle.std.proofs.lemmas.Slice.Eq.{bytes_eq-Decides}
@@ -11,12 +11,12 @@ use Rattle.clap.specs.Values.{IsUnsignedIn}
 use Rattle.clap.proofs.ValueTestLemmas.{accepts-Accepts}
 use Rattle.clap.specs.declared.builder.value_parser.ValueParser.TheVariants.{Unsigned}
 use Rattle.clap.specs.declared.error.kind.ErrorKind.TheVariants as kind
-use Rattle.xcp_program.specs.CommandLine.{HasNumber, Numeric, chapter, cycles, period, port, program, tasks, tools}
-use Rattle.xcp_program.specs.private.CommandLine.{AsksSomething}
+use Rattle.xcp_program.specs.CommandLine.{HasNumber, HasNumberIn, Numeric, chapter, cycles, host_default, named_port, period, port, program, tasks, tools}
+use Rattle.xcp_program.specs.private.CommandLine.{AsksDescription, AsksRun, AsksSomething}
 use Rattle.xcp_program.proofs.ClapRowLemmas.{Each, EachRule, Good, IsGiven, Keeps, default_row, defaults_leave, found_row, found_rule, keeps_set, no_kinds, default_among, parts, row_for}
 use Rattle.xcp_program.proofs.ClapWalkLemmas.{NoHelp, settles, walk_kept, walk_stops}
 
--- ---- the program as clap builds it: `replay`, `serve` and `help`, and the arguments of each
+-- ---- the program as clap builds it: `replay`, `serve`, `describe` and `help`, and the arguments of each
 
 abbrev shape_at : List Shape → Shape
 shape_at [] = help_shape
@@ -33,7 +33,10 @@ abbrev serve_shape : Shape
 serve_shape = shape_at (drop 1 (built program).subs)
 
 abbrev help_of : Shape
-help_of = shape_at (drop 2 (built program).subs)
+help_of = shape_at (drop 3 (built program).subs)
+
+abbrev describe_shape : Shape
+describe_shape = shape_at (drop 2 (built program).subs)
 
 -- the nth argument of a subcommand
 abbrev nth : ℕ → Shape → Rule
@@ -66,6 +69,18 @@ keeps_serve = (
           ),
         ),
       ),
+    ),
+  ),
+)
+
+keeps_describe : EachRule (Keeps (Good describe_shape.rules)) describe_shape.rules
+keeps_describe = (
+  keeps_set describe_shape.rules (nth 0 describe_shape) refl refl (λ again rows e. no_kinds _ _ e),
+  (
+    keeps_set describe_shape.rules (nth 1 describe_shape) refl refl (λ again rows e. no_kinds _ _ e),
+    (
+      keeps_set describe_shape.rules (nth 2 describe_shape) refl refl (λ again rows e. no_kinds _ _ e),
+      (λ again values rows e v. v, tt),
     ),
   ),
 )
@@ -156,7 +171,7 @@ one_wanted : (g : Bool) → (if (not g || false) then kind.MissingRequiredArgume
 one_wanted true e = refl
 one_wanted false e = absurd (no_kinds _ _ e)
 
-replay_asked : (words : List Text) → level_fault replay_shape [] nothing_held words false [] ≡ [] → AsksSomething (Some (rows_at replay_shape words))
+replay_asked : (words : List Text) → level_fault replay_shape [] nothing_held words false [] ≡ [] → AsksRun (Some (rows_at replay_shape words))
 replay_asked words e =
     let config = nth 0 replay_shape in
     let all = all_rows replay_shape words in
@@ -172,23 +187,28 @@ two_wanted true true e = (refl, refl)
 two_wanted true false e = absurd (no_kinds _ _ e)
 two_wanted false h e = absurd (no_kinds _ _ e)
 
--- an option of `serve` with its text has its number
-number_stands : (words : List Text) (a : Rule) (o : Numeric) → a.id ≡ o.name → ((text : Text) → value_passes a text ≡ true → IsUnsignedIn o.least o.most text)
-    → Stands a (all_rows serve_shape words) o.default → (n : ℕ) × HasNumber (Some (rows_at serve_shape words)) o n
-number_stands words a o same bounds h =
-    let found : Option (Text × List Row) = Some (rows_at serve_shape words) in
+-- an option of a subcommand with its text has its number
+number_among : (s : Shape) (command : Text) (words : List Text) → (rows_at s words).0 ≡ command → (rows_at s words).1 ≡ all_rows s words → (a : Rule) (o : Numeric) → a.id ≡ o.name
+    → ((text : Text) → value_passes a text ≡ true → IsUnsignedIn o.least o.most text)
+    → Stands a (all_rows s words) o.default → (n : ℕ) × HasNumberIn (Some (rows_at s words)) command o n
+number_among s command words named all a o same bounds h =
     let range = bounds h.text h.passes in
-    let value : first_of o.name (all_rows serve_shape words) ≡ Some h.text = subst (λ (id : Text). first_of id (all_rows serve_shape words) ≡ Some h.text) same h.value in
-    let otherwise : is_given o.name (all_rows serve_shape words) ≡ false → o.default ≡ Some h.text =
-    subst (λ (id : Text). is_given id (all_rows serve_shape words) ≡ false → o.default ≡ Some h.text) same h.otherwise in (
+    let value : first_of o.name (rows_at s words).1 ≡ Some h.text = ap (first_of o.name) all ∙ subst (λ (id : Text). first_of id (all_rows s words) ≡ Some h.text) same h.value in
+    let otherwise : is_given o.name (all_rows s words) ≡ false → o.default ≡ Some h.text =
+    subst (λ (id : Text). is_given id (all_rows s words) ≡ false → o.default ≡ Some h.text) same h.otherwise in (
       _,
       record {
-        spelt = record { text = h.text; value = record { name = refl; value = value }; digits = range.0; number = refl };
+        spelt = record { text = h.text; value = record { name = ap Some named; value = value }; digits = range.0; number = refl };
         least = range.2;
         most = range.3;
-        otherwise = otherwise;
+        otherwise = λ none. otherwise (sym (ap (is_given o.name) all) ∙ none);
       },
     )
+
+-- and so one of `serve`
+number_stands : (words : List Text) (a : Rule) (o : Numeric) → a.id ≡ o.name → ((text : Text) → value_passes a text ≡ true → IsUnsignedIn o.least o.most text)
+    → Stands a (all_rows serve_shape words) o.default → (n : ℕ) × HasNumber (Some (rows_at serve_shape words)) o n
+number_stands words = number_among serve_shape (codes "serve") words refl refl
 
 module _ (words : List Text) (e : level_fault serve_shape [] nothing_held words false [] ≡ []) where
   wants : (is_given (codes "config") (all_rows serve_shape words) ≡ true) × (is_given (codes "port") (all_rows serve_shape words) ≡ true)
@@ -230,7 +250,7 @@ module _ (words : List Text) (e : level_fault serve_shape [] nothing_held words 
       (default_among (take 6 serve_shape.rules) (drop 7 serve_shape.rules) (nth 6 serve_shape) (codes "0") (given_rows serve_shape words) refl refl refl)
       (good_row (nth 6 serve_shape) refl) refl
 
-  serve_asked : AsksSomething (Some (rows_at serve_shape words))
+  serve_asked : AsksRun (Some (rows_at serve_shape words))
   serve_asked =
       let p = number_stands words (nth 1 serve_shape) port refl (λ text h. accepts-Accepts false (Unsigned 1024 65535) text h) port_stands in
       let t = number_stands words (nth 2 serve_shape) tools refl (λ text h. accepts-Accepts false (Unsigned 1 2) text h) tools_stands in
@@ -257,6 +277,45 @@ module _ (words : List Text) (e : level_fault serve_shape [] nothing_held words 
         },
       )
 
+-- ---- `describe`
+
+some_text : (a b : Text) → Some a ≡ Some b → b ≡ a
+some_text a b e = cc
+
+module _ (words : List Text) (e : level_fault describe_shape [] nothing_held words false [] ≡ []) where
+  file_given : is_given (codes "config") (all_rows describe_shape words) ≡ true
+  file_given = one_wanted _ (checked describe_shape words keeps_describe e)
+
+  described_row : (a : Rule) → arg_by_id describe_shape.rules a.id ≡ Some a → IfSome (row_for a.id (given_rows describe_shape words)) (IsGiven a)
+  described_row = row_is_good describe_shape words keeps_describe e
+
+  file_stands : Stands (nth 0 describe_shape) (all_rows describe_shape words) None
+  file_stands = wanted_stands (nth 0 describe_shape) (given_rows describe_shape words) (all_rows describe_shape words)
+      (defaults_leave (codes "config") describe_shape.rules (given_rows describe_shape words) refl) (described_row (nth 0 describe_shape) refl) file_given
+
+  host_stands : Stands (nth 1 describe_shape) (all_rows describe_shape words) (Some host_default)
+  host_stands = default_stands (nth 1 describe_shape) host_default (given_rows describe_shape words) (all_rows describe_shape words)
+      (default_among (take 1 describe_shape.rules) (drop 2 describe_shape.rules) (nth 1 describe_shape) host_default (given_rows describe_shape words) refl refl refl)
+      (described_row (nth 1 describe_shape) refl) refl
+
+  named_port_stands : Stands (nth 2 describe_shape) (all_rows describe_shape words) named_port.default
+  named_port_stands = default_stands (nth 2 describe_shape) (codes "5555") (given_rows describe_shape words) (all_rows describe_shape words)
+      (default_among (take 2 describe_shape.rules) (drop 3 describe_shape.rules) (nth 2 describe_shape) (codes "5555") (given_rows describe_shape words) refl refl refl)
+      (described_row (nth 2 describe_shape) refl) refl
+
+  description_asked : AsksDescription (Some (rows_at describe_shape words))
+  description_asked =
+      let p = number_among describe_shape (codes "describe") words refl refl (nth 2 describe_shape) named_port refl (λ text h. accepts-Accepts false (Unsigned 1024 65535) text h) named_port_stands in (
+        file_stands.text,
+        host_stands.text,
+        p.0,
+        record {
+          config = record { text = record { name = refl; value = file_stands.value }; given = file_given };
+          host = record { text = record { name = refl; value = host_stands.value }; otherwise = λ none. some_text _ _ (host_stands.otherwise none) };
+          port = p.1;
+        },
+      )
+
 -- ---- the program's own words
 
 first_true : (b : Bool) → (b || false) ≡ true → b ≡ true
@@ -272,19 +331,20 @@ wanted rows false e = absurd (no_kinds _ _ e)
 
 entered_asks : (stop : Option (Text × List Text)) → NoHelp stop → entered_fault (built program) stop ≡ [] → is_some (entered (built program) stop) ≡ true → AsksSomething (entered (built program) stop)
 entered_asks None n f h = absurd (true≢false (sym h))
-entered_asks (Some p) n f h = go (answers_to p.0 (label_of replay_shape)) (answers_to p.0 (label_of serve_shape)) (answers_to p.0 (label_of help_of)) (turned p.0 (codes "help") n) f h
+entered_asks (Some p) n f h = go (answers_to p.0 (label_of replay_shape)) (answers_to p.0 (label_of serve_shape)) (answers_to p.0 (label_of describe_shape)) (answers_to p.0 (label_of help_of)) (turned p.0 (codes "help") n) f h
   where
-    named : Bool → Bool → Bool → Option Shape
-    named x y z = if x then Some replay_shape else (if y then Some serve_shape else (if z then Some help_of else None))
+    named : Bool → Bool → Bool → Bool → Option Shape
+    named x y d z = if x then Some replay_shape else (if y then Some serve_shape else (if d then Some describe_shape else (if z then Some help_of else None)))
 
-    go : (x y z : Bool) → (z ≡ true → ⊥)
-        → option_map_or (λ s. level_fault s [] nothing_held p.1 false []) (named x y z) [] ≡ []
-        → is_some (option_map (λ s. rows_at s p.1) (named x y z)) ≡ true
-        → AsksSomething (option_map (λ s. rows_at s p.1) (named x y z))
-    go true y z other f h = replay_asked p.1 f
-    go false true z other f h = serve_asked p.1 f
-    go false false true other f h = absurd (other refl)
-    go false false false other f h = absurd (true≢false (sym h))
+    go : (x y d z : Bool) → (z ≡ true → ⊥)
+        → option_map_or (λ s. level_fault s [] nothing_held p.1 false []) (named x y d z) [] ≡ []
+        → is_some (option_map (λ s. rows_at s p.1) (named x y d z)) ≡ true
+        → AsksSomething (option_map (λ s. rows_at s p.1) (named x y d z))
+    go true y d z other f h = inl (replay_asked p.1 f)
+    go false true d z other f h = inl (serve_asked p.1 f)
+    go false false true z other f h = inr (description_asked p.1 f)
+    go false false false true other f h = absurd (other refl)
+    go false false false false other f h = absurd (true≢false (sym h))
 
 -- words without a fault ask for something
 pub words_ask : (words : List Text) → fault_of program words ≡ [] → AsksSomething (subcommand_of program words)

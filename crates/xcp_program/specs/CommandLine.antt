@@ -5,7 +5,7 @@ use Rattle.std.specs.Str.Parse.{IsNumeral, digits_value, without_leading_plus}
 use Rattle.clap.specs.Takes.{is_given}
 use Rattle.clap.specs.Words.{App, IsAmong, Kinds, Row, Rule, Text, first_of, kind_of, new_app, new_rule, with_rule, with_subcommand}
 use Rattle.xcp_program.specs.declared.purpose.Options.{Options}
-use Rattle.xcp_program.specs.declared.purpose.Options.TheVariants.{Replay, Serve}
+use Rattle.xcp_program.specs.declared.purpose.Options.TheVariants.{Describe, Replay, Serve}
 use Rattle.xcp_program.specs.declared.purpose.OptionsFault.{OptionsFault}
 use Rattle.xcp_program.specs.declared.purpose.OptionsFault.TheVariants.{Memory, Words}
 use Rattle.xcp_program.specs.declared.words.Unasked.{Unasked}
@@ -63,6 +63,21 @@ numeric_rule o = record (new_rule o.name) {
 abbrev pub serve_app : App
 serve_app = with_rule (with_rule (with_rule (with_rule (with_rule (with_rule (with_rule (new_app (codes "serve")) config_rule) (numeric_rule port)) (numeric_rule tools)) (numeric_rule tasks)) (numeric_rule cycles)) (numeric_rule chapter)) (numeric_rule period)
 
+-- `--host HOST`, which needn't be there
+abbrev pub host_default : Text
+host_default = codes "127.0.0.1"
+
+abbrev pub host_rule : Rule
+host_rule = record (new_rule (codes "host")) { long = Some (codes "host"); action = Some Set; value_names = 1; defaults = host_default ∷ [] }
+
+-- the port that a description names
+abbrev pub named_port : Numeric
+named_port = record { name = codes "port"; least = 1024; most = 65535; default = Some (codes "5555") }
+
+-- `describe --config FILE [--host HOST] [--port PORT]`
+abbrev pub describe_app : App
+describe_app = with_rule (with_rule (with_rule (new_app (codes "describe")) config_rule) host_rule) (numeric_rule named_port)
+
 abbrev pub with_a_version : App → App
 with_a_version a = record a { top = record a.top { has_version = true } }
 
@@ -71,7 +86,7 @@ with_a_subcommand_wanted a = record a { top = record a.top { subcommand_required
 
 -- the program, which has a version and wants one of its subcommands
 abbrev pub program : App
-program = with_subcommand (with_subcommand (with_a_subcommand_wanted (with_a_version (new_app (codes "xcpd")))) replay_app.top) serve_app.top
+program = with_subcommand (with_subcommand (with_subcommand (with_a_subcommand_wanted (with_a_version (new_app (codes "xcpd")))) replay_app.top) serve_app.top) describe_app.top
 
 -- the words after a subcommand give this option
 abbrev pub gives : Text → Option (Text × List Row) → Bool
@@ -91,19 +106,26 @@ pub record HasFile (found : Option (Text × List Row)) (command file : Text) : T
 abbrev pub IsReplay : Option (Text × List Row) → Text → Type 0
 IsReplay found file = HasFile found (codes "replay") file
 
--- an option of `serve` has a text of decimal digits (a plus may stand before them), and this is their number
-pub record Spells (found : Option (Text × List Row)) (option : Text) (n : ℕ) : Type 0 where
+-- an option of a subcommand has a text of decimal digits (a plus may stand before them), and this is their number
+pub record SpellsIn (found : Option (Text × List Row)) (command option : Text) (n : ℕ) : Type 0 where
   pub text : Text
-  pub value : HasText found (codes "serve") option text
+  pub value : HasText found command option text
   pub digits : IsNumeral 10 (without_leading_plus text)
   pub number : n ≡ digits_value 10 (without_leading_plus text)
 
 -- the same, in the option's bounds; where the words don't give the option, the text is its default (an option with none is given)
-pub record HasNumber (found : Option (Text × List Row)) (o : Numeric) (n : ℕ) : Type 0 where
-  pub spelt : Spells found o.name n
+pub record HasNumberIn (found : Option (Text × List Row)) (command : Text) (o : Numeric) (n : ℕ) : Type 0 where
+  pub spelt : SpellsIn found command o.name n
   pub least : o.least ≤ n
   pub most : n ≤ o.most
   pub otherwise : gives o.name found ≡ false → o.default ≡ Some spelt.text
+
+-- the same of an option of `serve`
+abbrev pub Spells : Option (Text × List Row) → Text → ℕ → Type 0
+Spells found option n = SpellsIn found (codes "serve") option n
+
+abbrev pub HasNumber : Option (Text × List Row) → Numeric → ℕ → Type 0
+HasNumber found o n = HasNumberIn found (codes "serve") o n
 
 -- a subcommand with its rows is a server with this configuration file and these numbers
 pub record IsServe (found : Option (Text × List Row)) (file : Text) (p t k n m ms : ℕ) : Type 0 where
@@ -115,16 +137,29 @@ pub record IsServe (found : Option (Text × List Row)) (file : Text) (p t k n m 
   pub chapter : HasNumber found chapter m
   pub period : HasNumber found period ms
 
+-- `--host` has this text; where the words don't give it, that is its default
+pub record HasHost (found : Option (Text × List Row)) (host : Text) : Type 0 where
+  pub text : HasText found (codes "describe") (codes "host") host
+  pub otherwise : gives (codes "host") found ≡ false → host ≡ host_default
+
+-- a subcommand with its rows is a description by this configuration file, for this host and port
+pub record IsDescription (found : Option (Text × List Row)) (file address : Text) (p : ℕ) : Type 0 where
+  pub config : HasFile found (codes "describe") file
+  pub host : HasHost found address
+  pub port : HasNumberIn found (codes "describe") named_port p
+
 -- what a subcommand with its rows asks for
 abbrev pub Asks : Option (Text × List Row) → Options → Type 0
 Asks found (Replay config) = IsReplay found (string_bytes config)
 Asks found (Serve config p t k n m ms) = IsServe found (string_bytes config) p t k n m ms
+Asks found (Describe config host p) = IsDescription found (string_bytes config) (string_bytes host) p
 
 -- each number is in its option's bounds
 abbrev pub InRange : Options → Type 0
 InRange (Replay config) = ⊤
 InRange (Serve config p t k n m ms) = (port.least ≤ p) × (p ≤ port.most) × (tools.least ≤ t) × (t ≤ tools.most) × (tasks.least ≤ k) × (k ≤ tasks.most) × (cycles.least ≤ n) × (n ≤ cycles.most)
     × (chapter.least ≤ m) × (m ≤ chapter.most) × (period.least ≤ ms) × (ms ≤ period.most)
+InRange (Describe config host p) = (named_port.least ≤ p) × (p ≤ named_port.most)
 
 -- Why the words ask for nothing, by the kinds of error of the first fault that clap finds in them (a wish for help is one): the error
 -- has one of these kinds. Memory: an allocation may fail at any place.

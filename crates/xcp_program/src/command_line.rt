@@ -4,9 +4,9 @@ ghost use Rattle.std.specs.Prelude.{IfOk, IfErr, IfSome, string_bytes};
 ghost use Rattle.clap.specs.Words.{app_of, kind_of, rule_of, subcommand_of, subcommand_rows_of, takes};
 ghost use Rattle.clap.specs.Words.{fault_of as faults_in};
 ghost use Rattle.clap.specs.declared.builder.command.Command.TheViews.{out-Command as fields_of};
-ghost use Rattle.xcp_program.specs.CommandLine.{Asks, InRange, HasText, IsMistake, Spells};
-ghost use Rattle.xcp_program.specs.private.CommandLine.{AsksServe, AsksSomething};
-ghost use Rattle.xcp_program.specs.CommandLine.{config_rule, numeric_rule, program, replay_app, serve_app};
+ghost use Rattle.xcp_program.specs.CommandLine.{Asks, InRange, HasText, IsMistake, Spells, SpellsIn};
+ghost use Rattle.xcp_program.specs.private.CommandLine.{AsksDescription, AsksServe, AsksSomething};
+ghost use Rattle.xcp_program.specs.CommandLine.{config_rule, describe_app, host_rule, numeric_rule, program, replay_app, serve_app};
 
 use crate::purpose::{Options, OptionsFault};
 use clap::builder::ValueParser;
@@ -52,7 +52,18 @@ with one line there, and this status:
   5  mismatch chapter K: chapter K of the journal doesn't follow the one before
   5  mismatch caller C at I: what caller C was answered differs from the journal, first at its call I";
 
-/// The option `--config`, which both subcommands want.
+/// What help says below the options of a description.
+const FAULTS: &str =
+    "Tools read it: the slave's protocol layer, lists, event channels, segments and pages, as the slave tells them.
+
+Wrong words end the program with status 1, and what is wrong with them on standard error. Any other fault ends it
+with one line there, and this status:
+  1  configuration N: the file can't be read (0), is no TOML (1), lacks a key (2), has a value of the wrong
+     type (3), out of its range (4), areas that overlap (5), or too many segments, bytes or events (6)
+  3  stream 2: writing failed
+  4  memory: an allocation failed";
+
+/// The option `--config`, which each subcommand wants.
 fn config_option<'a>(alloc: Global) -> Arg<'a>
     ensures rule { rule_of result ≡ config_rule }
     ensures local { result.global ≡ false }
@@ -146,18 +157,52 @@ fn serve_command<'a>(alloc: Global) -> Result<Command<'a>, AllocError>
     Ok(serve.arg(period)?)
 }
 
+/// The option `--host`.
+fn host_option<'a>(alloc: Global) -> Arg<'a>
+    ensures rule { rule_of result ≡ host_rule }
+    ensures local { result.global ≡ false }
+{
+    Arg::new(alloc, "host")
+        .long("host")
+        .value_name("HOST")
+        .action(ArgAction::Set)
+        .default_value("127.0.0.1")
+        .help("The host at which tools reach the slave")
+}
+
+/// The subcommand `describe`.
+fn describe_command<'a>(alloc: Global) -> Result<Command<'a>, AllocError>
+    ensures app { IfOk result (λ c. app_of c ≡ describe_app) }
+    ensures local { IfOk result (λ c. (fields_of c).has_globals ≡ false) }
+{
+    let describe = Command::new(alloc, "describe")
+        .about("Prints the A2L file of the slave: ASAP2 1.6, on standard output")
+        .after_help(FAULTS);
+    let describe = describe.arg(config_option(alloc))?;
+    let describe = describe.arg(host_option(alloc))?;
+    let port = numeric(alloc, "port", "PORT", 1_024, 65_535, Some("5555")).help(
+        "The port at which they do, 1,024 to 65,535",
+    );
+    Ok(describe.arg(port)?)
+}
+
 /// The program's command line.
 fn program<'a>(alloc: Global) -> Result<Command<'a>, AllocError>
     ensures { IfOk result (λ c. app_of c ≡ program) }
 {
     let replay = replay_command(alloc)?;
     let serve = serve_command(alloc)?;
+    let describe = describe_command(alloc)?;
     let top = Command::new(alloc, "xcpd")
         .about("A calibration slave: XCP of ASAM MCD-1, major version 1")
         .version(VERSION)
         .after_help(STATUS)
         .subcommand_required(true);
-    Ok(top.subcommand(replay)?.subcommand(serve)?)
+    Ok(
+        top.subcommand(replay)?
+            .subcommand(serve)?
+            .subcommand(describe)?,
+    )
 }
 
 /// The text of an option of a subcommand, if these matches are of that one.
@@ -177,7 +222,15 @@ fn number_in(matches: &ArgMatches<'_>, option: &str) -> u32
     requires { (n : ℕ) × Spells (subcommand_rows_of matches.now) option.now n × (n < 2 ^ 32) }
     ensures { Spells (subcommand_rows_of matches.now) option.now result }
 {
-    let Some(text) = text_in(matches, "serve", option) else {
+    decimal_in(matches, "serve", option)
+}
+
+/// The number of an option of a subcommand.
+fn decimal_in(matches: &ArgMatches<'_>, command: &str, option: &str) -> u32
+    requires { (n : ℕ) × SpellsIn (subcommand_rows_of matches.now) command.now option.now n × (n < 2 ^ 32) }
+    ensures { SpellsIn (subcommand_rows_of matches.now) command.now option.now result }
+{
+    let Some(text) = text_in(matches, command, option) else {
         unreachable!()
     };
     let Ok(number) = text.parse::<u32>() else {
@@ -225,7 +278,10 @@ fn asked(alloc: Global, matches: &ArgMatches<'_>) -> Result<Options, OptionsFaul
             let config = String::from_str(alloc, config)?;
             Ok(Options::Replay { config })
         }
-        None => server_asked(alloc, matches),
+        None => match text_in(matches, "describe", "config") {
+            Some(_) => description_asked(alloc, matches),
+            None => server_asked(alloc, matches),
+        },
     }
 }
 
@@ -246,5 +302,26 @@ fn server_asked(alloc: Global, matches: &ArgMatches<'_>) -> Result<Options, Opti
         cycles: number_in(matches, "cycles"),
         chapter: number_in(matches, "chapter"),
         period: number_in(matches, "period"),
+    })
+}
+
+/// What the matches of a description ask for.
+fn description_asked(alloc: Global, matches: &ArgMatches<'_>) -> Result<Options, OptionsFault>
+    requires { AsksDescription (subcommand_rows_of matches.now) }
+    ensures asked { IfOk result (λ o. Asks (subcommand_rows_of matches.now) o) }
+    ensures refused { IfErr result (λ e. e ≡ OptionsFault.Memory) }
+{
+    let Some(config) = text_in(matches, "describe", "config") else {
+        unreachable!()
+    };
+    let Some(host) = text_in(matches, "describe", "host") else {
+        unreachable!()
+    };
+    let config = String::from_str(alloc, config)?;
+    let host = String::from_str(alloc, host)?;
+    Ok(Options::Describe {
+        config,
+        host,
+        port: decimal_in(matches, "describe", "port") as u16,
     })
 }

@@ -29,6 +29,15 @@ pub enum Options {
         /// The milliseconds from one cycle of a task to its next, 0 to 1,000.
         period: u32,
     },
+    /// To describe, for tools, the slave that this file describes.
+    Describe {
+        /// The name of the configuration file.
+        config: String,
+        /// The host at which tools reach the slave.
+        host: String,
+        /// The port at which they do, 1,024 to 65,535.
+        port: u16,
+    },
 }
 
 /// Why the words ask for nothing that the program does.

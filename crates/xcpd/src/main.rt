@@ -1,5 +1,5 @@
-//! The XCP slave as a program: `xcpd replay` and `xcpd serve`. What it does is in `xcp_program` and `xcp_server`; here are the
-//! system's words, the file, the streams, the port and the status.
+//! The XCP slave as a program: `xcpd replay`, `xcpd serve` and `xcpd describe`. What it does is in `xcp_program`, `xcp_server`
+//! and `xcp_describe`; here are the system's words, the file, the streams, the port and the status.
 #![tactic(auto)]
 
 ghost use Rattle.std.specs.Prelude.{◌≡◌, ◌≤◌, ◌+◌, IfOk, vec_len};
@@ -8,6 +8,7 @@ use std::fs::File;
 use std::io;
 use std::net::TcpListener;
 use std::process::ExitCode;
+use xcp_describe::{DescribeError, describe};
 use xcp_framing::Watched;
 use xcp_locked::Unnamed;
 use xcp_program::{Fault, Options, Unasked, asked, layout_of, read_text, read_words, replay};
@@ -30,6 +31,29 @@ fn run(rt: &HostRuntime, path: &str) -> Result<u64, Fault> {
     let mut reader = Watched::new(rt.reader());
     let mut writer = Watched::new(io::writer(rt));
     replay(rt.alloc(), text.as_str(), &mut reader, &mut writer, TURNS)
+}
+
+/// Prints the A2L file of the configuration file's slave.
+fn print_description(
+    rt: &HostRuntime,
+    path: &str,
+    host: &str,
+    port: u16,
+) -> Result<(), DescribeError> {
+    let text = text_of(rt, path)?;
+    let mut writer = Watched::new(io::writer(rt));
+    describe(rt.alloc(), text.as_str(), host, port, &mut writer)
+}
+
+/// The same, with the fault on standard error, if there is one, and the status.
+fn describe_or_tell(rt: &HostRuntime, path: &str, host: &str, port: u16) -> ExitCode {
+    match print_description(rt, path, host, port) {
+        Ok(()) => ExitCode::from(0),
+        Err(fault) => {
+            let _ = eprintln!(rt; "xcpd: {fault}");
+            ExitCode::from(fault.status())
+        }
+    }
 }
 
 /// A slave of the configuration file's layout with a caller for each tool, task and pump, and the
@@ -104,6 +128,9 @@ fn main(rt: HostRuntime) -> ExitCode {
             }
             Err(fault) => Some(fault),
         },
+        Ok(Options::Describe { config, host, port }) => {
+            return describe_or_tell(&rt, config.as_str(), host.as_str(), port);
+        }
         Err(unasked) => return tell(&rt, &unasked),
     };
     match fault {

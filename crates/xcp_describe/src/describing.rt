@@ -1,0 +1,187 @@
+//! The whole description.
+ghost use Rattle.std.specs.Prelude.{◌≡◌, ◌≢◌, ◌⊎◌, ◌+◌, ℕ, List, OnOk, OnErr, IfErr};
+ghost use Rattle.std.specs.Io.KnownBytes.{Appends};
+ghost use Rattle.xcp_framing.specs.Prefix.{AppendsFront};
+ghost use Rattle.xcp_memory.specs.Layout.{LayoutValue};
+ghost use Rattle.xcp_config.specs.ConfigText.{HasLayout};
+ghost use Rattle.xcp_program.specs.ReplayOutcome.{IsFault};
+
+use crate::aml::AML;
+use crate::asking::Asked;
+use crate::daq::Daq;
+use crate::memory::Paging;
+use crate::naming::put_tables;
+use crate::protocol::Protocol;
+use crate::refusal::DescribeError;
+use crate::tables::Tables;
+use crate::text::put_quoted;
+use std::alloc::{AllocError, Global};
+use std::io::Write;
+use toml::Value;
+use xcp_framing::Watched;
+use xcp_memory::Layout;
+use xcp_packet::{Command, Packet};
+use xcp_program::{Fault, layout_of};
+
+/// Where the signals of a layout stand: no command tells it.
+#[derive(Clone, Copy)]
+struct Signals {
+    address: u32,
+    length: usize,
+}
+
+/// Writes the A2L description of the slave that the text of a layout file describes, for tools that reach it at this host and
+/// port. The whole text is made before any of it is written.
+///
+/// Faults: `Program` of `Configuration` first, 1 to 6, where the text describes no layout; then `Parameter` and `Measurement` of
+/// the first entry that has one, the parameters first; `Program` of `Memory` where an allocation fails, of `Stream(2)` where a
+/// write failed.
+pub fn describe<W: Write>(
+    alloc: Global,
+    config: &str,
+    host: &str,
+    port: u16,
+    writer: &mut Watched<W>,
+) -> Result<(), DescribeError>
+    // What is written is one text, all of it or a front of it, and of a layout alone.
+    ensures written { OnOk result ((text : List ℕ) × Appends (W.contents writer.old.inner) (W.contents writer.new.inner) text) }
+    ensures layout { OnOk result ((l : LayoutValue) × HasLayout config.now l) }
+    ensures configuration { (f : Fault) → result ≡ Err (DescribeError.Program f) → (f ≡ Fault.Memory) ⊎ (f ≡ Fault.Stream 2) ⊎ IsFault config.now f }
+    // A fault of the writer comes exactly where a write failed, and any other before anything is written.
+    ensures write { result ≡ Err (DescribeError.Program (Fault.Stream 2)) → writer.new.failures ≡ writer.old.failures + 1 }
+    ensures front { result ≡ Err (DescribeError.Program (Fault.Stream 2)) → (text : List ℕ) × AppendsFront (W.contents writer.old.inner) (W.contents writer.new.inner) text }
+    ensures quiet { result ≢ Err (DescribeError.Program (Fault.Stream 2)) → writer.new.failures ≡ writer.old.failures }
+    ensures unwritten { OnErr result (result ≢ Err (DescribeError.Program (Fault.Stream 2)) → writer.new ≡ writer.old) }
+{
+    let layout = layout_of(alloc, config)?;
+    let text = described(alloc, config, layout, host, port)?;
+    match writer.write_all(text.as_bytes()) {
+        Ok(()) => Ok(()),
+        Err(_) => Err(DescribeError::Program(Fault::Stream(2))),
+    }
+}
+
+/// The text of the description, for the layout that a layout file describes.
+fn described(
+    alloc: Global,
+    config: &str,
+    layout: Layout,
+    host: &str,
+    port: u16,
+) -> Result<String, DescribeError>
+    ensures { IfErr result (λ e. (f : Fault) → e ≡ DescribeError.Program f → f ≡ Fault.Memory) }
+{
+    let Ok(table) = toml::table_from_str(alloc, config) else {
+        return Err(DescribeError::Program(Fault::Memory));
+    };
+    let document = Value::Table(table);
+    let tables = Tables::read(alloc, &document, &layout)?;
+    match text_of(alloc, layout, &tables, host, port) {
+        Ok(text) => Ok(text),
+        Err(_) => Err(DescribeError::Program(Fault::Memory)),
+    }
+}
+
+fn text_of(
+    alloc: Global,
+    layout: Layout,
+    tables: &Tables<'_>,
+    host: &str,
+    port: u16,
+) -> Result<String, AllocError> {
+    let signals = Signals {
+        address: layout.signals_address(),
+        length: layout.signals_length(),
+    };
+    let mut asked = Asked::new(alloc, layout)?;
+    let mut text = String::new(alloc);
+    put_module(&mut asked, signals, host, port, &mut text)?;
+    put_tables(tables, &mut text)?;
+    text.push_str("  /end MODULE\n/end PROJECT\n")?;
+    Ok(text)
+}
+
+/// Appends the blocks PROJECT and MODULE, but for their ends and what stands before these.
+fn put_module(
+    asked: &mut Asked,
+    signals: Signals,
+    host: &str,
+    port: u16,
+    text: &mut String,
+) -> Result<(), AllocError> {
+    let protocol = Protocol::ask(asked);
+    let id = identification(asked);
+    writeln!(text, "ASAP2_VERSION 1 60")?;
+    text.push_str("/begin PROJECT xcpd ")?;
+    put_quoted(text, id.as_slice(), id.len())?;
+    text.push_str("\n  /begin MODULE slave ")?;
+    put_quoted(text, id.as_slice(), id.len())?;
+    text.push_str(AML)?;
+    put_common(&protocol, text)?;
+    put_memory(asked, signals, text)?;
+    put_interface(asked, &protocol, host, port, text)
+}
+
+/// The identification: GET_ID points the MTA to it. It has fewer bytes than one UPLOAD reads.
+fn identification(asked: &mut Asked) -> Packet {
+    let id = asked.ask(&Command::GetId { kind: 0 });
+    asked.upload(u8::try_from(id.double(4)).unwrap_or(u8::MAX))
+}
+
+/// Appends the block MOD_COMMON. Numbers may stand at any address.
+fn put_common(protocol: &Protocol, text: &mut String) -> Result<(), AllocError> {
+    writeln!(text, "    /begin MOD_COMMON \"\"")?;
+    writeln!(text, "      BYTE_ORDER {}", protocol.byte_order())?;
+    writeln!(text, "      ALIGNMENT_BYTE 1")?;
+    writeln!(text, "      ALIGNMENT_WORD 1")?;
+    writeln!(text, "      ALIGNMENT_LONG 1")?;
+    writeln!(text, "      ALIGNMENT_FLOAT32_IEEE 1")?;
+    writeln!(text, "      ALIGNMENT_FLOAT64_IEEE 1")?;
+    writeln!(text, "    /end MOD_COMMON")
+}
+
+/// Appends the block MOD_PAR.
+fn put_memory(asked: &mut Asked, signals: Signals, text: &mut String) -> Result<(), AllocError> {
+    writeln!(text, "    /begin MOD_PAR \"\"")?;
+    Paging::ask(asked).put_segments(asked, text)?;
+    writeln!(text, "      /begin MEMORY_SEGMENT signals \"\"")?;
+    writeln!(
+        text,
+        "        VARIABLES RAM INTERN 0x{:08X} 0x{:X} -1 -1 -1 -1 -1",
+        signals.address, signals.length
+    )?;
+    writeln!(text, "      /end MEMORY_SEGMENT")?;
+    writeln!(text, "    /end MOD_PAR")
+}
+
+/// Appends the block IF_DATA of the whole module.
+fn put_interface(
+    asked: &mut Asked,
+    protocol: &Protocol,
+    host: &str,
+    port: u16,
+    text: &mut String,
+) -> Result<(), AllocError> {
+    writeln!(text, "    /begin IF_DATA XCP")?;
+    protocol.put(asked, text)?;
+    Daq::ask(asked).put(asked, text)?;
+    Paging::ask(asked).put(text)?;
+    writeln!(text, "      /begin XCP_ON_TCP_IP")?;
+    writeln!(text, "        0x{:02X}00 /* version */", protocol.transport)?;
+    writeln!(text, "        {port} /* port */")?;
+    write!(text, "        {} ", kind_of(host))?;
+    put_quoted(text, host.as_bytes(), host.len())?;
+    writeln!(text, "\n      /end XCP_ON_TCP_IP\n    /end IF_DATA")
+}
+
+/// What names a host: its address, if it has digits and points alone and as few as an address has, or its name.
+fn kind_of(host: &str) -> &'static str {
+    let is_address = host
+        .bytes()
+        .all(|byte| byte == b'.' || byte.is_ascii_digit());
+    if is_address && host.len() <= 15 {
+        "ADDRESS"
+    } else {
+        "HOST_NAME"
+    }
+}

@@ -1,0 +1,75 @@
+//! The types of values.
+
+/// The type of a value in memory, as ASAP2 names it.
+#[derive(Clone, Copy, Debug, PartialEq, Eq)]
+pub(crate) enum Kind {
+    UByte,
+    SByte,
+    UWord,
+    SWord,
+    ULong,
+    SLong,
+    Float32,
+    Float64,
+}
+
+/// All types.
+pub(crate) static KINDS: [Kind; 8] = [
+    Kind::UByte,
+    Kind::SByte,
+    Kind::UWord,
+    Kind::SWord,
+    Kind::ULong,
+    Kind::SLong,
+    Kind::Float32,
+    Kind::Float64,
+];
+
+impl Kind {
+    /// The type with this name.
+    pub(crate) fn named(name: &str) -> Option<Kind> {
+        for kind in KINDS.iter() {
+            if kind.name() == name {
+                return Some(*kind);
+            }
+        }
+        None
+    }
+
+    pub(crate) fn name(self) -> &'static str {
+        match self {
+            Kind::UByte => "UBYTE",
+            Kind::SByte => "SBYTE",
+            Kind::UWord => "UWORD",
+            Kind::SWord => "SWORD",
+            Kind::ULong => "ULONG",
+            Kind::SLong => "SLONG",
+            Kind::Float32 => "FLOAT32_IEEE",
+            Kind::Float64 => "FLOAT64_IEEE",
+        }
+    }
+
+    /// How many bytes a value has.
+    pub(crate) fn size(self) -> u8 {
+        match self {
+            Kind::UByte | Kind::SByte => 1,
+            Kind::UWord | Kind::SWord => 2,
+            Kind::ULong | Kind::SLong | Kind::Float32 => 4,
+            Kind::Float64 => 8,
+        }
+    }
+
+    /// The least and the greatest value.
+    pub(crate) fn bounds(self) -> (f64, f64) {
+        match self {
+            Kind::UByte => (0.0, 255.0),
+            Kind::SByte => (-128.0, 127.0),
+            Kind::UWord => (0.0, 65_535.0),
+            Kind::SWord => (-32_768.0, 32_767.0),
+            Kind::ULong => (0.0, 4_294_967_295.0),
+            Kind::SLong => (-2_147_483_648.0, 2_147_483_647.0),
+            Kind::Float32 => (-3.4028234663852886e38, 3.4028234663852886e38),
+            Kind::Float64 => (-1.7976931348623157e308, 1.7976931348623157e308),
+        }
+    }
+}

@@ -1,0 +1,22 @@
+//! The A2L description (ASAP2 1.6) of a slave, as calibration tools read it.
+//!
+//! Whatever it says of the protocol was asked: [`describe`] makes a slave of the layout, and prints what
+//! this answers to CONNECT and to the commands that tell of modes, lists, channels, segments and pages.
+#![tactic(auto)]
+
+mod aml;
+mod asking;
+mod commands;
+mod daq;
+mod describing;
+mod entry;
+mod kind;
+mod memory;
+mod naming;
+mod protocol;
+mod refusal;
+mod tables;
+mod text;
+
+pub use describing::describe;
+pub use refusal::{DescribeError, Why};
