@@ -1,0 +1,12 @@
+//! Rows of a journal's file: written and audited, through public items alone; a byte altered, the file cut short,
+//! chapters exchanged.
+#![tactic(auto)]
+
+#[cfg(test)]
+mod by_hand;
+#[cfg(test)]
+mod files;
+#[cfg(test)]
+mod slaves;
+#[cfg(test)]
+mod streams;

@@ -1,0 +1,53 @@
+//! A writer that takes so many bytes, and a reader that gives few at a time.
+
+use std::io::{self, Read, Write};
+use xcp_record::{RecordFault, Recorder};
+use xcp_trace::Journal;
+
+/// Takes seven bytes a call, until it is full: then each write fails.
+#[derive(Drop)]
+pub struct Narrow {
+    pub bytes: Vec<u8>,
+    pub room: usize,
+}
+
+impl Write for Narrow {
+    fn write(&mut self, buf: &[u8]) -> io::Result<usize> {
+        let left = self.room.saturating_sub(self.bytes.len());
+        if left == 0 {
+            return Err(io::ErrorKind::Other.into());
+        }
+        let count = buf.len().min(left).min(7);
+        self.bytes.extend_from_slice(&buf[..count])?;
+        Ok(count)
+    }
+
+    fn flush(&mut self) -> io::Result<()> {
+        Ok(())
+    }
+}
+
+/// Gives five bytes a call.
+#[derive(Drop)]
+pub struct Pieces<'a> {
+    pub text: &'a [u8],
+}
+
+impl Read for Pieces<'_> {
+    fn read(&mut self, buf: &mut [u8]) -> io::Result<usize> {
+        let count = buf.len().min(5);
+        self.text.read(&mut buf[..count])
+    }
+}
+
+/// Appends a chapter of these calls, which are at most as many as a chapter may have.
+pub(crate) fn append(
+    recorder: &mut Recorder<Narrow>,
+    number: u64,
+    calls: &Journal,
+) -> Result<(), RecordFault> {
+    if calls.len() > 65_536 {
+        return Err(RecordFault::Memory);
+    }
+    recorder.append(number, calls.entries())
+}

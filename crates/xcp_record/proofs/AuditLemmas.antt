@@ -1,0 +1,108 @@
+-- How an audit goes on from chapter to chapter, and how it ends.
+use Rattle.std.proofs.Common.{inl, inr, ◌≡◌, ◌<◌, ℕ, ◌+◌, List, [], ◌∷◌, ◌++◌, map, refl, sym, ap, ◌∙◌, subst, arith, append-nil, length-append}
+use Rattle.std.specs.Prelude.{◌⊎◌, Some, Ok, Err}
+use Rattle.sha2.specs.declared.Sha256.{Sha256}
+use Rattle.sha2.specs.Hashers.{Holds256}
+use Rattle.xcp_slave.specs.Run.{Run}
+use Rattle.xcp_slave.specs.SlaveValue.{SlaveValue}
+use Rattle.xcp_trace.specs.EntrySpelling.{entry_in}
+use Rattle.xcp_record.specs.declared.fault.AuditFault.{AuditFault}
+use Rattle.xcp_record.specs.declared.fault.AuditFault.TheVariants as audits
+use Rattle.xcp_record.specs.declared.chapter.ChapterFault.{ChapterFault}
+use Rattle.xcp_record.specs.declared.chapter.ChapterFault.TheVariants as faults
+use Rattle.xcp_record.specs.FileFormat.{head}
+use Rattle.xcp_record.specs.JournalFile.{IsFile, IsNoChapter, exchanges}
+use Rattle.xcp_record.specs.Audit.{Audits, Differs, Mismatches, Settles}
+use Rattle.xcp_record.specs.private.ReadChapter.{Checks, IsRead, ReadsNext, ReadsParts, fault_after}
+use Rattle.xcp_record.specs.private.ReadHead.{ReadsHead}
+use Rattle.xcp_record.specs.private.Stands.{Stands}
+use Rattle.xcp_record.proofs.FileLemmas.{file_begins, mismatch_more, settles_more}
+use Rattle.xcp_record.proofs.FormatLemmas.{too_large}
+
+-- what stands in a head's place ends the audit
+pub no_head_said : (layout : List ℕ) (v : SlaveValue) (End : Type 0) (read : List ℕ) (hasher : Sha256) (fault : AuditFault) → ReadsHead layout End read hasher (Err fault) → Audits layout v End read (Err fault)
+no_head_said layout v End read hasher audits.OtherLayout h = h
+no_head_said layout v End read hasher audits.Foreign h = h
+no_head_said layout v End read hasher audits.Read h = tt
+no_head_said layout v End read hasher audits.Memory h = tt
+no_head_said layout v End read hasher (audits.Mismatch n) h = absurd h
+no_head_said layout v End read hasher (audits.Cut n) h = absurd h
+no_head_said layout v End read hasher (audits.Altered n) h = absurd h
+no_head_said layout v End read hasher (audits.TooLong n) h = absurd h
+
+-- behind the head nothing is read yet
+pub begins : (layout : List ℕ) (v : SlaveValue) (Read : List ℕ → Type 0) (read : List ℕ) (hasher : Sha256) → Read read → read ≡ head layout → Holds256 hasher read → Stands layout v Read hasher v 0 0
+begins layout v Read read hasher was is held = record {
+  read = read;
+  was = was;
+  held = held;
+  settled = record { chapters = []; file = subst (λ b. IsFile layout b []) (sym is) (file_begins layout); last = v; run = refl; count = refl };
+  last = refl;
+  numbered = refl;
+  few = omega arith;
+}
+
+-- one more chapter is settled
+pub stands_more : (layout : List ℕ) (v w slave : SlaveValue) (Read Next : List ℕ → Type 0) (hasher more : Sha256) (number n count : ℕ) (read calls : List ℕ)
+    → (s : Stands layout v Read hasher slave number n) → (next : IsRead number s.read read calls count) → Next (s.read ++ read) → Holds256 more (s.read ++ read)
+    → Run slave (exchanges (map entry_in next.strings)) w → Stands layout v Next more w (number + 1) (n + count)
+stands_more layout v w slave Read Next hasher more number n count read calls s next was held run = record {
+  read = s.read ++ read;
+  was = was;
+  held = held;
+  settled = settles_more layout v slave w s.read read calls number n count s.settled s.numbered s.last next run;
+  last = refl;
+  numbered = length-append s.settled.chapters (map entry_in next.strings ∷ []) ∙ (let k = s.numbered in omega (arith, k));
+  few = (let a = s.few in let b = next.chapter.few in let c = next.size in omega (arith, a, b, c));
+}
+
+-- how the next chapter's fault ends it
+pub ends : (layout : List ℕ) (v slave : SlaveValue) (Read : List ℕ → Type 0) (End : Type 0) (hasher more : Sha256) (number n : ℕ) (read calls : List ℕ) (fault : ChapterFault)
+    → (s : Stands layout v Read hasher slave number n) → ReadsNext number s.read End read calls more (Err fault) → Audits layout v End (s.read ++ read) (Err (fault_after n fault))
+ends layout v slave Read End hasher more number n read calls faults.Cut s h = (h.0, record { before = s.read; rest = read; joined = refl; settled = s.settled; why = (h.1, h.2) })
+ends layout v slave Read End hasher more number n read calls faults.Altered s h =
+    record { before = s.read; rest = read; joined = refl; settled = s.settled; why = subst (λ k. IsNoChapter k s.read read) (sym s.numbered) h }
+ends layout v slave Read End hasher more number n read calls faults.Read s h = tt
+ends layout v slave Read End hasher more number n read calls faults.Memory s h = tt
+
+-- the end of the file
+pub ends_settled : (layout : List ℕ) (v slave : SlaveValue) (Read : List ℕ → Type 0) (End : Type 0) (hasher : Sha256) (number n : ℕ) (read : List ℕ)
+    → (s : Stands layout v Read hasher slave number n) → End → read ≡ [] → Audits layout v End (s.read ++ read) (Ok n)
+ends_settled layout v slave Read End hasher number n read s end none =
+    (end, subst (λ b. Settles layout v b n) (sym (ap (λ b. s.read ++ b) none ∙ append-nil s.read)) s.settled)
+
+-- a call that differs
+pub ends_mismatch : (layout : List ℕ) (v slave : SlaveValue) (Read : List ℕ → Type 0) (End : Type 0) (hasher : Sha256) (number n count i place : ℕ) (read calls : List ℕ)
+    → (s : Stands layout v Read hasher slave number n) → (next : IsRead number s.read read calls count) → Differs slave (map entry_in next.strings) i → place ≡ n + i
+    → Audits layout v End (s.read ++ read) (Err (audits.Mismatch place))
+ends_mismatch layout v slave Read End hasher number n count i place read calls s next differs is =
+    subst (λ k. Mismatches layout v (s.read ++ read) k) (sym is) (mismatch_more layout v slave s.read read calls number n count i s.settled s.numbered s.last next differs)
+
+-- too many chapters
+pub ends_too_long : (layout : List ℕ) (v slave : SlaveValue) (Read : List ℕ → Type 0) (End : Type 0) (hasher : Sha256) (number n : ℕ)
+    → (s : Stands layout v Read hasher slave number n) → 4294967296 < number → Audits layout v End s.read (Err (audits.TooLong n))
+ends_too_long layout v slave Read End hasher number n s many =
+    record { before = s.read; rest = []; joined = sym (append-nil s.read); settled = s.settled; why = (let k = s.numbered in omega (arith, k, many)) }
+
+-- what the next chapter's parts say
+pub parts_fault : (End : Type 0) (first calls digest read left before : List ℕ) (number : ℕ) (hasher : Sha256) (fault : ChapterFault) → ReadsParts End first calls digest read (Err fault)
+    → ReadsNext number before End read left hasher (Err fault)
+parts_fault End first calls digest read left before number hasher faults.Cut h = h
+parts_fault End first calls digest read left before number hasher faults.Altered h = too_large before number read h.0 h.1
+parts_fault End first calls digest read left before number hasher faults.Read h = tt
+parts_fault End first calls digest read left before number hasher faults.Memory h = tt
+
+-- and its check
+pub check_said : (End : Type 0) (read whole calls before : List ℕ) (number count : ℕ) (hasher : Sha256) → read ≡ whole → Checks number before whole calls hasher (Ok count) → ReadsNext number before End read calls hasher (Ok (Some count))
+check_said End read whole calls before number count hasher is said = subst (λ b. IsRead number before b calls count × Holds256 hasher (before ++ b)) (sym is) said
+
+pub check_fault : (End : Type 0) (read whole calls before : List ℕ) (number : ℕ) (hasher : Sha256) (fault : ChapterFault) → read ≡ whole → Checks number before whole calls hasher (Err fault) → ReadsNext number before End read calls hasher (Err fault)
+check_fault End read whole calls before number hasher faults.Altered is said = subst (λ b. IsNoChapter number before b) (sym is) said
+check_fault End read whole calls before number hasher faults.Memory is said = tt
+check_fault End read whole calls before number hasher faults.Cut is said = absurd said
+check_fault End read whole calls before number hasher faults.Read is said = absurd said
+
+-- a failed read, or no memory
+pub parts_lost : (End : Type 0) (first calls digest read : List ℕ) (fault : ChapterFault) → (fault ≡ faults.Read) ⊎ (fault ≡ faults.Memory) → ReadsParts End first calls digest read (Err fault)
+parts_lost End first calls digest read fault (inl h) = subst (λ f. ReadsParts End first calls digest read (Err f)) (sym h) tt
+parts_lost End first calls digest read fault (inr h) = subst (λ f. ReadsParts End first calls digest read (Err f)) (sym h) tt

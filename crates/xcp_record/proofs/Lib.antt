@@ -1,0 +1,10 @@
+mod TapeLemmas
+mod FormatLemmas
+mod FileLemmas
+mod CallLemmas
+mod SpellingLemmas
+mod ReadBackLemmas
+mod ExactLemmas
+mod RecordLemmas
+mod CheckLemmas
+mod AuditLemmas

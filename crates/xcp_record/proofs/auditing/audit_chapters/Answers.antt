@@ -1,0 +1,95 @@
+use Rattle.std.proofs.Common.{◌++◌, rules, arith, sym, subst}
+use Rattle.std.specs.Io.KnownBytes.{Consumes, IsAtEnd}
+use Rattle.std.specs.Prelude.{Err, Ok}
+use Rattle.xcp_record.specs.private.ReadChapter.{ReadsNext}
+use Rattle.std.proofs.KnownBytes.{Consumes-trans}
+use Rattle.xcp_record.specs.Audit.{Audits}
+use Rattle.xcp_record.specs.private.Calls.{Spells}
+use Rattle.xcp_record.proofs.AuditLemmas.{begins, ends, ends_mismatch, ends_settled, ends_too_long, no_head_said, stands_more}
+use Rattle.xcp_record.proofs.auditing.audit_chapters.Goals as goal
+
+pub returns-in-Err-clause-audits : goal.returns-in-Err-clause-audits
+returns-in-Err-clause-audits g c =
+    let said = c.in-Err.ensures.reads c.new-hasher.ensures in
+    (said.0, said.1, no_head_said c.args.layout.now c.args.slave (IsAtEnd (g.R.Read.remaining c.read_head.new.reader.inner)) said.0 c.read_head.new.hasher c.in-Err.fault said.2)
+
+pub loop-number-init : goal.loop-number-init
+loop-number-init g c =
+    let said = (c.in_default.ensures {u = tt}).reads c.new-hasher.ensures in
+    record {
+      stands = begins c.args.layout.now c.args.slave (Consumes (g.R.Read.remaining c.args.reader.now.inner) (g.R.Read.remaining c.read_head.new.reader.inner)) said.0 c.read_head.new.hasher said.1 said.2.0 said.2.1;
+      failures = search rules;
+    }
+
+pub returns-in-Ok-None-clause-audits : goal.returns-in-Ok-None-clause-audits
+returns-in-Ok-None-clause-audits g c =
+    let s = c.loop-number.invariant.stands in
+    let next = c.in-Ok-None.ensures.reads s.read s.held in
+    let end = subst (λ o. ReadsNext c.loop-number.number s.read (IsAtEnd (g.R.Read.remaining c.next_chapter.new.reader.inner)) next.0 c.next_chapter.new.parts.calls.items c.next_chapter.new.hasher (Ok o)) c.in-Ok-None.field-0-is next.2 in
+    (s.read ++ next.0, Consumes-trans _ _ _ _ _ s.was next.1, ends_settled c.args.layout.now c.args.slave _ _ (IsAtEnd (g.R.Read.remaining c.next_chapter.new.reader.inner)) _ _ c.loop-number.calls next.0 s end.0 end.1)
+
+pub check_calls-requires-clause-calls : goal.check_calls-requires-clause-calls
+check_calls-requires-clause-calls g c =
+    let s = c.loop-number.invariant.stands in
+    let next = c.in-Ok-Some.ensures.reads s.read s.held in
+    let said = subst (λ o. ReadsNext c.loop-number.number s.read (IsAtEnd (g.R.Read.remaining c.next_chapter.new.reader.inner)) next.0 c.next_chapter.new.parts.calls.items c.next_chapter.new.hasher (Ok o)) c.in-Ok-Some.field-0-is next.2 in
+    let there = said.0 in
+    (there.strings, subst (λ b. Spells b there.strings) (sym c.deref.ensures.value) (record { whole = there.spells; each = there.chapter.each }), there.chapter.few)
+
+pub check_calls-requires-clause-before : goal.check_calls-requires-clause-before
+check_calls-requires-clause-before g c =
+    let few = c.loop-number.invariant.stands.few in
+    let low = c.loop-number-test.true in
+    omega (arith, few, low)
+
+pub returns-in-Err-check_calls-clause-audits : goal.returns-in-Err-check_calls-clause-audits
+returns-in-Err-check_calls-clause-audits g c =
+    let s = c.loop-number.invariant.stands in
+    let next = c.in-Ok-Some.ensures.reads s.read s.held in
+    let said = subst (λ o. ReadsNext c.loop-number.number s.read (IsAtEnd (g.R.Read.remaining c.next_chapter.new.reader.inner)) next.0 c.next_chapter.new.parts.calls.items c.next_chapter.new.hasher (Ok o)) c.in-Ok-Some.field-0-is next.2 in
+    let there = said.0 in
+    let spells = subst (λ b. Spells b there.strings) (sym c.deref.ensures.value) (record { whole = there.spells; each = there.chapter.each }) in
+    let differs = c.in-Err-check_calls.ensures.err there.strings spells in (
+      s.read ++ next.0,
+      Consumes-trans _ _ _ _ _ s.was next.1,
+      ends_mismatch c.args.layout.now c.args.slave _ _ (IsAtEnd (g.R.Read.remaining c.next_chapter.new.reader.inner)) _ _ c.loop-number.calls c.in-Ok-Some.count differs.0 c.in-Err-check_calls.place next.0 c.next_chapter.new.parts.calls.items s there differs.2 differs.1,
+    )
+
+pub overflow_add-calls : goal.overflow_add-calls
+overflow_add-calls g c =
+    let s = c.loop-number.invariant.stands in
+    let next = c.in-Ok-Some.ensures.reads s.read s.held in
+    let said = subst (λ o. ReadsNext c.loop-number.number s.read (IsAtEnd (g.R.Read.remaining c.next_chapter.new.reader.inner)) next.0 c.next_chapter.new.parts.calls.items c.next_chapter.new.hasher (Ok o)) c.in-Ok-Some.field-0-is next.2 in
+    let few = s.few in
+    let more = said.0.chapter.few in
+    let size = said.0.size in
+    let low = c.loop-number-test.true in
+    search (rules, arith, few, more, size, low)
+
+pub loop-number-preserved : goal.loop-number-preserved
+loop-number-preserved g c =
+    let s = c.loop-number.invariant.stands in
+    let next = c.in-Ok-Some.ensures.reads s.read s.held in
+    let said = subst (λ o. ReadsNext c.loop-number.number s.read (IsAtEnd (g.R.Read.remaining c.next_chapter.new.reader.inner)) next.0 c.next_chapter.new.parts.calls.items c.next_chapter.new.hasher (Ok o)) c.in-Ok-Some.field-0-is next.2 in
+    let there = said.0 in
+    let spells = subst (λ b. Spells b there.strings) (sym c.deref.ensures.value) (record { whole = there.spells; each = there.chapter.each }) in
+    record {
+      stands = stands_more c.args.layout.now c.args.slave c.check_calls.new.slave c.loop-number.slave _ (Consumes (g.R.Read.remaining c.args.reader.now.inner) (g.R.Read.remaining c.next_chapter.new.reader.inner)) _ c.next_chapter.new.hasher c.loop-number.number c.loop-number.calls c.in-Ok-Some.count next.0 c.next_chapter.new.parts.calls.items s there (Consumes-trans _ _ _ _ _ s.was next.1) said.1 ((c.in_default-check_calls.ensures {u = tt}).ok there.strings spells);
+      failures = search rules;
+    }
+
+pub returns-in-Err-next_chapter-clause-audits : goal.returns-in-Err-next_chapter-clause-audits
+returns-in-Err-next_chapter-clause-audits g c =
+    let s = c.loop-number.invariant.stands in
+    let next = c.in-Err-next_chapter.ensures.reads s.read s.held in (
+      s.read ++ next.0,
+      Consumes-trans _ _ _ _ _ s.was next.1,
+      subst (λ e. Audits c.args.layout.now c.args.slave (IsAtEnd (g.R.Read.remaining c.next_chapter.new.reader.inner)) (s.read ++ next.0) (Err e)) (sym c.fault_after.ensures)
+          (ends c.args.layout.now c.args.slave _ _ (IsAtEnd (g.R.Read.remaining c.next_chapter.new.reader.inner)) _ c.next_chapter.new.hasher c.loop-number.number c.loop-number.calls next.0 c.next_chapter.new.parts.calls.items c.in-Err-next_chapter.fault s next.2),
+    )
+
+pub returns-clause-audits : goal.returns-clause-audits
+returns-clause-audits g c =
+    let s = c.loop-number.invariant.stands in
+    let many = c.loop-number-test.false in
+    (s.read, s.was, ends_too_long c.args.layout.now c.args.slave _ _ (IsAtEnd (g.R.Read.remaining c.loop-number.reader.inner)) _ c.loop-number.number c.loop-number.calls s (omega (arith, many)))

@@ -1,0 +1,71 @@
+-- What an audit says of a file.
+use Rattle.std.specs.Prelude.{◌≡◌, ◌≢◌, ◌<◌, ◌≤◌, ◌⊎◌, ℕ, List, ◌∷◌, ◌++◌, length, Result, Ok, Err}
+use Rattle.xcp_framing.specs.Prefix.{IsFront}
+use Rattle.xcp_slave.specs.Run.{Run}
+use Rattle.xcp_slave.specs.SlaveValue.{SlaveValue}
+use Rattle.xcp_slave.specs.Step.{Answers}
+use Rattle.xcp_trace.specs.declared.Entry.{Entry}
+use Rattle.xcp_record.specs.declared.fault.AuditFault.{AuditFault}
+use Rattle.xcp_record.specs.declared.fault.AuditFault.TheVariants as faults
+use Rattle.xcp_record.specs.FileFormat.{head}
+use Rattle.xcp_record.specs.JournalFile.{EndsInside, IsFile, IsNoChapter, calls_of, exchanges}
+
+-- The bytes are a whole file of this layout, and its n calls are a run of the slave v.
+pub record Settles (layout : List ℕ) (v : SlaveValue) (bytes : List ℕ) (n : ℕ) : Type 0 where
+  pub chapters : List (List Entry)
+  pub file : IsFile layout bytes chapters
+  pub last : SlaveValue
+  pub run : Run v (exchanges (calls_of chapters)) last
+  pub count : length (calls_of chapters) ≡ n
+
+-- The call of index i is the first that isn't the slave's: those before it are a run, and the slave doesn't answer it so.
+pub record Differs (v : SlaveValue) (calls : List Entry) (i : ℕ) : Type 0 where
+  pub earlier : List Entry
+  pub call : Entry
+  pub later : List Entry
+  pub joined : calls ≡ earlier ++ call ∷ later
+  pub place : length earlier ≡ i
+  pub slave : SlaveValue
+  pub run : Run v (exchanges earlier) slave
+  pub other : (w : SlaveValue) → Answers slave call.exchange.request call.exchange.answer w → ⊥
+
+-- The file was read up to a call that isn't the slave's, and to the end of that call's chapter.
+pub record Mismatches (layout : List ℕ) (v : SlaveValue) (bytes : List ℕ) (i : ℕ) : Type 0 where
+  pub chapters : List (List Entry)
+  pub file : IsFile layout bytes chapters
+  pub differs : Differs v (calls_of chapters) i
+
+-- The file is settled up to some rest of what was read.
+pub record SettlesUpTo (layout : List ℕ) (v : SlaveValue) (read : List ℕ) (n : ℕ) (Rest : ℕ → List ℕ → List ℕ → Type 0) : Type 0 where
+  pub before : List ℕ
+  pub rest : List ℕ
+  pub joined : read ≡ before ++ rest
+  pub settled : Settles layout v before n
+  pub why : Rest (length settled.chapters) before rest
+
+-- It is no head of any layout's file.
+abbrev pub IsForeign : Type 0 → List ℕ → Type 0
+IsForeign End read = (End ⊎ (38 ≤ length read)) × ((layout : List ℕ) → length layout ≡ 32 → IsFront (head layout) read → ⊥)
+
+-- What an audit says of a file, of which it has read these bytes; End says that there are no more.
+abbrev pub Audits : List ℕ → SlaveValue → Type 0 → List ℕ → Result ℕ AuditFault → Type 0
+Audits layout v End read (Ok n) = End × Settles layout v read n
+Audits layout v End read (Err (faults.Mismatch i)) = Mismatches layout v read i
+Audits layout v End read (Err (faults.Cut n)) = End × SettlesUpTo layout v read n (λ number before rest. (0 < length rest) × EndsInside rest)
+Audits layout v End read (Err (faults.Altered n)) = SettlesUpTo layout v read n IsNoChapter
+Audits layout v End read (Err (faults.TooLong n)) = SettlesUpTo layout v read n (λ number before rest. 4294967296 < number)
+Audits layout v End read (Err faults.OtherLayout) = (other : List ℕ) × (length other ≡ 32) × (other ≢ layout) × (read ≡ head other)
+Audits layout v End read (Err faults.Foreign) = IsForeign End read
+Audits layout v End read (Err e) = Unit {0}
+
+-- It says that so many calls are settled, unless a read failed or no memory was left.
+abbrev pub SaysSettled : ℕ → Result ℕ AuditFault → Type 0
+SaysSettled n (Ok m) = m ≡ n
+SaysSettled n (Err faults.Read) = Unit {0}
+SaysSettled n (Err faults.Memory) = Unit {0}
+SaysSettled n (Err e) = ⊥
+
+-- A run of the slave stands in a file of this layout, which has no more chapters than a journal can have.
+pub record HoldsRun (layout : List ℕ) (v : SlaveValue) (bytes : List ℕ) (n : ℕ) : Type 0 where
+  pub settled : Settles layout v bytes n
+  pub few : length settled.chapters ≤ 4294967296

@@ -1,0 +1,45 @@
+-- The bytes of a journal's file: a head, and then chapter after chapter, each with a digest of all that stands before it.
+use Rattle.std.specs.Prelude.{ℕ, suc, List, [], ◌∷◌, ◌++◌, length, slice_index}
+use Rattle.std.specs.Int.{w32, w64, to_le_bytes, from_le_bytes}
+use Rattle.sha2.specs.Sha256.{sha256}
+use Rattle.xcp_trace.specs.Tape.{spelt}
+
+-- XCPJ, and the version, 1, its low byte first
+abbrev pub magic : List ℕ
+magic = 0x58 ∷ 0x43 ∷ 0x50 ∷ 0x4A ∷ 1 ∷ 0 ∷ []
+
+-- the head, where this is the SHA-256 of the layout file's bytes
+unfoldable pub head : List ℕ → List ℕ
+head layout = magic ++ layout
+
+-- a chapter's first 16 bytes: its number, its number of calls, and the length of their bytes, each with its low byte first
+unfoldable pub chapter_head : ℕ → ℕ → ℕ → List ℕ
+chapter_head number count size = to_le_bytes w64 number ++ to_le_bytes w32 count ++ to_le_bytes w32 size
+
+-- a chapter's bytes but for its digest: its calls are strings of a tape
+abbrev pub chapter_bytes : ℕ → List (List ℕ) → List ℕ
+chapter_bytes number calls = chapter_head number (length calls) (length (spelt calls)) ++ spelt calls
+
+-- what a chapter adds to a file of these bytes: its own, and the SHA-256 of all before it in the file
+abbrev pub chapter_in : List ℕ → ℕ → List (List ℕ) → List ℕ
+chapter_in before number calls = chapter_bytes number calls ++ sha256 (before ++ chapter_bytes number calls)
+
+-- the bytes with these chapters behind them, numbered on from this number
+abbrev pub with_chapters : List ℕ → ℕ → List (List (List ℕ)) → List ℕ
+with_chapters before number [] = before
+with_chapters before number (calls ∷ chapters) = with_chapters (before ++ chapter_in before number calls) (suc number) chapters
+
+-- the file of chapters that are numbered from 0
+abbrev pub file_of : List ℕ → List (List (List ℕ)) → List ℕ
+file_of layout chapters = with_chapters (head layout) 0 chapters
+
+-- the length of the calls' bytes, as a chapter's head says it
+unfoldable pub size_in : List ℕ → ℕ
+size_in bytes = from_le_bytes w32 (slice_index bytes 12 ∷ slice_index bytes 13 ∷ slice_index bytes 14 ∷ slice_index bytes 15 ∷ [])
+
+-- the most calls of a chapter, and the most bytes of a call with its length
+abbrev pub most_calls : ℕ
+most_calls = 65536
+
+abbrev pub most_call : ℕ
+most_call = 519

@@ -1,0 +1,37 @@
+-- The chapters that a journal's file has.
+use Rattle.std.specs.Prelude.{◌≡◌, ◌≤◌, ◌<◌, ◌⊎◌, ◌+◌, ℕ, List, ◌++◌, length, map}
+use Rattle.std.specs.List.{AllByRecursion, flat_map}
+use Rattle.xcp_slave.specs.declared.Exchange.{Exchange}
+use Rattle.xcp_trace.specs.declared.Entry.{Entry}
+use Rattle.xcp_trace.specs.EntrySpelling.{entry_in}
+use Rattle.xcp_trace.specs.private.EntrySpelling.{IsEntry}
+use Rattle.xcp_framing.specs.Prefix.{IsFront}
+use Rattle.xcp_record.specs.FileFormat.{chapter_in, file_of, most_calls, size_in}
+
+-- the strings of a chapter: each spells a call
+pub record IsChapter (strings : List (List ℕ)) : Type 0 where
+  pub each : AllByRecursion IsEntry strings
+  pub few : length strings ≤ most_calls
+
+-- The bytes are a whole file of this layout, and these are its chapters' calls.
+pub record IsFile (layout bytes : List ℕ) (chapters : List (List Entry)) : Type 0 where
+  pub strings : List (List (List ℕ))
+  pub whole : bytes ≡ file_of layout strings
+  pub each : AllByRecursion IsChapter strings
+  pub calls : map (λ chapter. map entry_in chapter) strings ≡ chapters
+
+-- the calls of chapters, one chapter after the other
+abbrev pub calls_of : List (List Entry) → List Entry
+calls_of chapters = flat_map (λ calls. calls) chapters
+
+-- the exchanges of calls, without their callers
+abbrev pub exchanges : List Entry → List Exchange
+exchanges calls = map (λ (e : Entry). e.exchange) calls
+
+-- Bytes that end inside a chapter: they are fewer than its head, or than its head says.
+abbrev pub EndsInside : List ℕ → Type 0
+EndsInside rest = (length rest < 16) ⊎ (length rest < 48 + size_in rest)
+
+-- No chapter of this number stands there behind the bytes before, however the file goes on.
+abbrev pub IsNoChapter : ℕ → List ℕ → List ℕ → Type 0
+IsNoChapter number before rest = (strings : List (List ℕ)) (more : List ℕ) → IsChapter strings → IsFront (chapter_in before number strings) (rest ++ more) → ⊥

@@ -1,0 +1,5 @@
+pub mod FileFormat
+pub mod JournalFile
+pub mod Audit
+pub mod Recording
+pub mod private

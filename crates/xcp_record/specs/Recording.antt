@@ -1,0 +1,27 @@
+-- What a recorder has written.
+use Rattle.std.specs.Prelude.{◌≡◌, ℕ, List, length, Option}
+use Rattle.std.specs.Io.KnownBytes.{Appends}
+use Rattle.sha2.specs.declared.Sha256.{Sha256}
+use Rattle.sha2.specs.Hashers.{Holds256}
+use Rattle.xcp_trace.specs.declared.Entry.{Entry}
+use Rattle.xcp_framing.specs.Prefix.{AppendsFront}
+use Rattle.xcp_record.specs.FileFormat.{chapter_in}
+use Rattle.xcp_record.specs.JournalFile.{IsFile, calls_of}
+
+-- The bytes behind those of the start are a whole file of this layout with these chapters; the hasher holds them.
+pub record Records (layout : List ℕ) (start now : Option (List ℕ)) (hasher : Sha256) (count calls : ℕ) (chapters : List (List Entry)) : Type 0 where
+  pub bytes : List ℕ
+  pub file : IsFile layout bytes chapters
+  pub grown : Appends start now bytes
+  pub held : Holds256 hasher bytes
+  pub counted : count ≡ length chapters
+  pub called : calls ≡ length (calls_of chapters)
+
+-- Behind the start stands a file with these chapters, and of the next chapter's bytes a front.
+pub record StopsInside (layout : List ℕ) (start now : Option (List ℕ)) (chapters : List (List Entry)) : Type 0 where
+  pub bytes : List ℕ
+  pub file : IsFile layout bytes chapters
+  pub between : Option (List ℕ)
+  pub grown : Appends start between bytes
+  pub strings : List (List ℕ)
+  pub front : AppendsFront between now (chapter_in bytes (length chapters) strings)

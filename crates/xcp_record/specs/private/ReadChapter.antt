@@ -1,0 +1,49 @@
+-- What is read of a chapter.
+use Rattle.std.specs.Prelude.{◌≡◌, ◌<◌, ◌≤◌, ◌*◌, ℕ, Bool, true, false, List, [], ◌++◌, length, Option, Some, None, Result, Ok, Err}
+use Rattle.sha2.specs.declared.Sha256.{Sha256}
+use Rattle.sha2.specs.Hashers.{Holds256}
+use Rattle.xcp_record.specs.declared.chapter.ChapterFault.{ChapterFault}
+use Rattle.xcp_record.specs.declared.chapter.ChapterFault.TheVariants as faults
+use Rattle.xcp_record.specs.declared.fault.AuditFault.{AuditFault}
+use Rattle.xcp_record.specs.declared.fault.AuditFault.TheVariants as audits
+use Rattle.xcp_trace.specs.Tape.{spelt}
+use Rattle.xcp_record.specs.FileFormat.{chapter_in, most_call, most_calls, size_in}
+use Rattle.xcp_record.specs.JournalFile.{EndsInside, IsChapter, IsNoChapter}
+
+-- what was read of a chapter's parts: its head, its calls' bytes and its digest
+abbrev pub ReadsParts : Type 0 → List ℕ → List ℕ → List ℕ → List ℕ → Result (Bool) ChapterFault → Type 0
+ReadsParts End first calls digest read (Ok true) = (read ≡ first ++ calls ++ digest) × (length first ≡ 16) × (length calls ≡ size_in first) × (length digest ≡ 32) × (length calls ≤ most_call * most_calls)
+ReadsParts End first calls digest read (Ok false) = End × (read ≡ [])
+ReadsParts End first calls digest read (Err faults.Cut) = End × (0 < length read) × EndsInside read
+ReadsParts End first calls digest read (Err faults.Altered) = (length read ≡ 16) × (most_call * most_calls < size_in read)
+ReadsParts End first calls digest read (Err e) = Unit {0}
+
+-- a chapter that stands behind these bytes with this number, and the strings of its calls
+pub record IsRead (number : ℕ) (before read calls : List ℕ) (count : ℕ) : Type 0 where
+  pub strings : List (List ℕ)
+  pub chapter : IsChapter strings
+  pub whole : read ≡ chapter_in before number strings
+  pub spells : spelt strings ≡ calls
+  pub size : length strings ≡ count
+
+-- What comes of a chapter's check: the hasher held the bytes before, and where the chapter stands there, it holds it too.
+abbrev pub Checks : ℕ → List ℕ → List ℕ → List ℕ → Sha256 → Result ℕ ChapterFault → Type 0
+Checks number before read calls hasher (Ok count) = IsRead number before read calls count × Holds256 hasher (before ++ read)
+Checks number before read calls hasher (Err faults.Altered) = IsNoChapter number before read
+Checks number before read calls hasher (Err faults.Memory) = Unit {0}
+Checks number before read calls hasher (Err e) = ⊥
+
+-- What comes of the next chapter: the reader is at its end, or the chapter stands there, or what stands there in its place.
+abbrev pub ReadsNext : ℕ → List ℕ → Type 0 → List ℕ → List ℕ → Sha256 → Result (Option ℕ) ChapterFault → Type 0
+ReadsNext number before End read calls hasher (Ok None) = End × (read ≡ []) × Holds256 hasher before
+ReadsNext number before End read calls hasher (Ok (Some count)) = IsRead number before read calls count × Holds256 hasher (before ++ read)
+ReadsNext number before End read calls hasher (Err faults.Cut) = End × (0 < length read) × EndsInside read
+ReadsNext number before End read calls hasher (Err faults.Altered) = IsNoChapter number before read
+ReadsNext number before End read calls hasher (Err e) = Unit {0}
+
+-- why an audit ends after so many calls
+abbrev pub fault_after : ℕ → ChapterFault → AuditFault
+fault_after n faults.Read = audits.Read
+fault_after n faults.Memory = audits.Memory
+fault_after n faults.Cut = audits.Cut n
+fault_after n faults.Altered = audits.Altered n

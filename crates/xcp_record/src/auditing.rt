@@ -1,0 +1,208 @@
+//! An audit of a journal's file.
+ghost use Rattle.std.specs.Prelude.{◌≡◌, ◌≢◌, ◌<◌, ◌≤◌, ◌+◌, ◌^◌, ℕ, List, [], Err, MatchBool, OnOk, IfErr, IfSome, drop, false, length, map, true};
+ghost use Rattle.std.specs.Io.KnownBytes.{Consumes, IsAtEnd};
+ghost use Rattle.sha2.specs.Hashers.{Holds256};
+ghost use Rattle.xcp_slave.specs.SlaveValue.{SlaveValue};
+ghost use Rattle.xcp_slave.specs.Step.{Answers};
+ghost use Rattle.xcp_slave.specs.Run.{Run};
+ghost use Rattle.xcp_record.specs.Audit.{Audits, Differs, HoldsRun, SaysSettled};
+ghost use Rattle.xcp_trace.specs.EntrySpelling.{entry_in};
+ghost use Rattle.xcp_record.specs.FileFormat.{head, most_calls};
+ghost use Rattle.xcp_framing.specs.Prefix.{IsFront};
+ghost use Rattle.xcp_record.specs.private.Calls.{Spells};
+ghost use Rattle.xcp_record.specs.private.ReadChapter.{ReadsNext, fault_after};
+ghost use Rattle.xcp_record.specs.private.ReadHead.{ReadsHead};
+ghost use Rattle.xcp_record.specs.JournalFile.{exchanges};
+
+use crate::chapter::{ChapterFault, Parts};
+use crate::fault::AuditFault;
+use crate::filling::fill;
+use crate::head::{HEAD_BYTES, MAGIC, same};
+use crate::spelling::{first_call, read_call};
+use sha2::{Digest, Sha256};
+use std::alloc::Global;
+use std::io::Read;
+use xcp_framing::Watched;
+use xcp_slave::{Slave, each_request_has_one_answer};
+use xcp_trace::Entry;
+
+/// The most chapters of a journal.
+const MOST_CHAPTERS: u64 = 4_294_967_296;
+
+/// Audits the file of a journal: reads it to its end, and executes each request on the slave, which has
+/// to be at its opening. The file is of the layout whose file has this SHA-256.
+///
+/// `Ok` is the number of calls, where the file is whole and each call has the slave's answer. A chapter's
+/// digest is looked at before its calls. There is room for one chapter: at most 34,013,184 bytes.
+pub fn audit<R: Read>(
+    alloc: Global,
+    slave: Slave,
+    layout: &[u8; 32],
+    reader: &mut Watched<R>,
+) -> Result<u64, AuditFault>
+    ensures audits { (read : List ℕ)
+        × Consumes (R.remaining reader.old.inner) (R.remaining reader.new.inner) read
+        × Audits layout.now slave (IsAtEnd (R.remaining reader.new.inner)) read result }
+    ensures quiet { result ≢ Err AuditFault.Read → reader.new.failures ≡ reader.old.failures }
+    ensures failed { result ≡ Err AuditFault.Read → reader.old.failures < reader.new.failures }
+    // Of a file that holds a run of the slave it says nothing else.
+    ensures settles { IfSome (R.remaining reader.old.inner) (λ all. (n : ℕ)
+        → HoldsRun layout.now slave all n → SaysSettled n result) }
+{
+    each_request_has_one_answer();
+    audit_chapters(alloc, slave, layout, reader)
+}
+
+/// Audits the file of a journal, as `audit` does.
+fn audit_chapters<R: Read>(
+    alloc: Global,
+    mut slave: Slave,
+    layout: &[u8; 32],
+    reader: &mut Watched<R>,
+) -> Result<u64, AuditFault>
+    ensures audits { (read : List ℕ)
+        × Consumes (R.remaining reader.old.inner) (R.remaining reader.new.inner) read
+        × Audits layout.now slave (IsAtEnd (R.remaining reader.new.inner)) read result }
+    ensures quiet { result ≢ Err AuditFault.Read → reader.new.failures ≡ reader.old.failures }
+    ensures failed { result ≡ Err AuditFault.Read → reader.old.failures < reader.new.failures }
+{
+    let mut hasher = Sha256::new();
+    if let Err(fault) = read_head(layout, reader, &mut hasher) {
+        return Err(fault);
+    }
+    let mut parts = Parts::new(alloc);
+    let mut calls = 0;
+    for number in 0..MOST_CHAPTERS + 1 {
+        match next_chapter(number, reader, &mut hasher, &mut parts) {
+            Ok(None) => return Ok(calls),
+            Ok(Some(count)) => {
+                if let Err(place) = check_calls(&mut slave, &parts.calls, calls) {
+                    return Err(AuditFault::Mismatch(place));
+                }
+                calls += count;
+            }
+            Err(fault) => return Err(fault_after(calls, fault)),
+        }
+    }
+    Err(AuditFault::TooLong(calls))
+}
+
+/// Why an audit ends after so many calls.
+fn fault_after(calls: u64, fault: ChapterFault) -> AuditFault
+    ensures { result ≡ fault_after calls fault }
+{
+    match fault {
+        ChapterFault::Read => AuditFault::Read,
+        ChapterFault::Memory => AuditFault::Memory,
+        ChapterFault::Cut => AuditFault::Cut(calls),
+        ChapterFault::Altered => AuditFault::Altered(calls),
+    }
+}
+
+/// Reads the head of a file of this layout.
+fn read_head<R: Read>(
+    layout: &[u8; 32],
+    reader: &mut Watched<R>,
+    hasher: &mut Sha256,
+) -> Result<(), AuditFault>
+    ensures reads { Holds256 hasher.old [] → (read : List ℕ)
+        × Consumes (R.remaining reader.old.inner) (R.remaining reader.new.inner) read
+        × ReadsHead layout.now (IsAtEnd (R.remaining reader.new.inner)) read hasher.new result }
+    ensures quiet { result ≢ Err AuditFault.Read → reader.new.failures ≡ reader.old.failures }
+    ensures failed { result ≡ Err AuditFault.Read → reader.old.failures < reader.new.failures }
+{
+    let mut head = [0; HEAD_BYTES];
+    let Ok(got) = fill(reader, &mut head) else {
+        return Err(AuditFault::Read);
+    };
+    if got < HEAD_BYTES {
+        return Err(AuditFault::Foreign);
+    }
+    if !has_magic(&head) {
+        return Err(AuditFault::Foreign);
+    }
+    if !names(&head, layout) {
+        return Err(AuditFault::OtherLayout);
+    }
+    hasher.update(&head);
+    Ok(())
+}
+
+/// Whether a file's head is that of a journal's file of this version.
+fn has_magic(bytes: &[u8; HEAD_BYTES]) -> bool
+    ensures { MatchBool result
+        ((layout : List ℕ) × (length layout ≡ 32) × (bytes.now ≡ head layout))
+        ((layout : List ℕ) → IsFront (head layout) bytes.now → ⊥) }
+{
+    same(&bytes[..6], &MAGIC)
+}
+
+/// Whether a file's head names this layout.
+fn names(bytes: &[u8; HEAD_BYTES], layout: &[u8; 32]) -> bool
+    ensures { MatchBool result (drop 6 bytes.now ≡ layout.now) (drop 6 bytes.now ≢ layout.now) }
+{
+    let (_, named) = bytes.split_at(MAGIC.len());
+    same(named, layout)
+}
+
+/// The next chapter's number of calls, if the reader isn't at its end.
+fn next_chapter<R: Read>(
+    number: u64,
+    reader: &mut Watched<R>,
+    hasher: &mut Sha256,
+    parts: &mut Parts,
+) -> Result<Option<u64>, ChapterFault>
+    ensures reads { (before : List ℕ) → Holds256 hasher.old before → (read : List ℕ)
+        × Consumes (R.remaining reader.old.inner) (R.remaining reader.new.inner) read
+        × ReadsNext number before (IsAtEnd (R.remaining reader.new.inner)) read parts.new.calls.items hasher.new result }
+    ensures quiet { result ≢ Err ChapterFault.Read → reader.new.failures ≡ reader.old.failures }
+    ensures failed { result ≡ Err ChapterFault.Read → reader.old.failures < reader.new.failures }
+{
+    let there = match parts.read(reader) {
+        Ok(there) => there,
+        Err(fault) => return Err(fault),
+    };
+    if !there {
+        return Ok(None);
+    }
+    match parts.check(number, hasher) {
+        Ok(count) => Ok(Some(count)),
+        Err(fault) => Err(fault),
+    }
+}
+
+/// Executes the requests of calls on the slave. The error is the first that the slave answers otherwise,
+/// where so many calls stand before these.
+fn check_calls(slave: &mut Slave, bytes: &[u8], before: u64) -> Result<(), u64>
+    requires calls { (strings : List (List ℕ)) × Spells bytes.now strings × (length strings ≤ most_calls) }
+    requires before { before < 2 ^ 62 }
+    ensures ok { (strings : List (List ℕ)) → Spells bytes.now strings
+        → OnOk result (Run slave.old (exchanges (map entry_in strings)) slave.new) }
+    ensures err { (strings : List (List ℕ)) → Spells bytes.now strings
+        → IfErr result (λ place. (i : ℕ) × (place ≡ before + i)
+        × Differs slave.old (map entry_in strings) i) }
+{
+    let mut left = bytes;
+    let mut place = before;
+    while !left.is_empty() {
+        let Some((string, more)) = first_call(left) else {
+            unreachable!()
+        };
+        if !answers(slave, &read_call(string)) {
+            return Err(place);
+        }
+        left = more;
+        place += 1;
+    }
+    Ok(())
+}
+
+/// Whether the slave answers the call's request as the call says. The request is executed.
+fn answers(slave: &mut Slave, call: &Entry) -> bool
+    ensures yes { result ≡ true → Answers slave.old call.now.exchange.request call.now.exchange.answer slave.new }
+    ensures no { result ≡ false → (w : SlaveValue) → Answers slave.old call.now.exchange.request call.now.exchange.answer w → ⊥ }
+{
+    each_request_has_one_answer();
+    let answer = slave.submit(&call.exchange.request);
+    answer.same(&call.exchange.answer)
+}

@@ -1,0 +1,173 @@
+//! What writes a journal's file.
+ghost use Rattle.std.specs.Prelude.{◌≡◌, ◌≤◌, ◌<◌, ◌+◌, ◌≢◌, ◌⊎◌, ◌*◌, ◌++◌, ◌∷◌, [], ℕ, List, Option, Err, OnOk, OnErr, IfOk, IfErr, length, true, false};
+ghost use Rattle.sha2.specs.Hashers.{Holds256};
+ghost use Rattle.xcp_trace.specs.declared.journal.Entry.{Entry};
+ghost use Rattle.xcp_record.specs.FileFormat.{most_call, most_calls};
+ghost use Rattle.xcp_record.specs.Recording.{Records, StopsInside};
+ghost use Rattle.xcp_record.specs.private.Calls.{IsSealed, SpellsAll};
+
+use crate::fault::RecordFault;
+use crate::head::{MAGIC, chapter_head, digest_of};
+use crate::spelling::put_call;
+use sha2::{Digest, Sha256};
+use std::alloc::{AllocError, Global};
+use std::io::Write;
+use xcp_framing::Watched;
+use xcp_trace::Entries;
+
+/// The number of the last chapter that there can be.
+const LAST_CHAPTER: u64 = 4_294_967_295;
+
+/// Writes the file of a journal, chapter by chapter. Once a chapter could not be written, nothing more is.
+#[derive(Drop)]
+pub struct Recorder<W> {
+    writer: Watched<W>,
+    hasher: Sha256,
+    chapters: u64,
+    calls: u64,
+    stopped: bool,
+    spelled: Vec<u8>,
+    chapter: Vec<u8>,
+    ghost few: { calls ≤ chapters * 65536 },
+    ghost last: { chapters ≤ 4294967296 },
+}
+
+impl<W: Write> Recorder<W> {
+    /// A recorder that has written the head of a file to the stream, of the layout whose file has this SHA-256.
+    pub fn new(alloc: Global, stream: W, layout: &[u8; 32]) -> Result<Recorder<W>, RecordFault>
+    where
+        W: Drop,
+        ensures records { IfOk result (λ r. Records layout.now (W.contents stream)
+            (W.contents r.writer.inner) r.hasher r.chapters r.calls []) }
+        ensures begins { IfOk result (λ r. r.stopped ≡ false) }
+        ensures refused { IfErr result (λ e. (e ≡ RecordFault.Write) ⊎ (e ≡ RecordFault.Memory)) }
+    {
+        let mut writer = Watched::new(stream);
+        let mut hasher = Sha256::new();
+        let mut chapter = Vec::new(alloc);
+        chapter.extend_from_slice(&MAGIC)?;
+        chapter.extend_from_slice(layout)?;
+        hasher.update(&chapter);
+        writer.write_all(&chapter)?;
+        Ok(Recorder {
+            writer,
+            hasher,
+            chapters: 0,
+            calls: 0,
+            stopped: false,
+            spelled: Vec::new(alloc),
+            chapter,
+        })
+    }
+
+    /// How many calls stand in the file, in whole chapters.
+    pub fn calls(&self) -> u64
+        ensures { result ≡ self.now.calls }
+    {
+        self.calls
+    }
+
+    /// How many chapters stand in the file.
+    pub fn chapters(&self) -> u64
+        ensures { result ≡ self.now.chapters }
+    {
+        self.chapters
+    }
+
+    /// The stream.
+    pub fn into_stream(self) -> W
+        ensures { result ≡ self.writer.inner }
+    {
+        self.writer.into_inner()
+    }
+
+    /// Writes the chapter of this number, which has to be the next one, in one piece.
+    ///
+    /// After an error nothing more is written: each further call is `Stopped`.
+    pub fn append(&mut self, number: u64, entries: Entries<'_>) -> Result<(), RecordFault>
+        requires { length entries ≤ most_calls }
+        // A file with these chapters has this one behind them.
+        ensures records { (layout : List ℕ) (start : Option (List ℕ)) (chapters : List (List Entry))
+            → Records layout start (W.contents self.old.writer.inner) self.old.hasher
+            self.old.chapters self.old.calls chapters
+            → OnOk result (Records layout start (W.contents self.new.writer.inner) self.new.hasher
+            self.new.chapters self.new.calls (chapters ++ entries.entry ∷ [])) }
+        // Otherwise it has a front of it, or nothing.
+        ensures front { (layout : List ℕ) (start : Option (List ℕ)) (chapters : List (List Entry))
+            → Records layout start (W.contents self.old.writer.inner) self.old.hasher
+            self.old.chapters self.old.calls chapters
+            → OnErr result (StopsInside layout start (W.contents self.new.writer.inner) chapters) }
+        ensures ok { OnOk result ((self.old.stopped ≡ false) × (self.new.stopped ≡ false)
+            × (number ≡ self.old.chapters)) }
+        ensures err { OnErr result ((self.new.stopped ≡ true) × (self.new.calls ≡ self.old.calls)
+            × (self.new.chapters ≡ self.old.chapters)) }
+        ensures stopped { self.old.stopped ≡ true
+            → (result ≡ Err RecordFault.Stopped) × (self.new ≡ self.old) }
+        ensures write { result ≡ Err RecordFault.Write
+            → self.old.writer.failures < self.new.writer.failures }
+        ensures quiet { result ≢ Err RecordFault.Write
+            → self.new.writer.failures ≡ self.old.writer.failures }
+    {
+        if self.stopped {
+            return Err(RecordFault::Stopped);
+        }
+        self.stopped = true;
+        if number != self.chapters {
+            return Err(RecordFault::Number);
+        }
+        if number > LAST_CHAPTER {
+            return Err(RecordFault::Number);
+        }
+        let count = spell_calls(&mut self.spelled, entries)?;
+        seal(
+            &mut self.hasher,
+            &mut self.chapter,
+            number,
+            count,
+            &self.spelled,
+        )?;
+        self.writer.write_all(&self.chapter)?;
+        self.calls += count as u64;
+        self.chapters += 1;
+        self.stopped = false;
+        Ok(())
+    }
+}
+
+/// Puts a chapter together behind what the hasher holds: its head, its calls and its digest. The hasher
+/// holds it too then.
+fn seal(
+    hasher: &mut Sha256,
+    chapter: &mut Vec<u8>,
+    number: u64,
+    count: usize,
+    calls: &[u8],
+) -> Result<(), AllocError>
+    requires few { count ≤ most_calls }
+    requires short { length calls.now ≤ most_call * most_calls }
+    ensures { OnOk result ((before : List ℕ) → Holds256 hasher.old before
+        → IsSealed number count before calls.now chapter.new.items hasher.new) }
+{
+    chapter.clear();
+    chapter.extend_from_slice(&chapter_head(number, count, calls.len()))?;
+    chapter.extend_from_slice(calls)?;
+    hasher.update(&*chapter);
+    let digest = digest_of(hasher)?;
+    hasher.update(&digest);
+    chapter.extend_from_slice(&digest)?;
+    Ok(())
+}
+
+/// Puts the strings of calls in place of the bytes, and answers how many calls there are.
+fn spell_calls(bytes: &mut Vec<u8>, mut entries: Entries<'_>) -> Result<usize, AllocError>
+    requires { length entries ≤ most_calls }
+    ensures { IfOk result (λ count. SpellsAll bytes.new.items entries.entry count) }
+{
+    bytes.clear();
+    let mut count = 0;
+    while let Some(entry) = entries.next() {
+        put_call(bytes, &entry)?;
+        count += 1;
+    }
+    Ok(count)
+}
