@@ -4,7 +4,7 @@ use crate::commands::put_commands;
 use std::alloc::AllocError;
 use xcp_packet::Command;
 
-/// Within so many milliseconds the slave answers any command: T1 to T7, which no command tells.
+/// Within so many milliseconds the slave answers any command: the seven time-outs, which no command tells.
 const TIME_OUT: u16 = 1_000;
 
 /// What CONNECT and GET_COMM_MODE_INFO tell.

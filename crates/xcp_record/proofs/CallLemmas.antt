@@ -4,7 +4,7 @@ use Rattle.std.proofs.lemmas.List.{map-append}
 use Rattle.xcp_trace.specs.declared.Entry.{Entry}
 use Rattle.xcp_trace.specs.EntrySpelling.{entry_in}
 use Rattle.xcp_trace.specs.Tape.{framed, spelt}
-use Rattle.xcp_trace.specs.private.EntrySpelling.{IsEntry}
+use Rattle.xcp_record.specs.CallStrings.{IsCallString}
 use Rattle.xcp_record.specs.private.Calls.{PutsCall, Spells, Walks}
 use Rattle.xcp_record.proofs.TapeLemmas.{all_more, framed_same, framed_some, spelt_more}
 
@@ -17,7 +17,7 @@ first_is bytes more s (t ∷ later) spells h =
 
 -- bytes that are strings, and more than none, have a first one
 pub some_first : (bytes : List ℕ) (strings : List (List ℕ)) → Spells bytes strings → 0 < length bytes
-    → ((s more : List ℕ) → IsEntry s → (bytes ≡ framed s ++ more → ⊥)) → ⊥
+    → ((s more : List ℕ) → IsCallString s → (bytes ≡ framed s ++ more → ⊥)) → ⊥
 some_first bytes [] spells some none = let e = ap length spells.whole in absurd (omega (arith, e, some))
 some_first bytes (t ∷ later) spells some none = none t (spelt later) spells.each.0 (sym spells.whole)
 
@@ -27,7 +27,7 @@ none_left bytes [] spells h = refl
 none_left bytes (t ∷ later) spells h = absurd (framed_some t (spelt later) (spells.whole ∙ h))
 
 -- a first string, and those behind it
-pub spells_first : (bytes more s : List ℕ) (later : List (List ℕ)) → IsEntry s → bytes ≡ framed s ++ more → Spells more later → Spells bytes (s ∷ later)
+pub spells_first : (bytes more s : List ℕ) (later : List (List ℕ)) → IsCallString s → bytes ≡ framed s ++ more → Spells more later → Spells bytes (s ∷ later)
 spells_first bytes more s later is h spells = record { whole = ap (λ b. framed s ++ b) spells.whole ∙ sym h; each = (is, spells.each) }
 
 -- the strings of bytes begin with those that were passed over, and go on with those of what is left
@@ -43,10 +43,10 @@ abbrev pub walks_none : (bytes : List ℕ) → Walks bytes bytes 0
 walks_none bytes = record { done = []; each = tt; joined = refl; number = refl }
 
 -- one more string is passed over
-abbrev pub walks_more : (bytes left more s : List ℕ) (n : ℕ) → Walks bytes left n → left ≡ framed s ++ more → IsEntry s → Walks bytes more (n + 1)
+abbrev pub walks_more : (bytes left more s : List ℕ) (n : ℕ) → Walks bytes left n → left ≡ framed s ++ more → IsCallString s → Walks bytes more (n + 1)
 walks_more bytes left more s n w h is = record {
   done = w.done ++ s ∷ [];
-  each = all_more IsEntry w.done s w.each is;
+  each = all_more IsCallString w.done s w.each is;
   joined = w.joined ∙ ap (λ b. spelt w.done ++ b) h ∙ sym (append_assoc (spelt w.done) (framed s) more) ∙ ap (λ b. b ++ more) (sym (spelt_more w.done s));
   number = length-append w.done (s ∷ []) ∙ ap (λ k. k + 1) w.number;
 }
@@ -69,7 +69,7 @@ pub walks_all : (bytes left : List ℕ) (n : ℕ) (w : Walks bytes left n) → l
 walks_all bytes left n w none = record { whole = sym (w.joined ∙ ap (λ b. spelt w.done ++ b) none ∙ append-nil (spelt w.done)); each = w.each }
 
 -- where no string of a call stands at the head of what is left, the bytes are no calls
-pub walks_on : (bytes left : List ℕ) (n : ℕ) → Walks bytes left n → 0 < length left → ((s more : List ℕ) → IsEntry s → (left ≡ framed s ++ more → ⊥))
+pub walks_on : (bytes left : List ℕ) (n : ℕ) → Walks bytes left n → 0 < length left → ((s more : List ℕ) → IsCallString s → (left ≡ framed s ++ more → ⊥))
     → (strings : List (List ℕ)) → Spells bytes strings → ⊥
 walks_on bytes left n w some none strings spells = let later = goes_on bytes left w.done strings spells w.joined in some_first left later.0 later.2 some none
 
@@ -77,7 +77,7 @@ walks_on bytes left n w some none strings spells = let later = goes_on bytes lef
 pub spells_more : (old new : List ℕ) (strings : List (List ℕ)) (call : Entry) → Spells old strings → (put : PutsCall old new call) → Spells new (strings ++ put.string ∷ [])
 spells_more old new strings call spells put = record {
   whole = spelt_more strings put.string ∙ ap (λ b. b ++ framed put.string) spells.whole ∙ sym put.grown;
-  each = all_more IsEntry strings put.string spells.each put.is;
+  each = all_more IsCallString strings put.string spells.each put.is;
 }
 
 -- and one less is left to be

@@ -5,7 +5,7 @@ use Rattle.std.proofs.Math.Nat.{mod-eq_of_lt, div-lt_iff_lt-mul}
 use Rattle.xcp_slave.specs.declared.Request.{Request}
 use Rattle.xcp_trace.specs.ExchangeSpelling.{request_bytes, request_channel, request_tag, spelling}
 use Rattle.xcp_trace.specs.Tape.{framed}
-use Rattle.xcp_trace.specs.private.EntrySpelling.{IsEntry}
+use Rattle.xcp_record.specs.CallStrings.{IsCallString}
 
 high_is : (n : ℕ) → n < 65536 → n / 256 % 256 ≡ n / 256
 high_is n h = let high : n / 256 < 256 = (div-lt_iff_lt-mul {k = 256} {x = n} {y = 256} (omega arith)).1 (omega (arith, h)) in mod-eq_of_lt high
@@ -25,7 +25,7 @@ string_is r caller tag channel kind count pair size asked told is_tag is_channel
 
 -- its string spells a call
 pub is_entry : (r : Request) (caller kind count : ℕ) (told : List ℕ) → length (request_bytes r) ≤ 255 → (request_tag r ≡ 1 → length (request_bytes r) ≤ 64)
-    → length told ≤ 255 → (9 < kind → (7 ≤ count) × (count ≤ 254)) → IsEntry (caller ∷ spelling r kind count told)
+    → length told ≤ 255 → (9 < kind → (7 ≤ count) × (count ≤ 254)) → IsCallString (caller ∷ spelling r kind count told)
 is_entry r caller kind count told asked signals short width =
     let e = length-append (request_bytes r) told in
     record {

@@ -1,3 +1,4 @@
+pub mod CallStrings
 pub mod FileFormat
 pub mod JournalFile
 pub mod Audit

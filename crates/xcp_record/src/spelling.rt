@@ -4,7 +4,7 @@ ghost use Rattle.xcp_slave.specs.declared.Answer.{Answer};
 ghost use Rattle.xcp_trace.specs.EntrySpelling.{entry_in};
 ghost use Rattle.xcp_trace.specs.ExchangeSpelling.{answer_of, request_bytes, request_channel, request_of, request_tag};
 ghost use Rattle.xcp_trace.specs.Tape.{framed};
-ghost use Rattle.xcp_trace.specs.private.EntrySpelling.{IsEntry};
+ghost use Rattle.xcp_record.specs.CallStrings.{IsCallString};
 ghost use Rattle.xcp_record.specs.private.Calls.{PutsCall};
 
 use arrayvec::ArrayVec;
@@ -50,8 +50,8 @@ pub(crate) fn put_call(bytes: &mut Vec<u8>, call: &Entry) -> Result<(), AllocErr
 
 /// The string of the first call of the bytes, and the bytes behind it; none where no call stands there.
 pub(crate) fn first_call(bytes: &[u8]) -> Option<(&[u8], &[u8])>
-    ensures some { IfSome result (λ r. (bytes.now ≡ framed r.0.now ++ r.1.now) × IsEntry r.0.now) }
-    ensures none { IfNone result ((string more : List ℕ) → IsEntry string
+    ensures some { IfSome result (λ r. (bytes.now ≡ framed r.0.now ++ r.1.now) × IsCallString r.0.now) }
+    ensures none { IfNone result ((string more : List ℕ) → IsCallString string
         → bytes.now ≢ framed string ++ more) }
 {
     if bytes.len() < LENGTH_BYTES {
@@ -71,7 +71,7 @@ pub(crate) fn first_call(bytes: &[u8]) -> Option<(&[u8], &[u8])>
 
 /// Whether a string spells a call.
 fn is_entry(string: &[u8]) -> bool
-    ensures { IsTrue result ↔ IsEntry string.now }
+    ensures { IsTrue result ↔ IsCallString string.now }
 {
     if string.len() < HEAD_BYTES {
         return false;
@@ -86,7 +86,7 @@ fn is_entry(string: &[u8]) -> bool
 
 /// The call that a string spells.
 pub(crate) fn read_call(string: &[u8]) -> Entry
-    requires { IsEntry string.now }
+    requires { IsCallString string.now }
     ensures { result ≡ entry_in string.now }
 {
     let (head, bytes) = string.split_at(HEAD_BYTES);

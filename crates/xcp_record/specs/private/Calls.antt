@@ -6,7 +6,7 @@ use Rattle.sha2.specs.Sha256.{sha256}
 use Rattle.std.specs.List.{AllByRecursion}
 use Rattle.xcp_trace.specs.declared.Entry.{Entry}
 use Rattle.xcp_trace.specs.EntrySpelling.{entry_in}
-use Rattle.xcp_trace.specs.private.EntrySpelling.{IsEntry}
+use Rattle.xcp_record.specs.CallStrings.{IsCallString}
 use Rattle.xcp_trace.specs.Tape.{framed, spelt}
 use Rattle.xcp_record.specs.FileFormat.{chapter_head, most_call, most_calls}
 
@@ -15,17 +15,17 @@ pub record PutsCall (old new : List ℕ) (call : Entry) : Type 0 where
   pub string : List ℕ
   pub grown : new ≡ old ++ framed string
   pub spells : entry_in string ≡ call
-  pub is : IsEntry string
+  pub is : IsCallString string
 
 -- the bytes are these strings of calls
 pub record Spells (bytes : List ℕ) (strings : List (List ℕ)) : Type 0 where
   pub whole : spelt strings ≡ bytes
-  pub each : AllByRecursion IsEntry strings
+  pub each : AllByRecursion IsCallString strings
 
 -- Strings of calls have been passed over, and these bytes are left.
 pub record Walks (bytes left : List ℕ) (count : ℕ) : Type 0 where
   pub done : List (List ℕ)
-  pub each : AllByRecursion IsEntry done
+  pub each : AllByRecursion IsCallString done
   pub joined : bytes ≡ spelt done ++ left
   pub number : length done ≡ count
 

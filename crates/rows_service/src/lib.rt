@@ -1,0 +1,5 @@
+//! Tests of what settles the chapters of a server that stays, by public calls alone.
+#![tactic(auto)]
+
+#[cfg(test)]
+mod keeping;

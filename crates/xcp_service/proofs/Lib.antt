@@ -1,0 +1,6 @@
+pub mod AmongLemmas
+pub mod KeepingLemmas
+pub mod JoinedMoreLemmas
+pub mod SheafLemmas
+pub mod CountLemmas
+pub mod HandedLemmas

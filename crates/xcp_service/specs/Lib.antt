@@ -1,0 +1,5 @@
+pub mod Calls
+pub mod Keeping
+pub mod Noted
+pub mod Sheaves
+pub mod private

@@ -1,0 +1,48 @@
+//! One call of a slave that stays.
+ghost use Rattle.std.specs.Prelude.{◌≡◌, ◌≤◌, ℕ, Err, IfOk, OnErr, length};
+ghost use Rattle.xcp_slave.specs.AnswerInBytes.{answer_in};
+ghost use Rattle.xcp_locked.specs.Caller.{accepting};
+ghost use Rattle.xcp_locked.specs.Journal.{journal_limit};
+ghost use Rattle.xcp_locked.specs.Receipts.{receipt};
+ghost use Rattle.xcp_service.specs.Calls.{Calls, ExecutesNothing};
+
+use crate::member::Member;
+use crate::post::Post;
+use std::alloc::Global;
+use std::sync::Wait;
+use xcp_locked::{JOURNAL, Locked, LockedError, Name};
+use xcp_packet::Packet;
+use xcp_slave::{Request, Told};
+
+/// From how many calls on the open chapter is cut off.
+pub const CHAPTER: u64 = 16_384;
+
+/// Submits a request that is lent, under the lock that the slave is lent from. Where this fills the open chapter, cuts it off
+/// under the same hold; where there was no memory for that, the next call does. What the member has at hand of chapters that were
+/// cut off it hands over. `JournalFull` comes only where the open chapter had 65,536 calls before, since there was never memory to
+/// cut it off; after an error nothing was executed.
+pub(crate) fn call<N: Name>(
+    rt: &impl Wait,
+    alloc: Global,
+    locked: &mut Locked<N>,
+    post: &Post<N>,
+    member: &mut Member<N>,
+    request: &Request,
+    packet: &mut Packet,
+) -> Result<Told, LockedError>
+    ensures calls { IfOk result (λ told. Calls member.old.number request.now (answer_in told packet.new) locked.old locked.new) }
+    ensures member { IfOk result (λ told. (chapter at : ℕ)
+        × (member.new ≡ accepting member.old (receipt chapter at request.now (answer_in told packet.new)))) }
+    ensures full { result ≡ Err LockedError.JournalFull → journal_limit ≤ length locked.old.journal }
+    ensures err { OnErr result ((member.new ≡ member.old) × ExecutesNothing locked.old locked.new) }
+{
+    if locked.len() >= JOURNAL as u64 {
+        post.cut(rt, alloc, locked);
+    }
+    member.hand_over(rt, alloc, locked, post);
+    let told = member.submit(locked, request, packet)?;
+    if locked.len() >= CHAPTER {
+        post.cut(rt, alloc, locked);
+    }
+    Ok(told)
+}

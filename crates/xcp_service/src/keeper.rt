@@ -1,0 +1,211 @@
+//! What settles chapters and drops them.
+ghost use Rattle.std.specs.Prelude.{◌≡◌, ◌++◌, [], ◌∷◌, true, false, length, MatchBool, OnOk, OnErr, IfErr, ◌⊎◌};
+ghost use Rattle.xcp_locked.specs.Chapters.{AreJoined, Follows};
+ghost use Rattle.xcp_service.specs.Keeping.{AreDroppedSettled, AreKeptSettled};
+
+use crate::noted::Noted;
+use crate::post::Mail;
+use crate::waiting::{Waiting, check_sheaf, count_calls, drop_settled, mark_all};
+use std::alloc::Global;
+use std::marker::Model;
+use std::sync::Arc;
+use xcp_locked::{Chapter, Discord, Locked, Name, Sheaf};
+use xcp_slave::Slave;
+
+/// Why a keeper goes no further.
+#[derive(Clone, Copy, Debug, PartialEq, Eq)]
+pub enum Unkept {
+    /// There was no memory.
+    Memory,
+    /// A chapter doesn't follow the one before it, or receipts aren't a chapter's calls.
+    Discord(Discord),
+}
+
+/// Takes the chapters of a slave, one behind another, settles each with the sheaves of its callers, and drops both. All that it took
+/// is one run from the opening, and each chapter that it dropped is settled by all callers, though nothing of it is left: contracts
+/// alone see what was dropped.
+#[derive(Drop)]
+pub struct Keeper<N: Name> {
+    /// The number of the chapter that comes next.
+    number: u64,
+    /// How many calls there were before it.
+    before: u64,
+    /// The slave with which it must begin, behind the first one.
+    at: Option<Arc<Slave>>,
+    waiting: Vec<Waiting<N>>,
+    chapters: Noted<Chapter<N>>,
+    sheaves: Noted<Sheaf<N>>,
+}
+
+impl<N: Name> Model for Keeper<N> {
+    ghost use Rattle.std.specs.Prelude.{◌≡◌, None};
+    ghost use Rattle.std.specs.Arc.{arc_value};
+    ghost use Rattle.std.specs.Option.{option_map_or};
+    ghost use Rattle.xcp_slave.specs.SlaveValue.{opening};
+    ghost use Rattle.xcp_locked.specs.Chapters.{AreJoined};
+    ghost use Rattle.xcp_service.specs.Keeping.{KeeperValue};
+    ghost use Rattle.xcp_service.specs.private.Waiting.{AreKept, chapters_in};
+
+    ghost Value = { KeeperValue };
+
+    ghost view = { λ k. record { chapters = k.chapters.list; sheaves = k.sheaves.list; waiting = chapters_in k.waiting.items; number = k.number; before = k.before; last = option_map_or arc_value k.at (opening N.layout) } };
+
+    ghost invariant = { λ k. AreJoined N.layout k.chapters.list k.number k.before (option_map_or arc_value k.at (opening N.layout)) × AreKept k.chapters.list k.sheaves.list k.waiting.items × (k.at ≡ None → k.before ≡ 0) };
+}
+
+impl<N: Name> Keeper<N> {
+    /// A keeper that has taken nothing yet.
+    pub fn new(alloc: Global) -> Keeper<N>
+        ensures { (result.chapters ≡ []) × (result.sheaves ≡ []) }
+    {
+        Keeper {
+            number: 0,
+            before: 0,
+            at: None,
+            waiting: Vec::new(alloc),
+            chapters: Noted::new(alloc),
+            sheaves: Noted::new(alloc),
+        }
+    }
+
+    /// How many chapters it has taken.
+    pub fn chapters(&self) -> u64
+        ensures { result ≡ length self.now.chapters }
+    {
+        self.number
+    }
+
+    /// Takes the next chapter, which must follow the one before it. The error `Discord::Chapter` says that it doesn't, with the number
+    /// that the next one has; after an error nothing changed.
+    pub fn join(&mut self, chapter: Chapter<N>) -> Result<(), Unkept>
+        ensures chapters { OnOk result (self.new.chapters ≡ self.old.chapters ++ chapter ∷ []) }
+        ensures waiting { OnOk result (self.new.waiting ≡ self.old.waiting ++ chapter ∷ []) }
+        ensures sheaves { self.new.sheaves ≡ self.old.sheaves }
+        ensures gap { IfErr result (λ e. (e ≡ Unkept.Memory) ⊎ ((e ≡ Unkept.Discord (Discord.Chapter self.old.number))
+            × ¬ (Follows self.old.number self.old.before self.old.last chapter.number chapter.before chapter.base))) }
+        ensures err { OnErr result (self.new ≡ self.old) }
+    {
+        if !self.follows(&chapter) {
+            return Err(Unkept::Discord(Discord::Chapter(self.number)));
+        }
+        if self.waiting.reserve(1).is_err() || self.chapters.reserve().is_err() {
+            return Err(Unkept::Memory);
+        }
+        let Ok(last) = chapter.share_last() else {
+            return Err(Unkept::Memory);
+        };
+        chapter.audit();
+        let owed = count_calls(&chapter);
+        let Keeper {
+            number,
+            before,
+            at,
+            waiting,
+            chapters,
+            ..
+        } = self;
+        *number += 1;
+        *before += chapter.len();
+        *at = Some(last);
+        chapters.push_reserved(&chapter);
+        waiting.push_reserved(Waiting { chapter, owed });
+        Ok(())
+    }
+
+    /// Whether a chapter has the next number, as many calls before it, and begins where the one before it ended; the first one with
+    /// the opening.
+    fn follows(&self, chapter: &Chapter<N>) -> bool
+        ensures { MatchBool result
+            (Follows self.now.number self.now.before self.now.last chapter.now.number chapter.now.before chapter.now.base)
+            (¬ (Follows self.now.number self.now.before self.now.last chapter.now.number chapter.now.before chapter.now.base)) }
+    {
+        chapter.audit();
+        if chapter.number() != self.number || chapter.before() != self.before {
+            return false;
+        }
+        match &self.at {
+            None => true,
+            Some(at) => chapter.base().same(at),
+        }
+    }
+
+    /// Takes a sheaf, and settles it: it must have the receipts of its caller for all chapters that wait for them, up to the one that
+    /// was open when it was handed over, and no others. After an error nothing changed.
+    pub fn settle(&mut self, sheaf: &Sheaf<N>) -> Result<(), Unkept>
+        ensures sheaves { OnOk result (self.new.sheaves ≡ self.old.sheaves ++ sheaf.now ∷ []) }
+        ensures chapters { self.new.chapters ≡ self.old.chapters }
+        ensures waiting { self.new.waiting ≡ self.old.waiting }
+        ensures err { OnErr result (self.new ≡ self.old) }
+    {
+        if self.sheaves.reserve().is_err() {
+            return Err(Unkept::Memory);
+        }
+        let (caller, until) = (sheaf.caller(), sheaf.until());
+        if let Err(discord) = check_sheaf(self.waiting.as_slice(), sheaf) {
+            return Err(Unkept::Discord(discord));
+        }
+        let Keeper {
+            waiting,
+            sheaves,
+            ..
+        } = self;
+        mark_all(waiting.as_mut_slice(), caller, until);
+        sheaves.push_reserved(sheaf);
+        Ok(())
+    }
+
+    /// Drops the chapters that are settled by all callers.
+    pub fn drop_settled(&mut self)
+        ensures chapters { self.new.chapters ≡ self.old.chapters }
+        ensures sheaves { self.new.sheaves ≡ self.old.sheaves }
+    {
+        drop_settled(&mut self.waiting);
+    }
+
+    /// Takes what lay at the post: joins its chapters, settles its sheaves, and drops what is settled, in this order. After an error what
+    /// was taken before it stays taken.
+    pub fn take(&mut self, mail: Mail<N>) -> Result<(), Unkept> {
+        let Mail {
+            chapters,
+            sheaves,
+            ..
+        } = mail;
+        for chapter in chapters {
+            self.join(chapter)?;
+        }
+        for sheaf in sheaves {
+            self.settle(&sheaf)?;
+        }
+        self.drop_settled();
+        Ok(())
+    }
+
+    /// Does nothing: its contract says what the type keeps. The chapters that were taken are one run from the opening, and each that is
+    /// not there any more is settled by all callers.
+    pub fn audit(&self)
+        ensures joined { AreJoined N.layout self.now.chapters self.now.number self.now.before self.now.last }
+        ensures settled { AreDroppedSettled self.now }
+    {
+        let _ = &self.waiting;
+    }
+
+    /// Whether all chapters that it took were dropped, and the slave goes on from the last of them. All calls since the opening are
+    /// then one run, those of the open chapter behind those that were dropped.
+    pub fn meets(&self, locked: &Locked<N>) -> bool
+        ensures joined { result ≡ true → AreJoined N.layout self.now.chapters locked.now.chapter
+            locked.now.before locked.now.base }
+        ensures settled { result ≡ true → AreKeptSettled self.now }
+    {
+        locked.audit();
+        if !self.waiting.is_empty()
+            || locked.chapter() != self.number
+            || locked.before() != self.before
+        {
+            return false;
+        }
+        match &self.at {
+            None => true,
+            Some(at) => locked.base().same(at),
+        }
+    }
+}

@@ -1,0 +1,112 @@
+//! A member of a slave that stays, as a station.
+ghost use Rattle.std.specs.Prelude.{◌≡◌};
+ghost use Rattle.xcp_locked.specs.Tasks.{Same};
+
+use crate::calling::call;
+use crate::member::Member;
+use crate::post::Post;
+use std::alloc::Global;
+use std::sync::atomic::AtomicBool;
+use std::sync::{Mutex, Wait};
+use xcp_framing::{Station, StationError};
+use xcp_locked::{Locked, LockedError, Name, wait_for_packets};
+use xcp_packet::Packet;
+use xcp_slave::{Request, Told};
+
+/// A slave that stays, under its lock, and the post of its keeper.
+#[derive(Drop)]
+pub struct Shared<N: Name> {
+    pub lock: Mutex<Locked<N>>,
+    pub post: Post<N>,
+}
+
+/// A member, as a station. Its exchanges are those of all receipts that it ever had. A submit waits for the lock.
+#[derive(Drop)]
+pub struct Seated<'a, N: Name, R: Wait> {
+    shared: &'a Shared<N>,
+    alloc: Global,
+    member: Member<N>,
+    rt: &'a R,
+}
+
+impl<'a, N: Name, R: Wait> Seated<'a, N, R> {
+    /// A station for this member.
+    pub fn new(
+        rt: &'a R,
+        alloc: Global,
+        shared: &'a Shared<N>,
+        member: Member<N>,
+    ) -> Seated<'a, N, R>
+        ensures { result.member ≡ member }
+    {
+        Seated {
+            shared,
+            alloc,
+            member,
+            rt,
+        }
+    }
+
+    /// The member, with all its receipts.
+    pub fn into_member(self) -> Member<N>
+        ensures { result ≡ self.entry.member }
+    {
+        self.member
+    }
+}
+
+impl<'a, N: Name, R: Wait> Station for Seated<'a, N, R> {
+    ghost use Rattle.xcp_locked.specs.Receipts.{exchanges_of};
+    ghost use Rattle.std.proofs.Common.{refl, ◌∙◌};
+    ghost use Rattle.xcp_locked.specs.CallRefusal.{MayRefuse};
+    ghost use Rattle.xcp_locked.specs.Tasks.{Same};
+
+    ghost exchanges = { λ t. exchanges_of t.member.receipts };
+
+    ghost same = { λ old new. Same old.member new.member };
+
+    ghost same_refl = { λ t. record { number = refl; events = refl; signals = refl } };
+
+    ghost same_trans = { λ x y z p q. record { number = q.number ∙ p.number; events = q.events ∙ p.events; signals = q.signals ∙ p.signals } };
+
+    ghost refuses = { λ t request e. MayRefuse e };
+
+    fn submit_into(
+        &mut self,
+        request: &Request,
+        packet: &mut Packet,
+    ) -> Result<Told, StationError> {
+        // What grows is made before the lock is taken. Where there is no memory, submit says so.
+        self.member.reserve();
+        let called = call(
+            self.rt,
+            self.alloc,
+            &mut self.shared.lock.lock(self.rt),
+            &self.shared.post,
+            &mut self.member,
+            request,
+            packet,
+        );
+        match called {
+            Ok(told) => Ok(told),
+            Err(LockedError::Memory) => Err(StationError::Memory),
+            Err(_) => Err(StationError::JournalFull),
+        }
+    }
+
+    /// How many packets wait in the shared slave's outbox. Others may empty it at once.
+    fn pending(&mut self) -> u8
+        ensures kept { self.new ≡ self.old }
+        ensures stays { Same self.old.member self.new.member }
+    {
+        self.shared.lock.lock(self.rt).pending()
+    }
+
+    /// Waits until packets wait in the shared slave's outbox, or `stop` is set, as `wait_for_packets` does.
+    fn wait(&mut self, stop: &AtomicBool)
+        ensures kept { self.new ≡ self.old }
+        ensures stays { Same self.old.member self.new.member }
+    {
+        wait_for_packets(self.rt, &self.shared.lock, stop);
+    }
+}
