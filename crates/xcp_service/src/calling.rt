@@ -21,7 +21,7 @@ pub const CHAPTER: u64 = 16_384;
 /// under the same hold; where there was no memory for that, the next call does. What the member has at hand of chapters that were
 /// cut off it hands over. `JournalFull` comes only where the open chapter had 65,536 calls before, since there was never memory to
 /// cut it off; after an error nothing was executed.
-pub(crate) fn call<N: Name>(
+pub fn call<N: Name>(
     rt: &impl Wait,
     alloc: Global,
     locked: &mut Locked<N>,

@@ -16,7 +16,7 @@ mod post;
 mod seated;
 mod waiting;
 
-pub use calling::CHAPTER;
+pub use calling::{CHAPTER, call};
 pub use keeper::{Keeper, Unkept};
 pub use member::Member;
 pub use post::{Mail, Post};

@@ -49,8 +49,25 @@ impl<N: Name> Member<N> {
         }
     }
 
+    /// The caller itself, with what it has at hand.
+    pub fn caller(&self) -> &Caller<N>
+        ensures number { result.now.number ≡ self.now.number }
+        ensures events { result.now.events ≡ self.now.events }
+        ensures signals { result.now.signals ≡ self.now.signals }
+    {
+        &self.caller
+    }
+
+    /// The caller itself, with what it has at hand, which the member gives up.
+    pub fn into_caller(self) -> Caller<N>
+        ensures { result.number ≡ self.number }
+    {
+        let Member { caller, .. } = self;
+        caller
+    }
+
     /// Makes room for the receipt of the next call, as `Caller::reserve` does.
-    pub(crate) fn reserve(&mut self)
+    pub fn reserve(&mut self)
         ensures { self.new ≡ self.old }
     {
         let _ = self.caller.reserve();

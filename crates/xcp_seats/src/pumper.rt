@@ -1,0 +1,94 @@
+//! The part of a seat that puts what the slave samples.
+ghost use Rattle.xcp_locked.specs.Tasks.{Same};
+
+use crossbeam_channel::{Receiver, Sender};
+use std::alloc::Global;
+use std::sync::Wait;
+use std::sync::atomic::{AtomicBool, Ordering};
+use together::Work;
+use xcp_framing::{ServeError, pump};
+use xcp_locked::Name;
+use xcp_outlet::{DataEnd, Put, PutData};
+use xcp_service::{Member, Seated, Shared};
+
+/// The most turns of one call of `pump`. Behind it the next call goes on.
+const TURNS: u32 = 1_000_000_000;
+
+/// What came of a connection's pump, and what it has put.
+#[derive(Drop)]
+pub struct Pumped {
+    pub end: Result<u64, ServeError>,
+    pub put: Put,
+}
+
+/// The part of a seat that puts what the slave samples, for one connection after another.
+#[derive(Drop)]
+pub struct Pumper<'a, N: Name> {
+    pub shared: &'a Shared<N>,
+    pub alloc: Global,
+    pub member: Member<N>,
+    pub stop: &'a AtomicBool,
+    pub begins: Receiver<DataEnd>,
+    pub ends: Sender<Pumped>,
+}
+
+impl<'a, N: Name + Send + Sync> Work<Member<N>> for Pumper<'a, N> {
+    ghost use Rattle.xcp_locked.specs.Tasks.{Same};
+
+    ghost gives = { λ p d. Same p.member d };
+
+    fn run<R: Wait>(self, rt: &R) -> Member<N> {
+        let Pumper {
+            shared,
+            alloc,
+            member,
+            stop,
+            begins,
+            ends,
+        } = self;
+        let mut station = Seated::new(rt, alloc, shared, member);
+        for _connection in rt.forever() {
+            let Ok(samples) = begins.recv(rt) else {
+                break;
+            };
+            let pumped = pump_connection(rt, &mut station, samples, stop);
+            if ends.send(rt, pumped).is_err() {
+                break;
+            }
+        }
+        station.into_member()
+    }
+
+    fn leave(self) -> Member<N> {
+        self.member
+    }
+}
+
+/// Puts what waits until the connection's stop is set, or a packet is handed back.
+fn pump_connection<N: Name, R: Wait>(
+    rt: &R,
+    station: &mut Seated<'_, N, R>,
+    samples: DataEnd,
+    stop: &AtomicBool,
+) -> Pumped
+    ensures { Same station.old.member station.new.member }
+{
+    let mut samples = PutData::new(rt, samples);
+    let mut count: u64 = 0;
+    let mut end = Ok(0);
+    for _turns in rt.forever() {
+        end = pump(station, &mut samples, stop, TURNS);
+        match end {
+            Ok(more) => count = count.wrapping_add(more),
+            Err(_) => break,
+        }
+        if stop.load(Ordering::SeqCst) {
+            break;
+        }
+    }
+    let put = samples.into_end().finish(rt);
+    Pumped {
+        end: end.map(|_| count),
+        put,
+    }
+}

@@ -1,0 +1,86 @@
+//! A seat for one tool after another.
+
+use crate::door::Door;
+use crate::hall::Hall;
+use crate::halt::Halt;
+use crate::hearer::{Hearer, Seat};
+use crate::pumper::Pumper;
+use crate::sender::Sending;
+use crossbeam_channel::bounded;
+use std::alloc::{AllocError, Global};
+use std::net::TcpListener;
+use std::time::Duration;
+use xcp_locked::Name;
+use xcp_service::{Member, Shared};
+
+/// The three parts of a seat.
+pub type Parts<'a, N, W> = (Hearer<'a, N, W>, Pumper<'a, N>, Sending<'a>);
+
+/// Where a seat is.
+#[derive(Drop)]
+pub struct Place<'a, W> {
+    pub number: u8,
+    pub max_cto: u8,
+    pub patience: Duration,
+    pub door: &'a Door,
+    pub halt: &'a Halt,
+    pub hall: &'a Hall,
+    pub watcher: &'a W,
+}
+
+/// A seat with a member for the tools and one for the pump. The listener's socket is shared.
+pub fn make_seat<'a, N: Name, W>(
+    alloc: Global,
+    shared: &'a Shared<N>,
+    listener: TcpListener,
+    tool: Member<N>,
+    pump: Member<N>,
+    place: Place<'a, W>,
+) -> Result<Parts<'a, N, W>, AllocError> {
+    let Place {
+        number,
+        max_cto,
+        patience,
+        door,
+        halt,
+        hall,
+        watcher,
+    } = place;
+    let (samples, begins) = bounded(alloc, 1)?;
+    let (ends, pumped) = bounded(alloc, 1)?;
+    let (outgoing, begun) = bounded(alloc, 1)?;
+    let (ended, sent) = bounded(alloc, 1)?;
+    let hearer = Hearer {
+        member: tool,
+        seat: Seat {
+            shared,
+            alloc,
+            number,
+            listener,
+            max_cto,
+            patience,
+            door,
+            halt,
+            hall,
+            watcher,
+            pump: samples,
+            pumped,
+            send: outgoing,
+            sent,
+        },
+    };
+    let pumper = Pumper {
+        shared,
+        alloc,
+        member: pump,
+        stop: &door.stop,
+        begins,
+        ends,
+    };
+    let sending = Sending {
+        door,
+        begins: begun,
+        ends: ended,
+    };
+    Ok((hearer, pumper, sending))
+}

@@ -1,0 +1,113 @@
+//! A task of a controller that stays.
+ghost use Rattle.std.specs.Prelude.{◌≡◌};
+ghost use Rattle.xcp_locked.specs.Tasks.{Same};
+
+use crate::halt::Halt;
+use crate::pace::Pace;
+use std::alloc::Global;
+use std::sync::Wait;
+use std::time::Clock;
+use xcp_locked::{Name, Reader, event};
+use xcp_packet::Packet;
+use xcp_service::{Member, Shared, call};
+use xcp_slave::Request;
+
+/// A task: its number, its member, its reader, and the image that it read last. Its cycles have no end.
+#[derive(Drop)]
+pub struct Ticker<'a, N: Name, C> {
+    pub shared: &'a Shared<N>,
+    pub alloc: Global,
+    pub task: u8,
+    pub member: Member<N>,
+    pub reader: Reader<N>,
+    pub pace: &'a Pace<'a, C>,
+    pub halt: &'a Halt,
+}
+
+impl<'a, N: Name, C: Clock> Ticker<'a, N, C> {
+    /// Cycle after cycle, until the server ends: an event is submitted, and the reader told under the same
+    /// hold; then the image is taken and read, without a lock; and task 0 finishes a store.
+    pub fn tick<R: Wait>(self, rt: &R) -> Member<N> {
+        let Ticker {
+            shared,
+            alloc,
+            task,
+            mut member,
+            mut reader,
+            pace,
+            halt,
+        } = self;
+        let mut image = [0; 2040];
+        let mut cycle: u64 = 0;
+        for _cycle in rt.forever() {
+            pace.wait(cycle);
+            if halt.is_asked() {
+                break;
+            }
+            raise(
+                rt,
+                alloc,
+                shared,
+                &mut member,
+                &mut reader,
+                task,
+                (cycle % 256) as u32,
+            );
+            reader.acquire();
+            reader.read(0, &mut image);
+            if task == 0 {
+                step(rt, alloc, shared, &mut member, Request::FinishStore);
+            }
+            cycle = cycle.wrapping_add(1);
+        }
+        member
+    }
+}
+
+/// Submits the event of a cycle, and tells the reader, under the same hold, what was published by then. An event for which there is
+/// no memory is lost.
+fn raise<N: Name>(
+    rt: &impl Wait,
+    alloc: Global,
+    shared: &Shared<N>,
+    member: &mut Member<N>,
+    reader: &mut Reader<N>,
+    task: u8,
+    cycle: u32,
+) {
+    let request = event(member.caller(), task, cycle);
+    let mut packet = Packet::new();
+    member.reserve();
+    let mut locked = shared.lock.lock(rt);
+    let _ = call(
+        rt,
+        alloc,
+        &mut locked,
+        &shared.post,
+        member,
+        &request,
+        &mut packet,
+    );
+    locked.tell(reader);
+}
+
+/// Submits a request. Where there is no memory for it, it is lost.
+fn step<N: Name>(
+    rt: &impl Wait,
+    alloc: Global,
+    shared: &Shared<N>,
+    member: &mut Member<N>,
+    request: Request,
+) {
+    let mut packet = Packet::new();
+    member.reserve();
+    let _ = call(
+        rt,
+        alloc,
+        &mut shared.lock.lock(rt),
+        &shared.post,
+        member,
+        &request,
+        &mut packet,
+    );
+}
