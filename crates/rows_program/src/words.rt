@@ -3,7 +3,7 @@ use std::alloc::{AllocError, Global};
 use std::env::FillError;
 use std::rt::Env;
 use std::test::Fail;
-use xcp_program::{Options, Unasked, asked, read_words};
+use xcp_program::{Options, Unasked, asked, options, read_words};
 
 /// The words that a program was started with, cut at each `|`.
 #[derive(Drop)]
@@ -39,15 +39,16 @@ impl Env for Started<'_> {
     }
 }
 
-/// What a program that was started with these words does: the file of a replay, the file of a server with its port,
-/// tools, tasks, cycles, chapter and period, the file of a description with its host and port, or the status, a blank and what
-/// it tells.
+/// What a program that was started with these words does: the file of a replay, the file of a server with its host, port,
+/// tools, tasks, cycles, chapter and period, or, behind `stay`, with its host, port, tools, tasks, period and patience, the file
+/// of a description with its host and port, or the status, a blank and what it tells.
 fn told(alloc: Global, words: &[u8]) -> Result<String, AllocError> {
     match asked(alloc, read_words(&(Started(words), alloc))) {
         Ok(Options::Replay { config }) => Ok(config),
         Ok(
             Options::Serve {
                 config,
+                host,
                 port,
                 tools,
                 tasks,
@@ -55,7 +56,20 @@ fn told(alloc: Global, words: &[u8]) -> Result<String, AllocError> {
                 chapter,
                 period,
             },
-        ) => format!(in alloc; "{config} {port} {tools} {tasks} {cycles} {chapter} {period}"),
+        ) => {
+            format!(in alloc; "{config} {host} {port} {tools} {tasks} {cycles} {chapter} {period}")
+        }
+        Ok(
+            Options::Stay {
+                config,
+                host,
+                port,
+                tools,
+                tasks,
+                period,
+                patience,
+            },
+        ) => format!(in alloc; "stay {config} {host} {port} {tools} {tasks} {period} {patience}"),
         Ok(Options::Describe { config, host, port }) => format!(in alloc; "{config} {host} {port}"),
         Err(e) => format!(in alloc; "{} {e}", e.status()),
     }
@@ -67,7 +81,7 @@ Usage: xcpd <COMMAND>
 
 Commands:
   replay    Answers command packets in hex, one line of standard input each, by one line of standard output each
-  serve     Answers calibration tools over TCP on 127.0.0.1, while tasks of the controller raise events
+  serve     Answers calibration tools over TCP, while tasks of the controller raise events
   describe  Prints the A2L file of the slave: ASAP2 1.6, on standard output
   help      Print this message or the help of the given subcommand(s)
 
@@ -100,18 +114,21 @@ with one line there, and this status:
 ";
 
 const SERVE_HELP: &str =
-    "0 Answers calibration tools over TCP on 127.0.0.1, while tasks of the controller raise events
+    "0 Answers calibration tools over TCP, while tasks of the controller raise events
 
 Usage: xcpd serve [OPTIONS] --config <FILE> --port <PORT>
 
 Options:
       --config <FILE>  The layout file, in TOML: identification, packet lengths, segments, signals, events
       --port <PORT>    The port to listen on, 1,024 to 65,535
-      --tools <T>      How many tools may connect, 1 or 2 [default: 1]
+      --host <A>       The address of this machine to listen on [default: 127.0.0.1]
+      --stay           Tools come and go, and the tasks have no end
+      --tools <T>      How many tools may connect, 1 or 2, with --stay 1 to 4 [default: 1]
       --tasks <K>      How many tasks raise events, 0 to 6 [default: 1]
-      --cycles <N>     How many cycles each task runs, 1 to 1,000 [default: 100]
-      --chapter <M>    From how many calls on a chapter of the journal is cut off, 1 to 65,536 [default: 65536]
+      --cycles <N>     How many cycles each task runs, 1 to 1,000; not for --stay [default: 100]
+      --chapter <M>    From how many calls on a chapter of the journal is cut off, 1 to 65,536; not for --stay [default: 65536]
       --period <MS>    The milliseconds from one cycle of a task to its next, 0 to 1,000 [default: 0]
+      --patience <S>   The seconds that a tool may stop inside a frame, or read nothing, 1 to 3,600; only for --stay [default: 60]
   -h, --help           Print help
 
 Its first line is: listening PORT. It accepts T connections, answers each until it ends, and runs the tasks meanwhile.
@@ -119,6 +136,9 @@ When all have ended it prints: chapters C (C is the number of chapters, the open
 number of all calls), and: settled (what was answered is what the slave's journal has). These three lines come before
 that of a fault, but not before that of a mismatch, of a faulty configuration, of stream 0, or of memory where nothing
 had begun.
+With --stay tools come and go, up to T at a time (1 to 4), until a line `stop` on standard input ends it; the tasks run
+until then, and --cycles and --chapter are ignored. How each connection ended is told on standard error then, and the
+status is not that of a connection's fault. Without it T is 1 or 2, and --patience is ignored.
 
 Wrong words end the program with status 1, and what is wrong with them on standard error. Any other fault ends it
 with one line there, and this status:
@@ -192,56 +212,104 @@ fn the_words_of_a_description(rt: HostRuntime) -> Result<(), Fail> {
 }
 
 /// What the program does with words of `serve` behind a configuration file F and a port.
-const SERVERS: [(&[u8], &str); 12] = [
+const SERVERS: [(&[u8], &str); 14] = [
     (
         b"xcpd|serve|--config|F|--port|5555",
-        "F 5555 1 1 100 65536 0",
+        "F 127.0.0.1 5555 1 1 100 65536 0",
     ),
     (
         b"xcpd|serve|--port=+5555|--config=F",
-        "F 5555 1 1 100 65536 0",
+        "F 127.0.0.1 5555 1 1 100 65536 0",
     ),
     (
         b"xcpd|serve|--config|F|--port|1024|--tools|1|--tasks|0|--cycles|1",
-        "F 1024 1 0 1 65536 0",
+        "F 127.0.0.1 1024 1 0 1 65536 0",
     ),
     (
         b"xcpd|serve|--period|1000|--cycles|1000|--tasks|6|--tools|2|--port|65535|--config|F",
-        "F 65535 2 6 1000 65536 1000",
+        "F 127.0.0.1 65535 2 6 1000 65536 1000",
     ),
     (
         b"xcpd|serve|--config|F|--port|2000|--tools|2",
-        "F 2000 2 1 100 65536 0",
+        "F 127.0.0.1 2000 2 1 100 65536 0",
     ),
     (
         b"xcpd|serve|--config|F|--port|2000|--tasks|2",
-        "F 2000 1 2 100 65536 0",
+        "F 127.0.0.1 2000 1 2 100 65536 0",
     ),
     (
         b"xcpd|serve|--config|F|--port|2000|--chapter|1",
-        "F 2000 1 1 100 1 0",
+        "F 127.0.0.1 2000 1 1 100 1 0",
     ),
     (
         b"xcpd|serve|--config|F|--port|2000|--chapter|65536",
-        "F 2000 1 1 100 65536 0",
+        "F 127.0.0.1 2000 1 1 100 65536 0",
     ),
     (
         b"xcpd|serve|--period|7|--chapter=300|--cycles|20|--port|2000|--config|F",
-        "F 2000 1 1 20 300 7",
+        "F 127.0.0.1 2000 1 1 20 300 7",
     ),
     (
         b"xcpd|serve|--config|F|--port|2000|--period|10",
-        "F 2000 1 1 100 65536 10",
+        "F 127.0.0.1 2000 1 1 100 65536 10",
     ),
     (
         b"xcpd|serve|--config|F|--port|2000|--period|0",
-        "F 2000 1 1 100 65536 0",
+        "F 127.0.0.1 2000 1 1 100 65536 0",
+    ),
+    (
+        b"xcpd|serve|--host|192.168.0.7|--config|F|--port|2000",
+        "F 192.168.0.7 2000 1 1 100 65536 0",
+    ),
+    (
+        b"xcpd|serve|--config|F|--port|2000|--patience|7",
+        "F 127.0.0.1 2000 1 1 100 65536 0",
     ),
     (b"xcpd|serve|--help", SERVE_HELP),
 ];
 
+/// What it does with words of `serve` that have `--stay`.
+const STAYING: [(&[u8], &str); 9] = [
+    (
+        b"xcpd|serve|--config|F|--port|5555|--stay",
+        "stay F 127.0.0.1 5555 1 1 0 60",
+    ),
+    (
+        b"xcpd|serve|--stay|--config=F|--port=+1024|--tools|4",
+        "stay F 127.0.0.1 1024 4 1 0 60",
+    ),
+    (
+        b"xcpd|serve|--config|F|--stay|--port|65535|--tools|3|--tasks|0",
+        "stay F 127.0.0.1 65535 3 0 0 60",
+    ),
+    (
+        b"xcpd|serve|--host|::1|--stay|--patience|1|--period|1000|--tasks|6|--tools|2|--port|2000|--config|F",
+        "stay F ::1 2000 2 6 1000 1",
+    ),
+    (
+        b"xcpd|serve|--config|F|--port|2000|--stay|--patience|3600",
+        "stay F 127.0.0.1 2000 1 1 0 3600",
+    ),
+    (
+        b"xcpd|serve|--config|F|--port|2000|--stay|--period|10",
+        "stay F 127.0.0.1 2000 1 1 10 60",
+    ),
+    (
+        b"xcpd|serve|--config|F|--port|2000|--stay|--cycles|1|--chapter|5",
+        "stay F 127.0.0.1 2000 1 1 0 60",
+    ),
+    (
+        b"xcpd|serve|--config|F|--port|2000|--tools|3",
+        "1 xcpd: more than 2 tools want --stay\n",
+    ),
+    (
+        b"xcpd|serve|--tools=4|--config|F|--port|2000|--patience|60",
+        "1 xcpd: more than 2 tools want --stay\n",
+    ),
+];
+
 /// What it tells of words of `serve` that are wrong.
-const WRONG_SERVERS: [(&[u8], &str); 21] = [
+const WRONG_SERVERS: [(&[u8], &str); 27] = [
     (
         b"xcpd|serve",
         "1 error: the following required arguments were not provided:\n  --config <FILE>\n  --port <PORT>\n",
@@ -275,8 +343,32 @@ const WRONG_SERVERS: [(&[u8], &str); 21] = [
         "1 error: invalid value '0' for '--tools <T>'",
     ),
     (
-        b"xcpd|serve|--config|F|--port|5555|--tools|3",
-        "1 error: invalid value '3' for '--tools <T>'",
+        b"xcpd|serve|--config|F|--port|5555|--tools|5",
+        "1 error: invalid value '5' for '--tools <T>'",
+    ),
+    (
+        b"xcpd|serve|--config|F|--port|5555|--stay|--tools|5",
+        "1 error: invalid value '5' for '--tools <T>'",
+    ),
+    (
+        b"xcpd|serve|--config|F|--port|5555|--stay|--patience|0",
+        "1 error: invalid value '0' for '--patience <S>'",
+    ),
+    (
+        b"xcpd|serve|--config|F|--port|5555|--stay|--patience|3601",
+        "1 error: invalid value '3601' for '--patience <S>'",
+    ),
+    (
+        b"xcpd|serve|--config|F|--port|5555|--stay=true",
+        "1 error: unexpected value 'true' for '--stay'",
+    ),
+    (
+        b"xcpd|serve|--config|F|--port|5555|--stay|--stay",
+        "1 error: the argument '--stay' cannot",
+    ),
+    (
+        b"xcpd|serve|--stay",
+        "1 error: the following required arguments were not provided:\n  --config <FILE>\n  --port <PORT>\n",
     ),
     (
         b"xcpd|serve|--config|F|--port|5555|--tasks|7",
@@ -337,6 +429,38 @@ fn the_words_of_a_server(rt: HostRuntime) -> Result<(), Fail> {
     for (words, text) in WRONG_SERVERS {
         let found = told(rt.alloc(), words)?;
         assert!(rt; found.as_str().starts_with(text), "{found}");
+    }
+    Ok(())
+}
+
+#[test]
+fn the_words_of_a_server_that_stays(rt: HostRuntime) -> Result<(), Fail> {
+    for (words, text) in STAYING {
+        let found = told(rt.alloc(), words)?;
+        assert_eq!(rt; found.as_str(), text);
+    }
+    Ok(())
+}
+
+/// The number of the fault of words that are given as texts.
+fn number_of(alloc: Global, words: &[&str]) -> Result<Option<u8>, AllocError> {
+    let mut given = Vec::new(alloc);
+    for word in words {
+        given.push(String::from_str(alloc, word)?)?;
+    }
+    Ok(options(alloc, given.as_slice()).err().map(|e| e.number()))
+}
+
+#[test]
+fn the_faults_of_words_have_numbers(rt: HostRuntime) -> Result<(), Fail> {
+    let file = [
+        "xcpd", "serve", "--config", "F", "--port", "5555", "--tools",
+    ];
+    let rows = [("2", None), ("3", Some(3)), ("4", Some(3)), ("5", Some(2))];
+    for (tools, number) in rows {
+        let [a, b, c, d, e, f, g] = file;
+        let found = number_of(rt.alloc(), &[a, b, c, d, e, f, g, tools])?;
+        assert_eq!(rt; found, number);
     }
     Ok(())
 }

@@ -3,13 +3,13 @@ use Rattle.std.proofs.Common.{◌≡◌, ◌∙◌, ◌||◌, ◌++◌, Bool, tr
 use Rattle.std.specs.List.{list_all}
 use Rattle.std.proofs.lemmas.Slice.Eq.{bytes_eq-Decides}
 use Rattle.clap.specs.Facts.{explicit_source}
-use Rattle.clap.specs.Walk.{Row, Rule, Text, action_of, arg_by_id, at_row, default_rows, has_row, more_values, reading_by, stronger, used, used_as, with_default, with_values, without}
+use Rattle.clap.specs.Walk.{Row, Rule, Text, action_of, arg_by_id, at_row, default_rows, has_row, more_values, reading_by, stronger, takes_values, used, used_as, with_default, with_values, without}
 use Rattle.clap.specs.Takes.{value_passes}
 use Rattle.clap.specs.Kinds.{Kinds, or_else}
 use Rattle.clap.proofs.WalkLemmas.{both}
 use Rattle.clap.specs.Faults.{action_fault, use_fault}
 use Rattle.clap.specs.declared.builder.action.ArgAction.{ArgAction}
-use Rattle.clap.specs.declared.builder.action.ArgAction.TheVariants.{Set}
+use Rattle.clap.specs.declared.builder.action.ArgAction.TheVariants.{Set, SetTrue}
 use Rattle.clap.specs.declared.parser.matches.ValueSource.{ValueSource}
 use Rattle.clap.specs.declared.parser.matches.ValueSource.TheVariants.{CommandLine, DefaultValue}
 use Rattle.clap.specs.declared.error.kind.ErrorKind.{ErrorKind}
@@ -72,11 +72,12 @@ module _ (P : Row → Type 0) where
 
 -- ---- rows that the words gave
 
--- the row's first value is one that the argument takes, and the words gave it
+-- the row's first value is one that the argument takes, and the words gave it; of a flag, which takes none, it is what stands for a use
 pub record IsGiven (a : Rule) (r : Row) : Type 0 where
   pub text : Text
   pub value : slice_get r.values 0 ≡ Some text
   pub passes : value_passes a text ≡ true
+  pub flag : takes_values a ≡ false → a.missing ≡ text ∷ []
   pub explicit : explicit_source r.source ≡ true
 
 -- the same for the argument of the row's id
@@ -97,26 +98,41 @@ more_is_good c values r h = (go (arg_by_id c r.id) h, tt)
   where
     go : (o : Option Rule) → IfSome o (λ a. IsGiven a r) → IfSome o (λ a. IsGiven a (record r { values = r.values ++ values; source = Some (stronger r.source CommandLine) }))
     go None h = tt
-    go (Some a) h = record { text = h.text; value = first_stays r.values values h.text h.value; passes = h.passes; explicit = words_are_explicit r.source }
+    go (Some a) h = record { text = h.text; value = first_stays r.values values h.text h.value; passes = h.passes; flag = h.flag; explicit = words_are_explicit r.source }
 
 accepted : (b : Bool) (k : ErrorKind) → (if b then [] else k ∷ []) ≡ [] → b ≡ true
 accepted true k e = refl
 accepted false k e = absurd (no_kinds k [] e)
 
--- a use of an option with values keeps the rows good
-pub keeps_set : (c : List Rule) (a : Rule) → arg_by_id c a.id ≡ Some a → action_of a ≡ Set → ((again : Bool) (rows : List Row) → use_fault again a [] rows ≡ [] → ⊥) → Keeps (Good c) a
-keeps_set c a one set wants again [] rows e v = absurd (wants again rows e)
-keeps_set c a one set wants again (x ∷ xs) rows e v =
-    let used_up = (parts _ (action_fault (action_of a) again a (x ∷ xs) rows) e).1 in
-    let as_set : action_fault Set again a (x ∷ xs) rows ≡ [] = subst (λ (act : ArgAction). action_fault act again a (x ∷ xs) rows ≡ []) set used_up in
-    let passes = accepted _ _ (parts _ _ (parts _ _ as_set).1).0 in
-    let row : IsGiven a (record { id = a.id; values = x ∷ xs; count = None; source = Some CommandLine; reading = reading_by a }) = record { text = x; value = refl; passes = passes; explicit = refl } in
+-- values of which the first passes keep the rows good
+keeps_values : (c : List Rule) (a : Rule) → arg_by_id c a.id ≡ Some a → (x : Text) (xs : List Text) (rows : List Row) → value_passes a x ≡ true → (takes_values a ≡ false → a.missing ≡ x ∷ [])
+    → Each (Good c) rows → Each (Good c) (with_values a.id (reading_by a) CommandLine (x ∷ xs) (without a.id rows))
+keeps_values c a one x xs rows passes flag v =
+    let row : IsGiven a (record { id = a.id; values = x ∷ xs; count = None; source = Some CommandLine; reading = reading_by a }) = record { text = x; value = refl; passes = passes; flag = flag; explicit = refl } in
     let fresh : IfSome (arg_by_id c a.id) (λ b. IsGiven b (record { id = a.id; values = x ∷ xs; count = None; source = Some CommandLine; reading = reading_by a })) =
     subst (λ (o : Option Rule). IfSome o (λ b. IsGiven b (record { id = a.id; values = x ∷ xs; count = None; source = Some CommandLine; reading = reading_by a }))) (sym one) row in
     let rest = changed (Good c) a.id (λ _. []) [] rows (λ r h. tt) tt v in
-    let all : Each (Good c) (with_values a.id (reading_by a) CommandLine (x ∷ xs) (without a.id rows)) =
-    changed (Good c) a.id (more_values CommandLine (x ∷ xs)) _ (without a.id rows) (more_is_good c (x ∷ xs)) (fresh, tt) rest in
+    changed (Good c) a.id (more_values CommandLine (x ∷ xs)) _ (without a.id rows) (more_is_good c (x ∷ xs)) (fresh, tt) rest
+
+-- a use of an option with values does
+pub keeps_set : (c : List Rule) (a : Rule) → arg_by_id c a.id ≡ Some a → action_of a ≡ Set → takes_values a ≡ true → ((again : Bool) (rows : List Row) → use_fault again a [] rows ≡ [] → ⊥) → Keeps (Good c) a
+keeps_set c a one set takes wants again [] rows e v = absurd (wants again rows e)
+keeps_set c a one set takes wants again (x ∷ xs) rows e v =
+    let used_up = (parts _ (action_fault (action_of a) again a (x ∷ xs) rows) e).1 in
+    let as_set : action_fault Set again a (x ∷ xs) rows ≡ [] = subst (λ (act : ArgAction). action_fault act again a (x ∷ xs) rows ≡ []) set used_up in
+    let passes = accepted _ _ (parts _ _ (parts _ _ as_set).1).0 in
+    let all = keeps_values c a one x xs rows passes (λ none. absurd (true≢false (sym takes ∙ none))) v in
     subst (λ (act : ArgAction). Each (Good c) (used_as act a.id (reading_by a) (x ∷ xs) rows)) (sym set) all
+
+-- and so does a flag, which takes no value, by the one that stands for a use
+pub keeps_flag : (c : List Rule) (a : Rule) (x : Text) → arg_by_id c a.id ≡ Some a → action_of a ≡ SetTrue → a.missing ≡ x ∷ [] → value_passes a x ≡ true
+    → ((again : Bool) (y : Text) (ys : List Text) (rows : List Row) → use_fault again a (y ∷ ys) rows ≡ [] → ⊥) → Keeps (Good c) a
+keeps_flag c a x one set missing passes takes again (y ∷ ys) rows e v = absurd (takes again y ys rows e)
+keeps_flag c a x one set missing passes takes again [] rows e v =
+    let all = keeps_values c a one x [] rows passes (λ none. missing) v in
+    let by_missing : Each (Good c) (with_values a.id (reading_by a) CommandLine a.missing (without a.id rows)) =
+    subst (λ (values : List Text). Each (Good c) (with_values a.id (reading_by a) CommandLine values (without a.id rows))) (sym missing) all in
+    subst (λ (act : ArgAction). Each (Good c) (used_as act a.id (reading_by a) a.missing rows)) (sym set) by_missing
 
 -- ---- rows with their defaults
 

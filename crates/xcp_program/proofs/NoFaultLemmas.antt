@@ -1,19 +1,22 @@
 -- Words in which clap finds no fault name a replay with its file, a server with its file and its numbers, or a description.
-use Rattle.std.proofs.Common.{◌≡◌, inl, inr, ◌∙◌, ◌||◌, ℕ, Bool, codes, true, false, not, refl, sym, ap, subst, true≢false, List, [], ◌∷◌, drop, take, Option, Some, None, IfSome, is_some, if◌then◌else◌, option_and_then, option_map, find, slice_get, bytes_eq, unwrap_or}
+use Rattle.std.proofs.Common.{◌≡◌, ◌==◌, inl, inr, ◌∙◌, ◌||◌, ℕ, suc, length, Bool, codes, true, false, not, refl, sym, ap, subst, true≢false, List, [], ◌∷◌, ◌++◌, drop, fold, take, Option, Some, None, IfSome, is_some, if◌then◌else◌, option_and_then, option_map, find, slice_get, bytes_eq, unwrap_or}
+use Rattle.std.specs.List.{list_all}
 use Rattle.std.specs.Option.{option_map_or}
+use Rattle.std.proofs.Math.Dec.{eqb-zero-suc}
 use Rattle.std.proofs.lemmas.Slice.Eq.{bytes_eq-Decides}
 use Rattle.clap.specs.Facts.{explicit_source}
-use Rattle.clap.specs.Walk.{Held, Row, Rule, Text, answers_to, arg_by_id, finished, first_of, nothing_held, rows_after, settled, walk, walk_from}
+use Rattle.clap.specs.Walk.{Held, Row, Rule, Text, answers_to, arg_by_id, finished, first_of, nothing_held, rows_after, settled, takes_values, walk, walk_from, with_default}
 use Rattle.clap.specs.Simple.{Shape, argument_words, built, entered, help_rule, help_shape, label_of, names_of, rows_at, subcommand_of}
+use Rattle.clap.specs.Kinds.{range_kinds}
 use Rattle.clap.specs.Takes.{is_given, value_passes}
 use Rattle.clap.specs.Faults.{check_fault, defaults_fault, entered_fault, fault_of, level_fault, settle_fault, walk_fault}
 use Rattle.clap.specs.Values.{IsUnsignedIn}
 use Rattle.clap.proofs.ValueTestLemmas.{accepts-Accepts}
 use Rattle.clap.specs.declared.builder.value_parser.ValueParser.TheVariants.{Unsigned}
 use Rattle.clap.specs.declared.error.kind.ErrorKind.TheVariants as kind
-use Rattle.xcp_program.specs.CommandLine.{HasNumber, HasNumberIn, Numeric, chapter, cycles, host_default, named_port, period, port, program, tasks, tools}
-use Rattle.xcp_program.specs.private.CommandLine.{AsksDescription, AsksRun, AsksSomething}
-use Rattle.xcp_program.proofs.ClapRowLemmas.{Each, EachRule, Good, IsGiven, Keeps, default_row, defaults_leave, found_row, found_rule, keeps_set, no_kinds, default_among, parts, row_for}
+use Rattle.xcp_program.specs.CommandLine.{HasNumber, HasNumberIn, Numeric, chapter, cycles, host_default, named_port, patience, period, port, program, tasks, tools}
+use Rattle.xcp_program.specs.private.CommandLine.{AsksDescription, AsksRun, AsksSomething, HasFlag}
+use Rattle.xcp_program.proofs.ClapRowLemmas.{Each, EachRule, Good, IsGiven, Keeps, default_row, defaults_leave, found_row, found_rule, keeps_flag, keeps_set, leaves_row, no_kinds, default_among, parts, row_for}
 use Rattle.xcp_program.proofs.ClapWalkLemmas.{NoHelp, settles, walk_kept, walk_stops}
 
 -- ---- the program as clap builds it: `replay`, `serve`, `describe` and `help`, and the arguments of each
@@ -42,29 +45,46 @@ describe_shape = shape_at (drop 2 (built program).subs)
 abbrev nth : ℕ → Shape → Rule
 nth n s = rule_at (drop n s.rules)
 
+-- a flag takes no value
+no_values : (n : ℕ) → range_kinds 0 0 (suc n) ≡ [] → ⊥
+no_values n e = go (0 == suc n) (eqb-zero-suc n) e
+  where
+    go : (b : Bool) → b ≡ false → (if b then [] else kind.WrongNumberOfValues ∷ []) ≡ [] → ⊥
+    go false f e = no_kinds _ _ e
+    go true f e = true≢false f
+
 -- a use of an option with no fault keeps the rows good, and so does `--help`, of which each use is a fault
 keeps_replay : EachRule (Keeps (Good replay_shape.rules)) replay_shape.rules
 keeps_replay = (
-  keeps_set replay_shape.rules (nth 0 replay_shape) refl refl (λ again rows e. no_kinds _ _ e),
+  keeps_set replay_shape.rules (nth 0 replay_shape) refl refl refl (λ again rows e. no_kinds _ _ e),
   (λ again values rows e v. v, tt),
 )
 
 keeps_serve : EachRule (Keeps (Good serve_shape.rules)) serve_shape.rules
 keeps_serve = (
-  keeps_set serve_shape.rules (nth 0 serve_shape) refl refl (λ again rows e. no_kinds _ _ e),
+  keeps_set serve_shape.rules (nth 0 serve_shape) refl refl refl (λ again rows e. no_kinds _ _ e),
   (
-    keeps_set serve_shape.rules (nth 1 serve_shape) refl refl (λ again rows e. no_kinds _ _ e),
+    keeps_set serve_shape.rules (nth 1 serve_shape) refl refl refl (λ again rows e. no_kinds _ _ e),
     (
-      keeps_set serve_shape.rules (nth 2 serve_shape) refl refl (λ again rows e. no_kinds _ _ e),
+      keeps_set serve_shape.rules (nth 2 serve_shape) refl refl refl (λ again rows e. no_kinds _ _ e),
       (
-        keeps_set serve_shape.rules (nth 3 serve_shape) refl refl (λ again rows e. no_kinds _ _ e),
+        keeps_flag serve_shape.rules (nth 3 serve_shape) (codes "true") refl refl refl refl (λ again y ys rows e. no_values (length ys) (parts _ _ e).0),
         (
-          keeps_set serve_shape.rules (nth 4 serve_shape) refl refl (λ again rows e. no_kinds _ _ e),
+          keeps_set serve_shape.rules (nth 4 serve_shape) refl refl refl (λ again rows e. no_kinds _ _ e),
           (
-            keeps_set serve_shape.rules (nth 5 serve_shape) refl refl (λ again rows e. no_kinds _ _ e),
+            keeps_set serve_shape.rules (nth 5 serve_shape) refl refl refl (λ again rows e. no_kinds _ _ e),
             (
-              keeps_set serve_shape.rules (nth 6 serve_shape) refl refl (λ again rows e. no_kinds _ _ e),
-              (λ again values rows e v. v, tt),
+              keeps_set serve_shape.rules (nth 6 serve_shape) refl refl refl (λ again rows e. no_kinds _ _ e),
+              (
+                keeps_set serve_shape.rules (nth 7 serve_shape) refl refl refl (λ again rows e. no_kinds _ _ e),
+                (
+                  keeps_set serve_shape.rules (nth 8 serve_shape) refl refl refl (λ again rows e. no_kinds _ _ e),
+                  (
+                    keeps_set serve_shape.rules (nth 9 serve_shape) refl refl refl (λ again rows e. no_kinds _ _ e),
+                    (λ again values rows e v. v, tt),
+                  ),
+                ),
+              ),
             ),
           ),
         ),
@@ -75,11 +95,11 @@ keeps_serve = (
 
 keeps_describe : EachRule (Keeps (Good describe_shape.rules)) describe_shape.rules
 keeps_describe = (
-  keeps_set describe_shape.rules (nth 0 describe_shape) refl refl (λ again rows e. no_kinds _ _ e),
+  keeps_set describe_shape.rules (nth 0 describe_shape) refl refl refl (λ again rows e. no_kinds _ _ e),
   (
-    keeps_set describe_shape.rules (nth 1 describe_shape) refl refl (λ again rows e. no_kinds _ _ e),
+    keeps_set describe_shape.rules (nth 1 describe_shape) refl refl refl (λ again rows e. no_kinds _ _ e),
     (
-      keeps_set describe_shape.rules (nth 2 describe_shape) refl refl (λ again rows e. no_kinds _ _ e),
+      keeps_set describe_shape.rules (nth 2 describe_shape) refl refl refl (λ again rows e. no_kinds _ _ e),
       (λ again values rows e v. v, tt),
     ),
   ),
@@ -128,11 +148,12 @@ module _ (s : Shape) (words : List Text) (kept : EachRule (Keeps (Good s.rules))
 
 -- ---- an option in the rows
 
--- an option with its text: given, or by its default
+-- an option with its text: given, or by its default; of a flag that is given it is what stands for a use
 pub record Stands (a : Rule) (rows : List Row) (default : Option Text) : Type 0 where
   pub text : Text
   pub value : first_of a.id rows ≡ Some text
   pub passes : value_passes a text ≡ true
+  pub flag : is_given a.id rows ≡ true → takes_values a ≡ false → a.missing ≡ text ∷ []
   pub otherwise : is_given a.id rows ≡ false → default ≡ Some text
 
 -- as the row says
@@ -141,6 +162,7 @@ stands a rows default r found h = record {
   text = h.text;
   value = ap (option_and_then (λ q. slice_get q.values 0)) found ∙ h.value;
   passes = h.passes;
+  flag = λ given. h.flag;
   otherwise = λ none. absurd (true≢false (sym h.explicit ∙ sym (ap (λ (o : Option Row). option_map_or (λ q. explicit_source q.source) o false) found) ∙ none));
 }
 
@@ -161,9 +183,23 @@ default_stands a v rows all same good passes = go (row_for a.id rows) refl good
       text = v;
       value = ap (option_and_then (λ q. slice_get q.values 0)) (same ∙ ap (λ (o : Option Row). Some (unwrap_or o (default_row a v))) e);
       passes = passes;
+      flag = λ given. absurd (true≢false (sym given ∙ ap (λ (o : Option Row). option_map_or (λ q. explicit_source q.source) o false) (same ∙ ap (λ (o : Option Row). Some (unwrap_or o (default_row a v))) e)));
       otherwise = λ none. refl;
     }
     go (Some r) e h = stands a all (Some v) r (same ∙ ap (λ (o : Option Row). Some (unwrap_or o (default_row a v))) e) h
+
+-- ---- an option of a subcommand whose words have no fault
+
+module _ (s : Shape) (words : List Text) (kept : EachRule (Keeps (Good s.rules)) s.rules) (e : level_fault s [] nothing_held words false [] ≡ []) where
+  by_words : (a : Rule) → arg_by_id s.rules a.id ≡ Some a → list_all (leaves_row a.id) s.rules ≡ true → is_given a.id (all_rows s words) ≡ true → Stands a (all_rows s words) None
+  by_words a one leaves given = wanted_stands a (given_rows s words) (all_rows s words) (defaults_leave a.id s.rules (given_rows s words) leaves) (row_is_good s words kept e a one) given
+
+  by_default : (before after : List Rule) (a : Rule) (v : Text) → before ++ a ∷ after ≡ s.rules → list_all (leaves_row a.id) before ≡ true → list_all (leaves_row a.id) after ≡ true → a.defaults ≡ v ∷ []
+      → arg_by_id s.rules a.id ≡ Some a → value_passes a v ≡ true → Stands a (all_rows s words) (Some v)
+  by_default before after a v whole front back own one passes =
+      let row : row_for a.id (all_rows s words) ≡ Some (unwrap_or (row_for a.id (given_rows s words)) (default_row a v)) =
+      ap (λ (c : List Rule). row_for a.id (fold with_default (given_rows s words) c)) (sym whole) ∙ default_among before after a v (given_rows s words) front back own in
+      default_stands a v (given_rows s words) (all_rows s words) row (row_is_good s words kept e a one) passes
 
 -- ---- `replay`
 
@@ -173,11 +209,8 @@ one_wanted false e = absurd (no_kinds _ _ e)
 
 replay_asked : (words : List Text) → level_fault replay_shape [] nothing_held words false [] ≡ [] → AsksRun (Some (rows_at replay_shape words))
 replay_asked words e =
-    let config = nth 0 replay_shape in
-    let all = all_rows replay_shape words in
-    let rows = given_rows replay_shape words in
-    let given = one_wanted (is_given (codes "config") all) (checked replay_shape words keeps_replay e) in
-    let file = wanted_stands config rows all (defaults_leave config.id replay_shape.rules rows refl) (row_is_good replay_shape words keeps_replay e config refl) given in
+    let given = one_wanted (is_given (codes "config") (all_rows replay_shape words)) (checked replay_shape words keeps_replay e) in
+    let file = by_words replay_shape words keeps_replay e (nth 0 replay_shape) refl refl given in
     inl (file.text, record { text = record { name = refl; value = file.value }; given = given })
 
 -- ---- `serve`
@@ -210,98 +243,98 @@ number_stands : (words : List Text) (a : Rule) (o : Numeric) → a.id ≡ o.name
     → Stands a (all_rows serve_shape words) o.default → (n : ℕ) × HasNumber (Some (rows_at serve_shape words)) o n
 number_stands words = number_among serve_shape (codes "serve") words refl refl
 
+some_text : (a b : Text) → Some a ≡ Some b → b ≡ a
+some_text a b e = cc
+
+one_value : (a b : Text) → a ∷ [] ≡ b ∷ [] → b ≡ a
+one_value a b e = cc
+
 module _ (words : List Text) (e : level_fault serve_shape [] nothing_held words false [] ≡ []) where
   wants : (is_given (codes "config") (all_rows serve_shape words) ≡ true) × (is_given (codes "port") (all_rows serve_shape words) ≡ true)
   wants = two_wanted _ _ (checked serve_shape words keeps_serve e)
 
-  good_row : (a : Rule) → arg_by_id serve_shape.rules a.id ≡ Some a → IfSome (row_for a.id (given_rows serve_shape words)) (IsGiven a)
-  good_row = row_is_good serve_shape words keeps_serve e
-
   config_stands : Stands (nth 0 serve_shape) (all_rows serve_shape words) None
-  config_stands = wanted_stands (nth 0 serve_shape) (given_rows serve_shape words) (all_rows serve_shape words)
-      (defaults_leave (codes "config") serve_shape.rules (given_rows serve_shape words) refl) (good_row (nth 0 serve_shape) refl) wants.0
+  config_stands = by_words serve_shape words keeps_serve e (nth 0 serve_shape) refl refl wants.0
 
   port_stands : Stands (nth 1 serve_shape) (all_rows serve_shape words) None
-  port_stands = wanted_stands (nth 1 serve_shape) (given_rows serve_shape words) (all_rows serve_shape words)
-      (defaults_leave (codes "port") serve_shape.rules (given_rows serve_shape words) refl) (good_row (nth 1 serve_shape) refl) wants.1
+  port_stands = by_words serve_shape words keeps_serve e (nth 1 serve_shape) refl refl wants.1
 
-  tools_stands : Stands (nth 2 serve_shape) (all_rows serve_shape words) tools.default
-  tools_stands = default_stands (nth 2 serve_shape) (codes "1") (given_rows serve_shape words) (all_rows serve_shape words)
-      (default_among (take 2 serve_shape.rules) (drop 3 serve_shape.rules) (nth 2 serve_shape) (codes "1") (given_rows serve_shape words) refl refl refl)
-      (good_row (nth 2 serve_shape) refl) refl
+  address_stands : Stands (nth 2 serve_shape) (all_rows serve_shape words) (Some host_default)
+  address_stands = by_default serve_shape words keeps_serve e (take 2 serve_shape.rules) (drop 3 serve_shape.rules) (nth 2 serve_shape) host_default refl refl refl refl refl refl
 
-  tasks_stands : Stands (nth 3 serve_shape) (all_rows serve_shape words) tasks.default
-  tasks_stands = default_stands (nth 3 serve_shape) (codes "1") (given_rows serve_shape words) (all_rows serve_shape words)
-      (default_among (take 3 serve_shape.rules) (drop 4 serve_shape.rules) (nth 3 serve_shape) (codes "1") (given_rows serve_shape words) refl refl refl)
-      (good_row (nth 3 serve_shape) refl) refl
+  stay_stands : Stands (nth 3 serve_shape) (all_rows serve_shape words) (Some (codes "false"))
+  stay_stands = by_default serve_shape words keeps_serve e (take 3 serve_shape.rules) (drop 4 serve_shape.rules) (nth 3 serve_shape) (codes "false") refl refl refl refl refl refl
 
-  cycles_stands : Stands (nth 4 serve_shape) (all_rows serve_shape words) cycles.default
-  cycles_stands = default_stands (nth 4 serve_shape) (codes "100") (given_rows serve_shape words) (all_rows serve_shape words)
-      (default_among (take 4 serve_shape.rules) (drop 5 serve_shape.rules) (nth 4 serve_shape) (codes "100") (given_rows serve_shape words) refl refl refl)
-      (good_row (nth 4 serve_shape) refl) refl
+  tools_stands : Stands (nth 4 serve_shape) (all_rows serve_shape words) tools.default
+  tools_stands = by_default serve_shape words keeps_serve e (take 4 serve_shape.rules) (drop 5 serve_shape.rules) (nth 4 serve_shape) (codes "1") refl refl refl refl refl refl
 
-  chapter_stands : Stands (nth 5 serve_shape) (all_rows serve_shape words) chapter.default
-  chapter_stands = default_stands (nth 5 serve_shape) (codes "65536") (given_rows serve_shape words) (all_rows serve_shape words)
-      (default_among (take 5 serve_shape.rules) (drop 6 serve_shape.rules) (nth 5 serve_shape) (codes "65536") (given_rows serve_shape words) refl refl refl)
-      (good_row (nth 5 serve_shape) refl) refl
+  tasks_stands : Stands (nth 5 serve_shape) (all_rows serve_shape words) tasks.default
+  tasks_stands = by_default serve_shape words keeps_serve e (take 5 serve_shape.rules) (drop 6 serve_shape.rules) (nth 5 serve_shape) (codes "1") refl refl refl refl refl refl
 
-  period_stands : Stands (nth 6 serve_shape) (all_rows serve_shape words) period.default
-  period_stands = default_stands (nth 6 serve_shape) (codes "0") (given_rows serve_shape words) (all_rows serve_shape words)
-      (default_among (take 6 serve_shape.rules) (drop 7 serve_shape.rules) (nth 6 serve_shape) (codes "0") (given_rows serve_shape words) refl refl refl)
-      (good_row (nth 6 serve_shape) refl) refl
+  cycles_stands : Stands (nth 6 serve_shape) (all_rows serve_shape words) cycles.default
+  cycles_stands = by_default serve_shape words keeps_serve e (take 6 serve_shape.rules) (drop 7 serve_shape.rules) (nth 6 serve_shape) (codes "100") refl refl refl refl refl refl
+
+  chapter_stands : Stands (nth 7 serve_shape) (all_rows serve_shape words) chapter.default
+  chapter_stands = by_default serve_shape words keeps_serve e (take 7 serve_shape.rules) (drop 8 serve_shape.rules) (nth 7 serve_shape) (codes "65536") refl refl refl refl refl refl
+
+  period_stands : Stands (nth 8 serve_shape) (all_rows serve_shape words) period.default
+  period_stands = by_default serve_shape words keeps_serve e (take 8 serve_shape.rules) (drop 9 serve_shape.rules) (nth 8 serve_shape) (codes "0") refl refl refl refl refl refl
+
+  patience_stands : Stands (nth 9 serve_shape) (all_rows serve_shape words) patience.default
+  patience_stands = by_default serve_shape words keeps_serve e (take 9 serve_shape.rules) (drop 10 serve_shape.rules) (nth 9 serve_shape) (codes "60") refl refl refl refl refl refl
+
+  flag_is : HasFlag (Some (rows_at serve_shape words))
+  flag_is = go (is_given (codes "stay") (all_rows serve_shape words)) refl
+    where
+      go : (g : Bool) → is_given (codes "stay") (all_rows serve_shape words) ≡ g → HasFlag (Some (rows_at serve_shape words))
+      go true e = inl (record { name = refl; value = stay_stands.value ∙ ap Some (one_value _ _ (stay_stands.flag e refl)) }, e)
+      go false e = inr (record { name = refl; value = stay_stands.value ∙ sym (stay_stands.otherwise e) }, e)
 
   serve_asked : AsksRun (Some (rows_at serve_shape words))
   serve_asked =
       let p = number_stands words (nth 1 serve_shape) port refl (λ text h. accepts-Accepts false (Unsigned 1024 65535) text h) port_stands in
-      let t = number_stands words (nth 2 serve_shape) tools refl (λ text h. accepts-Accepts false (Unsigned 1 2) text h) tools_stands in
-      let k = number_stands words (nth 3 serve_shape) tasks refl (λ text h. accepts-Accepts false (Unsigned 0 6) text h) tasks_stands in
-      let n = number_stands words (nth 4 serve_shape) cycles refl (λ text h. accepts-Accepts false (Unsigned 1 1000) text h) cycles_stands in
-      let m = number_stands words (nth 5 serve_shape) chapter refl (λ text h. accepts-Accepts false (Unsigned 1 65536) text h) chapter_stands in
-      let ms = number_stands words (nth 6 serve_shape) period refl (λ text h. accepts-Accepts false (Unsigned 0 1000) text h) period_stands in
-      inr (
-        config_stands.text,
-        p.0,
-        t.0,
-        k.0,
-        n.0,
-        m.0,
-        ms.0,
-        record {
-          config = record { text = record { name = refl; value = config_stands.value }; given = wants.0 };
-          port = p.1;
-          tools = t.1;
-          tasks = k.1;
-          cycles = n.1;
-          chapter = m.1;
-          period = ms.1;
-        },
-      )
+      let t = number_stands words (nth 4 serve_shape) tools refl (λ text h. accepts-Accepts false (Unsigned 1 4) text h) tools_stands in
+      let k = number_stands words (nth 5 serve_shape) tasks refl (λ text h. accepts-Accepts false (Unsigned 0 6) text h) tasks_stands in
+      let n = number_stands words (nth 6 serve_shape) cycles refl (λ text h. accepts-Accepts false (Unsigned 1 1000) text h) cycles_stands in
+      let m = number_stands words (nth 7 serve_shape) chapter refl (λ text h. accepts-Accepts false (Unsigned 1 65536) text h) chapter_stands in
+      let ms = number_stands words (nth 8 serve_shape) period refl (λ text h. accepts-Accepts false (Unsigned 0 1000) text h) period_stands in
+      let s = number_stands words (nth 9 serve_shape) patience refl (λ text h. accepts-Accepts false (Unsigned 1 3600) text h) patience_stands in
+      inr (record {
+        file = config_stands.text;
+        address = address_stands.text;
+        p = p.0;
+        t = t.0;
+        k = k.0;
+        n = n.0;
+        m = m.0;
+        ms = ms.0;
+        s = s.0;
+        config = record { text = record { name = refl; value = config_stands.value }; given = wants.0 };
+        host = record { text = record { name = refl; value = address_stands.value }; otherwise = λ none. some_text _ _ (address_stands.otherwise none) };
+        stay = flag_is;
+        port = p.1;
+        tools = t.1;
+        tasks = k.1;
+        cycles = n.1;
+        chapter = m.1;
+        period = ms.1;
+        patience = s.1;
+      })
 
 -- ---- `describe`
-
-some_text : (a b : Text) → Some a ≡ Some b → b ≡ a
-some_text a b e = cc
 
 module _ (words : List Text) (e : level_fault describe_shape [] nothing_held words false [] ≡ []) where
   file_given : is_given (codes "config") (all_rows describe_shape words) ≡ true
   file_given = one_wanted _ (checked describe_shape words keeps_describe e)
 
-  described_row : (a : Rule) → arg_by_id describe_shape.rules a.id ≡ Some a → IfSome (row_for a.id (given_rows describe_shape words)) (IsGiven a)
-  described_row = row_is_good describe_shape words keeps_describe e
-
   file_stands : Stands (nth 0 describe_shape) (all_rows describe_shape words) None
-  file_stands = wanted_stands (nth 0 describe_shape) (given_rows describe_shape words) (all_rows describe_shape words)
-      (defaults_leave (codes "config") describe_shape.rules (given_rows describe_shape words) refl) (described_row (nth 0 describe_shape) refl) file_given
+  file_stands = by_words describe_shape words keeps_describe e (nth 0 describe_shape) refl refl file_given
 
   host_stands : Stands (nth 1 describe_shape) (all_rows describe_shape words) (Some host_default)
-  host_stands = default_stands (nth 1 describe_shape) host_default (given_rows describe_shape words) (all_rows describe_shape words)
-      (default_among (take 1 describe_shape.rules) (drop 2 describe_shape.rules) (nth 1 describe_shape) host_default (given_rows describe_shape words) refl refl refl)
-      (described_row (nth 1 describe_shape) refl) refl
+  host_stands = by_default describe_shape words keeps_describe e (take 1 describe_shape.rules) (drop 2 describe_shape.rules) (nth 1 describe_shape) host_default refl refl refl refl refl refl
 
   named_port_stands : Stands (nth 2 describe_shape) (all_rows describe_shape words) named_port.default
-  named_port_stands = default_stands (nth 2 describe_shape) (codes "5555") (given_rows describe_shape words) (all_rows describe_shape words)
-      (default_among (take 2 describe_shape.rules) (drop 3 describe_shape.rules) (nth 2 describe_shape) (codes "5555") (given_rows describe_shape words) refl refl refl)
-      (described_row (nth 2 describe_shape) refl) refl
+  named_port_stands = by_default describe_shape words keeps_describe e (take 2 describe_shape.rules) (drop 3 describe_shape.rules) (nth 2 describe_shape) (codes "5555") refl refl refl refl refl refl
 
   description_asked : AsksDescription (Some (rows_at describe_shape words))
   description_asked =

@@ -1,18 +1,18 @@
 -- The words of the command line, as clap reads them.
-use Rattle.std.specs.Prelude.{◌≡◌, ◌⊎◌, ◌≤◌, ⊤, ℕ, Bool, List, [], ◌∷◌, true, false, codes, not, is_some, Option, Some, None, string_bytes}
+use Rattle.std.specs.Prelude.{◌≡◌, ◌⊎◌, ◌≤◌, ◌<◌, ⊤, ℕ, Bool, List, [], ◌∷◌, true, false, codes, not, is_some, Option, Some, None, string_bytes}
 use Rattle.std.specs.Option.{option_map, option_and_then, option_map_or}
 use Rattle.std.specs.Str.Parse.{IsNumeral, digits_value, without_leading_plus}
 use Rattle.clap.specs.Takes.{is_given}
 use Rattle.clap.specs.Words.{App, IsAmong, Kinds, Row, Rule, Text, first_of, kind_of, new_app, new_rule, with_rule, with_subcommand}
 use Rattle.xcp_program.specs.declared.purpose.Options.{Options}
-use Rattle.xcp_program.specs.declared.purpose.Options.TheVariants.{Describe, Replay, Serve}
+use Rattle.xcp_program.specs.declared.purpose.Options.TheVariants.{Describe, Replay, Serve, Stay}
 use Rattle.xcp_program.specs.declared.purpose.OptionsFault.{OptionsFault}
-use Rattle.xcp_program.specs.declared.purpose.OptionsFault.TheVariants.{Memory, Words}
+use Rattle.xcp_program.specs.declared.purpose.OptionsFault.TheVariants.{Memory, TooManyTools, Words}
 use Rattle.xcp_program.specs.declared.words.Unasked.{Unasked}
 use Rattle.xcp_program.specs.declared.words.Unasked.TheVariants as unasked
 use Rattle.clap.specs.declared.error.kind.ErrorKind.TheVariants.{DisplayHelp, DisplayVersion}
 use Rattle.clap.specs.declared.error.Error.{Error}
-use Rattle.clap.specs.declared.builder.ArgAction.TheVariants.{Set}
+use Rattle.clap.specs.declared.builder.ArgAction.TheVariants.{Set, SetTrue}
 use Rattle.clap.specs.declared.builder.value_parser.ValueParser.TheVariants.{Unsigned}
 
 -- `--config FILE`, which has to be there
@@ -34,7 +34,11 @@ abbrev pub port : Numeric
 port = record { name = codes "port"; least = 1024; most = 65535; default = None }
 
 abbrev pub tools : Numeric
-tools = record { name = codes "tools"; least = 1; most = 2; default = Some (codes "1") }
+tools = record { name = codes "tools"; least = 1; most = 4; default = Some (codes "1") }
+
+-- the most tools of a server that ends
+abbrev pub few : ℕ
+few = 2
 
 abbrev pub tasks : Numeric
 tasks = record { name = codes "tasks"; least = 0; most = 6; default = Some (codes "1") }
@@ -48,6 +52,9 @@ chapter = record { name = codes "chapter"; least = 1; most = 65536; default = So
 abbrev pub period : Numeric
 period = record { name = codes "period"; least = 0; most = 1000; default = Some (codes "0") }
 
+abbrev pub patience : Numeric
+patience = record { name = codes "patience"; least = 1; most = 3600; default = Some (codes "60") }
+
 -- `--NAME NUMBER`, which has to be there where it has no default
 abbrev pub numeric_rule : Numeric → Rule
 numeric_rule o = record (new_rule o.name) {
@@ -59,16 +66,21 @@ numeric_rule o = record (new_rule o.name) {
   required = not (is_some o.default);
 }
 
--- `serve --config FILE --port PORT [--tools T] [--tasks K] [--cycles N] [--chapter M] [--period MS]`
-abbrev pub serve_app : App
-serve_app = with_rule (with_rule (with_rule (with_rule (with_rule (with_rule (with_rule (new_app (codes "serve")) config_rule) (numeric_rule port)) (numeric_rule tools)) (numeric_rule tasks)) (numeric_rule cycles)) (numeric_rule chapter)) (numeric_rule period)
-
 -- `--host HOST`, which needn't be there
 abbrev pub host_default : Text
 host_default = codes "127.0.0.1"
 
 abbrev pub host_rule : Rule
 host_rule = record (new_rule (codes "host")) { long = Some (codes "host"); action = Some Set; value_names = 1; defaults = host_default ∷ [] }
+
+-- `--stay`, a flag
+abbrev pub stay_rule : Rule
+stay_rule = record (new_rule (codes "stay")) { long = Some (codes "stay"); action = Some SetTrue }
+
+-- `serve --config FILE --port PORT [--host HOST] [--stay] [--tools T] [--tasks K] [--cycles N] [--chapter M] [--period MS] [--patience S]`
+abbrev pub serve_app : App
+serve_app = with_rule (with_rule (with_rule (with_rule (with_rule (with_rule (with_rule (with_rule (with_rule (with_rule (new_app (codes "serve"))
+    config_rule) (numeric_rule port)) host_rule) stay_rule) (numeric_rule tools)) (numeric_rule tasks)) (numeric_rule cycles)) (numeric_rule chapter)) (numeric_rule period)) (numeric_rule patience)
 
 -- the port that a description names
 abbrev pub named_port : Numeric
@@ -127,61 +139,94 @@ Spells found option n = SpellsIn found (codes "serve") option n
 abbrev pub HasNumber : Option (Text × List Row) → Numeric → ℕ → Type 0
 HasNumber found o n = HasNumberIn found (codes "serve") o n
 
--- a subcommand with its rows is a server with this configuration file and these numbers
-pub record IsServe (found : Option (Text × List Row)) (file : Text) (p t k n m ms : ℕ) : Type 0 where
+-- `--host` of a subcommand has this text; where the words don't give it, that is its default
+pub record HasHost (found : Option (Text × List Row)) (command host : Text) : Type 0 where
+  pub text : HasText found command (codes "host") host
+  pub otherwise : gives (codes "host") found ≡ false → host ≡ host_default
+
+-- the words give the flag `--stay`
+abbrev pub Stays : Option (Text × List Row) → Type 0
+Stays found = gives (codes "stay") found ≡ true
+
+-- a subcommand with its rows is a server that ends, with this configuration file, this host and these numbers
+pub record IsServe (found : Option (Text × List Row)) (file address : Text) (p t k n m ms : ℕ) : Type 0 where
   pub config : HasFile found (codes "serve") file
+  pub host : HasHost found (codes "serve") address
   pub port : HasNumber found port p
   pub tools : HasNumber found tools t
+  pub few : t ≤ few
   pub tasks : HasNumber found tasks k
   pub cycles : HasNumber found cycles n
   pub chapter : HasNumber found chapter m
   pub period : HasNumber found period ms
+  pub ends : ¬ (Stays found)
 
--- `--host` has this text; where the words don't give it, that is its default
-pub record HasHost (found : Option (Text × List Row)) (host : Text) : Type 0 where
-  pub text : HasText found (codes "describe") (codes "host") host
-  pub otherwise : gives (codes "host") found ≡ false → host ≡ host_default
+-- a subcommand with its rows is a server that stays, likewise
+pub record IsStay (found : Option (Text × List Row)) (file address : Text) (p t k ms s : ℕ) : Type 0 where
+  pub config : HasFile found (codes "serve") file
+  pub host : HasHost found (codes "serve") address
+  pub port : HasNumber found port p
+  pub tools : HasNumber found tools t
+  pub tasks : HasNumber found tasks k
+  pub period : HasNumber found period ms
+  pub patience : HasNumber found patience s
+  pub stays : Stays found
+
+-- a subcommand with its rows is a server that ends, with more tools than such a one may have
+pub record AsksTooMany (found : Option (Text × List Row)) : Type 0 where
+  pub number : ℕ
+  pub tools : HasNumber found tools number
+  pub many : few < number
+  pub ends : ¬ (Stays found)
 
 -- a subcommand with its rows is a description by this configuration file, for this host and port
 pub record IsDescription (found : Option (Text × List Row)) (file address : Text) (p : ℕ) : Type 0 where
   pub config : HasFile found (codes "describe") file
-  pub host : HasHost found address
+  pub host : HasHost found (codes "describe") address
   pub port : HasNumberIn found (codes "describe") named_port p
 
 -- what a subcommand with its rows asks for
 abbrev pub Asks : Option (Text × List Row) → Options → Type 0
 Asks found (Replay config) = IsReplay found (string_bytes config)
-Asks found (Serve config p t k n m ms) = IsServe found (string_bytes config) p t k n m ms
+Asks found (Serve config host p t k n m ms) = IsServe found (string_bytes config) (string_bytes host) p t k n m ms
+Asks found (Stay config host p t k ms s) = IsStay found (string_bytes config) (string_bytes host) p t k ms s
 Asks found (Describe config host p) = IsDescription found (string_bytes config) (string_bytes host) p
 
--- each number is in its option's bounds
+-- each number is in its option's bounds, and the tools of a server that ends are few
 abbrev pub InRange : Options → Type 0
 InRange (Replay config) = ⊤
-InRange (Serve config p t k n m ms) = (port.least ≤ p) × (p ≤ port.most) × (tools.least ≤ t) × (t ≤ tools.most) × (tasks.least ≤ k) × (k ≤ tasks.most) × (cycles.least ≤ n) × (n ≤ cycles.most)
+InRange (Serve config host p t k n m ms) = (port.least ≤ p) × (p ≤ port.most) × (tools.least ≤ t) × (t ≤ few) × (tasks.least ≤ k) × (k ≤ tasks.most) × (cycles.least ≤ n) × (n ≤ cycles.most)
     × (chapter.least ≤ m) × (m ≤ chapter.most) × (period.least ≤ ms) × (ms ≤ period.most)
+InRange (Stay config host p t k ms s) = (port.least ≤ p) × (p ≤ port.most) × (tools.least ≤ t) × (t ≤ tools.most) × (tasks.least ≤ k) × (k ≤ tasks.most) × (period.least ≤ ms) × (ms ≤ period.most)
+    × (patience.least ≤ s) × (s ≤ patience.most)
 InRange (Describe config host p) = (named_port.least ≤ p) × (p ≤ named_port.most)
 
--- Why the words ask for nothing, by the kinds of error of the first fault that clap finds in them (a wish for help is one): the error
--- has one of these kinds. Memory: an allocation may fail at any place.
-abbrev pub IsMistake : Kinds → OptionsFault → Type 0
-IsMistake kinds Memory = Unit {0}
-IsMistake kinds (Words e) = IsAmong (kind_of e) kinds
+-- Why the words ask for nothing, by the kinds of error of the first fault that clap finds in them (a wish for help is one), and by the
+-- subcommand that they name, with its rows: the error has one of these kinds; or clap finds no fault, and the tools are too many. Memory: an
+-- allocation may fail at any place.
+abbrev pub IsMistake : Kinds → Option (Text × List Row) → OptionsFault → Type 0
+IsMistake kinds found Memory = Unit {0}
+IsMistake kinds found (Words e) = IsAmong (kind_of e) kinds
+IsMistake kinds found TooManyTools = (kinds ≡ []) × AsksTooMany found
 
 -- the number of a fault of the words
 abbrev pub number_of : OptionsFault → ℕ
 number_of Memory = 1
 number_of (Words e) = 2
+number_of TooManyTools = 3
 
 -- what `options` answers, as the program tells it
 abbrev pub unasked_of : OptionsFault → Unasked
 unasked_of Memory = unasked.Memory
 unasked_of (Words e) = unasked.Words e
+unasked_of TooManyTools = unasked.TooManyTools
 
--- Why words that the system gave ask for nothing, as the program tells it, by the same kinds: NoText is no fault of such words.
-abbrev pub IsUnaskedFor : Kinds → Unasked → Type 0
-IsUnaskedFor kinds unasked.Memory = ⊤
-IsUnaskedFor kinds unasked.NoText = ⊥
-IsUnaskedFor kinds (unasked.Words e) = IsMistake kinds (Words e)
+-- Why words that the system gave ask for nothing, as the program tells it, by the same kinds and rows: NoText is no fault of such words.
+abbrev pub IsUnaskedFor : Kinds → Option (Text × List Row) → Unasked → Type 0
+IsUnaskedFor kinds found unasked.Memory = ⊤
+IsUnaskedFor kinds found unasked.NoText = ⊥
+IsUnaskedFor kinds found (unasked.Words e) = IsMistake kinds found (Words e)
+IsUnaskedFor kinds found unasked.TooManyTools = IsMistake kinds found TooManyTools
 
 -- clap's error is a wish, for help or for the version, and no mistake
 abbrev pub IsWish : Error → Type 0
@@ -191,4 +236,5 @@ IsWish e = (kind_of e ≡ DisplayHelp) ⊎ (kind_of e ≡ DisplayVersion)
 abbrev pub EndsWith : Unasked → ℕ → Type 0
 EndsWith unasked.Memory n = n ≡ 4
 EndsWith unasked.NoText n = n ≡ 1
+EndsWith unasked.TooManyTools n = n ≡ 1
 EndsWith (unasked.Words e) n = (IsWish e × (n ≡ 0)) ⊎ ((¬ (IsWish e)) × (n ≡ 1))

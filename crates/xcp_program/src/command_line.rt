@@ -1,12 +1,12 @@
 //! The words of the command line.
 ghost use Rattle.std.specs.Prelude.{◌≡◌, ◌⊎◌, ◌<◌, ◌^◌, List, [], ℕ, map, option_map, false, true, None};
-ghost use Rattle.std.specs.Prelude.{IfOk, IfErr, IfSome, string_bytes};
+ghost use Rattle.std.specs.Prelude.{IfOk, IfErr, IfSome, codes, string_bytes};
 ghost use Rattle.clap.specs.Words.{app_of, kind_of, rule_of, subcommand_of, subcommand_rows_of, takes};
 ghost use Rattle.clap.specs.Words.{fault_of as faults_in};
 ghost use Rattle.clap.specs.declared.builder.command.Command.TheViews.{out-Command as fields_of};
-ghost use Rattle.xcp_program.specs.CommandLine.{Asks, InRange, HasText, IsMistake, Spells, SpellsIn};
-ghost use Rattle.xcp_program.specs.private.CommandLine.{AsksDescription, AsksServe, AsksSomething};
-ghost use Rattle.xcp_program.specs.CommandLine.{config_rule, describe_app, host_rule, numeric_rule, program, replay_app, serve_app};
+ghost use Rattle.xcp_program.specs.CommandLine.{Asks, AsksTooMany, InRange, HasText, IsMistake, Spells, SpellsIn, gives};
+ghost use Rattle.xcp_program.specs.private.CommandLine.{AsksDescription, AsksServe, AsksSomething, HasFlag, IsRefusal, placed_app};
+ghost use Rattle.xcp_program.specs.CommandLine.{config_rule, describe_app, host_rule, numeric_rule, program, replay_app, serve_app, stay_rule};
 
 use crate::purpose::{Options, OptionsFault};
 use clap::builder::ValueParser;
@@ -16,6 +16,9 @@ use std::alloc::{AllocError, Global};
 
 /// What `--version` says behind the program's name.
 const VERSION: &str = "0.1.0";
+
+/// The most tools of a server that ends.
+const MOST_TOOLS: u8 = 2;
 
 /// What help says below the options of the program.
 const STATUS: &str =
@@ -41,6 +44,9 @@ When all have ended it prints: chapters C (C is the number of chapters, the open
 number of all calls), and: settled (what was answered is what the slave's journal has). These three lines come before
 that of a fault, but not before that of a mismatch, of a faulty configuration, of stream 0, or of memory where nothing
 had begun.
+With --stay tools come and go, up to T at a time (1 to 4), until a line `stop` on standard input ends it; the tasks run
+until then, and --cycles and --chapter are ignored. How each connection ended is told on standard error then, and the
+status is not that of a connection's fault. Without it T is 1 or 2, and --patience is ignored.
 
 Wrong words end the program with status 1, and what is wrong with them on standard error. Any other fault ends it
 with one line there, and this status:
@@ -118,25 +124,57 @@ fn numeric<'a>(
     }
 }
 
-/// The subcommand `serve`.
-fn serve_command<'a>(alloc: Global) -> Result<Command<'a>, AllocError>
-    ensures app { IfOk result (λ c. app_of c ≡ serve_app) }
+/// The option `--stay`.
+fn stay_option<'a>(alloc: Global) -> Arg<'a>
+    ensures rule { rule_of result ≡ stay_rule }
+    ensures local { result.global ≡ false }
+{
+    Arg::new(alloc, "stay")
+        .long("stay")
+        .action(ArgAction::SetTrue)
+        .help("Tools come and go, and the tasks have no end")
+}
+
+/// The option `--host`, with its value's name and its help.
+fn host_option<'a>(alloc: Global, value: &'a str, help: &'a str) -> Arg<'a>
+    ensures rule { rule_of result ≡ host_rule }
+    ensures local { result.global ≡ false }
+{
+    Arg::new(alloc, "host")
+        .long("host")
+        .value_name(value)
+        .action(ArgAction::Set)
+        .default_value("127.0.0.1")
+        .help(help)
+}
+
+/// The front of `serve`: the options that say of which slave, at which port and host, and whether it stays.
+fn placed_command<'a>(alloc: Global) -> Result<Command<'a>, AllocError>
+    ensures app { IfOk result (λ c. app_of c ≡ placed_app) }
     ensures local { IfOk result (λ c. (fields_of c).has_globals ≡ false) }
 {
     // Each option is made just before it is added, since what lives at a `?` is dropped there, and each
     // drop is proved.
     let serve = Command::new(alloc, "serve")
-        .about(
-            "Answers calibration tools over TCP on 127.0.0.1, while tasks of the controller raise events",
-        )
+        .about("Answers calibration tools over TCP, while tasks of the controller raise events")
         .after_help(ENDS);
     let serve = serve.arg(config_option(alloc))?;
     let port = numeric(alloc, "port", "PORT", 1_024, 65_535, None).help(
         "The port to listen on, 1,024 to 65,535",
     );
     let serve = serve.arg(port)?;
-    let tools = numeric(alloc, "tools", "T", 1, 2, Some("1")).help(
-        "How many tools may connect, 1 or 2",
+    let serve = serve.arg(host_option(alloc, "A", "The address of this machine to listen on"))?;
+    Ok(serve.arg(stay_option(alloc))?)
+}
+
+/// The subcommand `serve`.
+fn serve_command<'a>(alloc: Global) -> Result<Command<'a>, AllocError>
+    ensures app { IfOk result (λ c. app_of c ≡ serve_app) }
+    ensures local { IfOk result (λ c. (fields_of c).has_globals ≡ false) }
+{
+    let serve = placed_command(alloc)?;
+    let tools = numeric(alloc, "tools", "T", 1, 4, Some("1")).help(
+        "How many tools may connect, 1 or 2, with --stay 1 to 4",
     );
     let serve = serve.arg(tools)?;
     let tasks = numeric(alloc, "tasks", "K", 0, 6, Some("1")).help(
@@ -144,30 +182,21 @@ fn serve_command<'a>(alloc: Global) -> Result<Command<'a>, AllocError>
     );
     let serve = serve.arg(tasks)?;
     let cycles = numeric(alloc, "cycles", "N", 1, 1_000, Some("100")).help(
-        "How many cycles each task runs, 1 to 1,000",
+        "How many cycles each task runs, 1 to 1,000; not for --stay",
     );
     let serve = serve.arg(cycles)?;
     let chapter = numeric(alloc, "chapter", "M", 1, 65_536, Some("65536")).help(
-        "From how many calls on a chapter of the journal is cut off, 1 to 65,536",
+        "From how many calls on a chapter of the journal is cut off, 1 to 65,536; not for --stay",
     );
     let serve = serve.arg(chapter)?;
     let period = numeric(alloc, "period", "MS", 0, 1_000, Some("0")).help(
         "The milliseconds from one cycle of a task to its next, 0 to 1,000",
     );
-    Ok(serve.arg(period)?)
-}
-
-/// The option `--host`.
-fn host_option<'a>(alloc: Global) -> Arg<'a>
-    ensures rule { rule_of result ≡ host_rule }
-    ensures local { result.global ≡ false }
-{
-    Arg::new(alloc, "host")
-        .long("host")
-        .value_name("HOST")
-        .action(ArgAction::Set)
-        .default_value("127.0.0.1")
-        .help("The host at which tools reach the slave")
+    let serve = serve.arg(period)?;
+    let patience = numeric(alloc, "patience", "S", 1, 3_600, Some("60")).help(
+        "The seconds that a tool may stop inside a frame, or read nothing, 1 to 3,600; only for --stay",
+    );
+    Ok(serve.arg(patience)?)
 }
 
 /// The subcommand `describe`.
@@ -179,7 +208,11 @@ fn describe_command<'a>(alloc: Global) -> Result<Command<'a>, AllocError>
         .about("Prints the A2L file of the slave: ASAP2 1.6, on standard output")
         .after_help(FAULTS);
     let describe = describe.arg(config_option(alloc))?;
-    let describe = describe.arg(host_option(alloc))?;
+    let describe = describe.arg(host_option(
+        alloc,
+        "HOST",
+        "The host at which tools reach the slave",
+    ))?;
     let port = numeric(alloc, "port", "PORT", 1_024, 65_535, Some("5555")).help(
         "The port at which they do, 1,024 to 65,535",
     );
@@ -240,14 +273,17 @@ fn decimal_in(matches: &ArgMatches<'_>, command: &str, option: &str) -> u32
 }
 
 /// What the words ask for, of which the first is the program's name: only where clap finds no fault in them. `Words`
-/// has clap's error for the first fault, a wish for help among them; `Memory` comes where an allocation fails, at any
-/// place.
+/// has clap's error for the first fault, a wish for help among them; `TooManyTools` comes where clap finds none; `Memory`
+/// where an allocation fails, at any place.
 pub fn options(alloc: Global, words: &[String]) -> Result<Options, OptionsFault>
     ensures asked { IfOk result (λ o. Asks (subcommand_of program (map string_bytes words.now)) o) }
     ensures range { IfOk result InRange }
     ensures taken { IfOk result (λ o. faults_in program (map string_bytes words.now) ≡ []) }
-    ensures mistake { IfErr result (λ e. IsMistake (faults_in program (map string_bytes words.now)) e) }
-    ensures refused { IfErr result (λ e. takes program (map string_bytes words.now) ≡ true → e ≡ OptionsFault.Memory) }
+    ensures few { IfOk result (λ o. ¬ (AsksTooMany (subcommand_of program (map string_bytes words.now)))) }
+    ensures mistake { IfErr result (λ e. IsMistake (faults_in program (map string_bytes words.now))
+        (subcommand_of program (map string_bytes words.now)) e) }
+    ensures refused { IfErr result (λ e. takes program (map string_bytes words.now) ≡ true
+        → (e ≡ OptionsFault.Memory) ⊎ (e ≡ OptionsFault.TooManyTools)) }
 {
     let command = program(alloc)?;
     match command.try_get_matches_from(words) {
@@ -271,7 +307,7 @@ fn fault_of(e: Error) -> OptionsFault
 fn asked(alloc: Global, matches: &ArgMatches<'_>) -> Result<Options, OptionsFault>
     requires { AsksSomething (subcommand_rows_of matches.now) }
     ensures asked { IfOk result (λ o. Asks (subcommand_rows_of matches.now) o) }
-    ensures refused { IfErr result (λ e. e ≡ OptionsFault.Memory) }
+    ensures refused { IfErr result (λ e. IsRefusal (subcommand_rows_of matches.now) e) }
 {
     match text_in(matches, "replay", "config") {
         Some(config) => {
@@ -285,24 +321,59 @@ fn asked(alloc: Global, matches: &ArgMatches<'_>) -> Result<Options, OptionsFaul
     }
 }
 
+/// Whether the matches of a server have the flag `--stay`.
+fn stays(matches: &ArgMatches<'_>) -> bool
+    requires { HasFlag (subcommand_rows_of matches.now) }
+    ensures { result ≡ gives (codes "stay") (subcommand_rows_of matches.now) }
+{
+    match text_in(matches, "serve", "stay") {
+        Some(text) => text == "true",
+        None => false,
+    }
+}
+
 /// What the matches of a server ask for.
 fn server_asked(alloc: Global, matches: &ArgMatches<'_>) -> Result<Options, OptionsFault>
     requires { AsksServe (subcommand_rows_of matches.now) }
     ensures asked { IfOk result (λ o. Asks (subcommand_rows_of matches.now) o) }
-    ensures refused { IfErr result (λ e. e ≡ OptionsFault.Memory) }
+    ensures refused { IfErr result (λ e. IsRefusal (subcommand_rows_of matches.now) e) }
 {
     let Some(config) = text_in(matches, "serve", "config") else {
         unreachable!()
     };
-    Ok(Options::Serve {
-        config: String::from_str(alloc, config)?,
-        port: number_in(matches, "port") as u16,
-        tools: number_in(matches, "tools") as u8,
-        tasks: number_in(matches, "tasks") as u8,
-        cycles: number_in(matches, "cycles"),
-        chapter: number_in(matches, "chapter"),
-        period: number_in(matches, "period"),
-    })
+    let Some(host) = text_in(matches, "serve", "host") else {
+        unreachable!()
+    };
+    let port = number_in(matches, "port") as u16;
+    let tools = number_in(matches, "tools") as u8;
+    let tasks = number_in(matches, "tasks") as u8;
+    let period = number_in(matches, "period");
+    let config = String::from_str(alloc, config)?;
+    let host = String::from_str(alloc, host)?;
+    if stays(matches) {
+        Ok(Options::Stay {
+            config,
+            host,
+            port,
+            tools,
+            tasks,
+            period,
+            patience: number_in(matches, "patience"),
+        })
+    } else if tools > MOST_TOOLS {
+        Err(OptionsFault::TooManyTools)
+    } else {
+        Ok(Options::Serve {
+            config,
+            host,
+            port,
+            tools,
+            tasks,
+            cycles: number_in(matches, "cycles"),
+            chapter: number_in(matches, "chapter"),
+            period,
+        })
+    }
 }
 
 /// What the matches of a description ask for.

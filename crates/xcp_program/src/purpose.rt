@@ -12,10 +12,12 @@ pub enum Options {
         /// The name of the configuration file.
         config: String,
     },
-    /// To answer tools over TCP on the slave that this file describes, while tasks raise events.
+    /// To answer tools over TCP on the slave that this file describes, while tasks raise events, until all have ended.
     Serve {
         /// The name of the configuration file.
         config: String,
+        /// The address of this machine to listen on.
+        host: String,
         /// The port to listen on, 1,024 to 65,535.
         port: u16,
         /// How many connections are accepted, 1 or 2.
@@ -28,6 +30,23 @@ pub enum Options {
         chapter: u32,
         /// The milliseconds from one cycle of a task to its next, 0 to 1,000.
         period: u32,
+    },
+    /// The same, while tools come and go.
+    Stay {
+        /// The name of the configuration file.
+        config: String,
+        /// The address of this machine to listen on.
+        host: String,
+        /// The port to listen on, 1,024 to 65,535.
+        port: u16,
+        /// How many tools may be connected at a time, 1 to 4.
+        tools: u8,
+        /// How many tasks run, 0 to 6.
+        tasks: u8,
+        /// The milliseconds from one cycle of a task to its next, 0 to 1,000.
+        period: u32,
+        /// The seconds that a tool may stop inside a frame, or read nothing of what is sent to it, 1 to 3,600.
+        patience: u32,
     },
     /// To describe, for tools, the slave that this file describes.
     Describe {
@@ -47,18 +66,21 @@ pub enum OptionsFault {
     Memory,
     /// The words are wrong, or ask for help; the text says more.
     Words(Error),
+    /// The words ask for more than 2 tools, and not that the server stays.
+    TooManyTools,
 }
 
 impl OptionsFault {
     ghost use Rattle.xcp_program.specs.CommandLine.{number_of};
 
-    /// The fault's number: 1 Memory, 2 Words.
+    /// The fault's number: 1 Memory, 2 Words, 3 TooManyTools.
     pub fn number(&self) -> u8
         ensures { result ≡ number_of self.now }
     {
         match self {
             OptionsFault::Memory => 1,
             OptionsFault::Words(_) => 2,
+            OptionsFault::TooManyTools => 3,
         }
     }
 }

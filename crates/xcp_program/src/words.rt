@@ -1,9 +1,9 @@
 //! The words that the program was started with.
-ghost use Rattle.std.specs.Prelude.{◌≡◌, [], map, true, Err, IfErr, IfOk, string_bytes};
+ghost use Rattle.std.specs.Prelude.{◌≡◌, ◌⊎◌, [], map, true, Err, IfErr, IfOk, string_bytes};
 ghost use Rattle.std.specs.IoError.{error_kind};
 ghost use Rattle.clap.specs.Words.{subcommand_of, takes};
 ghost use Rattle.clap.specs.Words.{fault_of as faults_in};
-ghost use Rattle.xcp_program.specs.CommandLine.{Asks, EndsWith, InRange, IsUnaskedFor, program};
+ghost use Rattle.xcp_program.specs.CommandLine.{Asks, AsksTooMany, EndsWith, InRange, IsUnaskedFor, program};
 
 use crate::command_line::options;
 use crate::fault::Fault;
@@ -27,6 +27,9 @@ pub enum Unasked {
     /// The words are wrong, or ask for help or for the version.
     #[error("{0}")]
     Words(clap::Error),
+    /// The words ask for more than 2 tools, and not that the server stays.
+    #[error("xcpd: more than 2 tools want --stay\n")]
+    TooManyTools,
 }
 
 impl Unasked {
@@ -37,7 +40,7 @@ impl Unasked {
     {
         match self {
             Unasked::Memory => Fault::Memory.status(),
-            Unasked::NoText => 1,
+            Unasked::NoText | Unasked::TooManyTools => 1,
             Unasked::Words(e) if e.use_stderr() => 1,
             Unasked::Words(_) => 0,
         }
@@ -63,6 +66,7 @@ impl From<OptionsFault> for Unasked {
         match fault {
             OptionsFault::Memory => Unasked::Memory,
             OptionsFault::Words(e) => Unasked::Words(e),
+            OptionsFault::TooManyTools => Unasked::TooManyTools,
         }
     }
 }
@@ -91,10 +95,14 @@ pub fn asked(alloc: Global, words: io::Result<Vec<String>>) -> Result<Options, U
     ensures range { IfOk result InRange }
     ensures taken { IfOk result (λ o. IfOk words (λ given.
         faults_in program (map string_bytes given.items) ≡ [])) }
+    ensures few { IfOk result (λ o. IfOk words (λ given.
+        ¬ (AsksTooMany (subcommand_of program (map string_bytes given.items))))) }
     ensures mistake { IfErr result (λ e. IfOk words (λ given.
-        IsUnaskedFor (faults_in program (map string_bytes given.items)) e)) }
+        IsUnaskedFor (faults_in program (map string_bytes given.items))
+        (subcommand_of program (map string_bytes given.items)) e)) }
     ensures refused { IfErr result (λ e. IfOk words (λ given.
-        takes program (map string_bytes given.items) ≡ true → e ≡ Unasked.Memory)) }
+        takes program (map string_bytes given.items) ≡ true
+        → (e ≡ Unasked.Memory) ⊎ (e ≡ Unasked.TooManyTools))) }
     ensures text { IfErr words (λ e. error_kind e ≡ ErrorKind.InvalidData
         → result ≡ Err Unasked.NoText) }
     ensures memory { IfErr words (λ e. ¬ (error_kind e ≡ ErrorKind.InvalidData)

@@ -2,8 +2,12 @@
 //! and `xcp_describe`; here are the system's words, the file, the streams, the port and the status.
 #![tactic(auto)]
 
+mod log;
+mod stay;
+
 ghost use Rattle.std.specs.Prelude.{◌≡◌, ◌≤◌, ◌+◌, IfOk, vec_len};
 
+use crate::stay::{patience, stay_by};
 use std::fs::File;
 use std::io;
 use std::net::TcpListener;
@@ -13,6 +17,7 @@ use xcp_framing::Watched;
 use xcp_locked::Unnamed;
 use xcp_program::{Fault, Options, Unasked, asked, layout_of, read_text, read_words, replay};
 use xcp_server::{Report, Tools, accept_tools, serve_ends};
+use xcp_stay::Plan;
 
 /// The most reads of one replay.
 const TURNS: u32 = 1_000_000;
@@ -61,6 +66,7 @@ fn describe_or_tell(rt: &HostRuntime, path: &str, host: &str, port: u16) -> Exit
 fn admit(
     rt: &HostRuntime,
     path: &str,
+    host: &str,
     port: u16,
     tools: u8,
     tasks: u8,
@@ -73,7 +79,7 @@ fn admit(
     let Ok(unnamed) = Unnamed::new(rt.alloc(), layout, tools + tasks + tools) else {
         return Err(Fault::Memory);
     };
-    let Ok(listener) = TcpListener::bind(rt, ("127.0.0.1", port)) else {
+    let Ok(listener) = TcpListener::bind(rt, (host, port)) else {
         return Err(Fault::Stream(0));
     };
     let _ = println!(rt; "listening {port}");
@@ -112,6 +118,7 @@ fn main(rt: HostRuntime) -> ExitCode {
         Ok(
             Options::Serve {
                 config,
+                host,
                 port,
                 tools,
                 tasks,
@@ -119,7 +126,7 @@ fn main(rt: HostRuntime) -> ExitCode {
                 chapter,
                 period,
             },
-        ) => match admit(&rt, config.as_str(), port, tools, tasks) {
+        ) => match admit(&rt, config.as_str(), host.as_str(), port, tools, tasks) {
             Ok((unnamed, ends)) => {
                 match serve_ends(&rt, alloc, unnamed, ends, tasks, cycles, chapter, period) {
                     Ok(ending) => print_end(&rt, ending.told),
@@ -128,6 +135,28 @@ fn main(rt: HostRuntime) -> ExitCode {
             }
             Err(fault) => Some(fault),
         },
+        Ok(
+            Options::Stay {
+                config,
+                host,
+                port,
+                tools,
+                tasks,
+                period,
+                patience: seconds,
+            },
+        ) => {
+            let plan = Plan {
+                tools,
+                tasks,
+                period,
+                patience: patience(seconds),
+            };
+            match text_of(&rt, config.as_str()) {
+                Ok(text) => stay_by(&rt, &rt, text.as_str(), host.as_str(), port, plan).err(),
+                Err(fault) => Some(fault),
+            }
+        }
         Ok(Options::Describe { config, host, port }) => {
             return describe_or_tell(&rt, config.as_str(), host.as_str(), port);
         }

@@ -1,12 +1,42 @@
 -- What the three commands of the program ask for.
-use Rattle.std.specs.Prelude.{◌⊎◌, ℕ, List, Option}
-use Rattle.clap.specs.Words.{Row, Text}
-use Rattle.xcp_program.specs.CommandLine.{IsDescription, IsReplay, IsServe}
+use Rattle.std.specs.Prelude.{◌≡◌, ◌⊎◌, ℕ, List, Option, codes, false}
+use Rattle.clap.specs.Words.{App, Row, Text, new_app, with_rule}
+use Rattle.xcp_program.specs.declared.purpose.OptionsFault.{OptionsFault}
+use Rattle.xcp_program.specs.declared.purpose.OptionsFault.TheVariants.{Memory, TooManyTools, Words}
+use Rattle.xcp_program.specs.CommandLine.{AsksTooMany, HasFile, HasHost, HasNumber, HasText, IsDescription, IsReplay, Stays, gives}
+use Rattle.xcp_program.specs.CommandLine.{chapter, config_rule, cycles, host_rule, numeric_rule, patience, period, port, stay_rule, tasks, tools}
 
--- it is a server, it is a description, it is a replay or a server, and it is one of the three
-abbrev pub AsksServe : Option (Text × List Row) → Type 0
-AsksServe found = (file : Text) × (p : ℕ) × (t : ℕ) × (k : ℕ) × (n : ℕ) × (m : ℕ) × (ms : ℕ) × IsServe found file p t k n m ms
+-- `serve` with the first four of its options
+abbrev pub placed_app : App
+placed_app = with_rule (with_rule (with_rule (with_rule (new_app (codes "serve")) config_rule) (numeric_rule port)) host_rule) stay_rule
 
+-- the text of the flag `--stay` says whether the words give it
+abbrev pub HasFlag : Option (Text × List Row) → Type 0
+HasFlag found = (HasText found (codes "serve") (codes "stay") (codes "true") × Stays found) ⊎ (HasText found (codes "serve") (codes "stay") (codes "false") × (gives (codes "stay") found ≡ false))
+
+-- it is a server: all its options, each with its text or number
+pub record AsksServe (found : Option (Text × List Row)) : Type 0 where
+  pub file : Text
+  pub address : Text
+  pub p : ℕ
+  pub t : ℕ
+  pub k : ℕ
+  pub n : ℕ
+  pub m : ℕ
+  pub ms : ℕ
+  pub s : ℕ
+  pub config : HasFile found (codes "serve") file
+  pub host : HasHost found (codes "serve") address
+  pub stay : HasFlag found
+  pub port : HasNumber found port p
+  pub tools : HasNumber found tools t
+  pub tasks : HasNumber found tasks k
+  pub cycles : HasNumber found cycles n
+  pub chapter : HasNumber found chapter m
+  pub period : HasNumber found period ms
+  pub patience : HasNumber found patience s
+
+-- it is a description, it is a replay or a server, and it is one of the three
 abbrev pub AsksDescription : Option (Text × List Row) → Type 0
 AsksDescription found = (file : Text) × (host : Text) × (p : ℕ) × IsDescription found file host p
 
@@ -15,3 +45,9 @@ AsksRun found = ((file : Text) × IsReplay found file) ⊎ AsksServe found
 
 abbrev pub AsksSomething : Option (Text × List Row) → Type 0
 AsksSomething found = AsksRun found ⊎ AsksDescription found
+
+-- why words in which clap finds no fault ask for nothing
+abbrev pub IsRefusal : Option (Text × List Row) → OptionsFault → Type 0
+IsRefusal found Memory = Unit {0}
+IsRefusal found (Words e) = ⊥
+IsRefusal found TooManyTools = AsksTooMany found

@@ -14,7 +14,7 @@ pub description_asked-requires : goal.description_asked-requires
 description_asked-requires c = elim c.requires [
   | inl run ↦ elim run [
     | inl replay ↦ absurd (c.text_in.ensures.none c.in-None.is replay.0 replay.1.text)
-    | inr serve ↦ absurd (not_both _ _ _ serve.7.config.text c.in-Some-text_in.ensures.some)
+    | inr serve ↦ absurd (not_both _ _ _ serve.config.text c.in-Some-text_in.ensures.some)
   ]
   | inr description ↦ description
 ]

@@ -1,13 +1,14 @@
-use Rattle.std.proofs.Common.{◌≡◌, ◌⊎◌, inl, inr, List, [], map, Option, Result, Ok, Err, IfOk, ◌∙◌, ap, sym, subst, string_bytes}
-use Rattle.std.proofs.lemmas.Result.{IfErr-weaker}
+use Rattle.std.proofs.Common.{◌≡◌, ◌⊎◌, refl, inl, inr, List, [], map, Option, Result, Ok, Err, IfOk, ◌∙◌, ap, sym, subst, string_bytes}
+use Rattle.std.proofs.lemmas.Result.{IfErr-weaker, IfOk-weaker}
 use Rattle.clap.specs.Words.{App, HasKind, Kinds, Row, Text, fault_of, kind_of, is_simple, is_simple_and_free, subcommand_of, subcommand_rows_of, takes}
 use Rattle.clap.specs.declared.error.Error.{Error}
 use Rattle.clap.specs.declared.error.kind.ErrorKind.TheVariants.{OutOfMemory}
-use Rattle.xcp_program.specs.CommandLine.{Asks, IsMistake, program}
-use Rattle.xcp_program.specs.private.CommandLine.{AsksSomething}
+use Rattle.xcp_program.specs.CommandLine.{Asks, AsksTooMany, IsMistake, program}
+use Rattle.xcp_program.specs.private.CommandLine.{AsksSomething, IsRefusal}
 use Rattle.xcp_program.specs.declared.purpose.Options.{Options}
 use Rattle.xcp_program.specs.declared.purpose.OptionsFault.{OptionsFault}
-use Rattle.xcp_program.specs.declared.purpose.OptionsFault.TheVariants.{Memory, Words}
+use Rattle.xcp_program.specs.declared.purpose.OptionsFault.TheVariants.{Memory, TooManyTools, Words}
+use Rattle.xcp_program.proofs.CommandLineLemmas.{not_too_many}
 use Rattle.xcp_program.proofs.NoFaultLemmas.{words_ask}
 use Rattle.xcp_program.proofs.command_line.options.Goals as goal
 
@@ -25,16 +26,28 @@ of_words : (found named : Option (Text × List Row)) (r : Result Options Options
 of_words found named r same h = subst (λ (f : Option (Text × List Row)). IfOk r (λ o. Asks f o)) same h
 
 -- clap's error says that memory ran out, or is a mistake
-of_error : (kinds : Kinds) (e : Error) (f : OptionsFault) → HasKind kinds e → (kind_of e ≡ OutOfMemory → f ≡ Memory) → (f ≡ Memory) ⊎ (f ≡ Words e) → IsMistake kinds f
-of_error kinds e f has memory which =
-    let spent : f ≡ Memory → IsMistake kinds f = λ same. subst (IsMistake kinds) (sym same) tt in
+of_error : (kinds : Kinds) (found : Option (Text × List Row)) (e : Error) (f : OptionsFault) → HasKind kinds e → (kind_of e ≡ OutOfMemory → f ≡ Memory) → (f ≡ Memory) ⊎ (f ≡ Words e) → IsMistake kinds found f
+of_error kinds found e f has memory which =
+    let spent : f ≡ Memory → IsMistake kinds found f = λ same. subst (IsMistake kinds found) (sym same) tt in
     elim which [
       | inl same ↦ spent same
       | inr same ↦ elim has [
         | inl out ↦ spent (memory out)
-        | inr among ↦ subst (IsMistake kinds) (sym same) among
+        | inr among ↦ subst (IsMistake kinds found) (sym same) among
       ]
     ]
+
+-- a refusal of words in which clap finds no fault is one of two
+of_refusal : (found : Option (Text × List Row)) (f : OptionsFault) → IsRefusal found f → (f ≡ Memory) ⊎ (f ≡ TooManyTools)
+of_refusal found Memory h = inl refl
+of_refusal found (Words e) h = absurd h
+of_refusal found TooManyTools h = inr refl
+
+-- and says why, of the rows that the words have
+to_mistake : (found named : Option (Text × List Row)) (kinds : Kinds) → found ≡ named → kinds ≡ [] → (f : OptionsFault) → IsRefusal found f → IsMistake kinds named f
+to_mistake found named kinds same none Memory h = tt
+to_mistake found named kinds same none (Words e) h = absurd h
+to_mistake found named kinds same none TooManyTools h = (none, subst AsksTooMany same h)
 
 pub asked-requires : goal.asked-requires
 asked-requires c =
@@ -54,7 +67,12 @@ returns-in-Ok-clause-asked c =
     of_words _ _ c.asked.result same c.asked.ensures.asked
 
 pub returns-in-Ok-clause-refused : goal.returns-in-Ok-clause-refused
-returns-in-Ok-clause-refused c = IfErr-weaker c.asked.result _ _ (λ e h taken. h) c.asked.ensures.refused
+returns-in-Ok-clause-refused c = IfErr-weaker c.asked.result _ _ (λ e h taken. of_refusal (subcommand_rows_of c.in-Ok.matches) e h) c.asked.ensures.refused
+
+pub returns-in-Ok-clause-few : goal.returns-in-Ok-clause-few
+returns-in-Ok-clause-few c =
+    let named = subcommand_of program (map string_bytes c.args.words.now) in
+    IfOk-weaker c.asked.result _ _ (λ o h. not_too_many named o h) (returns-in-Ok-clause-asked c)
 
 pub returns-in-Ok-clause-taken : goal.returns-in-Ok-clause-taken
 returns-in-Ok-clause-taken c =
@@ -65,7 +83,12 @@ returns-in-Ok-clause-taken c =
 
 pub returns-in-Ok-clause-mistake : goal.returns-in-Ok-clause-mistake
 returns-in-Ok-clause-mistake c =
-    IfErr-weaker c.asked.result _ _ (λ (e : OptionsFault) h. subst (IsMistake (fault_of program (map string_bytes c.args.words.now))) (sym h) tt) c.asked.ensures.refused
+    let words = map string_bytes c.args.words.now in
+    let program_is = c.in_ok-command.ensures in
+    let none : fault_of program words ≡ [] = sym (ap (λ (a : App). fault_of a words) program_is) ∙ c.in-Ok.ensures.kinds (ap is_simple_and_free program_is) in
+    let same : subcommand_rows_of c.in-Ok.matches ≡ subcommand_of program words =
+    (c.in-Ok.ensures.matches (ap is_simple program_is)).1 ∙ ap (λ (a : App). subcommand_of a words) program_is in
+    IfErr-weaker c.asked.result _ _ (λ e h. to_mistake _ _ _ same none e h) c.asked.ensures.refused
 
 pub returns-in-Err-clause-mistake : goal.returns-in-Err-clause-mistake
 returns-in-Err-clause-mistake c =
@@ -73,9 +96,9 @@ returns-in-Err-clause-mistake c =
     let program_is = c.in_ok-command.ensures in
     let has : HasKind (fault_of program words) c.in-Err.e =
     subst (λ (a : App). HasKind (fault_of a words) c.in-Err.e) program_is (c.in-Err.ensures.kinds (ap is_simple_and_free program_is)) in
-    of_error (fault_of program words) c.in-Err.e c.fault_of.result has c.fault_of.ensures.memory c.fault_of.ensures.which
+    of_error (fault_of program words) _ c.in-Err.e c.fault_of.result has c.fault_of.ensures.memory c.fault_of.ensures.which
 
 pub returns-in-Err-clause-refused : goal.returns-in-Err-clause-refused
 returns-in-Err-clause-refused c =
     let words = map string_bytes c.args.words.now in
-    λ taken. c.fault_of.ensures.memory (c.in-Err.ensures.passes (ap (λ (a : App). takes a words) c.in_ok-command.ensures ∙ taken))
+    λ taken. inl (c.fault_of.ensures.memory (c.in-Err.ensures.passes (ap (λ (a : App). takes a words) c.in_ok-command.ensures ∙ taken)))

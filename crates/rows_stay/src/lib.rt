@@ -1,0 +1,9 @@
+//! Tests of a server that stays: tools over TCP that come and go, chapters that are cut meanwhile, and the line that ends it.
+#![tactic(auto)]
+
+#[cfg(test)]
+mod lines;
+#[cfg(test)]
+mod quiet;
+#[cfg(test)]
+mod visits;

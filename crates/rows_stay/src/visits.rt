@@ -1,0 +1,128 @@
+// Tools that come and go.
+ghost use Rattle.std.specs.Prelude.{◌≡◌};
+
+use crate::quiet::Quiet;
+use fixtures::unnamed;
+use std::alloc::Global;
+use std::io::{Read, Write};
+use std::net::{TcpListener, TcpStream};
+use std::sync::Wait;
+use std::test::Fail;
+use std::thread::{Threads, join};
+use std::time::{Clock, Duration};
+use xcp_locked::Unnamed;
+use xcp_seats::Halt;
+use xcp_stay::{Plan, Report, stay};
+
+// Connects, and whether CONNECT is answered so many times by frames that are numbered from 0.
+fn visit(rt: &HostRuntime, port: u16, times: u16) -> bool {
+    let Ok(mut stream) = TcpStream::connect(rt, ("127.0.0.1", port)) else {
+        return false;
+    };
+    for number in 0..times {
+        let [low, high] = number.to_le_bytes();
+        if stream.write_all(&[2, 0, low, high, 0xFF, 0]).is_err() {
+            return false;
+        }
+        let mut got = [0; 12];
+        if stream.read_exact(&mut got).is_err() {
+            return false;
+        }
+        if got != [8, 0, low, high, 0xFF, 5, 0xC0, 0x20, 0x40, 0, 1, 1] {
+            return false;
+        }
+    }
+    true
+}
+
+// So many visits, one behind another, of so many commands each; then the server is asked to end. How many were answered as they should.
+fn visit_all<R: Wait>(
+    rt: &HostRuntime,
+    handle: &R,
+    port: u16,
+    visits: u32,
+    times: u16,
+    halt: &Halt,
+) -> u32 {
+    let mut right: u32 = 0;
+    for _visit in 0..visits {
+        if visit(rt, port, times) {
+            right = right.saturating_add(1);
+        }
+    }
+    halt.ask(handle);
+    right
+}
+
+// Serves one tool at a time, and no task.
+fn serve<R: Threads + Wait + Clock + Sync>(
+    rt: &HostRuntime,
+    handle: &R,
+    alloc: Global,
+    unnamed: Unnamed,
+    listener: &TcpListener,
+    port: u16,
+    halt: &Halt,
+) -> Option<Report>
+    requires { unnamed.callers ≡ 2 }
+{
+    let plan = Plan {
+        tools: 1,
+        tasks: 0,
+        period: 0,
+        patience: Duration::from_secs(5),
+    };
+    stay(
+        handle,
+        alloc,
+        unnamed,
+        listener,
+        plan,
+        halt,
+        &Quiet { rt, port },
+    )
+    .ok()
+}
+
+// How many of so many visits were answered as they should, and what is told of the server.
+fn came<R: Threads + Wait + Clock + Sync>(
+    rt: &HostRuntime,
+    handle: &R,
+    alloc: Global,
+    visits: u32,
+    times: u16,
+) -> Result<(u32, Option<Report>), Fail> {
+    let unnamed = unnamed(alloc, 2)?;
+    let listener = TcpListener::bind(rt, ("127.0.0.1", 0))?;
+    let port = listener.local_addr()?.port();
+    let halt = Halt::new();
+    let (slave, asked) = (&listener, &halt);
+    Ok(join(
+        handle,
+        move || -> u32 { visit_all(rt, handle, port, visits, times, asked) },
+        move || -> Option<Report>
+            requires { unnamed.callers ≡ 2 }
+        { serve(rt, handle, alloc, unnamed, slave, port, asked) },
+    ))
+}
+
+#[test]
+fn tools_come_and_go(rt: HostRuntime) -> Result<(), Fail> {
+    // Each visit is a CONNECT, and the Hangup when the tool has gone.
+    let wanted = Report {
+        chapters: 1,
+        calls: 6,
+    };
+    assert_eq!(rt; came(&rt, &rt, rt.alloc(), 3, 1)?, (3, Some(wanted)));
+    Ok(())
+}
+
+#[test]
+fn a_chapter_is_cut_by_the_call_that_fills_it(rt: HostRuntime) -> Result<(), Fail> {
+    let wanted = Report {
+        chapters: 2,
+        calls: 16_386,
+    };
+    assert_eq!(rt; came(&rt, &rt, rt.alloc(), 1, 16_385)?, (1, Some(wanted)));
+    Ok(())
+}

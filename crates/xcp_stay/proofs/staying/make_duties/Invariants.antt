@@ -1,0 +1,10 @@
+use Rattle.std.specs.Prelude.{◌≡◌, ◌+◌, ◌≤◌, length, vec_len, vec_capacity}
+use Rattle.std.specs.Vec.Iter.{into_iter_items}
+use Rattle.xcp_stay.proofs.staying.make_duties.Given as goal
+
+abbrev pub invariant-loop-task : goal.invariant-loop-task
+invariant-loop-task g l =
+    (vec_len l.duties ≡ l.task)
+    × (l.tasks + 2 ≤ vec_capacity l.duties)
+    × (l.tasks ≤ l.task + length (into_iter_items l.callers))
+    × (l.tasks ≤ l.task + length (into_iter_items l.readers))

@@ -1,0 +1,9 @@
+use Rattle.xcp_stay.proofs.KeptLemmas.{kept_as}
+use Rattle.xcp_stay.proofs.staying.stay_and_tell.Goals as goal
+
+pub returns : goal.returns
+returns g c =
+    let stayed = c.in_ok-stayed.stayed in
+    record {
+      kept = kept_as c.args.unnamed.layout stayed.keeper stayed.locked.chapter stayed.locked.before stayed.locked.base c.tell.result c.tell.ensures.chapters c.tell.ensures.calls c.in_ok-stayed.ensures.joined c.in_ok-stayed.ensures.settled;
+    }

@@ -1,0 +1,13 @@
+//! A server that stays: tools come and go, tasks have no end, and each chapter of the journal is settled and dropped, until it is
+//! asked to end.
+//!
+//! `specs/Stay.antt` has what is true of all calls that it accepted.
+#![tactic(auto)]
+
+mod ending;
+mod staying;
+mod stop_line;
+
+pub use ending::{StayError, Stayed};
+pub use staying::{Plan, Report, stay, stay_named};
+pub use stop_line::wait_for_stop;

@@ -1,0 +1,256 @@
+"""A tool that works alone on pages and lists, and a model of what it must be answered."""
+import struct
+import time
+import tomllib
+from collections import deque
+from random import Random
+
+from tool import Tool
+from xcp_client import ECU, XCP, Fault
+
+STEP_PAUSE = 0.002  # seconds
+REJOIN, SET_UP = 20, 5  # seconds from one connection to the next, from one setting of the lists to the next
+DONE, NOT_IN_ONE_AREA, PROTECTED = b"\xff", b"\xfe\x24", b"\xfe\x23"
+# Of each checksum its type, and how many bytes are added into how many.
+SUMS = {"ADD_11": (1, 1, 1), "ADD_12": (2, 1, 2), "ADD_14": (3, 1, 4), "ADD_22": (4, 2, 2), "ADD_24": (5, 2, 4), "ADD_44": (6, 4, 4)}
+
+
+class Segment:
+    """A segment as it should be: its pages, and which of them the tool and the controller have."""
+
+    def __init__(self, table):
+        content = bytes.fromhex("".join(table["data"].split()))
+        self.address, self.size = table["address"], len(content)
+        self.pages = [bytearray(content) for _ in range(table.get("pages", 2))]
+        self.page = {ECU: 0, XCP: 0}
+        self.frozen = False
+
+    def content(self, whose):
+        return self.pages[self.page[whose]]
+
+
+class Layout:
+    """What the layout file says. It has to be of an Intel slave."""
+
+    def __init__(self, path):
+        with open(path, "rb") as file:
+            table = tomllib.load(file)
+        self.max_cto, self.max_dto, self.id = table["max_cto"], table["max_dto"], table["id"].encode()
+        self.segments = [Segment(it) for it in table["segment"]]
+        self.signals, self.signal_bytes = table["signals"]["address"], table["signals"]["length"]
+        self.channels = len(table["event"])
+        self.sum = SUMS[table.get("checksum", "ADD_14")]
+        self.connected = struct.pack("<BBBBHBB", 0xFF, 5, 0xC0, self.max_cto, self.max_dto, 1, 1)
+
+
+class Calibrator:
+    """A tool with a model of the slave: what it alone changes, and what it must be answered."""
+
+    def __init__(self, soak):
+        self.soak, self.layout, self.segments = soak, soak.layout, soak.layout.segments
+        self.random, self.trips, self.samples, self.joins = Random(1), 0, 0, 0
+        self.sampled = self.segments[-1]  # its first two bytes, on the controller's page, are in each data packet
+        self.contents = deque(maxlen=500)  # what these were
+        self.running, self.tool = False, None
+        self.since = time.monotonic()  # when the lists were set up before the last time
+        # How often each step is taken, and whether it uses the MTA.
+        self.steps = [
+            (20, False, self.ask_status), (30, False, self.short_upload), (30, False, self.short_download), (10, False, self.switch),
+            (10, False, self.ask_page), (3, False, self.copy), (3, False, self.be_refused), (1, False, self.store),
+            (30, True, self.upload), (30, True, self.download), (10, True, self.add_up), (3, True, self.identify),
+            (5, True, self.modify_bits),
+        ]  # fmt: skip
+
+    def join(self):
+        self.tool = Tool(self)
+        self.joins += 1
+        self.tool.expect(b"\xff\x00", self.layout.connected)
+        self.set_lists_up()
+
+    def run(self):
+        """Works until the time is over. It ends connected."""
+        weights = [it[0] for it in self.steps]
+        set_up = joined = time.monotonic()
+        while not self.soak.over.is_set():
+            _, needs_mta, step = self.random.choices(self.steps, weights)[0]
+            if not needs_mta:
+                step()
+            elif self.soak.mta.acquire(blocking=False):
+                try:
+                    step()
+                finally:
+                    self.soak.mta.release()
+            now = time.monotonic()
+            if now > joined + REJOIN:
+                self.tool.leave()
+                self.soak.expect_end(self.tool, {"none"})
+                self.join()
+                joined = set_up = now
+            elif now > set_up + SET_UP:
+                self.set_lists_up()
+                set_up = now
+            time.sleep(STEP_PAUSE)
+
+    def some_range(self, most):
+        """A segment, where in it a range begins, and its bytes: at most so many."""
+        segment = self.random.choice(self.segments)
+        at = self.random.randrange(segment.size)
+        return segment, at, self.random.randint(1, min(most, segment.size - at))
+
+    def note(self):
+        """Notes what data packets may have from now on. It is called before the command that brings it."""
+        now = bytes(self.sampled.content(ECU)[:2])
+        if not self.contents or self.contents[-1] != now:
+            self.contents.append(now)
+
+    def check_data(self, packet, _):
+        signals = self.soak.check_shape(packet, self.since)
+        if packet[1 + signals :] not in self.contents:
+            raise Fault(f"a data packet has {packet[1 + signals:].hex(' ')} of the controller's page, which had no such bytes lately")
+
+    # Steps that leave the MTA alone, or give an address of their own
+
+    def ask_status(self):
+        self.tool.expect(b"\xfd", bytes([0xFF, 0x40 if self.running else 0, 0, 0, 0, 0]))
+
+    def short_upload(self):
+        segment, at, count = self.some_range(self.layout.max_cto - 1)
+        wanted = DONE + segment.content(XCP)[at : at + count]
+        if self.random.random() < 0.05:
+            at, wanted = segment.size - count + 1, NOT_IN_ONE_AREA
+        self.tool.expect(struct.pack("<BBHI", 0xF4, count, 0, segment.address + at), wanted)
+
+    def short_download(self):
+        segment, at, count = self.some_range(self.layout.max_cto - 8)
+        content = self.random.randbytes(count)
+        self.tool.expect(struct.pack("<BBHI", 0xED, count, 0, segment.address + at) + content, self.write(segment, at, content))
+
+    def write(self, segment, at, content):
+        """What a write does, and what it is answered."""
+        if segment.page[XCP] == 0:
+            return PROTECTED
+        segment.content(XCP)[at : at + len(content)] = content
+        self.note()
+        return DONE
+
+    def switch(self):
+        number, mode, page = self.random.randrange(len(self.segments)), self.random.choice((1, 2, 3, 2, 0x83)), self.random.randrange(4)
+        concerned = self.segments if mode & 0x80 else [self.segments[number]]
+        wanted = DONE if all(page < len(it.pages) for it in concerned) else b"\xfe\x26"
+        for segment in concerned if wanted == DONE else []:
+            segment.page.update({whose: page for whose in (ECU, XCP) if mode & whose})
+        self.note()
+        self.tool.expect(bytes([0xEB, mode, number, page]), wanted)
+
+    def ask_page(self):
+        number, whose = self.random.randrange(len(self.segments)), self.random.choice((ECU, XCP))
+        self.tool.expect(bytes([0xEA, whose, number]), bytes([0xFF, 0, 0, self.segments[number].page[whose]]))
+
+    def copy(self):
+        number = self.random.randrange(len(self.segments))
+        pages = self.segments[number].pages
+        source, target = self.random.randrange(len(pages)), self.random.randrange(len(pages))
+        if target:
+            pages[target][:] = pages[source]
+        self.note()
+        self.tool.expect(bytes([0xE4, number, source, number, target]), DONE if target else PROTECTED)
+
+    def be_refused(self):
+        packet, answer = self.random.choice(
+            [(b"\xf8\x00", b"\xfe\x20"), (b"\xf6\x00", b"\xfe\x21"), (b"\xf5\x00", b"\xfe\x22"), (b"\xea\x01\x09", b"\xfe\x28")]
+        )
+        self.tool.expect(packet, answer)
+
+    def store(self):
+        number = self.random.randrange(len(self.segments))
+        segment = self.segments[number]
+        segment.frozen = not segment.frozen
+        self.tool.expect(bytes([0xE6, segment.frozen, number]), DONE)
+        for it in self.segments:
+            if it.frozen:
+                it.pages[0][:] = it.content(XCP)
+        self.note()
+        self.tool.expect(b"\xf9\x01\x00\x00", DONE)
+        until = time.monotonic() + 10
+        while (self.tool.ask_for(b"\xfd") or b"\0\1")[1] & 1:
+            if time.monotonic() > until:
+                raise Fault("no task finishes a store")
+        self.tool.expect(bytes([0xE5, 0, number]), bytes([0xFF, 0, segment.frozen]))
+
+    # Steps that use the MTA
+
+    def set_mta(self, segment, at):
+        self.tool.expect(struct.pack("<BxxBI", 0xF6, 0, segment.address + at), DONE)
+
+    def upload(self):
+        segment, at, count = self.some_range(255)
+        self.set_mta(segment, at)
+        room, content = self.layout.max_cto - 1, segment.content(XCP)[at : at + count]
+        self.tool.expect(bytes([0xF5, count]), *(DONE + content[it : it + room] for it in range(0, count, room)))
+
+    def download(self):
+        room = self.layout.max_cto - 2
+        segment, at, count = self.some_range(min(255, 8 * room))
+        content = self.random.randbytes(count)
+        self.set_mta(segment, at)
+        wanted = self.write(segment, at, content)
+        pieces = [bytes([0xEF if it else 0xF0, count - it]) + content[it : it + room] for it in range(0, count, room)]
+        if wanted == DONE:
+            for piece in pieces[:-1]:
+                self.tool.send(piece)
+        self.tool.expect(pieces[-1] if wanted == DONE else pieces[0], wanted)
+
+    def add_up(self):
+        kind, unit, width = self.layout.sum
+        segment = self.random.choice(self.segments)
+        count = self.random.randint(1, segment.size // unit) * unit
+        at = self.random.randint(0, segment.size - count)
+        content = segment.content(XCP)[at : at + count]
+        total = sum(int.from_bytes(content[it : it + unit], "little") for it in range(0, count, unit)) % (1 << 8 * width)
+        self.set_mta(segment, at)
+        self.tool.expect(struct.pack("<BxxxI", 0xF3, count), struct.pack("<BBHI", 0xFF, kind, 0, total))
+
+    def identify(self):
+        self.tool.expect(b"\xfa\x00", struct.pack("<BxxxI", 0xFF, len(self.layout.id)))
+        self.tool.expect(bytes([0xF5, len(self.layout.id)]), DONE + self.layout.id)
+
+    def modify_bits(self):
+        wide = [it for it in self.segments if it.size >= 4]
+        segment = self.random.choice(wide)
+        at, shift = self.random.randint(0, segment.size - 4), self.random.randrange(32)
+        kept, flipped = self.random.getrandbits(16), self.random.getrandbits(16)
+        self.set_mta(segment, at)
+        word = int.from_bytes(segment.content(XCP)[at : at + 4], "little")
+        word = (word & ~((~kept & 0xFFFF) << shift) ^ (flipped << shift)) & 0xFFFFFFFF
+        self.tool.expect(struct.pack("<BBHH", 0xEC, shift, kept, flipped), self.write(segment, at, word.to_bytes(4, "little")))
+
+    # DAQ lists
+
+    def set_lists_up(self):
+        """Other lists than before: one to three, each of one or two ODTs of some signals and two bytes of the controller's page."""
+        lists = [[self.random.randint(1, min(20, self.layout.signal_bytes)) for _ in range(self.random.randint(1, 2))]
+                 for _ in range(self.random.randint(1, 3))]  # fmt: skip
+        expect = self.tool.expect
+        expect(b"\xd6", DONE)
+        expect(struct.pack("<BxH", 0xD5, len(lists)), DONE)
+        for number, odts in enumerate(lists):
+            expect(struct.pack("<BxHB", 0xD4, number, len(odts)), DONE)
+        for number, odts in enumerate(lists):
+            for odt in range(len(odts)):
+                expect(struct.pack("<BxHBB", 0xD3, number, odt, 2), DONE)
+        if self.soak.settings:
+            self.since = self.soak.settings[-1][0]
+        self.soak.settings.append((time.monotonic(), [signals for odts in lists for signals in odts]))
+        self.note()
+        pid = 0
+        for number, odts in enumerate(lists):
+            for odt, signals in enumerate(odts):
+                expect(struct.pack("<BxHBB", 0xE2, number, odt, 0), DONE)
+                expect(struct.pack("<BBBBI", 0xE1, 0xFF, signals, 0, self.layout.signals), DONE)
+                expect(struct.pack("<BBBBI", 0xE1, 0xFF, 2, 0, self.sampled.address), DONE)
+            channel, prescaler = self.random.randrange(self.layout.channels), self.random.randint(50, 255)
+            expect(struct.pack("<BBHHBB", 0xE0, 0, number, channel, prescaler, 0), DONE)
+            expect(struct.pack("<BBH", 0xDE, 2, number), bytes([0xFF, pid]))
+            pid += len(odts)
+        expect(b"\xdd\x01", DONE)
+        self.running = True

@@ -1,0 +1,106 @@
+"""The server that is tried: its process, what it prints, and what /proc says of it."""
+import os
+import queue
+import re
+import subprocess
+import threading
+import time
+from collections import namedtuple
+
+from xcp_client import Fault
+
+SEATS, TASKS, PERIOD, PATIENCE = 3, 6, 1, 2
+Usage = namedtuple("Usage", "seconds highest resident processor threads descriptors")
+
+
+class Log:
+    """What the server says on standard error: which tool has which seat, and how each connection ended."""
+
+    LINE = re.compile(r"xcpd: seat (\d): (127\.0\.0\.1:\d+) (?:(connected)|disconnected(?:: (.+))?)")
+
+    def __init__(self, stream):
+        self.present, self.ended, self.strange = {}, {}, []
+        self.news = threading.Condition()
+        threading.Thread(target=self.read, args=[stream], daemon=True).start()
+
+    def read(self, stream):
+        for line in stream:
+            with self.news:
+                self.take(line.rstrip("\n"))
+                self.news.notify_all()
+
+    def take(self, line):
+        found = self.LINE.fullmatch(line)
+        seat, address, came, end = found.groups() if found else (None,) * 4
+        if came and seat not in self.present and int(seat) < SEATS:
+            self.present[seat] = address
+        elif found and not came and self.present.pop(seat, None) == address:
+            self.ended[address] = end or "none"
+        else:
+            self.strange.append(line)
+
+    def has_ended(self, address):
+        with self.news:
+            return address in self.ended
+
+    def end_of(self, address, seconds):
+        """How this connection ended, once it has: the fault that the server names, or `none`."""
+        with self.news:
+            if not self.news.wait_for(lambda: address in self.ended, seconds):
+                raise Fault(f"the server doesn't say within {seconds} seconds that {address} has gone")
+            return self.ended.pop(address)
+
+
+class Server:
+    """The program, with its standard streams."""
+
+    def __init__(self, program, layout, port):
+        words = ["--stay", "--port", port, "--tools", SEATS, "--tasks", TASKS, "--period", PERIOD, "--patience", PATIENCE]
+        words = [program, "serve", "--config", layout, *map(str, words)]
+        pipe = subprocess.PIPE
+        self.process = subprocess.Popen(words, stdin=pipe, stdout=pipe, stderr=pipe, text=True, bufsize=1)
+        self.began = time.monotonic()
+        self.port, self.log, self.lines = port, Log(self.process.stderr), queue.Queue()
+        threading.Thread(target=self.read, daemon=True).start()
+        first = self.line(10)
+        if first != f"listening {port}":
+            raise Fault(f"the server's first line is {first}, and it says {self.log.strange}")
+
+    def read(self):
+        for line in self.process.stdout:
+            self.lines.put(line.rstrip("\n"))
+        self.lines.put(None)
+
+    def line(self, seconds):
+        """The next line of standard output, or None if there is none."""
+        try:
+            return self.lines.get(timeout=seconds)
+        except queue.Empty:
+            return None
+
+    def usage(self):
+        if self.process.poll() is not None:
+            raise Fault(f"the server has ended with status {self.process.returncode}, and says {self.log.strange}")
+        at = f"/proc/{self.process.pid}"
+        with open(f"{at}/status", encoding="utf-8") as file:
+            status = dict(line.split(":", 1) for line in file.read().splitlines())
+        with open(f"{at}/stat", encoding="utf-8") as file:
+            ticks = file.read().rsplit(")", 1)[1].split()[11:13]
+        kilobytes = [int(status[key].split()[0]) for key in ("VmHWM", "VmRSS")]
+        processor = sum(map(int, ticks)) / os.sysconf("SC_CLK_TCK")
+        seconds = time.monotonic() - self.began
+        return Usage(seconds, *kilobytes, processor, int(status["Threads"]), len(os.listdir(f"{at}/fd")))
+
+    def stop(self):
+        """Stops it in order, and gives the numbers of chapters and of calls."""
+        self.process.stdin.write("stop\n")
+        lines = [self.line(30) for _ in range(3)]
+        status = self.process.wait(30)
+        told = re.fullmatch(r"chapters (\d+)\ncalls (\d+)\nsettled", "\n".join(map(str, lines)))
+        if not told or status != 0 or self.log.strange:
+            raise Fault(f"after `stop` it prints {lines} and says {self.log.strange}, status {status}")
+        return int(told[1]), int(told[2])
+
+    def kill(self):
+        self.process.kill()
+        self.process.wait()
