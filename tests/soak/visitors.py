@@ -108,23 +108,25 @@ class Visitor:
         tool.wait_for_close(10)
 
     def read_nothing(self, tool):
-        """Commands with the longest answers of one packet, for longer than the server's patience; then it goes, and what it hasn't read
-        makes that a reset."""
+        """Commands with the longest answers of one packet, until the server closes: its writes don't move any more, and it is patient
+        for so long."""
         tool.socket.settimeout(0.2)
         segment = max(self.layout.segments, key=lambda it: it.size)
         command = struct.pack("<BBHI", 0xF4, min(segment.size, self.layout.max_cto - 1), 0, segment.address)
         frames, at = (struct.pack("<HH", len(command), 0) + command) * 100, 0
-        until = time.monotonic() + PATIENCE + 2
+        began = time.monotonic()
         with self.soak.mta:
-            while time.monotonic() < until:
+            while not self.soak.server.log.has_ended(tool.address):
+                if time.monotonic() > began + 3 * PATIENCE + 20:
+                    raise Fault(f"the server doesn't close {tool.address}, which reads nothing")
                 try:
                     at = (at + tool.socket.send(frames[at:])) % len(frames)
                 except TimeoutError:
                     pass
                 except ConnectionError:
                     break
-            tool.close()
             self.soak.expect_end(tool, READ_NOTHING_ENDS, keep=True)
+            tool.close()
 
 
 # A way to leave: its name, how a visit goes, how it ends, and what the server says of it then. A reset is told to whichever of

@@ -3,3 +3,5 @@
 
 #[cfg(test)]
 mod keeping;
+#[cfg(test)]
+mod posting;

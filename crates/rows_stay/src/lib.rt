@@ -2,6 +2,8 @@
 #![tactic(auto)]
 
 #[cfg(test)]
+mod flood;
+#[cfg(test)]
 mod lines;
 #[cfg(test)]
 mod quiet;

@@ -54,14 +54,15 @@ fn visit_all<R: Wait>(
     right
 }
 
-// Serves one tool at a time, and no task.
-fn serve<R: Threads + Wait + Clock + Sync>(
+// Serves one tool at a time, and no task. It is so many seconds patient.
+pub fn serve<R: Threads + Wait + Clock + Sync>(
     rt: &HostRuntime,
     handle: &R,
     alloc: Global,
     unnamed: Unnamed,
     listener: &TcpListener,
     port: u16,
+    patience: u64,
     halt: &Halt,
 ) -> Option<Report>
     requires { unnamed.callers ≡ 2 }
@@ -70,7 +71,7 @@ fn serve<R: Threads + Wait + Clock + Sync>(
         tools: 1,
         tasks: 0,
         period: 0,
-        patience: Duration::from_secs(5),
+        patience: Duration::from_secs(patience),
     };
     stay(
         handle,
@@ -102,7 +103,7 @@ fn came<R: Threads + Wait + Clock + Sync>(
         move || -> u32 { visit_all(rt, handle, port, visits, times, asked) },
         move || -> Option<Report>
             requires { unnamed.callers ≡ 2 }
-        { serve(rt, handle, alloc, unnamed, slave, port, asked) },
+        { serve(rt, handle, alloc, unnamed, slave, port, 5, asked) },
     ))
 }
 

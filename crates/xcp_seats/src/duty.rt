@@ -4,57 +4,42 @@ use crate::door::Door;
 use crate::halt::Halt;
 use crate::ticker::Ticker;
 use crate::watcher::Watcher;
-use std::alloc::Global;
 use std::marker::Model;
 use std::sync::Wait;
 use std::time::Clock;
 use together::Work;
 use xcp_locked::Name;
-use xcp_service::{Keeper, Member, Post, Unkept};
+use xcp_service::{Collector, Member, Post, Route, Unkept};
 
 /// Keeps chapters, until the post is closed.
 #[derive(Drop)]
-pub struct Keeping<'a, N: Name> {
-    pub keeper: Keeper<N>,
-    pub alloc: Global,
-    pub post: &'a Post<N>,
+pub struct Keeping<'a, N: Name, M: Route> {
+    pub collector: Collector<N, M>,
+    pub post: &'a Post<N, M>,
     pub halt: &'a Halt,
 }
 
-impl<'a, N: Name> Keeping<'a, N> {
-    /// Takes mail as it comes. Where something isn't as it must be, it asks the server to end.
-    fn keep<R: Wait>(self, rt: &R) -> (Keeper<N>, Option<Unkept>) {
-        let Keeping {
-            mut keeper,
-            alloc,
-            post,
-            halt,
-        } = self;
-        for _mail in rt.forever() {
-            let mail = post.take(rt, alloc);
-            let is_last = mail.is_last();
-            if let Err(unkept) = keeper.take(mail) {
-                halt.ask(rt);
-                return (keeper, Some(unkept));
-            }
-            if is_last {
-                break;
-            }
+impl<'a, N: Name, M: Route> Keeping<'a, N, M> {
+    /// Takes what comes. Where something isn't as it must be, it asks the server to end.
+    fn keep<R: Wait>(self, rt: &R) -> Result<Collector<N, M>, Unkept> {
+        let kept = self.collector.collect(rt, self.post);
+        if kept.is_err() {
+            self.halt.ask(rt);
         }
-        (keeper, None)
+        kept
     }
 }
 
 /// Waits until the server is asked to end, and makes everybody end.
 #[derive(Drop)]
-pub struct Warding<'a, N: Name, W> {
+pub struct Warding<'a, N: Name, M: Route, W> {
     pub doors: &'a [Door],
-    pub post: &'a Post<N>,
+    pub post: &'a Post<N, M>,
     pub halt: &'a Halt,
     pub watcher: &'a W,
 }
 
-impl<'a, N: Name, W: Watcher> Warding<'a, N, W> {
+impl<'a, N: Name, M: Route, W: Watcher> Warding<'a, N, M, W> {
     fn ward<R: Wait>(self, rt: &R) {
         self.halt.wait(rt);
         for door in self.doors {
@@ -68,25 +53,25 @@ impl<'a, N: Name, W: Watcher> Warding<'a, N, W> {
 
 /// What is done beside the seats, each in a thread of its own.
 #[derive(Drop)]
-pub enum Duty<'a, N: Name, C, W> {
-    Task(Ticker<'a, N, C>),
-    Keep(Keeping<'a, N>),
-    Ward(Warding<'a, N, W>),
+pub enum Duty<'a, N: Name, M: Route, C, W> {
+    Task(Ticker<'a, N, M, C>),
+    Keep(Keeping<'a, N, M>),
+    Ward(Warding<'a, N, M, W>),
 }
 
 /// What comes of it.
 #[derive(Drop)]
-pub enum Performed<N: Name> {
-    Task(Member<N>),
-    Kept(Keeper<N>, Option<Unkept>),
+pub enum Performed<N: Name, M: Route> {
+    Task(Member<N, M>),
+    Kept(Result<Collector<N, M>, Unkept>),
     Warded,
 }
 
 /// A duty. Clauses see nothing of it, which keeps proofs about its thread small.
 #[derive(Drop)]
-pub struct Assigned<'a, N: Name, C, W>(pub Duty<'a, N, C, W>);
+pub struct Assigned<'a, N: Name, M: Route, C, W>(pub Duty<'a, N, M, C, W>);
 
-impl<'a, N: Name, C, W> Model for Assigned<'a, N, C, W> {
+impl<'a, N: Name, M: Route, C, W> Model for Assigned<'a, N, M, C, W> {
     ghost use Rattle.std.specs.Prelude.{⊤};
 
     ghost Value = { ⊤ };
@@ -96,9 +81,9 @@ impl<'a, N: Name, C, W> Model for Assigned<'a, N, C, W> {
 
 /// What comes of a duty.
 #[derive(Drop)]
-pub struct Outcome<N: Name>(pub Performed<N>);
+pub struct Outcome<N: Name, M: Route>(pub Performed<N, M>);
 
-impl<N: Name> Model for Outcome<N> {
+impl<N: Name, M: Route> Model for Outcome<N, M> {
     ghost use Rattle.std.specs.Prelude.{⊤};
 
     ghost Value = { ⊤ };
@@ -106,20 +91,18 @@ impl<N: Name> Model for Outcome<N> {
     ghost view = { λ _. tt };
 }
 
-impl<'a, N: Name + Send + Sync, C: Clock + Sync, W: Watcher + Sync> Work<Outcome<N>>
-    for Assigned<'a, N, C, W> {
+impl<'a, N: Name + Send + Sync, M: Route + Send + Sync, C: Clock + Sync, W: Watcher + Sync> Work<
+    Outcome<N, M>,
+> for Assigned<'a, N, M, C, W> {
     ghost use Rattle.std.specs.Prelude.{⊤};
 
     ghost gives = { λ d p. ⊤ };
 
-    fn run<R: Wait>(self, rt: &R) -> Outcome<N> {
+    fn run<R: Wait>(self, rt: &R) -> Outcome<N, M> {
         let Assigned(duty) = self;
         match duty {
             Duty::Task(task) => Outcome(Performed::Task(task.tick(rt))),
-            Duty::Keep(keeping) => {
-                let (keeper, unkept) = keeping.keep(rt);
-                Outcome(Performed::Kept(keeper, unkept))
-            }
+            Duty::Keep(keeping) => Outcome(Performed::Kept(keeping.keep(rt))),
             Duty::Ward(warding) => {
                 warding.ward(rt);
                 Outcome(Performed::Warded)
@@ -127,11 +110,11 @@ impl<'a, N: Name + Send + Sync, C: Clock + Sync, W: Watcher + Sync> Work<Outcome
         }
     }
 
-    fn leave(self) -> Outcome<N> {
+    fn leave(self) -> Outcome<N, M> {
         let Assigned(duty) = self;
         match duty {
             Duty::Task(task) => Outcome(Performed::Task(task.member)),
-            Duty::Keep(keeping) => Outcome(Performed::Kept(keeping.keeper, None)),
+            Duty::Keep(keeping) => Outcome(Performed::Kept(Ok(keeping.collector))),
             Duty::Ward(_) => Outcome(Performed::Warded),
         }
     }

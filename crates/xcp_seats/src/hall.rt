@@ -6,7 +6,7 @@ use std::sync::{Mutex, Wait};
 use xcp_framing::Station;
 use xcp_locked::Name;
 use xcp_packet::Packet;
-use xcp_service::Seated;
+use xcp_service::{Route, Seated};
 use xcp_slave::Request;
 
 /// How many tools are connected. The last one that goes ends the session.
@@ -31,7 +31,7 @@ impl Hall {
 
     /// One tool is gone. Where it was the last one, a `Hangup` is submitted before another can be here. Where there is no memory
     /// for it, the session stands until the next tool goes.
-    pub fn leave<N: Name, R: Wait>(&self, rt: &R, station: &mut Seated<'_, N, R>)
+    pub fn leave<N: Name, M: Route, R: Wait>(&self, rt: &R, station: &mut Seated<'_, N, M, R>)
         ensures { Same station.old.member station.new.member }
     {
         let mut present = self.present.lock(rt);

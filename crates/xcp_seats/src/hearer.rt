@@ -1,10 +1,11 @@
 //! The part of a seat that accepts tools and hears them.
 ghost use Rattle.xcp_locked.specs.Tasks.{Same};
 
+use crate::closing::Closing;
 use crate::door::Door;
 use crate::hall::Hall;
 use crate::halt::Halt;
-use crate::patient::{FrameEdge, Patient};
+use crate::patient::Patient;
 use crate::pumper::Pumped;
 use crate::sender::Outgoing;
 use crate::watcher::Watcher;
@@ -19,15 +20,15 @@ use together::Work;
 use xcp_framing::{ServeError, Served, Watched, serve_by};
 use xcp_locked::Name;
 use xcp_outlet::{DataEnd, PutReplies, Sent, outlet};
-use xcp_service::{Member, Seated, Shared};
+use xcp_service::{Member, Route, Seated, Shared};
 
-/// The most reads of one connection.
+/// The most reads of one passage; a connection has as many passages as it needs.
 const TURNS: u32 = 4_294_967_295;
 
 /// A seat, as its hearing part sees it.
 #[derive(Drop)]
-pub struct Seat<'a, N: Name, W> {
-    pub shared: &'a Shared<N>,
+pub struct Seat<'a, N: Name, M: Route, W> {
+    pub shared: &'a Shared<N, M>,
     pub alloc: Global,
     pub number: u8,
     pub listener: TcpListener,
@@ -46,13 +47,13 @@ pub struct Seat<'a, N: Name, W> {
 /// The part of a seat that accepts one tool after another, and reads their frames, submits their commands and puts the answers'
 /// packets.
 #[derive(Drop)]
-pub struct Hearer<'a, N: Name, W> {
-    pub member: Member<N>,
-    pub seat: Seat<'a, N, W>,
+pub struct Hearer<'a, N: Name, M: Route, W> {
+    pub member: Member<N, M>,
+    pub seat: Seat<'a, N, M, W>,
 }
 
 // Clauses see the member of a part alone, which keeps proofs about its threads small.
-impl<'a, N: Name, W> Model for Hearer<'a, N, W> {
+impl<'a, N: Name, M: Route, W> Model for Hearer<'a, N, M, W> {
     ghost use Rattle.xcp_locked.specs.Caller.{CallerValue};
 
     ghost Value = { CallerValue };
@@ -60,12 +61,13 @@ impl<'a, N: Name, W> Model for Hearer<'a, N, W> {
     ghost view = { λ h. h.member };
 }
 
-impl<'a, N: Name + Send + Sync, W: Watcher + Sync> Work<Member<N>> for Hearer<'a, N, W> {
+impl<'a, N: Name + Send + Sync, M: Route + Send + Sync, W: Watcher + Sync> Work<Member<N, M>>
+    for Hearer<'a, N, M, W> {
     ghost use Rattle.xcp_locked.specs.Tasks.{Same};
 
     ghost gives = { λ h d. Same h d };
 
-    fn run<R: Wait>(self, rt: &R) -> Member<N> {
+    fn run<R: Wait>(self, rt: &R) -> Member<N, M> {
         let Hearer { member, seat } = self;
         let mut station = Seated::new(rt, seat.alloc, seat.shared, member);
         for _tool in rt.forever() {
@@ -86,18 +88,18 @@ impl<'a, N: Name + Send + Sync, W: Watcher + Sync> Work<Member<N>> for Hearer<'a
         station.into_member()
     }
 
-    fn leave(self) -> Member<N> {
+    fn leave(self) -> Member<N, M> {
         self.member
     }
 }
 
-impl<'a, N: Name, W> Seat<'a, N, W> {
+impl<'a, N: Name, M: Route, W> Seat<'a, N, M, W> {
     /// Serves a tool, from its first frame until its connection is closed, and answers how it ended: the fault of its reading, else
     /// of its pump, else `Write` where its sender has one. `Memory` comes also where the connection can't begin.
     fn hear<R: Wait>(
         &self,
         rt: &R,
-        station: &mut Seated<'_, N, R>,
+        station: &mut Seated<'_, N, M, R>,
         stream: TcpStream,
     ) -> Result<Served, ServeError>
         ensures { Same station.old.member station.new.member }
@@ -123,7 +125,7 @@ impl<'a, N: Name, W> Seat<'a, N, W> {
     fn hear_stream<R: Wait>(
         &self,
         rt: &R,
-        station: &mut Seated<'_, N, R>,
+        station: &mut Seated<'_, N, M, R>,
         reader: TcpStream,
         writer: TcpStream,
     ) -> Result<Served, ServeError>
@@ -133,23 +135,16 @@ impl<'a, N: Name, W> Seat<'a, N, W> {
             return Err(ServeError::Memory);
         };
         self.door.stop.store(false, Ordering::SeqCst);
-        if self.send.send(rt, (sender, Watched::new(writer))).is_err() {
+        if self
+            .send
+            .send(rt, (sender, Watched::new(Closing::new(writer))))
+            .is_err()
+        {
             return Err(ServeError::Memory);
         }
         let pumps = self.pump.send(rt, samples).is_ok();
         let mut replies = PutReplies::new(rt, replies);
-        let mut reader = Watched::new(Patient {
-            stream: reader,
-            edge: FrameEdge::new(),
-        });
-        let heard = serve_by(
-            self.alloc,
-            &mut reader,
-            &mut replies,
-            station,
-            self.max_cto,
-            TURNS,
-        );
+        let heard = self.hear_passages(rt, station, &mut replies, reader);
         self.shared.lock.lock(rt).stop(&self.door.stop);
         let _replies = replies.into_end().finish(rt);
         let pumped = if pumps {
@@ -167,5 +162,34 @@ impl<'a, N: Name, W> Seat<'a, N, W> {
             }
             _ => Err(ServeError::Memory),
         }
+    }
+
+    /// Answers frames, passage after passage, until the connection ends.
+    fn hear_passages<R: Wait>(
+        &self,
+        rt: &R,
+        station: &mut Seated<'_, N, M, R>,
+        replies: &mut PutReplies<'_, R>,
+        reader: TcpStream,
+    ) -> Result<Served, ServeError>
+        ensures { Same station.old.member station.new.member }
+    {
+        let mut patient = Patient::new(reader);
+        for _passage in rt.forever() {
+            let mut reader = Watched::new(patient);
+            let served = serve_by(
+                self.alloc,
+                &mut reader,
+                replies,
+                station,
+                self.max_cto,
+                TURNS,
+            )?;
+            patient = reader.into_inner();
+            if !patient.begin_again() {
+                return Ok(served);
+            }
+        }
+        unreachable!()
     }
 }

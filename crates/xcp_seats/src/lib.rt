@@ -3,6 +3,7 @@
 //! Whoever runs them deals callers, readers and channels out to them (`make_seat`), and settles what they did. A seat's parts live as long as the server: for each tool that its hearer accepts, the other two get their ends of a new outlet.
 #![tactic(auto)]
 
+mod closing;
 mod door;
 mod duty;
 mod hall;
@@ -16,6 +17,7 @@ mod sender;
 mod ticker;
 mod watcher;
 
+pub use closing::Closing;
 pub use door::Door;
 pub use duty::{Assigned, Duty, Keeping, Outcome, Performed, Warding};
 pub use hall::Hall;

@@ -30,6 +30,11 @@ impl<'a, R: Clock> Pace<'a, R> {
         }
     }
 
+    /// Whether a cycle begins at once behind the one before it.
+    pub fn is_free(&self) -> bool {
+        self.period == 0
+    }
+
     /// How long a task still has to wait for this cycle. Where the clock can't be read it is a period.
     fn left(&self, cycle: u64) -> Duration {
         let due = Duration::from_millis(cycle.saturating_mul(u64::from(self.period)));

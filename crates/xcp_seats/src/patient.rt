@@ -1,7 +1,11 @@
-//! A tool that stops inside a frame.
+//! A tool that stops inside a frame, and one that has no end.
 
 use std::io::{self, ErrorKind, Read};
+use std::mem;
 use std::net::TcpStream;
+
+/// How many reads a passage has at least, where the connection doesn't end before.
+const PASSAGE: u32 = 1_073_741_824;
 
 /// How often a read may wait for a tool that says nothing between two frames.
 const WAITS: u32 = 4_294_967_295;
@@ -58,15 +62,43 @@ impl FrameEdge {
 }
 
 /// A connection whose reads wait for as long as the tool likes between two frames, and inside one for no longer than the time that was
-/// set at its socket: behind that the read fails.
+/// set at its socket: behind that the read fails. After very many reads it ends a passage, between two frames, as if the connection had
+/// ended: so whoever counts reads can begin again.
 #[derive(Drop)]
 pub struct Patient {
-    pub stream: TcpStream,
-    pub edge: FrameEdge,
+    stream: TcpStream,
+    edge: FrameEdge,
+    /// How many reads this passage had.
+    reads: u32,
+    /// The last read ended a passage.
+    is_passed: bool,
+}
+
+impl Patient {
+    /// Before the first frame.
+    pub fn new(stream: TcpStream) -> Patient {
+        Patient {
+            stream,
+            edge: FrameEdge::new(),
+            reads: 0,
+            is_passed: false,
+        }
+    }
+
+    /// Whether the last read ended a passage, and not the connection. Another passage begins then.
+    pub fn begin_again(&mut self) -> bool {
+        self.reads = 0;
+        mem::replace(&mut self.is_passed, false)
+    }
 }
 
 impl Read for Patient {
     fn read(&mut self, buf: &mut [u8]) -> io::Result<usize> {
+        if self.reads >= PASSAGE && !self.edge.is_inside() {
+            self.is_passed = true;
+            return Ok(0);
+        }
+        self.reads = self.reads.saturating_add(1);
         for _wait in 0..WAITS {
             match self.stream.read(buf) {
                 Ok(count) => {

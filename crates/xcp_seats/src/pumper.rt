@@ -9,7 +9,7 @@ use together::Work;
 use xcp_framing::{ServeError, pump};
 use xcp_locked::Name;
 use xcp_outlet::{DataEnd, Put, PutData};
-use xcp_service::{Member, Seated, Shared};
+use xcp_service::{Member, Route, Seated, Shared};
 
 /// The most turns of one call of `pump`. Behind it the next call goes on.
 const TURNS: u32 = 1_000_000_000;
@@ -23,21 +23,21 @@ pub struct Pumped {
 
 /// The part of a seat that puts what the slave samples, for one connection after another.
 #[derive(Drop)]
-pub struct Pumper<'a, N: Name> {
-    pub shared: &'a Shared<N>,
+pub struct Pumper<'a, N: Name, M: Route> {
+    pub shared: &'a Shared<N, M>,
     pub alloc: Global,
-    pub member: Member<N>,
+    pub member: Member<N, M>,
     pub stop: &'a AtomicBool,
     pub begins: Receiver<DataEnd>,
     pub ends: Sender<Pumped>,
 }
 
-impl<'a, N: Name + Send + Sync> Work<Member<N>> for Pumper<'a, N> {
+impl<'a, N: Name + Send + Sync, M: Route + Send + Sync> Work<Member<N, M>> for Pumper<'a, N, M> {
     ghost use Rattle.xcp_locked.specs.Tasks.{Same};
 
     ghost gives = { λ p d. Same p.member d };
 
-    fn run<R: Wait>(self, rt: &R) -> Member<N> {
+    fn run<R: Wait>(self, rt: &R) -> Member<N, M> {
         let Pumper {
             shared,
             alloc,
@@ -59,15 +59,15 @@ impl<'a, N: Name + Send + Sync> Work<Member<N>> for Pumper<'a, N> {
         station.into_member()
     }
 
-    fn leave(self) -> Member<N> {
+    fn leave(self) -> Member<N, M> {
         self.member
     }
 }
 
 /// Puts what waits until the connection's stop is set, or a packet is handed back.
-fn pump_connection<N: Name, R: Wait>(
+fn pump_connection<N: Name, M: Route, R: Wait>(
     rt: &R,
-    station: &mut Seated<'_, N, R>,
+    station: &mut Seated<'_, N, M, R>,
     samples: DataEnd,
     stop: &AtomicBool,
 ) -> Pumped

@@ -11,10 +11,10 @@ use std::alloc::{AllocError, Global};
 use std::net::TcpListener;
 use std::time::Duration;
 use xcp_locked::Name;
-use xcp_service::{Member, Shared};
+use xcp_service::{Member, Route, Shared};
 
 /// The three parts of a seat.
-pub type Parts<'a, N, W> = (Hearer<'a, N, W>, Pumper<'a, N>, Sending<'a>);
+pub type Parts<'a, N, M, W> = (Hearer<'a, N, M, W>, Pumper<'a, N, M>, Sending);
 
 /// Where a seat is.
 #[derive(Drop)]
@@ -29,14 +29,14 @@ pub struct Place<'a, W> {
 }
 
 /// A seat with a member for the tools and one for the pump. The listener's socket is shared.
-pub fn make_seat<'a, N: Name, W>(
+pub fn make_seat<'a, N: Name, M: Route, W>(
     alloc: Global,
-    shared: &'a Shared<N>,
+    shared: &'a Shared<N, M>,
     listener: TcpListener,
-    tool: Member<N>,
-    pump: Member<N>,
+    tool: Member<N, M>,
+    pump: Member<N, M>,
     place: Place<'a, W>,
-) -> Result<Parts<'a, N, W>, AllocError> {
+) -> Result<Parts<'a, N, M, W>, AllocError> {
     let Place {
         number,
         max_cto,
@@ -78,7 +78,6 @@ pub fn make_seat<'a, N: Name, W>(
         ends,
     };
     let sending = Sending {
-        door,
         begins: begun,
         ends: ended,
     };

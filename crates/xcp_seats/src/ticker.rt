@@ -9,25 +9,26 @@ use std::sync::Wait;
 use std::time::Clock;
 use xcp_locked::{Name, Reader, event};
 use xcp_packet::Packet;
-use xcp_service::{Member, Shared, call};
+use xcp_service::{Member, Route, Shared, call};
 use xcp_slave::Request;
 
 /// A task: its number, its member, its reader, and the image that it read last. Its cycles have no end.
 #[derive(Drop)]
-pub struct Ticker<'a, N: Name, C> {
-    pub shared: &'a Shared<N>,
+pub struct Ticker<'a, N: Name, M: Route, C> {
+    pub shared: &'a Shared<N, M>,
     pub alloc: Global,
     pub task: u8,
-    pub member: Member<N>,
+    pub member: Member<N, M>,
     pub reader: Reader<N>,
     pub pace: &'a Pace<'a, C>,
     pub halt: &'a Halt,
 }
 
-impl<'a, N: Name, C: Clock> Ticker<'a, N, C> {
+impl<'a, N: Name, M: Route, C: Clock> Ticker<'a, N, M, C> {
     /// Cycle after cycle, until the server ends: an event is submitted, and the reader told under the same
-    /// hold; then the image is taken and read, without a lock; and task 0 finishes a store.
-    pub fn tick<R: Wait>(self, rt: &R) -> Member<N> {
+    /// hold; then the image is taken and read, without a lock; and task 0 finishes a store. Where cycles have no period, each
+    /// waits first until the keeper is not far behind.
+    pub fn tick<R: Wait>(self, rt: &R) -> Member<N, M> {
         let Ticker {
             shared,
             alloc,
@@ -41,6 +42,9 @@ impl<'a, N: Name, C: Clock> Ticker<'a, N, C> {
         let mut cycle: u64 = 0;
         for _cycle in rt.forever() {
             pace.wait(cycle);
+            if pace.is_free() {
+                shared.post.wait_for_keeper(rt);
+            }
             if halt.is_asked() {
                 break;
             }
@@ -66,11 +70,11 @@ impl<'a, N: Name, C: Clock> Ticker<'a, N, C> {
 
 /// Submits the event of a cycle, and tells the reader, under the same hold, what was published by then. An event for which there is
 /// no memory is lost.
-fn raise<N: Name>(
+fn raise<N: Name, M: Route>(
     rt: &impl Wait,
     alloc: Global,
-    shared: &Shared<N>,
-    member: &mut Member<N>,
+    shared: &Shared<N, M>,
+    member: &mut Member<N, M>,
     reader: &mut Reader<N>,
     task: u8,
     cycle: u32,
@@ -92,11 +96,11 @@ fn raise<N: Name>(
 }
 
 /// Submits a request. Where there is no memory for it, it is lost.
-fn step<N: Name>(
+fn step<N: Name, M: Route>(
     rt: &impl Wait,
     alloc: Global,
-    shared: &Shared<N>,
-    member: &mut Member<N>,
+    shared: &Shared<N, M>,
+    member: &mut Member<N, M>,
     request: Request,
 ) {
     let mut packet = Packet::new();

@@ -1,5 +1,5 @@
 -- Receipts of several chapters, among others.
-use Rattle.std.proofs.Common.{◌≡◌, ◌≢◌, ◌≤◌, ◌<◌, ◌+◌, ◌||◌, ℕ, suc, Bool, true, false, List, [], ◌∷◌, ◌++◌, ◌==◌, refl, sym, ap, ◌∙◌, subst, length, arith, rules, true≢false, eq-eqb, ne_eqb, if◌then◌else◌}
+use Rattle.std.proofs.Common.{◌≡◌, ◌≢◌, ◌≤◌, ◌+◌, ◌||◌, ℕ, suc, Bool, true, false, List, [], ◌∷◌, ◌++◌, ◌==◌, refl, sym, ap, ◌∙◌, length, arith, rules, true≢false, eq-eqb, ne_eqb, if◌then◌else◌}
 use Rattle.xcp_locked.specs.SettledReceipts.{among}
 use Rattle.xcp_locked.specs.declared.receipt.Receipt.{Receipt}
 

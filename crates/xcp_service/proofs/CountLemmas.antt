@@ -4,7 +4,6 @@ use Rattle.std.specs.List.{list_all}
 use Rattle.std.proofs.lemmas.List.{get_or-set_other, get_or-set_same, length-set}
 use Rattle.xcp_trace.specs.declared.Entry.{Entry}
 use Rattle.xcp_locked.specs.SettledReceipts.{tally}
-use Rattle.xcp_locked.specs.declared.receipt.Receipt.{Receipt}
 use Rattle.xcp_locked.specs.Receipts.{receipt_of}
 use Rattle.xcp_service.specs.Keeping.{caller_limit}
 use Rattle.xcp_service.proofs.AmongLemmas.{differ_from, same_by}

@@ -1,10 +1,10 @@
 -- What a keeper has settled, step by step.
-use Rattle.std.proofs.Common.{◌≡◌, ◌≢◌, ◌⊎◌, inl, inr, ◌≤◌, ◌<◌, ◌+◌, ◌||◌, ◌&&◌, not, ℕ, zero, suc, Bool, true, false, List, [], ◌∷◌, ◌++◌, ◌==◌, refl, sym, ap, ap₂, ◌∙◌, subst, cond, length, map, arith, true≢false, eq-eqb, ne_eqb, if◌then◌else◌, get_or, set, take, drop, append_assoc, Option, Some, None}
-use Rattle.std.specs.List.{AllByRecursion, filter, list_all, list_any, slice_get}
+use Rattle.std.proofs.Common.{◌≡◌, ◌≢◌, ◌⊎◌, inl, inr, ◌≤◌, ◌<◌, ◌||◌, ◌&&◌, not, ℕ, zero, suc, Bool, true, false, List, [], ◌∷◌, ◌++◌, ◌==◌, refl, sym, ap, ap₂, ◌∙◌, subst, cond, length, map, arith, true≢false, eq-eqb, ne_eqb, if◌then◌else◌, get_or, set, take, drop, append_assoc, Some, None}
+use Rattle.std.specs.List.{AllByRecursion, filter, list_all, slice_get}
 use Rattle.std.specs.Prelude.{nat_lt}
 use Rattle.std.proofs.lemmas.List.{append-nil, get_or-set_other}
 use Rattle.xcp_locked.specs.LockedSlave.{ChapterValue}
-use Rattle.xcp_locked.specs.SettledReceipts.{among, receipts_for, tally}
+use Rattle.xcp_locked.specs.SettledReceipts.{receipts_for, tally}
 use Rattle.xcp_locked.specs.Sheaves.{SheafValue}
 use Rattle.xcp_locked.specs.declared.receipt.Receipt.{Receipt}
 use Rattle.xcp_service.specs.Keeping.{IsSettledBy, caller_limit, is_among, receipts_by}

@@ -4,3 +4,4 @@ pub mod JoinedMoreLemmas
 pub mod SheafLemmas
 pub mod CountLemmas
 pub mod HandedLemmas
+pub mod ParcelLemmas

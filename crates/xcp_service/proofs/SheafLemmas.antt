@@ -1,16 +1,14 @@
 -- What a sheaf has of the chapters that wait for it.
-use Rattle.std.proofs.Common.{◌≡◌, ◌≤◌, ◌<◌, ◌+◌, ◌||◌, ◌&&◌, ◌⊎◌, inl, inr, not, ℕ, zero, suc, Bool, true, false, List, [], ◌∷◌, ◌++◌, ◌==◌, refl, sym, ap, ap₂, ◌∙◌, subst, length, take, get_or, arith, true≢false, if◌then◌else◌}
-use Rattle.std.specs.List.{AllByRecursion, list_any}
+use Rattle.std.proofs.Common.{◌≡◌, ◌≤◌, ◌<◌, ◌+◌, ◌||◌, ◌&&◌, inl, inr, not, ℕ, zero, suc, Bool, true, false, List, [], ◌∷◌, ◌++◌, ◌==◌, refl, sym, ap, ap₂, ◌∙◌, subst, length, take, get_or, arith, true≢false}
+use Rattle.std.specs.List.{AllByRecursion}
 use Rattle.std.specs.Prelude.{nat_lt}
 use Rattle.std.proofs.lemmas.List.Folds.{list_any-append}
-use Rattle.xcp_locked.specs.LockedSlave.{ChapterValue}
 use Rattle.xcp_locked.specs.SettledReceipts.{among, receipts_for, tally}
 use Rattle.xcp_locked.specs.Sheaves.{SheafValue}
-use Rattle.xcp_locked.specs.declared.receipt.Receipt.{Receipt}
 use Rattle.xcp_service.specs.Keeping.{is_among}
 use Rattle.xcp_service.specs.private.Waiting.{AreApart, Fits, FitsAll, IsCountedFor, WaitingValue, calls_of, chapters_in, has_due, is_due}
-use Rattle.xcp_service.proofs.AmongLemmas.{among_all, among_few, among_more, among_none, among_same, either_false, other_way, same_by, differ_from}
-use Rattle.xcp_service.proofs.KeepingLemmas.{all_more, empty_of, not_due, take_all, take_step}
+use Rattle.xcp_service.proofs.AmongLemmas.{among_all, among_few, among_more, among_none, among_same, either_false, other_way, differ_from}
+use Rattle.xcp_service.proofs.KeepingLemmas.{all_more, not_due, take_all, take_step}
 
 -- those before one have other numbers
 apart_before : (ws : List WaitingValue) (k : ℕ) (d : WaitingValue) → AreApart ws → k < length ws → is_among (get_or ws k d).chapter.number (chapters_in (take k ws)) ≡ false

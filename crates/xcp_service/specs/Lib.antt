@@ -1,5 +1,6 @@
 pub mod Calls
 pub mod Keeping
 pub mod Noted
+pub mod Parcels
 pub mod Sheaves
 pub mod private

@@ -1,5 +1,5 @@
 -- Receipts that were handed over in sheaves.
-use Rattle.std.specs.Prelude.{ℕ, List, [], ◌∷◌, ◌++◌}
+use Rattle.std.specs.Prelude.{List, [], ◌∷◌, ◌++◌}
 use Rattle.xcp_locked.specs.Caller.{CallerValue}
 use Rattle.xcp_locked.specs.LockedSlave.{LockedValue}
 use Rattle.xcp_locked.specs.Sheaves.{SheafValue}

@@ -8,6 +8,7 @@ ghost use Rattle.xcp_service.specs.Calls.{Calls, ExecutesNothing};
 
 use crate::member::Member;
 use crate::post::Post;
+use crate::route::Route;
 use std::alloc::Global;
 use std::sync::Wait;
 use xcp_locked::{JOURNAL, Locked, LockedError, Name};
@@ -21,12 +22,12 @@ pub const CHAPTER: u64 = 16_384;
 /// under the same hold; where there was no memory for that, the next call does. What the member has at hand of chapters that were
 /// cut off it hands over. `JournalFull` comes only where the open chapter had 65,536 calls before, since there was never memory to
 /// cut it off; after an error nothing was executed.
-pub fn call<N: Name>(
+pub fn call<N: Name, M: Route>(
     rt: &impl Wait,
     alloc: Global,
     locked: &mut Locked<N>,
-    post: &Post<N>,
-    member: &mut Member<N>,
+    post: &Post<N, M>,
+    member: &mut Member<N, M>,
     request: &Request,
     packet: &mut Packet,
 ) -> Result<Told, LockedError>

@@ -1,11 +1,12 @@
 //! What settles chapters and drops them.
+ghost use Rattle.std.specs.List.{AllByRecursion};
 ghost use Rattle.std.specs.Prelude.{◌≡◌, ◌++◌, [], ◌∷◌, true, false, length, MatchBool, OnOk, OnErr, IfErr, ◌⊎◌};
 ghost use Rattle.xcp_locked.specs.Chapters.{AreJoined, Follows};
 ghost use Rattle.xcp_service.specs.Keeping.{AreDroppedSettled, AreKeptSettled};
 
 use crate::noted::Noted;
-use crate::post::Mail;
-use crate::waiting::{Waiting, check_sheaf, count_calls, drop_settled, mark_all};
+use crate::parcel::Parcel;
+use crate::waiting::{Waiting, check_sheaf, count_calls, discord, drop_settled, mark_all};
 use std::alloc::Global;
 use std::marker::Model;
 use std::sync::Arc;
@@ -162,18 +163,22 @@ impl<N: Name> Keeper<N> {
         drop_settled(&mut self.waiting);
     }
 
-    /// Takes what lay at the post: joins its chapters, settles its sheaves, and drops what is settled, in this order. After an error what
-    /// was taken before it stays taken.
-    pub fn take(&mut self, mail: Mail<N>) -> Result<(), Unkept> {
-        let Mail {
-            chapters,
-            sheaves,
-            ..
-        } = mail;
-        for chapter in chapters {
+    /// Takes what came under this number: joins a chapter, or settles a sheaf, which must be of the caller with this number; and drops
+    /// what is settled then.
+    pub(crate) fn take(&mut self, number: u16, parcel: Parcel<N>) -> Result<(), Unkept>
+        ensures chapters { OnOk result (self.new.chapters ≡ self.old.chapters ++ parcel.chapters) }
+        ensures sheaves { OnOk result (self.new.sheaves ≡ self.old.sheaves ++ parcel.sheaves) }
+        ensures own { OnOk result (AllByRecursion (λ s. s.caller ≡ number) parcel.sheaves) }
+    {
+        let Parcel { chapter, sheaf } = parcel;
+        if let Some(chapter) = chapter {
             self.join(chapter)?;
         }
-        for sheaf in sheaves {
+        if let Some(sheaf) = sheaf {
+            let caller = sheaf.caller();
+            if u16::from(caller) != number {
+                return Err(Unkept::Discord(discord(sheaf.until(), caller as usize, 0)));
+            }
             self.settle(&sheaf)?;
         }
         self.drop_settled();

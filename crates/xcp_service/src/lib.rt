@@ -2,22 +2,33 @@
 //! keeper that settles each chapter and drops it, while tools come and go and tasks have no end.
 //!
 //! A [`Member`] is a caller with all receipts that it ever had; [`Seated`] is a member as a station. What members hand over, and what
-//! calls cut off, lies at the [`Post`], until a [`Keeper`] takes it.
+//! calls cut off, goes by the [`Post`] to a [`Collector`], whose [`Keeper`] takes it. At the end each member resigns: the keeper then has all
+//! receipts that this caller ever had.
 //!
-//! `specs/Keeping.antt` has what a keeper has settled, `specs/Sheaves.antt` receipts that were handed over, `specs/Calls.antt` a call
-//! that may cut chapters off.
+//! `specs/Keeping.antt` has what a keeper has settled, `specs/Parcels.antt` what goes by the post, `specs/Sheaves.antt` receipts that were
+//! handed over, `specs/Calls.antt` a call that may cut chapters off.
 #![tactic(auto)]
 
 mod calling;
+mod collector;
+mod former;
 mod keeper;
+mod lag;
 mod member;
 mod noted;
+mod opening;
+mod parcel;
 mod post;
+mod route;
 mod seated;
 mod waiting;
 
 pub use calling::{CHAPTER, call};
+pub use collector::Collector;
+pub use former::{Former, resign_all};
 pub use keeper::{Keeper, Unkept};
 pub use member::Member;
-pub use post::{Mail, Post};
+pub use opening::{Posting, Unrouted};
+pub use post::Post;
+pub use route::Route;
 pub use seated::{Seated, Shared};

@@ -1,5 +1,5 @@
 //! A caller of a slave that stays.
-ghost use Rattle.std.specs.Prelude.{◌≡◌, ◌≤◌, ◌↔◌, ◌++◌, [], ◌∷◌, Err, IfOk, OnErr, length};
+ghost use Rattle.std.specs.Prelude.{◌≡◌, ◌≤◌, ◌↔◌, ◌++◌, [], ◌∷◌, Err, IfOk, IfSome, OnErr, length};
 ghost use Rattle.xcp_slave.specs.AnswerInBytes.{answer_in};
 ghost use Rattle.xcp_slave.specs.Step.{Answers};
 ghost use Rattle.xcp_locked.specs.Caller.{accepting};
@@ -7,45 +7,56 @@ ghost use Rattle.xcp_locked.specs.Journal.{entry, journal_limit};
 ghost use Rattle.xcp_locked.specs.LockedSlave.{SameChapter};
 ghost use Rattle.xcp_locked.specs.PublishingCalls.{Publishes};
 ghost use Rattle.xcp_locked.specs.Receipts.{receipt};
+ghost use Rattle.xcp_service.specs.Parcels.{IsHandedOver};
 
-use crate::noted::Noted;
+use crate::collector::Collector;
+use crate::former::Former;
+use crate::parcel::Parcel;
 use crate::post::Post;
+use crate::route::Route;
+use relay::{Giver, Tray};
 use std::alloc::Global;
-use std::marker::Model;
+use std::marker::{Model, PhantomData};
 use std::sync::Wait;
-use xcp_locked::{Caller, Locked, LockedError, Name, Sheaf};
+use xcp_locked::{Caller, Locked, LockedError, Name};
 use xcp_packet::Packet;
 use xcp_slave::{Request, Told};
 
 /// A caller that hands its receipts over, chapter by chapter. Contracts see it as a caller that has all receipts it ever had:
 /// those that it handed over, and those at hand.
 #[derive(Drop)]
-pub struct Member<N: Name> {
+pub struct Member<N: Name, M: Route> {
     caller: Caller<N>,
-    handed: Noted<Sheaf<N>>,
+    /// By which it hands its receipts over.
+    tray: Tray<Parcel<N>>,
     /// The chapter in which its last call was accepted.
     chapter: u64,
+    of: PhantomData<M>,
 }
 
-impl<N: Name> Model for Member<N> {
-    ghost use Rattle.std.specs.Prelude.{◌++◌};
+impl<N: Name, M: Route> Model for Member<N, M> {
+    ghost use Rattle.std.specs.Prelude.{◌≡◌, ◌++◌};
     ghost use Rattle.xcp_locked.specs.Caller.{CallerValue};
-    ghost use Rattle.xcp_service.specs.Sheaves.{receipts_in};
+    ghost use Rattle.xcp_service.specs.Parcels.{receipts_put};
 
     ghost Value = { CallerValue };
 
-    ghost view = { λ m. record { number = m.caller.number; events = m.caller.events; signals = m.caller.signals; receipts = receipts_in m.handed.list ++ m.caller.receipts; accepted = m.caller.accepted } };
+    ghost view = { λ m. record { number = m.caller.number; events = m.caller.events; signals = m.caller.signals; receipts = receipts_put m.tray.put ++ m.caller.receipts; accepted = m.caller.accepted } };
+
+    ghost invariant = { λ m. (m.tray.relay ≡ M.relay) × (m.tray.tag ≡ m.caller.number) };
 }
 
-impl<N: Name> Member<N> {
-    /// A caller that has handed over nothing yet.
-    pub fn new(alloc: Global, caller: Caller<N>) -> Member<N>
+impl<N: Name, M: Route> Member<N, M> {
+    /// A caller that has handed over nothing yet, with a giver whose tag is its number.
+    pub(crate) fn new(caller: Caller<N>, giver: Giver<Parcel<N>>) -> Member<N, M>
+        requires giver { giver ≡ record { relay = M.relay; tag = caller.number; given = [] } }
         ensures { result ≡ caller }
     {
         Member {
             caller,
-            handed: Noted::new(alloc),
+            tray: Tray::new(giver),
             chapter: 0,
+            of: PhantomData,
         }
     }
 
@@ -56,14 +67,6 @@ impl<N: Name> Member<N> {
         ensures signals { result.now.signals ≡ self.now.signals }
     {
         &self.caller
-    }
-
-    /// The caller itself, with what it has at hand, which the member gives up.
-    pub fn into_caller(self) -> Caller<N>
-        ensures { result.number ≡ self.number }
-    {
-        let Member { caller, .. } = self;
-        caller
     }
 
     /// Makes room for the receipt of the next call, as `Caller::reserve` does.
@@ -79,14 +82,45 @@ impl<N: Name> Member<N> {
         rt: &impl Wait,
         alloc: Global,
         locked: &Locked<N>,
-        post: &Post<N>,
+        post: &Post<N, M>,
     )
         ensures { self.new ≡ self.old }
     {
-        if self.chapter == locked.chapter() || self.caller.receipts.len() == 0 {
-            return;
+        if self.chapter != locked.chapter() {
+            self.hand_rest_over(rt, alloc, locked, post);
         }
-        post.hand_over(rt, alloc, locked, &mut self.caller, &mut self.handed);
+    }
+
+    /// Hands over what is at hand, of whatever chapter. Where there is no memory, it stays at hand.
+    pub fn hand_rest_over(
+        &mut self,
+        rt: &impl Wait,
+        alloc: Global,
+        locked: &Locked<N>,
+        post: &Post<N, M>,
+    )
+        ensures { self.new ≡ self.old }
+    {
+        if self.caller.receipts.len() > 0 {
+            post.hand_over(rt, alloc, locked, &mut self.caller, &mut self.tray);
+        }
+    }
+
+    /// Whether the keeper took all receipts that it ever had: the caller then calls no more. `None` where some are still at hand, or
+    /// on their way.
+    pub fn resign(self, post: &Post<N, M>, collector: &mut Collector<N, M>) -> Option<Former<N>>
+        ensures former { IfSome result (λ f. f ≡ self) }
+        ensures handed { IfSome result (λ f. IsHandedOver collector.new f) }
+        ensures same { collector.new ≡ collector.old }
+    {
+        let Member { caller, tray, .. } = self;
+        let Ok(mut giver) = tray.into_giver() else {
+            return None;
+        };
+        if caller.receipts.len() > 0 || !collector.meets(post, &mut giver) {
+            return None;
+        }
+        Some(Former { caller, giver })
     }
 
     /// Submits a request that is lent, as `Locked::submit_into` does.

@@ -5,6 +5,7 @@ ghost use Rattle.xcp_locked.specs.Tasks.{Same};
 use crate::calling::call;
 use crate::member::Member;
 use crate::post::Post;
+use crate::route::Route;
 use std::alloc::Global;
 use std::sync::atomic::AtomicBool;
 use std::sync::{Mutex, Wait};
@@ -15,28 +16,29 @@ use xcp_slave::{Request, Told};
 
 /// A slave that stays, under its lock, and the post of its keeper.
 #[derive(Drop)]
-pub struct Shared<N: Name> {
+pub struct Shared<N: Name, M: Route> {
     pub lock: Mutex<Locked<N>>,
-    pub post: Post<N>,
+    pub post: Post<N, M>,
 }
 
-/// A member, as a station. Its exchanges are those of all receipts that it ever had. A submit waits for the lock.
+/// A member, as a station. Its exchanges are those of all receipts that it ever had. A submit waits until the keeper is not far behind,
+/// and then for the lock.
 #[derive(Drop)]
-pub struct Seated<'a, N: Name, R: Wait> {
-    shared: &'a Shared<N>,
+pub struct Seated<'a, N: Name, M: Route, R: Wait> {
+    shared: &'a Shared<N, M>,
     alloc: Global,
-    member: Member<N>,
+    member: Member<N, M>,
     rt: &'a R,
 }
 
-impl<'a, N: Name, R: Wait> Seated<'a, N, R> {
+impl<'a, N: Name, M: Route, R: Wait> Seated<'a, N, M, R> {
     /// A station for this member.
     pub fn new(
         rt: &'a R,
         alloc: Global,
-        shared: &'a Shared<N>,
-        member: Member<N>,
-    ) -> Seated<'a, N, R>
+        shared: &'a Shared<N, M>,
+        member: Member<N, M>,
+    ) -> Seated<'a, N, M, R>
         ensures { result.member ≡ member }
     {
         Seated {
@@ -48,14 +50,14 @@ impl<'a, N: Name, R: Wait> Seated<'a, N, R> {
     }
 
     /// The member, with all its receipts.
-    pub fn into_member(self) -> Member<N>
+    pub fn into_member(self) -> Member<N, M>
         ensures { result ≡ self.entry.member }
     {
         self.member
     }
 }
 
-impl<'a, N: Name, R: Wait> Station for Seated<'a, N, R> {
+impl<'a, N: Name, M: Route, R: Wait> Station for Seated<'a, N, M, R> {
     ghost use Rattle.xcp_locked.specs.Receipts.{exchanges_of};
     ghost use Rattle.std.proofs.Common.{refl, ◌∙◌};
     ghost use Rattle.xcp_locked.specs.CallRefusal.{MayRefuse};
@@ -76,6 +78,7 @@ impl<'a, N: Name, R: Wait> Station for Seated<'a, N, R> {
         request: &Request,
         packet: &mut Packet,
     ) -> Result<Told, StationError> {
+        self.shared.post.wait_for_keeper(self.rt);
         // What grows is made before the lock is taken. Where there is no memory, submit says so.
         self.member.reserve();
         let called = call(

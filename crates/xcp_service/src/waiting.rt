@@ -100,7 +100,7 @@ pub(crate) fn check_sheaf<N: Name>(waiting: &[Waiting<N>], sheaf: &Sheaf<N>) -> 
 }
 
 /// What isn't as it must be: this caller's receipts of this chapter.
-fn discord(chapter: u64, caller: usize, at: usize) -> Discord {
+pub(crate) fn discord(chapter: u64, caller: usize, at: usize) -> Discord {
     Discord::Receipts(chapter, Unsettled { caller, at })
 }
 

@@ -7,6 +7,8 @@ use denote.Struct.Declared as declared
 use denote.Struct.Struct.{Struct}
 use Rattle.std.proofs.Crossing.{crosses}
 use Rattle.std.specs.declared.sync.ledger.Ledger as Ledger
+use Rattle.relay.proofs.ends.Taker.TheSendSync as taker
+use Rattle.relay.proofs.tray.Tray.TheSendSync as tray
 use Rattle.xcp_locked.specs.declared.name.Name as Name
 use Rattle.crossbeam_channel.proofs.channel.Receiver.TheSendSync as receiver
 use Rattle.crossbeam_channel.proofs.channel.Sender.TheSendSync as sender
@@ -16,11 +18,13 @@ use Rattle.xcp_framing.specs.contracts.watched.Watched.TheInside as WatchedInsid
 use Rattle.xcp_locked.proofs.caller.Caller.TheSendSync as caller
 use Rattle.xcp_locked.proofs.chapter.Chapter.TheSendSync as chapter
 use Rattle.xcp_locked.proofs.reader.Reader.TheSendSync as reader
+use Rattle.xcp_locked.proofs.sheaf.Sheaf.TheSendSync as sheaf
 use Rattle.xcp_locked.specs.contracts.chapter.Chapter as Chapter
 use Rattle.xcp_locked.specs.contracts.sheaf.Sheaf as Sheaf
 use Rattle.xcp_outlet.proofs.end.DataEnd.TheSendSync as samples
 use Rattle.xcp_outlet.proofs.intake.SendEnd.TheSendSync as outgoing
 use Rattle.xcp_outlet.proofs.sending.Sent.TheSendSync as sent
+use Rattle.xcp_seats.proofs.closing.Closing.TheSendSync as closing
 use Rattle.xcp_seats.proofs.door.Door.TheSendSync as door
 use Rattle.xcp_seats.proofs.duty.Warding.TheSendSync as warding
 use Rattle.xcp_seats.proofs.hall.Hall.TheSendSync as hall
@@ -43,12 +47,17 @@ use Rattle.xcp_service.proofs.keeper.Unkept.TheSendSync as unkept
 use Rattle.xcp_slave.proofs.slave.Slave.TheSendSync as slave
 use Rattle.xcp_service.proofs.post.Post.TheSendSync as post
 use Rattle.xcp_service.proofs.seated.Shared.TheSendSync as shared
+use Rattle.xcp_service.specs.declared.route.Route as Route
+use Rattle.xcp_service.specs.contracts.collector.Collector as Collector
+use Rattle.xcp_service.specs.contracts.collector.Collector.TheInside as CollectorInside
 use Rattle.xcp_service.specs.contracts.keeper.Keeper as Keeper
 use Rattle.xcp_service.specs.contracts.keeper.Keeper.TheInside as KeeperInside
 use Rattle.xcp_service.specs.contracts.waiting.Waiting as Waiting
 use Rattle.xcp_service.specs.contracts.waiting.Waiting.TheInside as WaitingInside
 use Rattle.xcp_service.specs.contracts.noted.Noted as Noted
 use Rattle.xcp_service.specs.contracts.noted.Noted.TheInside as NotedInside
+use Rattle.xcp_service.specs.contracts.parcel.Parcel as Parcel
+use Rattle.xcp_service.specs.contracts.parcel.Parcel.TheInside as ParcelInside
 use Rattle.xcp_service.specs.contracts.member.Member as Member
 use Rattle.xcp_service.specs.contracts.member.Member.TheInside as MemberInside
 
@@ -60,8 +69,15 @@ struct_crosses T all = recorded_send (Struct (declared.shape T)) T.D T.to T.to_o
 noted_crosses : (T : RattleType) → IsSend (Noted.the_row T)
 noted_crosses T = view_send (NotedInside.the_row T) _ _ _ _ (struct_crosses (NotedInside.the_type T) (search (sendable, crosses) depth 20, tt))
 
-pub member_crosses : (N : RattleType) (g : Name.Ghosts N.Denot) (l : Ledger.Ghosts N.Denot) → IsSend (Member.the_row N g l)
-member_crosses N g l = view_send (MemberInside.the_row N g l) _ _ _ _ (struct_crosses (MemberInside.the_type N g l) (caller.the_send N g l, (noted_crosses (Sheaf.the_row N g l), (search sendable, tt))))
+-- what goes by a post
+parcel_crosses : (N : RattleType) (g : Name.Ghosts N.Denot) (l : Ledger.Ghosts N.Denot) → IsSend (Parcel.the_row N g l)
+parcel_crosses N g l = view_send (ParcelInside.the_row N g l) _ _ _ _ (struct_crosses (ParcelInside.the_type N g l) (search (sendable, crosses, chapter.the_send) depth 20, (search (sendable, crosses, sheaf.the_send) depth 20, tt)))
+
+pub member_crosses : (N M : RattleType) (g : Name.Ghosts N.Denot) (l : Ledger.Ghosts N.Denot) (h : Route.Ghosts M.Denot) → IsSend (Member.the_row N M g l h)
+member_crosses N M g l h =
+    view_send (MemberInside.the_row N M g l h) _ _ _ _
+    (struct_crosses (MemberInside.the_type N M g l h)
+    (caller.the_send N g l, (search (sendable, crosses, tray.the_send, parcel_crosses) depth 20, (search sendable, (search (sendable, crosses) depth 20, tt)))))
 
 -- a connection's two ends
 
@@ -72,18 +88,18 @@ tally_crosses = search (sendable, crosses) depth 20
 watched_crosses : (T : RattleType) → IsSend T → IsSend (Watched.the_row T)
 watched_crosses T s = view_send (WatchedInside.the_row T) _ _ _ _ (struct_crosses (WatchedInside.the_type T) (s, (tally_crosses, (tally_crosses, tt))))
 
-pub sending_crosses : (κ : NamedLft) → IsSend (Sending.the_row κ)
-sending_crosses κ = struct_crosses (Sending.the_type κ) (search (sendable, crosses, door.the_sync) depth 20, (search (sendable, crosses, receiver.the_send, outgoing.the_send, watched_crosses) depth 20, (search (sendable, crosses, sender.the_send, sent.the_send) depth 20, tt)))
+pub sending_crosses : IsSend Sending.the_row
+sending_crosses = struct_crosses Sending.the_type (search (sendable, crosses, receiver.the_send, outgoing.the_send, watched_crosses, closing.the_send) depth 20, (search (sendable, crosses, sender.the_send, sent.the_send) depth 20, tt))
 
-pub pumper_crosses : (κ : NamedLft) (N : RattleType) (g : Name.Ghosts N.Denot) (l : Ledger.Ghosts N.Denot) → IsSend (Pumper.the_row κ N g l)
-pumper_crosses κ N g l =
-    struct_crosses (Pumper.the_type κ N g l)
-    (search (sendable, crosses, shared.the_sync) depth 20, (search (sendable, crosses) depth 20, (member_crosses N g l, (search (sendable, crosses) depth 20, (search (sendable, crosses, receiver.the_send, samples.the_send) depth 20, (search (sendable, crosses, sender.the_send, pumped.the_send) depth 20, tt))))))
+pub pumper_crosses : (κ : NamedLft) (N M : RattleType) (g : Name.Ghosts N.Denot) (l : Ledger.Ghosts N.Denot) (h : Route.Ghosts M.Denot) → IsSend (Pumper.the_row κ N M g l h)
+pumper_crosses κ N M g l h =
+    struct_crosses (Pumper.the_type κ N M g l h)
+    (search (sendable, crosses, shared.the_sync) depth 20, (search (sendable, crosses) depth 20, (member_crosses N M g l h, (search (sendable, crosses) depth 20, (search (sendable, crosses, receiver.the_send, samples.the_send) depth 20, (search (sendable, crosses, sender.the_send, pumped.the_send) depth 20, tt))))))
 
 -- a seat's hearer, where who is told of its tools may be shared
-seat_crosses : (κ : NamedLft) (N W : RattleType) (g : Name.Ghosts N.Denot) (l : Ledger.Ghosts N.Denot) → IsSync W → IsSend (Seat.the_field κ N W g l).row
-seat_crosses κ N W g l w =
-    struct_send (declared.shape (Seat.the_type κ N W g l)) (
+seat_crosses : (κ : NamedLft) (N M W : RattleType) (g : Name.Ghosts N.Denot) (l : Ledger.Ghosts N.Denot) (h : Route.Ghosts M.Denot) → IsSync W → IsSend (Seat.the_field κ N M W g l h).row
+seat_crosses κ N M W g l h w =
+    struct_send (declared.shape (Seat.the_type κ N M W g l h)) (
       search (sendable, crosses, shared.the_sync) depth 20,
       (
         search (sendable, crosses) depth 20,
@@ -107,7 +123,7 @@ seat_crosses κ N W g l w =
                           search (sendable, crosses, sender.the_send, samples.the_send) depth 20,
                           (
                             search (sendable, crosses, receiver.the_send, pumped.the_send) depth 20,
-                            (search (sendable, crosses, sender.the_send, outgoing.the_send, watched_crosses) depth 20, (search (sendable, crosses, receiver.the_send, sent.the_send) depth 20, tt)),
+                            (search (sendable, crosses, sender.the_send, outgoing.the_send, watched_crosses, closing.the_send) depth 20, (search (sendable, crosses, receiver.the_send, sent.the_send) depth 20, tt)),
                           ),
                         ),
                       ),
@@ -121,8 +137,8 @@ seat_crosses κ N W g l w =
       ),
     )
 
-pub hearer_crosses : (κ : NamedLft) (N W : RattleType) (g : Name.Ghosts N.Denot) (l : Ledger.Ghosts N.Denot) → IsSync W → IsSend (Hearer.the_row κ N W g l)
-hearer_crosses κ N W g l w = view_send (HearerInside.the_row κ N W g l) _ _ _ _ (struct_crosses (HearerInside.the_type κ N W g l) (member_crosses N g l, (seat_crosses κ N W g l w, tt)))
+pub hearer_crosses : (κ : NamedLft) (N M W : RattleType) (g : Name.Ghosts N.Denot) (l : Ledger.Ghosts N.Denot) (h : Route.Ghosts M.Denot) → IsSync W → IsSend (Hearer.the_row κ N M W g l h)
+hearer_crosses κ N M W g l h w = view_send (HearerInside.the_row κ N M W g l h) _ _ _ _ (struct_crosses (HearerInside.the_type κ N M W g l h) (member_crosses N M g l h, (seat_crosses κ N M W g l h w, tt)))
 
 -- a keeper, and what comes of it
 waiting_crosses : (N : RattleType) (g : Name.Ghosts N.Denot) (l : Ledger.Ghosts N.Denot) → IsSend (Waiting.the_row N g l)
@@ -134,27 +150,32 @@ keeper_crosses N g l =
     (struct_crosses (KeeperInside.the_type N g l)
     (search sendable, (search sendable, (search (sendable, crosses, slave.the_send, slave.the_sync) depth 20, (search (sendable, crosses, waiting_crosses) depth 20, (noted_crosses (Chapter.the_row N g l), (noted_crosses (Sheaf.the_row N g l), tt)))))))
 
-performed_crosses : (N : RattleType) (g : Name.Ghosts N.Denot) (l : Ledger.Ghosts N.Denot) → IsSend (Performed.the_field N g l).row
-performed_crosses N g l = enum_send (enum.shape (Performed.the_type N g l)) ((member_crosses N g l, tt), ((keeper_crosses N g l, (search (sendable, crosses, unkept.the_send) depth 20, tt)), (tt, tt)))
+collector_crosses : (N M : RattleType) (g : Name.Ghosts N.Denot) (l : Ledger.Ghosts N.Denot) (h : Route.Ghosts M.Denot) → IsSend (Collector.the_row N M g l h)
+collector_crosses N M g l h =
+    view_send (CollectorInside.the_row N M g l h) _ _ _ _
+    (struct_crosses (CollectorInside.the_type N M g l h) (keeper_crosses N g l, (search (sendable, crosses, taker.the_send, parcel_crosses) depth 20, (search (sendable, crosses) depth 20, tt))))
 
-pub outcome_crosses : (N : RattleType) (g : Name.Ghosts N.Denot) (l : Ledger.Ghosts N.Denot) → IsSend (Outcome.the_row N g l)
-outcome_crosses N g l = view_send (OutcomeInside.the_row N g l) _ _ _ _ (struct_crosses (OutcomeInside.the_type N g l) (performed_crosses N g l, tt))
+performed_crosses : (N M : RattleType) (g : Name.Ghosts N.Denot) (l : Ledger.Ghosts N.Denot) (h : Route.Ghosts M.Denot) → IsSend (Performed.the_field N M g l h).row
+performed_crosses N M g l h = enum_send (enum.shape (Performed.the_type N M g l h)) ((member_crosses N M g l h, tt), ((search (sendable, crosses, collector_crosses, unkept.the_send) depth 20, tt), (tt, tt)))
+
+pub outcome_crosses : (N M : RattleType) (g : Name.Ghosts N.Denot) (l : Ledger.Ghosts N.Denot) (h : Route.Ghosts M.Denot) → IsSend (Outcome.the_row N M g l h)
+outcome_crosses N M g l h = view_send (OutcomeInside.the_row N M g l h) _ _ _ _ (struct_crosses (OutcomeInside.the_type N M g l h) (performed_crosses N M g l h, tt))
 
 -- what is done beside the seats, where the clock, and who is told of tools, may be shared
-ticker_crosses : (κ : NamedLft) (N C : RattleType) (g : Name.Ghosts N.Denot) (l : Ledger.Ghosts N.Denot) → IsSync C → IsSend (Ticker.the_field κ N C g l).row
-ticker_crosses κ N C g l c =
-    struct_send (declared.shape (Ticker.the_type κ N C g l))
-    (search (sendable, crosses, shared.the_sync) depth 20, (search (sendable, crosses) depth 20, (search sendable, (member_crosses N g l, (reader.the_send N g l, (search (sendable, crosses) depth 20, (search (sendable, crosses, halt.the_sync) depth 20, tt)))))))
+ticker_crosses : (κ : NamedLft) (N M C : RattleType) (g : Name.Ghosts N.Denot) (l : Ledger.Ghosts N.Denot) (h : Route.Ghosts M.Denot) → IsSync C → IsSend (Ticker.the_field κ N M C g l h).row
+ticker_crosses κ N M C g l h c =
+    struct_send (declared.shape (Ticker.the_type κ N M C g l h))
+    (search (sendable, crosses, shared.the_sync) depth 20, (search (sendable, crosses) depth 20, (search sendable, (member_crosses N M g l h, (reader.the_send N g l, (search (sendable, crosses) depth 20, (search (sendable, crosses, halt.the_sync) depth 20, tt)))))))
 
-keeping_crosses : (κ : NamedLft) (N : RattleType) (g : Name.Ghosts N.Denot) (l : Ledger.Ghosts N.Denot) → IsSend (Keeping.the_field κ N g l).row
-keeping_crosses κ N g l =
-    struct_send (declared.shape (Keeping.the_type κ N g l))
-    (keeper_crosses N g l, (search (sendable, crosses) depth 20, (search (sendable, crosses, post.the_sync) depth 20, (search (sendable, crosses, halt.the_sync) depth 20, tt))))
+keeping_crosses : (κ : NamedLft) (N M : RattleType) (g : Name.Ghosts N.Denot) (l : Ledger.Ghosts N.Denot) (h : Route.Ghosts M.Denot) → IsSend (Keeping.the_field κ N M g l h).row
+keeping_crosses κ N M g l h =
+    struct_send (declared.shape (Keeping.the_type κ N M g l h))
+    (collector_crosses N M g l h, (search (sendable, crosses, post.the_sync) depth 20, (search (sendable, crosses, halt.the_sync) depth 20, tt)))
 
-duty_crosses : (κ : NamedLft) (N C W : RattleType) (g : Name.Ghosts N.Denot) (l : Ledger.Ghosts N.Denot) → IsSync C → IsSync W → IsSend (Duty.the_field κ N C W g l).row
-duty_crosses κ N C W g l c w =
-    enum_send (enum.shape (Duty.the_type κ N C W g l))
-    ((ticker_crosses κ N C g l c, tt), ((keeping_crosses κ N g l, tt), ((search (sendable, crosses, warding.the_field_send) depth 20, tt), tt)))
+duty_crosses : (κ : NamedLft) (N M C W : RattleType) (g : Name.Ghosts N.Denot) (l : Ledger.Ghosts N.Denot) (h : Route.Ghosts M.Denot) → IsSync C → IsSync W → IsSend (Duty.the_field κ N M C W g l h).row
+duty_crosses κ N M C W g l h c w =
+    enum_send (enum.shape (Duty.the_type κ N M C W g l h))
+    ((ticker_crosses κ N M C g l h c, tt), ((keeping_crosses κ N M g l h, tt), ((search (sendable, crosses, warding.the_field_send) depth 20, tt), tt)))
 
-pub assigned_crosses : (κ : NamedLft) (N C W : RattleType) (g : Name.Ghosts N.Denot) (l : Ledger.Ghosts N.Denot) → IsSync C → IsSync W → IsSend (Assigned.the_row κ N C W g l)
-assigned_crosses κ N C W g l c w = view_send (AssignedInside.the_row κ N C W g l) _ _ _ _ (struct_crosses (AssignedInside.the_type κ N C W g l) (duty_crosses κ N C W g l c w, tt))
+pub assigned_crosses : (κ : NamedLft) (N M C W : RattleType) (g : Name.Ghosts N.Denot) (l : Ledger.Ghosts N.Denot) (h : Route.Ghosts M.Denot) → IsSync C → IsSync W → IsSend (Assigned.the_row κ N M C W g l h)
+assigned_crosses κ N M C W g l h c w = view_send (AssignedInside.the_row κ N M C W g l h) _ _ _ _ (struct_crosses (AssignedInside.the_type κ N M C W g l h) (duty_crosses κ N M C W g l h c w, tt))

@@ -2,11 +2,13 @@
 ghost use Rattle.std.specs.Prelude.{◌≡◌, [], IfOk};
 ghost use Rattle.xcp_locked.specs.Chapters.{AreJoined};
 ghost use Rattle.xcp_service.specs.Keeping.{AreKeptSettled};
+ghost use Rattle.xcp_stay.specs.Stay.{AreAllMembers};
 
 use std::alloc::{AllocError, Global};
+use std::sync::Wait;
 use xcp_locked::{Discord, Locked, Name};
 use xcp_seats::{Outcome, Performed};
-use xcp_service::{Keeper, Mail, Member, Unkept};
+use xcp_service::{Collector, Former, Keeper, Member, Post, Route, Unkept, resign_all};
 
 /// Why a server that stays doesn't begin, or ends early.
 #[derive(Clone, Copy, Debug, PartialEq, Eq)]
@@ -42,31 +44,31 @@ impl From<Unkept> for StayError {
     }
 }
 
-/// What is left of a server that stayed: its keeper, which took all chapters, and the slave. Nobody calls it any more.
+/// What is left of a server that stayed: its keeper, which took all chapters, the slave, and its callers. Nobody calls it any more.
 #[derive(Drop)]
 pub struct Stayed<N: Name> {
     pub keeper: Keeper<N>,
     pub locked: Locked<N>,
+    /// The callers of seats and tasks, in the order of their numbers.
+    pub members: Vec<Former<N>>,
 }
 
-/// The members of seats and tasks, and their keeper, once all have ended.
+/// The members of seats and tasks, and what came of their keeper, once all have ended.
 #[derive(Drop)]
-pub(crate) struct Gathered<N: Name> {
-    pub members: Vec<Member<N>>,
-    pub keeper: Option<Keeper<N>>,
-    pub unkept: Option<Unkept>,
+pub(crate) struct Gathered<N: Name, M: Route> {
+    pub members: Vec<Member<N, M>>,
+    pub kept: Option<Result<Collector<N, M>, Unkept>>,
 }
 
 /// Gathers what came of the seats and of the duties beside them.
-pub(crate) fn gather<N: Name>(
+pub(crate) fn gather<N: Name, M: Route>(
     alloc: Global,
-    seats: Vec<(Member<N>, Member<N>, ())>,
-    duties: Vec<Outcome<N>>,
-) -> Result<Gathered<N>, AllocError> {
+    seats: Vec<(Member<N, M>, Member<N, M>, ())>,
+    duties: Vec<Outcome<N, M>>,
+) -> Result<Gathered<N, M>, AllocError> {
     let mut gathered = Gathered {
         members: Vec::new(alloc),
-        keeper: None,
-        unkept: None,
+        kept: None,
     };
     for (tool, pump, ()) in seats {
         gathered.members.push(tool)?;
@@ -75,65 +77,50 @@ pub(crate) fn gather<N: Name>(
     for Outcome(duty) in duties {
         match duty {
             Performed::Task(member) => gathered.members.push(member)?,
-            Performed::Kept(keeper, unkept) => {
-                gathered.keeper = Some(keeper);
-                gathered.unkept = unkept;
-            }
+            Performed::Kept(kept) => gathered.kept = Some(kept),
             Performed::Warded => {}
         }
     }
     Ok(gathered)
 }
 
-/// Settles what is left: what nobody has taken yet, and then the open chapter, of which each member hands its receipts over. The
-/// error is the keeper's, or what it finds at last.
-pub(crate) fn conclude<N: Name>(
+/// Ends what so many members did: the open chapter is cut off, all hand over what they have at hand, the keeper takes what is left, and
+/// each member resigns. The error is the keeper's, or what it finds at last.
+pub(crate) fn conclude<N: Name, M: Route, R: Wait>(
+    rt: &R,
     alloc: Global,
     locked: Locked<N>,
-    mail: Mail<N>,
-    gathered: Gathered<N>,
+    post: &Post<N, M>,
+    gathered: Gathered<N, M>,
+    count: usize,
 ) -> Result<Stayed<N>, StayError>
     ensures joined { IfOk result (λ s. AreJoined N.layout s.keeper.chapters
         s.locked.chapter s.locked.before s.locked.base) }
     ensures settled { IfOk result (λ s. AreKeptSettled s.keeper) }
     ensures closed { IfOk result (λ s. (s.locked.journal ≡ []) × (s.locked.base ≡ s.locked.slave)) }
+    ensures members { IfOk result (λ s. AreAllMembers count s.keeper s.members.items) }
 {
-    let Gathered {
-        members,
-        keeper,
-        unkept,
-    } = gathered;
-    if let Some(unkept) = unkept {
-        return Err(unkept.into());
-    }
-    let Some(mut keeper) = keeper else {
+    let Gathered { members, kept } = gathered;
+    let Some(kept) = kept else {
         return Err(StayError::Memory);
     };
+    let collector = kept?;
     let mut locked = locked;
-    keeper.take(mail)?;
-    let Ok(chapter) = locked.cut(alloc) else {
+    let mut members = members;
+    if !post.cut(rt, alloc, &mut locked) || !post.clear(rt) {
         return Err(StayError::Memory);
-    };
-    keeper.join(chapter)?;
-    settle_rest(alloc, &mut keeper, &locked, members)?;
-    if !keeper.meets(&locked) {
+    }
+    for member in members.iter_mut() {
+        member.hand_rest_over(rt, alloc, &locked, post);
+    }
+    let collector = collector.collect(rt, post)?;
+    let (keeper, members) = resign_all(alloc, post, collector, members)?;
+    if members.len() != count || !keeper.meets(&locked) {
         return Err(StayError::Discord(Discord::Chapter(keeper.chapters())));
     }
-    Ok(Stayed { keeper, locked })
-}
-
-/// Settles what the members have at hand, and drops what is settled then.
-fn settle_rest<N: Name>(
-    alloc: Global,
-    keeper: &mut Keeper<N>,
-    locked: &Locked<N>,
-    members: Vec<Member<N>>,
-) -> Result<(), Unkept> {
-    for member in members {
-        let mut caller = member.into_caller();
-        let sheaf = locked.take_receipts(alloc, &mut caller);
-        keeper.settle(&sheaf)?;
-    }
-    keeper.drop_settled();
-    Ok(())
+    Ok(Stayed {
+        keeper,
+        locked,
+        members,
+    })
 }

@@ -3,9 +3,10 @@ ghost use Rattle.std.specs.Prelude.{◌≡◌, ◌≤◌, ◌+◌, [], IfOk, len
 ghost use Rattle.std.specs.Vec.Iter.{into_iter_items};
 ghost use Rattle.xcp_locked.specs.Chapters.{AreJoined};
 ghost use Rattle.xcp_service.specs.Keeping.{AreKeptSettled};
-ghost use Rattle.xcp_stay.specs.Stay.{IsKept};
+ghost use Rattle.xcp_service.specs.Parcels.{AreOpened};
+ghost use Rattle.xcp_stay.specs.Stay.{AreAllMembers, IsKept};
 
-use crate::ending::{StayError, Stayed, conclude, gather};
+use crate::ending::{Gathered, StayError, Stayed, conclude, gather};
 use std::alloc::{AllocError, Global};
 use std::marker::Brand;
 use std::net::TcpListener;
@@ -14,12 +15,12 @@ use std::thread::Threads;
 use std::time::{Clock, Duration};
 use std::vec::IntoIter;
 use together::run_crews;
-use xcp_locked::{Caller, Locked, Name, Opening, Reader, Unnamed};
+use xcp_locked::{Locked, Name, Opening, Reader, Unnamed};
 use xcp_seats::{
     Assigned, Door, Duty, Hall, Halt, Keeping, Outcome, Pace, Parts, Place, Ticker, Warding,
     Watcher, make_seat,
 };
-use xcp_service::{Keeper, Member, Post, Shared};
+use xcp_service::{Collector, Member, Posting, Route, Shared, Unrouted};
 
 /// How a server stays.
 #[derive(Clone, Copy, Debug)]
@@ -43,10 +44,18 @@ pub struct Report {
     pub calls: u64,
 }
 
+/// A slave and a post that are open, and MAX_CTO of the slave.
+#[derive(Drop)]
+struct Ready<N: Name> {
+    opening: Opening<N>,
+    unrouted: Unrouted<N>,
+    max_cto: u8,
+}
+
 /// What the parts of a server share.
 #[derive(Drop)]
-struct Common<'a, N: Name, C, W> {
-    shared: &'a Shared<N>,
+struct Common<'a, N: Name, M: Route, C, W> {
+    shared: &'a Shared<N, M>,
     doors: &'a [Door],
     hall: &'a Hall,
     pace: &'a Pace<'a, C>,
@@ -61,7 +70,7 @@ struct Common<'a, N: Name, C, W> {
 /// have the first readers.
 ///
 /// Where a chapter or a caller's receipts aren't as they must be it ends at once, with `Discord`. `Memory` and `Listener` come before
-/// anybody has begun; `Memory` comes also where the keeper has none.
+/// anybody has begun; `Memory` comes also where the keeper has none, or a caller that hands over what it has at last.
 pub fn stay<W: Watcher + Sync, R: Threads + Wait + Clock + Sync>(
     rt: &R,
     alloc: Global,
@@ -73,7 +82,7 @@ pub fn stay<W: Watcher + Sync, R: Threads + Wait + Clock + Sync>(
 ) -> Result<Report, StayError>
     requires callers { plan.tools + plan.tools + plan.tasks ≤ unnamed.callers }
     requires readers { plan.tasks ≤ 6 }
-    ensures kept { IfOk result (IsKept unnamed.layout) }
+    ensures kept { IfOk result (IsKept unnamed.layout (plan.tools + plan.tools + plan.tasks)) }
 {
     stay_and_tell::<Brand, W, R>(rt, alloc, unnamed, listener, plan, halt, watcher)
 }
@@ -92,7 +101,7 @@ fn stay_and_tell<N: Name + Send + Sync, W: Watcher + Sync, R: Threads + Wait + C
         × (unnamed.layout ≡ N.layout) × (unnamed.bank ≡ N.bank) }
     requires callers { plan.tools + plan.tools + plan.tasks ≤ unnamed.callers }
     requires readers { plan.tasks ≤ 6 }
-    ensures kept { IfOk result (IsKept unnamed.layout) }
+    ensures kept { IfOk result (IsKept unnamed.layout (plan.tools + plan.tools + plan.tasks)) }
 {
     let stayed = stay_named::<N, W, R>(rt, alloc, unnamed, listener, plan, halt, watcher)?;
     Ok(tell(&stayed))
@@ -110,7 +119,8 @@ fn tell<N: Name>(stayed: &Stayed<N>) -> Report
 }
 
 /// Stays as `stay` does, on a slave that has a name, and gives back what is left then. All chapters that its keeper took are one run from
-/// the opening to the slave as it is left, and each of them is settled by all callers.
+/// the opening to the slave as it is left, and each of them is settled by all callers; what it took of each member is all that this one ever
+/// had.
 pub fn stay_named<N: Name + Send + Sync, W: Watcher + Sync, R: Threads + Wait + Clock + Sync>(
     rt: &R,
     alloc: Global,
@@ -128,23 +138,64 @@ pub fn stay_named<N: Name + Send + Sync, W: Watcher + Sync, R: Threads + Wait + 
         s.locked.chapter s.locked.before s.locked.base) }
     ensures settled { IfOk result (λ s. AreKeptSettled s.keeper) }
     ensures closed { IfOk result (λ s. (s.locked.journal ≡ []) × (s.locked.base ≡ s.locked.slave)) }
+    ensures members { IfOk result (λ s. AreAllMembers (plan.tools + plan.tools + plan.tasks)
+        s.keeper s.members.items) }
 {
     let max_cto = unnamed.max_cto();
+    let ready = Ready {
+        opening: Locked::<N>::new(alloc, unnamed)?,
+        unrouted: Unrouted::new(alloc)?,
+        max_cto,
+    };
+    stay_by_post::<N, Brand, W, R>(rt, alloc, ready, listener, plan, halt, watcher)
+}
+
+/// The same, with a post that has a name.
+fn stay_by_post<
+    N: Name + Send + Sync,
+    M: Route + Send + Sync,
+    W: Watcher + Sync,
+    R: Threads + Wait + Clock + Sync,
+>(
+    rt: &R,
+    alloc: Global,
+    ready: Ready<N>,
+    listener: &TcpListener,
+    plan: Plan,
+    halt: &Halt,
+    watcher: &W,
+) -> Result<Stayed<N>, StayError>
+    requires relay { ready.unrouted ≡ M.relay }
+    requires opened { AreOpened ready.opening.callers.items }
+    requires callers { plan.tools + plan.tools + plan.tasks ≤ length ready.opening.callers.items }
+    requires readers { plan.tasks ≤ 6 }
+    ensures joined { IfOk result (λ s. AreJoined N.layout s.keeper.chapters
+        s.locked.chapter s.locked.before s.locked.base) }
+    ensures settled { IfOk result (λ s. AreKeptSettled s.keeper) }
+    ensures closed { IfOk result (λ s. (s.locked.journal ≡ []) × (s.locked.base ≡ s.locked.slave)) }
+    ensures members { IfOk result (λ s. AreAllMembers (plan.tools + plan.tools + plan.tasks)
+        s.keeper s.members.items) }
+{
+    let Ready {
+        opening,
+        unrouted,
+        max_cto,
+    } = ready;
     let Opening {
         locked,
         callers,
         readers,
-    } = Locked::<N>::new(alloc, unnamed)?;
-    let Ok(readers) = Vec::from_array(alloc, readers) else {
-        return Err(StayError::Memory);
-    };
-    let mut readers = readers.into_iter();
-    let mut callers = callers.into_iter();
+    } = opening;
+    let Posting {
+        post,
+        members,
+        collector,
+    } = unrouted.open::<M>(alloc, callers)?;
+    let doors = make_doors(alloc, plan.tools)?;
     let shared = Shared {
         lock: Mutex::new(locked),
-        post: Post::new(alloc),
+        post,
     };
-    let doors = make_doors(alloc, plan.tools)?;
     let hall = Hall::new();
     let pace = Pace::new(rt, plan.period);
     let common = Common {
@@ -155,12 +206,66 @@ pub fn stay_named<N: Name + Send + Sync, W: Watcher + Sync, R: Threads + Wait + 
         halt,
         watcher,
     };
-    let seats = make_seats(alloc, &common, listener, &mut callers, max_cto, plan)?;
-    let duties = make_duties(alloc, &common, &mut callers, &mut readers, plan.tasks)?;
-    let (seats, duties) = run(rt, alloc, seats, duties)?;
-    let gathered = gather(alloc, seats, duties)?;
+    let crew = Crew {
+        members,
+        readers,
+        collector,
+    };
+    let gathered = serve(rt, alloc, &common, listener, crew, max_cto, plan)?;
     let Shared { lock, post } = shared;
-    conclude(alloc, lock.into_inner(), post.into_mail(), gathered)
+    let count = plan.tools as usize + plan.tools as usize + plan.tasks as usize;
+    conclude(rt, alloc, lock.into_inner(), &post, gathered, count)
+}
+
+/// Who serves: members and readers, of whom the first ones get something to do, and a keeper.
+#[derive(Drop)]
+struct Crew<N: Name, M: Route> {
+    members: Vec<Member<N, M>>,
+    readers: [Reader<N>; 6],
+    collector: Collector<N, M>,
+}
+
+/// Serves until somebody asks for the end, and gathers all who did.
+fn serve<
+    'a,
+    N: Name + Send + Sync,
+    M: Route + Send + Sync,
+    C: Clock + Sync,
+    W: Watcher + Sync,
+    R: Threads + Wait + Sync,
+>(
+    rt: &R,
+    alloc: Global,
+    common: &Common<'a, N, M, C, W>,
+    listener: &TcpListener,
+    crew: Crew<N, M>,
+    max_cto: u8,
+    plan: Plan,
+) -> Result<Gathered<N, M>, StayError>
+    requires doors { length common.now.doors.now ≡ plan.tools }
+    requires callers { plan.tools + plan.tools + plan.tasks ≤ length crew.members.items }
+    requires readers { plan.tasks ≤ 6 }
+{
+    let Crew {
+        members,
+        readers,
+        collector,
+    } = crew;
+    let Ok(readers) = Vec::from_array(alloc, readers) else {
+        return Err(StayError::Memory);
+    };
+    let mut members = members.into_iter();
+    let seats = make_seats(alloc, common, listener, &mut members, max_cto, plan)?;
+    let duties = make_duties(
+        alloc,
+        common,
+        &mut members,
+        &mut readers.into_iter(),
+        collector,
+        plan.tasks,
+    )?;
+    let (seats, duties) = run(rt, alloc, seats, duties)?;
+    Ok(gather(alloc, seats, duties)?)
 }
 
 /// A door for each seat.
@@ -174,26 +279,26 @@ fn make_doors(alloc: Global, count: u8) -> Result<Vec<Door>, AllocError>
     Ok(doors)
 }
 
-/// A seat behind each door, with the next two callers, for its tool and for its pump.
-fn make_seats<'a, N: Name, C, W>(
+/// A seat behind each door, with the next two members, for its tool and for its pump.
+fn make_seats<'a, N: Name, M: Route, C, W>(
     alloc: Global,
-    common: &Common<'a, N, C, W>,
+    common: &Common<'a, N, M, C, W>,
     listener: &TcpListener,
-    callers: &mut IntoIter<Caller<N>>,
+    members: &mut IntoIter<Member<N, M>>,
     max_cto: u8,
     plan: Plan,
-) -> Result<Vec<Parts<'a, N, W>>, StayError>
+) -> Result<Vec<Parts<'a, N, M, W>>, StayError>
     requires doors { length common.now.doors.now ≡ plan.tools }
-    requires callers { plan.tools + plan.tools ≤ length (into_iter_items callers.old) }
-    ensures left { IfOk result (λ _. length (into_iter_items callers.old)
-        ≤ plan.tools + plan.tools + length (into_iter_items callers.new)) }
+    requires callers { plan.tools + plan.tools ≤ length (into_iter_items members.old) }
+    ensures left { IfOk result (λ _. length (into_iter_items members.old)
+        ≤ plan.tools + plan.tools + length (into_iter_items members.new)) }
 {
     let mut seats = Vec::with_capacity(alloc, plan.tools as usize)?;
     for number in 0..plan.tools {
-        let Some(tool) = callers.next() else {
+        let Some(tool) = members.next() else {
             unreachable!()
         };
-        let Some(pump) = callers.next() else {
+        let Some(pump) = members.next() else {
             unreachable!()
         };
         let Ok(shared) = listener.try_clone() else {
@@ -208,32 +313,26 @@ fn make_seats<'a, N: Name, C, W>(
             hall: common.hall,
             watcher: common.watcher,
         };
-        seats.push_reserved(make_seat(
-            alloc,
-            common.shared,
-            shared,
-            Member::new(alloc, tool),
-            Member::new(alloc, pump),
-            place,
-        )?);
+        seats.push_reserved(make_seat(alloc, common.shared, shared, tool, pump, place)?);
     }
     Ok(seats)
 }
 
-/// What is done beside the seats: so many tasks, with the next callers and the next readers; a keeper; and a ward.
-fn make_duties<'a, N: Name, C, W>(
+/// What is done beside the seats: so many tasks, with the next members and the next readers; a keeper; and a ward.
+fn make_duties<'a, N: Name, M: Route, C, W>(
     alloc: Global,
-    common: &Common<'a, N, C, W>,
-    callers: &mut IntoIter<Caller<N>>,
+    common: &Common<'a, N, M, C, W>,
+    members: &mut IntoIter<Member<N, M>>,
     readers: &mut IntoIter<Reader<N>>,
+    collector: Collector<N, M>,
     tasks: u8,
-) -> Result<Vec<Assigned<'a, N, C, W>>, AllocError>
-    requires callers { tasks ≤ length (into_iter_items callers.old) }
+) -> Result<Vec<Assigned<'a, N, M, C, W>>, AllocError>
+    requires callers { tasks ≤ length (into_iter_items members.old) }
     requires readers { tasks ≤ length (into_iter_items readers.old) }
 {
     let mut duties = Vec::with_capacity(alloc, tasks as usize + 2)?;
     for task in 0..tasks {
-        let Some(caller) = callers.next() else {
+        let Some(member) = members.next() else {
             unreachable!()
         };
         let Some(reader) = readers.next() else {
@@ -243,15 +342,14 @@ fn make_duties<'a, N: Name, C, W>(
             shared: common.shared,
             alloc,
             task,
-            member: Member::new(alloc, caller),
+            member,
             reader,
             pace: common.pace,
             halt: common.halt,
         })));
     }
     duties.push_reserved(Assigned(Duty::Keep(Keeping {
-        keeper: Keeper::new(alloc),
-        alloc,
+        collector,
         post: &common.shared.post,
         halt: common.halt,
     })));
@@ -265,14 +363,24 @@ fn make_duties<'a, N: Name, C, W>(
 }
 
 /// What comes of the seats and of the duties, each at its place.
-type Results<N> = Result<(Vec<(Member<N>, Member<N>, ())>, Vec<Outcome<N>>), AllocError>;
+type Results<N, M> = Result<
+    (Vec<(Member<N, M>, Member<N, M>, ())>, Vec<Outcome<N, M>>),
+    AllocError,
+>;
 
 /// Runs the parts of all seats and the duties, each in a thread of its own.
-fn run<'a, N: Name + Send + Sync, C: Clock + Sync, W: Watcher + Sync, R: Threads + Wait + Sync>(
+fn run<
+    'a,
+    N: Name + Send + Sync,
+    M: Route + Send + Sync,
+    C: Clock + Sync,
+    W: Watcher + Sync,
+    R: Threads + Wait + Sync,
+>(
     rt: &R,
     alloc: Global,
-    seats: Vec<Parts<'a, N, W>>,
-    duties: Vec<Assigned<'a, N, C, W>>,
-) -> Results<N> {
+    seats: Vec<Parts<'a, N, M, W>>,
+    duties: Vec<Assigned<'a, N, M, C, W>>,
+) -> Results<N, M> {
     run_crews(rt, alloc, seats, duties)
 }

@@ -3,18 +3,18 @@ ghost use Rattle.std.specs.Prelude.{◌≤◌, ◌+◌, IfOk};
 
 use crate::log::Log;
 use std::net::TcpListener;
-use std::sync::Wait;
-use std::thread;
+use std::sync::{Arc, Wait};
 use std::thread::Threads;
 use std::time::{Clock, Duration};
+use std::{io, thread};
 use xcp_locked::{Discord, Unnamed};
 use xcp_program::{Fault, layout_of};
 use xcp_seats::Halt;
 use xcp_stay::{Plan, StayError, stay, wait_for_stop};
 
 /// Serves tools at this port until a line of standard input says `stop`, on a slave of this text's layout, and prints how many chapters
-/// and calls there were. Where it ends by itself, with a fault, that is told at once, and answered once standard input has ended, or said `stop`.
-pub fn stay_by<R: Threads + Wait + Clock + Sync>(
+/// and calls there were. Where serving ends by itself, nobody waits for standard input.
+pub fn stay_by<R: Threads + Wait + Clock + Copy + Send + Sync + 'static>(
     rt: &HostRuntime,
     handle: &R,
     text: &str,
@@ -31,36 +31,33 @@ pub fn stay_by<R: Threads + Wait + Clock + Sync>(
     let Ok(listener) = TcpListener::bind(rt, (host, port)) else {
         return Err(Fault::Stream(0));
     };
+    let Ok(halt) = halt_by_input(rt, handle) else {
+        return Err(Fault::Memory);
+    };
     let _ = println!(rt; "listening {port}");
-    let halt = Halt::new();
     let log = Log { rt, host, port };
-    let (asked, listens, tells) = (&halt, &listener, &log);
-    thread::scope(
-        thread::scope_env(),
+    match stay(handle, rt.alloc(), unnamed, &listener, plan, &halt, &log) {
+        Ok(told) => {
+            let _ = println!(rt; "chapters {}\ncalls {}\nsettled", told.chapters, told.calls);
+            Ok(())
+        }
+        Err(error) => Err(fault_of(error)),
+    }
+}
+
+/// A halt that a line of standard input asks for. Its thread reads on for as long as the program runs, and ends with it.
+fn halt_by_input<R: Threads + Wait + Copy + Send + 'static>(
+    rt: &HostRuntime,
+    handle: &R,
+) -> io::Result<Arc<Halt>> {
+    let halt = Arc::new(rt.alloc(), Halt::new())?;
+    let asked = halt.clone()?;
+    let (host, waits) = (*rt, *handle);
+    thread::spawn(
         handle,
-        |scope| -> Result<(), Fault>
-            requires { (plan.tools + plan.tools + plan.tasks ≤ unnamed.callers) × (plan.tasks ≤ 6) }
-        {
-            let reads = scope.spawn(move || wait_for_stop(handle, &mut rt.reader(), asked));
-            if reads.is_err() {
-                return Err(Fault::Memory);
-            }
-            match stay(handle, rt.alloc(), unnamed, listens, plan, asked, tells) {
-                Ok(told) => {
-                    let _ = println!(rt;
-                        "chapters {}\ncalls {}\nsettled",
-                        told.chapters, told.calls
-                    );
-                    Ok(())
-                }
-                Err(error) => {
-                    let fault = fault_of(error);
-                    let _ = eprintln!(rt; "xcpd: serving has ended: {fault}");
-                    Err(fault)
-                }
-            }
-        },
-    )
+        move || wait_for_stop(&waits, &mut host.reader(), &asked),
+    )?;
+    Ok(halt)
 }
 
 /// How long a tool may stop inside a frame, or read nothing.

@@ -1,4 +1,4 @@
-use Rattle.std.proofs.Common.{◌≡◌, ◌+◌, ◌∙◌, ℕ, List, false, length, slice_index_or, arith, ap, ap₂, sym, subst}
+use Rattle.std.proofs.Common.{◌≡◌, ◌∙◌, ℕ, List, false, slice_index_or, arith, ap, ap₂, sym, subst}
 use Rattle.xcp_locked.specs.LockedSlave.{ChapterValue}
 use Rattle.xcp_locked.specs.SettledReceipts.{receipts_for, tally}
 use Rattle.xcp_service.specs.private.Waiting.{WaitingValue, is_due}

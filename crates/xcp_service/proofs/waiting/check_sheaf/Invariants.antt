@@ -1,4 +1,3 @@
-use Rattle.std.proofs.Common.{◌≡◌}
 use Rattle.xcp_service.proofs.SheafLemmas.{IsSeen}
 use Rattle.xcp_service.proofs.waiting.check_sheaf.Given as goal
 

@@ -1,4 +1,4 @@
-use Rattle.std.proofs.Common.{◌≡◌, ◌+◌, ◌<◌, ◌∙◌, ℕ, List, length, refl, slice_index_or, slice_set, arith, ap, sym, subst}
+use Rattle.std.proofs.Common.{◌+◌, ◌<◌, ℕ, List, length, refl, slice_index_or, slice_set, arith, ap, sym, subst}
 use Rattle.xcp_trace.specs.declared.Entry.{Entry}
 use Rattle.xcp_service.proofs.CountLemmas.{IsCounting, counting_all, counting_more, counting_none, zero_all, zeros_of}
 use Rattle.xcp_service.proofs.waiting.count_calls.Goals as goal

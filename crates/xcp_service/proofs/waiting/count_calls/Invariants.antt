@@ -1,4 +1,3 @@
-use Rattle.std.proofs.Common.{◌≡◌}
 use Rattle.xcp_service.proofs.CountLemmas.{IsCounting}
 use Rattle.xcp_service.proofs.waiting.count_calls.Given as goal
 

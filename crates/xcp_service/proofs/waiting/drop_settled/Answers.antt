@@ -1,4 +1,4 @@
-use Rattle.std.proofs.Common.{◌≡◌, not, rules}
+use Rattle.std.proofs.Common.{not, rules}
 use Rattle.std.proofs.lemmas.Fn.{filter_same}
 use Rattle.xcp_service.specs.private.Waiting.{WaitingValue, owes_nothing}
 use Rattle.xcp_service.proofs.waiting.drop_settled.Goals as goal

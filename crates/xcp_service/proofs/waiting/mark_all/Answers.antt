@@ -1,4 +1,4 @@
-use Rattle.std.proofs.Common.{◌≡◌, ◌∙◌, ap, sym, slice_set}
+use Rattle.std.proofs.Common.{◌∙◌, ap, sym, slice_set}
 use Rattle.std.proofs.lemmas.List.Edits.{map_over_more}
 use Rattle.xcp_service.specs.private.Waiting.{WaitingValue, marked}
 use Rattle.xcp_service.proofs.waiting.mark_all.Goals as goal

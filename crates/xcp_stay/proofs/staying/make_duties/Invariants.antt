@@ -6,5 +6,5 @@ abbrev pub invariant-loop-task : goal.invariant-loop-task
 invariant-loop-task g l =
     (vec_len l.duties ≡ l.task)
     × (l.tasks + 2 ≤ vec_capacity l.duties)
-    × (l.tasks ≤ l.task + length (into_iter_items l.callers))
+    × (l.tasks ≤ l.task + length (into_iter_items l.members))
     × (l.tasks ≤ l.task + length (into_iter_items l.readers))

@@ -6,4 +6,4 @@ abbrev pub invariant-loop-number : goal.invariant-loop-number
 invariant-loop-number g l =
     (vec_len l.seats ≡ l.number)
     × (l.plan.tools ≤ vec_capacity l.seats)
-    × (length (into_iter_items l.fn.callers) ≡ l.number + l.number + length (into_iter_items l.callers))
+    × (length (into_iter_items l.fn.members) ≡ l.number + l.number + length (into_iter_items l.members))

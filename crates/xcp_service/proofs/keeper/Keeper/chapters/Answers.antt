@@ -1,4 +1,4 @@
-use Rattle.std.proofs.Common.{◌≡◌, ◌∙◌, ap, length}
+use Rattle.std.proofs.Common.{◌∙◌, ap, length}
 use Rattle.xcp_service.specs.Keeping.{KeeperValue}
 use Rattle.xcp_service.proofs.JoinedMoreLemmas.{count_of}
 use Rattle.xcp_service.proofs.keeper.Keeper.chapters.Goals as goal

@@ -1,4 +1,4 @@
-use Rattle.std.proofs.Common.{◌≡◌, List, sym, subst}
+use Rattle.std.proofs.Common.{List, sym, subst}
 use Rattle.xcp_service.specs.private.Waiting.{AreKept, WaitingValue}
 use Rattle.xcp_service.proofs.KeepingLemmas.{kept_dropped}
 use Rattle.xcp_service.proofs.keeper.Keeper.drop_settled.Goals as goal

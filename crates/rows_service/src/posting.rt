@@ -1,0 +1,156 @@
+// What members hand over by a post, and when they can resign.
+ghost use Rattle.std.specs.Prelude.{◌≡◌};
+ghost use Rattle.xcp_service.specs.Parcels.{AreOpened};
+
+use fixtures::unnamed;
+use std::alloc::Global;
+use std::marker::Brand;
+use std::sync::Wait;
+use std::test::Fail;
+use xcp_locked::{Discord, Locked, Name, Opening, Unnamed, Unsettled};
+use xcp_packet::Packet;
+use xcp_service::{Collector, Member, Post, Posting, Route, Unkept, Unrouted, call, resign_all};
+use xcp_slave::Request;
+
+// What two members do once each has called twice.
+#[derive(Clone, Copy, PartialEq)]
+enum Way {
+    // The chapter is cut off, all is handed over and collected.
+    InOrder,
+    // The second member keeps its receipts.
+    AtHand,
+    // Nobody collects what was handed over.
+    OnTheWay,
+    // The chapter isn't cut off: no receipt is of a chapter that the keeper has.
+    NotCut,
+    // The members come back the other way round.
+    Exchanged,
+}
+
+// How many members resigned, how many chapters the keeper took, and whether it meets the slave.
+type Came = Result<(usize, u64, bool), Unkept>;
+
+fn call_twice<N: Name, M: Route>(
+    rt: &impl Wait,
+    alloc: Global,
+    locked: &mut Locked<N>,
+    post: &Post<N, M>,
+    members: &mut [Member<N, M>],
+) {
+    for member in members.iter_mut() {
+        for _call in 0..2 {
+            let _ = call(
+                rt,
+                alloc,
+                locked,
+                post,
+                member,
+                &Request::Drain,
+                &mut Packet::new(),
+            );
+        }
+    }
+}
+
+fn hand_over<N: Name, M: Route>(
+    rt: &impl Wait,
+    alloc: Global,
+    locked: &mut Locked<N>,
+    post: &Post<N, M>,
+    members: &mut [Member<N, M>],
+    way: Way,
+) {
+    if way != Way::NotCut {
+        post.cut(rt, alloc, locked);
+    }
+    for (number, member) in members.iter_mut().enumerate() {
+        if way != Way::AtHand || number == 0 {
+            member.hand_rest_over(rt, alloc, locked, post);
+        }
+    }
+    post.close(rt);
+}
+
+fn post_routed<N: Name, M: Route>(
+    rt: &impl Wait,
+    alloc: Global,
+    opening: Opening<N>,
+    unrouted: Unrouted<N>,
+    way: Way,
+) -> Result<Came, Fail>
+    requires relay { unrouted ≡ M.relay }
+    requires opened { AreOpened opening.callers.items }
+{
+    let Opening {
+        mut locked,
+        callers,
+        ..
+    } = opening;
+    let Posting {
+        post,
+        mut members,
+        collector,
+    } = unrouted.open::<M>(alloc, callers)?;
+    call_twice(rt, alloc, &mut locked, &post, &mut members);
+    hand_over(rt, alloc, &mut locked, &post, &mut members, way);
+    if way == Way::Exchanged {
+        members.reverse();
+    }
+    let collector = if way == Way::OnTheWay {
+        Ok(collector)
+    } else {
+        collector.collect(rt, &post)
+    };
+    Ok(ended(alloc, &locked, &post, collector, members))
+}
+
+fn ended<N: Name, M: Route>(
+    alloc: Global,
+    locked: &Locked<N>,
+    post: &Post<N, M>,
+    collector: Result<Collector<N, M>, Unkept>,
+    members: Vec<Member<N, M>>,
+) -> Came {
+    let (keeper, all) = resign_all(alloc, post, collector?, members)?;
+    Ok((all.len(), keeper.chapters(), keeper.meets(locked)))
+}
+
+fn post_named<N: Name>(
+    rt: &impl Wait,
+    alloc: Global,
+    unnamed: Unnamed,
+    way: Way,
+) -> Result<Came, Fail>
+    requires name { (unnamed.name ≡ N.name) × (unnamed.callers ≡ N.parts)
+        × (unnamed.layout ≡ N.layout) × (unnamed.bank ≡ N.bank) }
+{
+    let opening = Locked::<N>::new(alloc, unnamed)?;
+    let unrouted = Unrouted::new(alloc)?;
+    post_routed::<N, Brand>(rt, alloc, opening, unrouted, way)
+}
+
+fn posted(rt: &impl Wait, alloc: Global, way: Way) -> Result<Came, Fail> {
+    let unnamed = unnamed(alloc, 2)?;
+    post_named::<Brand>(rt, alloc, unnamed, way)
+}
+
+// The receipts of a caller of a chapter, from this place on.
+fn receipts(chapter: u64, caller: usize, at: usize) -> Unkept {
+    Unkept::Discord(Discord::Receipts(chapter, Unsettled { caller, at }))
+}
+
+#[test]
+fn members_hand_over_and_resign(rt: HostRuntime) -> Result<(), Fail> {
+    let rows: [(Way, Came); 5] = [
+        (Way::InOrder, Ok((2, 1, true))),
+        (Way::AtHand, Err(Unkept::Memory)),
+        (Way::OnTheWay, Err(Unkept::Memory)),
+        (Way::NotCut, Err(receipts(0, 0, 0))),
+        (Way::Exchanged, Err(receipts(0, 0, 0))),
+    ];
+    for (row, (way, came)) in rows.iter().enumerate() {
+        let found = posted(&rt, rt.alloc(), *way)?;
+        assert!(rt; found == *came, "row {row}");
+    }
+    Ok(())
+}

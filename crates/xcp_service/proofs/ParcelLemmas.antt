@@ -1,0 +1,89 @@
+-- What goes to a keeper by its post.
+use Rattle.std.proofs.Common.{◌≡◌, ◌+◌, ℕ, zero, suc, Bool, true, false, List, [], ◌∷◌, ◌++◌, ◌==◌, if◌then◌else◌, refl, sym, ap, ap₂, ◌∙◌, subst, append_assoc, length, length-append, arith}
+use Rattle.std.proofs.lemmas.List.{append-nil}
+use Rattle.std.specs.List.{AllByRecursion}
+use Rattle.relay.specs.Ends.{items_of}
+use Rattle.xcp_memory.specs.Layout.{LayoutValue}
+use Rattle.xcp_locked.specs.Caller.{CallerValue, callers_of, fresh_caller}
+use Rattle.xcp_locked.specs.LockedSlave.{ChapterValue}
+use Rattle.xcp_locked.specs.Sheaves.{SheafValue}
+use Rattle.xcp_locked.specs.declared.receipt.Receipt.{Receipt}
+use Rattle.xcp_service.specs.Keeping.{KeeperValue, receipts_by}
+use Rattle.xcp_service.specs.Parcels.{AreNumbered, ParcelValue, receipts_put}
+use Rattle.xcp_service.specs.Sheaves.{receipts_in}
+use Rattle.xcp_service.specs.private.Collected.{IsCollected, IsOfItsCaller, chapters_taken, sheaves_taken}
+use Rattle.xcp_service.proofs.KeepingLemmas.{all_more}
+
+-- one more that was taken
+pub chapters_more : (xs : List (ℕ × ParcelValue)) (x : ℕ × ParcelValue) → chapters_taken (xs ++ x ∷ []) ≡ chapters_taken xs ++ x.1.chapters
+chapters_more [] x = append-nil x.1.chapters
+chapters_more (y ∷ xs) x = ap (λ (l : List ChapterValue). y.1.chapters ++ l) (chapters_more xs x) ∙ sym (append_assoc y.1.chapters (chapters_taken xs) x.1.chapters)
+
+pub sheaves_more : (xs : List (ℕ × ParcelValue)) (x : ℕ × ParcelValue) → sheaves_taken (xs ++ x ∷ []) ≡ sheaves_taken xs ++ x.1.sheaves
+sheaves_more [] x = append-nil x.1.sheaves
+sheaves_more (y ∷ xs) x = ap (λ (l : List SheafValue). y.1.sheaves ++ l) (sheaves_more xs x) ∙ sym (append_assoc y.1.sheaves (sheaves_taken xs) x.1.sheaves)
+
+-- what a keeper took is collected, where it took one more
+pub collected_more : (k l : KeeperValue) (taken more : List (ℕ × ParcelValue)) (x : ℕ × ParcelValue) → IsCollected k taken → more ≡ taken ++ x ∷ [] → l.chapters ≡ k.chapters ++ x.1.chapters
+    → l.sheaves ≡ k.sheaves ++ x.1.sheaves → IsOfItsCaller x → IsCollected l more
+collected_more k l taken more x h is chapters sheaves own = subst (λ (m : List (ℕ × ParcelValue)). IsCollected l m) (sym is) (record {
+  chapters = chapters ∙ ap (λ (c : List ChapterValue). c ++ x.1.chapters) h.chapters ∙ sym (chapters_more taken x);
+  sheaves = sheaves ∙ ap (λ (s : List SheafValue). s ++ x.1.sheaves) h.sheaves ∙ sym (sheaves_more taken x);
+  callers = all_more IsOfItsCaller taken x h.callers own;
+})
+
+-- the receipts of one caller's sheaves, of two lists
+by_append : (caller : ℕ) (ss ts : List SheafValue) → receipts_by caller (ss ++ ts) ≡ receipts_by caller ss ++ receipts_by caller ts
+by_append caller [] ts = refl
+by_append caller (s ∷ ss) ts = go (s.caller == caller) (by_append caller ss ts)
+  where
+    go : (b : Bool) → receipts_by caller (ss ++ ts) ≡ receipts_by caller ss ++ receipts_by caller ts
+        → (if b then s.receipts ++ receipts_by caller (ss ++ ts) else receipts_by caller (ss ++ ts)) ≡ (if b then s.receipts ++ receipts_by caller ss else receipts_by caller ss) ++ receipts_by caller ts
+    go true h = ap (λ (l : List Receipt). s.receipts ++ l) h ∙ sym (append_assoc s.receipts (receipts_by caller ss) (receipts_by caller ts))
+    go false h = h
+
+-- of a parcel whose sheaves are all of one caller
+by_same : (caller number : ℕ) (ss : List SheafValue) (b : Bool) → (number == caller) ≡ b → AllByRecursion (λ (s : SheafValue). s.caller ≡ number) ss → receipts_by caller ss ≡ (if b then receipts_in ss else [])
+by_same caller number [] true e h = refl
+by_same caller number [] false e h = refl
+by_same caller number (s ∷ ss) true e h =
+    ap (λ (c : Bool). if c then s.receipts ++ receipts_by caller ss else receipts_by caller ss) (ap (λ (n : ℕ). n == caller) h.0 ∙ e)
+    ∙ ap (λ (l : List Receipt). s.receipts ++ l) (by_same caller number ss true e h.1)
+by_same caller number (s ∷ ss) false e h =
+    ap (λ (c : Bool). if c then s.receipts ++ receipts_by caller ss else receipts_by caller ss) (ap (λ (n : ℕ). n == caller) h.0 ∙ e)
+    ∙ by_same caller number ss false e h.1
+
+-- the receipts of a caller's sheaves are what came under its number
+pub by_number : (caller : ℕ) (taken : List (ℕ × ParcelValue)) → AllByRecursion IsOfItsCaller taken → receipts_by caller (sheaves_taken taken) ≡ receipts_put (items_of caller taken)
+by_number caller [] h = refl
+by_number caller (x ∷ xs) h =
+    by_append caller x.1.sheaves (sheaves_taken xs)
+    ∙ ap₂ (λ (l m : List Receipt). l ++ m) (by_same caller x.0 x.1.sheaves (x.0 == caller) refl h.0) (by_number caller xs h.1)
+    ∙ go (x.0 == caller)
+  where
+    go : (b : Bool) → (if b then receipts_in x.1.sheaves else []) ++ receipts_put (items_of caller xs) ≡ receipts_put (if b then x.1 ∷ items_of caller xs else items_of caller xs)
+    go true = refl
+    go false = refl
+
+-- one more that a caller put
+pub put_more : (ps : List ParcelValue) (p : ParcelValue) → receipts_put (ps ++ p ∷ []) ≡ receipts_put ps ++ receipts_in p.sheaves
+put_more [] p = append-nil (receipts_in p.sheaves)
+put_more (q ∷ ps) p = ap (λ (l : List Receipt). receipts_in q.sheaves ++ l) (put_more ps p) ∙ sym (append_assoc (receipts_in q.sheaves) (receipts_put ps) (receipts_in p.sheaves))
+
+-- a caller with what it put
+abbrev pub with_put : CallerValue → List ParcelValue → CallerValue
+with_put c ps = record { number = c.number; events = c.events; signals = c.signals; receipts = receipts_put ps ++ c.receipts; accepted = c.accepted }
+
+-- one more behind those that are numbered
+pub numbered_more : (k : ℕ) (cs : List CallerValue) (c : CallerValue) → AreNumbered k cs → c.number ≡ k + length cs → AreNumbered k (cs ++ c ∷ [])
+numbered_more k [] c h e = (omega (arith, e), tt)
+numbered_more k (d ∷ cs) c h e = (h.0, numbered_more (k + 1) cs c h.1 (omega (arith, e)))
+
+length-callers_of : (l : LayoutValue) (n : ℕ) → length (callers_of l n) ≡ n
+length-callers_of l zero = refl
+length-callers_of l (suc n) = let e = length-callers_of l n in let m = length-append (callers_of l n) (fresh_caller l n ∷ []) in omega (arith, e, m)
+
+-- the callers of an opening are numbered
+pub numbered_callers : (l : LayoutValue) (n : ℕ) → AreNumbered 0 (callers_of l n)
+numbered_callers l zero = tt
+numbered_callers l (suc n) = numbered_more 0 (callers_of l n) (fresh_caller l n) (numbered_callers l n) (let e = length-callers_of l n in omega (arith, e))

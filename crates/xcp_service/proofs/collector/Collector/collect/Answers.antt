@@ -1,0 +1,15 @@
+use Rattle.std.proofs.Common.{◌∙◌, ap}
+use Rattle.relay.specs.Ends.{TakerValue}
+use Rattle.xcp_service.specs.Parcels.{ParcelValue}
+use Rattle.xcp_service.proofs.ParcelLemmas.{collected_more}
+use Rattle.xcp_service.proofs.collector.Collector.collect.Goals as goal
+
+pub loop-parcel-preserved : goal.loop-parcel-preserved
+loop-parcel-preserved g c =
+    let at = c.loop-parcel in
+    let taken = c.in-Some-take.ensures.taken in
+    let kept = c.in_ok-take.ensures in (
+      ap (λ (t : TakerValue ParcelValue). t.relay) taken ∙ at.invariant.0,
+      collected_more at.keeper c.take-in-loop-parcel.new.self at.taker.taken c.take.new.taker.taken (c.in-Some-take.tag, c.in-Some-take.parcel) at.invariant.1
+          (ap (λ (t : TakerValue ParcelValue). t.taken) taken) kept.chapters kept.sheaves kept.own,
+    )

@@ -1,0 +1,24 @@
+use Rattle.std.proofs.Common.{◌≡◌, ◌∙◌, ◌++◌, ◌∷◌, [], List, ap, sym, subst, arith}
+use Rattle.std.specs.List.{AllByRecursion}
+use Rattle.xcp_locked.specs.Caller.{CallerValue}
+use Rattle.xcp_service.specs.Keeping.{KeeperValue}
+use Rattle.xcp_service.specs.Parcels.{AreNumbered, IsHandedOver}
+use Rattle.xcp_service.proofs.KeepingLemmas.{all_more}
+use Rattle.xcp_service.proofs.ParcelLemmas.{numbered_more}
+use Rattle.xcp_service.proofs.former.resign_all.Goals as goal
+
+pub loop-member-preserved : goal.loop-member-preserved
+loop-member-preserved g c =
+    let at = c.loop-member in
+    let former = c.in-Some-resign.former in
+    let items : c.push_reserved.new.self.items ≡ at.all.items ++ former ∷ [] = c.push_reserved.ensures.items ∙ ap (λ (l : List CallerValue). l ++ former ∷ []) c.reserve.ensures.items in
+    let number = c.number.ensures in
+    let is = c.if-number-len.false in
+    let many = c.len.ensures in
+    let same = c.resign.ensures.same in (
+      subst (λ (l : List CallerValue). AreNumbered 0 l) (sym items) (numbered_more 0 at.all.items former at.invariant.0 (omega (arith, number, is, many))),
+      subst (λ (l : List CallerValue). AllByRecursion (IsHandedOver c.resign.new.collector) l) (sym items)
+          (all_more (IsHandedOver c.resign.new.collector) at.all.items former
+          (subst (λ (k : KeeperValue). AllByRecursion (IsHandedOver k) at.all.items) (sym same) at.invariant.1)
+          (c.in-Some-resign.ensures.handed)),
+    )

@@ -1,0 +1,69 @@
+//! Callers that call no more.
+ghost use Rattle.std.specs.List.{AllByRecursion};
+ghost use Rattle.std.specs.Prelude.{◌≡◌, IfOk};
+ghost use Rattle.xcp_service.specs.Parcels.{AreNumbered, IsHandedOver};
+
+use crate::collector::Collector;
+use crate::keeper::{Keeper, Unkept};
+use crate::member::Member;
+use crate::parcel::Parcel;
+use crate::post::Post;
+use crate::route::Route;
+use crate::waiting::discord;
+use relay::Giver;
+use std::alloc::Global;
+use std::marker::Model;
+use xcp_locked::{Caller, Name};
+
+/// A caller that has handed over all its receipts. Contracts see it as a caller that has all of them still.
+#[derive(Drop)]
+pub struct Former<N: Name> {
+    pub(crate) caller: Caller<N>,
+    pub(crate) giver: Giver<Parcel<N>>,
+}
+
+impl<N: Name> Model for Former<N> {
+    ghost use Rattle.xcp_locked.specs.Caller.{CallerValue};
+    ghost use Rattle.xcp_service.specs.Parcels.{receipts_put};
+
+    ghost Value = { CallerValue };
+
+    ghost view = { λ f. record { number = f.caller.number; events = f.caller.events; signals = f.caller.signals; receipts = receipts_put f.giver.given; accepted = f.caller.accepted } };
+}
+
+impl<N: Name> Former<N> {
+    /// Its number, as the journal has it.
+    pub fn number(&self) -> u8
+        ensures { result ≡ self.now.number }
+    {
+        self.caller.number()
+    }
+}
+
+/// All members resign, which must come in the order of their numbers. The keeper then has all receipts that each of them ever had, in
+/// order. `Memory` comes also where some are still at hand or on their way.
+pub fn resign_all<N: Name, M: Route>(
+    alloc: Global,
+    post: &Post<N, M>,
+    collector: Collector<N, M>,
+    members: Vec<Member<N, M>>,
+) -> Result<(Keeper<N>, Vec<Former<N>>), Unkept>
+    ensures numbered { IfOk result (λ r. AreNumbered 0 r.1.items) }
+    ensures handed { IfOk result (λ r. AllByRecursion (IsHandedOver r.0) r.1.items) }
+{
+    let mut collector = collector;
+    let mut all = Vec::new(alloc);
+    for member in members {
+        if all.reserve(1).is_err() {
+            return Err(Unkept::Memory);
+        }
+        let Some(former) = member.resign(post, &mut collector) else {
+            return Err(Unkept::Memory);
+        };
+        if former.number() as usize != all.len() {
+            return Err(Unkept::Discord(discord(0, all.len(), 0)));
+        }
+        all.push_reserved(former);
+    }
+    Ok((collector.into_keeper(), all))
+}

@@ -1,0 +1,81 @@
+//! How a post begins.
+ghost use Rattle.std.specs.Prelude.{◌≡◌, ◌+◌, [], IfOk};
+ghost use Rattle.xcp_service.specs.Parcels.{AreOpened};
+
+use crate::collector::Collector;
+use crate::member::Member;
+use crate::parcel::Parcel;
+use crate::post::Post;
+use crate::route::Route;
+use relay::{Giver, Relay, Taker};
+use std::alloc::{AllocError, Global};
+use std::marker::Model;
+use xcp_locked::{Caller, Name};
+
+/// A post that no type names yet.
+#[derive(Drop)]
+pub struct Unrouted<N: Name> {
+    relay: Relay<Parcel<N>>,
+    taker: Taker<Parcel<N>>,
+}
+
+impl<N: Name> Model for Unrouted<N> {
+    ghost use Rattle.std.specs.Prelude.{◌≡◌, []};
+    ghost use Rattle.relay.specs.Ends.{RelayId};
+
+    ghost Value = { RelayId };
+
+    ghost view = { λ u. u.relay };
+
+    ghost invariant = { λ u. u.taker ≡ record { relay = u.relay; givers = 0; taken = [] } };
+}
+
+/// What an opening of a post gives out.
+#[derive(Drop)]
+pub struct Posting<N: Name, M: Route> {
+    pub post: Post<N, M>,
+    /// The callers, as members of this post.
+    pub members: Vec<Member<N, M>>,
+    pub collector: Collector<N, M>,
+}
+
+impl<N: Name> Unrouted<N> {
+    /// A post at which nothing lies.
+    pub fn new(alloc: Global) -> Result<Unrouted<N>, AllocError> {
+        let (relay, taker) = Relay::new(alloc)?;
+        Ok(Unrouted { relay, taker })
+    }
+
+    /// Opens it for all callers that an opening of a slave gives out.
+    pub fn open<M: Route>(
+        self,
+        alloc: Global,
+        callers: Vec<Caller<N>>,
+    ) -> Result<Posting<N, M>, AllocError>
+        requires relay { self ≡ M.relay }
+        requires callers { AreOpened callers.items }
+        ensures members { IfOk result (λ p. p.members.items ≡ callers.items) }
+    {
+        let Unrouted { relay, mut taker } = self;
+        let mut members = Vec::new(alloc);
+        for caller in callers {
+            let giver = hire(&relay, &mut taker)?;
+            members.push(Member::new(caller, giver))?;
+        }
+        let chapters = hire(&relay, &mut taker)?;
+        Ok(Posting {
+            post: Post::new(relay, chapters),
+            members,
+            collector: Collector::new(alloc, taker),
+        })
+    }
+}
+
+/// One more giver, with the next tag. There are fewer callers than a relay may have givers.
+fn hire<T: Drop>(relay: &Relay<T>, taker: &mut Taker<T>) -> Result<Giver<T>, AllocError>
+    requires relay { taker.old.relay ≡ relay.now }
+    ensures { IfOk result (λ g. (g ≡ record { relay = relay.now; tag = taker.old.givers; given = [] })
+        × (taker.new ≡ record taker.old { givers = taker.old.givers + 1 })) }
+{
+    relay.hire(taker).ok_or(AllocError)
+}
