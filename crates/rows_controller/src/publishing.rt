@@ -1,0 +1,189 @@
+//! Which requests publish an image.
+use crate::openings::{BYTES, controller};
+use crate::rows::Ask::{Command, Drain, Event, FinishStore, Hangup};
+use crate::rows::Said::{BadSignals, NoChannel, NoStore, Nothing, Packet, Sampled, Silent, Stored};
+use crate::rows::{Row, Seen, first_wrong, held, take};
+use std::test::Fail;
+use xcp_bank::Taken;
+
+// A session that begins: what isn't heeded, what asks, what is refused, and what is written where the
+// controller doesn't look publish nothing.
+static BEFORE: [Row; 14] = [
+    (Command(&[0xFD]), Silent, None),
+    (Event(0, 8), Sampled(0), None),
+    (Event(1, 8), NoChannel, None),
+    (Event(0, 7), BadSignals, None),
+    (Drain, Nothing, None),
+    (FinishStore, NoStore, None),
+    (
+        Command(&[0xFF, 0]),
+        Packet(&[0xFF, 0x05, 0xC0, 12, 64, 0, 1, 1]),
+        None,
+    ),
+    (Command(&[0xFD]), Packet(&[0xFF, 0, 0, 0, 0, 0]), None),
+    (Command(&[0x01]), Packet(&[0xFE, 0x20]), None),
+    (
+        Command(&[0xED, 1, 0, 0, 0, 0x10, 0, 0, 0x55]),
+        Packet(&[0xFE, 0x23]),
+        None,
+    ),
+    (Command(&[0xEB, 2, 0, 1]), Packet(&[0xFF]), None),
+    (
+        Command(&[0xED, 2, 0, 0, 0, 0x10, 0, 0, 0xAB, 0xCD]),
+        Packet(&[0xFF]),
+        None,
+    ),
+    (Command(&[0xEB, 1, 0, 2]), Packet(&[0xFE, 0x26]), None),
+    (Command(&[0xEB, 1, 1, 1]), Packet(&[0xFE, 0x28]), None),
+];
+
+// The working page for the controller, and each command that writes to it. What writes the same bytes again
+// publishes nothing.
+static WRITES: [Row; 17] = [
+    (
+        Command(&[0xEB, 1, 0, 1]),
+        Packet(&[0xFF]),
+        Some((0, &[0xAB, 0xCD])),
+    ),
+    (Command(&[0xEB, 1, 0, 1]), Packet(&[0xFF]), None),
+    (
+        Command(&[0xED, 1, 0, 0, 1, 0x10, 0, 0, 0x55]),
+        Packet(&[0xFF]),
+        Some((1, &[0x55])),
+    ),
+    (
+        Command(&[0xED, 1, 0, 0, 1, 0x10, 0, 0, 0x55]),
+        Packet(&[0xFF]),
+        None,
+    ),
+    (
+        Command(&[0xED, 1, 0, 0, 0x10, 0x10, 0, 0, 0x66]),
+        Packet(&[0xFE, 0x24]),
+        None,
+    ),
+    (
+        Command(&[0xED, 0, 0, 0, 0, 0x10, 0, 0, 0x66]),
+        Packet(&[0xFE, 0x22]),
+        None,
+    ),
+    (
+        Command(&[0xED, 2, 0, 0, 0, 0x10, 0, 0, 0x66]),
+        Packet(&[0xFE, 0x21]),
+        None,
+    ),
+    (
+        Command(&[0xF6, 0, 0, 0, 2, 0x10, 0, 0]),
+        Packet(&[0xFF]),
+        None,
+    ),
+    (
+        Command(&[0xF0, 2, 0x22, 0x33]),
+        Packet(&[0xFF]),
+        Some((2, &[0x22, 0x33])),
+    ),
+    (
+        Command(&[0xEC, 8, 0xFF, 0xFF, 1, 0]),
+        Packet(&[0xFF]),
+        Some((5, &[0x04])),
+    ),
+    (
+        Command(&[0xEE, 20, 21, 22, 23, 24, 25, 26, 27, 28, 29, 30]),
+        Packet(&[0xFF]),
+        Some((4, &[20, 21, 22, 23, 24, 25, 26, 27, 28, 29, 30])),
+    ),
+    (
+        Command(&[0xF6, 0, 0, 0, 4, 0x10, 0, 0]),
+        Packet(&[0xFF]),
+        None,
+    ),
+    (
+        Command(&[0xF0, 12, 40, 41, 42, 43, 44, 45, 46, 47, 48, 49]),
+        Silent,
+        None,
+    ),
+    (Command(&[0xEF, 1, 50, 51]), Packet(&[0xFE, 0x29, 2]), None),
+    (
+        Command(&[0xF0, 12, 40, 41, 42, 43, 44, 45, 46, 47, 48, 49]),
+        Silent,
+        None,
+    ),
+    (
+        Command(&[0xEF, 2, 50, 51]),
+        Packet(&[0xFF]),
+        Some((4, &[40, 41, 42, 43, 44, 45, 46, 47, 48, 49, 50, 51])),
+    ),
+    (
+        Command(&[0xF4, 2, 0, 0, 0, 0x10, 0, 0]),
+        Packet(&[0xFF, 0xAB, 0x55]),
+        None,
+    ),
+];
+
+// What switches pages, copies and stores them, samples them, and ends the session.
+static PAGES: [Row; 26] = [
+    (Command(&[0xEB, 2, 0, 0]), Packet(&[0xFF]), None),
+    (
+        Command(&[0xEB, 1, 0, 0]),
+        Packet(&[0xFF]),
+        Some((0, &BYTES)),
+    ),
+    (Command(&[0xEA, 1, 0]), Packet(&[0xFF, 0, 0, 0]), None),
+    (Command(&[0xEB, 4, 0, 1]), Packet(&[0xFE, 0x27]), None),
+    (Command(&[0xE4, 0, 0, 0, 1]), Packet(&[0xFF]), None),
+    (Command(&[0xEB, 0x83, 0, 1]), Packet(&[0xFF]), None),
+    (
+        Command(&[0xED, 2, 0, 0, 0, 0x10, 0, 0, 7, 8]),
+        Packet(&[0xFF]),
+        Some((0, &[7, 8])),
+    ),
+    (Command(&[0xE4, 0, 0, 0, 0]), Packet(&[0xFE, 0x23]), None),
+    (
+        Command(&[0xE4, 0, 0, 0, 1]),
+        Packet(&[0xFF]),
+        Some((0, &[0, 1])),
+    ),
+    (Command(&[0xEB, 1, 0, 0]), Packet(&[0xFF]), None),
+    (
+        Command(&[0xED, 1, 0, 0, 3, 0x10, 0, 0, 9]),
+        Packet(&[0xFF]),
+        None,
+    ),
+    (Command(&[0xE6, 1, 0]), Packet(&[0xFF]), None),
+    (Command(&[0xF9, 1, 0, 0]), Packet(&[0xFF]), None),
+    (FinishStore, Stored(1), Some((3, &[9]))),
+    (Drain, Packet(&[0xFD, 0x03]), None),
+    (Command(&[0xD6]), Packet(&[0xFF]), None),
+    (Command(&[0xD5, 0, 1, 0]), Packet(&[0xFF]), None),
+    (Command(&[0xD4, 0, 0, 0, 1]), Packet(&[0xFF]), None),
+    (Command(&[0xD3, 0, 0, 0, 0, 1]), Packet(&[0xFF]), None),
+    (Command(&[0xE2, 0, 0, 0, 0, 0]), Packet(&[0xFF]), None),
+    (
+        Command(&[0xE1, 0xFF, 4, 0, 0, 0x10, 0, 0]),
+        Packet(&[0xFF]),
+        None,
+    ),
+    (Command(&[0xDE, 1, 0, 0]), Packet(&[0xFF, 0]), None),
+    (Event(0, 8), Sampled(1), None),
+    (Drain, Packet(&[0, 0, 1, 2, 9]), None),
+    (Event(0, 8), Sampled(1), None),
+    (Hangup, Silent, None),
+];
+
+// Beside the reader that looks behind each row stands one that keeps the opening's image.
+#[test]
+fn an_image_is_published_where_it_changes(rt: HostRuntime) -> Result<(), Fail> {
+    let mut controller = controller(rt.alloc())?;
+    let mut keeper = controller.take_reader().ok_or("a reader")?;
+    let mut reader = controller.take_reader().ok_or("another")?;
+    let opening = Seen::first(&BYTES);
+    let mut seen = opening;
+    assert!(rt; take(&mut keeper) == (Taken::Newer, opening));
+    assert!(rt; take(&mut reader) == (Taken::Newer, opening));
+    let before = first_wrong(&mut controller, &mut reader, &mut seen, &BEFORE);
+    let writes = first_wrong(&mut controller, &mut reader, &mut seen, &WRITES);
+    let pages = first_wrong(&mut controller, &mut reader, &mut seen, &PAGES);
+    assert_eq!(rt; (before, writes, pages), (None, None, None));
+    controller.audit();
+    assert!(rt; held(&mut keeper) == opening && seen.number == 10);
+    Ok(())
+}
