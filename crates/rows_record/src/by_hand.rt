@@ -6,7 +6,7 @@ use std::alloc::Global;
 use std::test::Fail;
 use xcp_framing::Watched;
 use xcp_packet::{Packet, Train};
-use xcp_record::{Recorder, audit};
+use xcp_record::{Recorder, Silent, audit};
 use xcp_slave::{Answer, Request};
 use xcp_trace::Journal;
 
@@ -62,7 +62,7 @@ fn a_file_is_as_by_hand(rt: HostRuntime) -> Result<(), Fail> {
     append(&mut recorder, 1, &Journal::new(alloc))?;
     let bytes = recorder.into_stream().bytes;
     let mut reader = Watched::new(Pieces { text: &bytes });
-    let said = audit(alloc, slave(alloc)?, &[7; 32], &mut reader);
+    let said = audit(alloc, slave(alloc)?, &[7; 32], &mut reader, &mut Silent);
     assert!(rt; bytes.as_slice() == FILE.as_slice() && said == Ok(3));
     Ok(())
 }

@@ -1,5 +1,6 @@
 //! Files that are written, altered and audited.
 
+use crate::hearing::{Counting, counted};
 use crate::slaves::{journal, slave};
 use crate::streams::{Narrow, Pieces, append};
 use std::alloc::{AllocError, Global};
@@ -42,10 +43,18 @@ fn chapters(alloc: Global) -> Result<Vec<Journal>, Fail> {
     Ok(Vec::from_array(alloc, [first, second])?)
 }
 
-/// What an audit says of the bytes.
+/// What an audit says of the bytes. The witness has to be told so many calls.
 fn audited(alloc: Global, bytes: &[u8]) -> Result<Result<u64, AuditFault>, Fail> {
     let mut reader = Watched::new(Pieces { text: bytes });
-    Ok(audit(alloc, slave(alloc)?, &LAYOUT, &mut reader))
+    let mut witness = Counting {
+        calls: 0,
+        in_order: true,
+    };
+    let said = audit(alloc, slave(alloc)?, &LAYOUT, &mut reader, &mut witness);
+    if witness != counted(&said) {
+        return Err(Fail::new("the witness was told other calls"));
+    }
+    Ok(said)
 }
 
 /// The place at which a file's second chapter begins: the first one has 16 bytes, its calls and 32 bytes.

@@ -7,6 +7,8 @@ mod by_hand;
 #[cfg(test)]
 mod files;
 #[cfg(test)]
+mod hearing;
+#[cfg(test)]
 mod slaves;
 #[cfg(test)]
 mod streams;

@@ -5,18 +5,19 @@ use Rattle.sha2.specs.declared.Sha256.{Sha256}
 use Rattle.sha2.specs.Hashers.{Holds256}
 use Rattle.xcp_slave.specs.Run.{Run}
 use Rattle.xcp_slave.specs.SlaveValue.{SlaveValue}
+use Rattle.xcp_trace.specs.declared.Entry.{Entry}
 use Rattle.xcp_trace.specs.EntrySpelling.{entry_in}
 use Rattle.xcp_record.specs.declared.fault.AuditFault.{AuditFault}
 use Rattle.xcp_record.specs.declared.fault.AuditFault.TheVariants as audits
 use Rattle.xcp_record.specs.declared.chapter.ChapterFault.{ChapterFault}
 use Rattle.xcp_record.specs.declared.chapter.ChapterFault.TheVariants as faults
 use Rattle.xcp_record.specs.FileFormat.{head}
-use Rattle.xcp_record.specs.JournalFile.{IsFile, IsNoChapter, exchanges}
+use Rattle.xcp_record.specs.JournalFile.{IsFile, IsNoChapter, calls_of, exchanges}
 use Rattle.xcp_record.specs.Audit.{Audits, Differs, Mismatches, Settles}
 use Rattle.xcp_record.specs.private.ReadChapter.{Checks, IsRead, ReadsNext, ReadsParts, fault_after}
 use Rattle.xcp_record.specs.private.ReadHead.{ReadsHead}
 use Rattle.xcp_record.specs.private.Stands.{Stands}
-use Rattle.xcp_record.proofs.FileLemmas.{file_begins, mismatch_more, settles_more}
+use Rattle.xcp_record.proofs.FileLemmas.{calls_more, file_begins, mismatch_more, settles_more}
 use Rattle.xcp_record.proofs.FormatLemmas.{too_large}
 
 -- what stands in a head's place ends the audit
@@ -31,57 +32,59 @@ no_head_said layout v End read hasher (audits.Altered n) h = absurd h
 no_head_said layout v End read hasher (audits.TooLong n) h = absurd h
 
 -- behind the head nothing is read yet
-pub begins : (layout : List ℕ) (v : SlaveValue) (Read : List ℕ → Type 0) (read : List ℕ) (hasher : Sha256) → Read read → read ≡ head layout → Holds256 hasher read → Stands layout v Read hasher v 0 0
-begins layout v Read read hasher was is held = record {
+pub begins : (layout : List ℕ) (v : SlaveValue) (Read : List ℕ → Type 0) (Told : List Entry → Type 0) (read : List ℕ) (hasher : Sha256) → Read read → Told [] → read ≡ head layout → Holds256 hasher read → Stands layout v Read Told hasher v 0 0
+begins layout v Read Told read hasher was told is held = record {
   read = read;
   was = was;
   held = held;
   settled = record { chapters = []; file = subst (λ b. IsFile layout b []) (sym is) (file_begins layout); last = v; run = refl; count = refl };
   last = refl;
+  told = told;
   numbered = refl;
   few = omega arith;
 }
 
 -- one more chapter is settled
-pub stands_more : (layout : List ℕ) (v w slave : SlaveValue) (Read Next : List ℕ → Type 0) (hasher more : Sha256) (number n count : ℕ) (read calls : List ℕ)
-    → (s : Stands layout v Read hasher slave number n) → (next : IsRead number s.read read calls count) → Next (s.read ++ read) → Holds256 more (s.read ++ read)
-    → Run slave (exchanges (map entry_in next.strings)) w → Stands layout v Next more w (number + 1) (n + count)
-stands_more layout v w slave Read Next hasher more number n count read calls s next was held run = record {
+pub stands_more : (layout : List ℕ) (v w slave : SlaveValue) (Read Next : List ℕ → Type 0) (Told More : List Entry → Type 0) (hasher more : Sha256) (number n count : ℕ) (read calls : List ℕ)
+    → (s : Stands layout v Read Told hasher slave number n) → (next : IsRead number s.read read calls count) → Next (s.read ++ read) → More (calls_of s.settled.chapters ++ map entry_in next.strings) → Holds256 more (s.read ++ read)
+    → Run slave (exchanges (map entry_in next.strings)) w → Stands layout v Next More more w (number + 1) (n + count)
+stands_more layout v w slave Read Next Told More hasher more number n count read calls s next was told held run = record {
   read = s.read ++ read;
   was = was;
   held = held;
   settled = settles_more layout v slave w s.read read calls number n count s.settled s.numbered s.last next run;
   last = refl;
+  told = subst More (sym (calls_more s.settled.chapters (map entry_in next.strings))) told;
   numbered = length-append s.settled.chapters (map entry_in next.strings ∷ []) ∙ (let k = s.numbered in omega (arith, k));
   few = (let a = s.few in let b = next.chapter.few in let c = next.size in omega (arith, a, b, c));
 }
 
 -- how the next chapter's fault ends it
-pub ends : (layout : List ℕ) (v slave : SlaveValue) (Read : List ℕ → Type 0) (End : Type 0) (hasher more : Sha256) (number n : ℕ) (read calls : List ℕ) (fault : ChapterFault)
-    → (s : Stands layout v Read hasher slave number n) → ReadsNext number s.read End read calls more (Err fault) → Audits layout v End (s.read ++ read) (Err (fault_after n fault))
-ends layout v slave Read End hasher more number n read calls faults.Cut s h = (h.0, record { before = s.read; rest = read; joined = refl; settled = s.settled; why = (h.1, h.2) })
-ends layout v slave Read End hasher more number n read calls faults.Altered s h =
+pub ends : (layout : List ℕ) (v slave : SlaveValue) (Read : List ℕ → Type 0) (Told : List Entry → Type 0) (End : Type 0) (hasher more : Sha256) (number n : ℕ) (read calls : List ℕ) (fault : ChapterFault)
+    → (s : Stands layout v Read Told hasher slave number n) → ReadsNext number s.read End read calls more (Err fault) → Audits layout v End (s.read ++ read) (Err (fault_after n fault))
+ends layout v slave Read Told End hasher more number n read calls faults.Cut s h = (h.0, record { before = s.read; rest = read; joined = refl; settled = s.settled; why = (h.1, h.2) })
+ends layout v slave Read Told End hasher more number n read calls faults.Altered s h =
     record { before = s.read; rest = read; joined = refl; settled = s.settled; why = subst (λ k. IsNoChapter k s.read read) (sym s.numbered) h }
-ends layout v slave Read End hasher more number n read calls faults.Read s h = tt
-ends layout v slave Read End hasher more number n read calls faults.Memory s h = tt
+ends layout v slave Read Told End hasher more number n read calls faults.Read s h = tt
+ends layout v slave Read Told End hasher more number n read calls faults.Memory s h = tt
 
 -- the end of the file
-pub ends_settled : (layout : List ℕ) (v slave : SlaveValue) (Read : List ℕ → Type 0) (End : Type 0) (hasher : Sha256) (number n : ℕ) (read : List ℕ)
-    → (s : Stands layout v Read hasher slave number n) → End → read ≡ [] → Audits layout v End (s.read ++ read) (Ok n)
-ends_settled layout v slave Read End hasher number n read s end none =
+pub ends_settled : (layout : List ℕ) (v slave : SlaveValue) (Read : List ℕ → Type 0) (Told : List Entry → Type 0) (End : Type 0) (hasher : Sha256) (number n : ℕ) (read : List ℕ)
+    → (s : Stands layout v Read Told hasher slave number n) → End → read ≡ [] → Audits layout v End (s.read ++ read) (Ok n)
+ends_settled layout v slave Read Told End hasher number n read s end none =
     (end, subst (λ b. Settles layout v b n) (sym (ap (λ b. s.read ++ b) none ∙ append-nil s.read)) s.settled)
 
 -- a call that differs
-pub ends_mismatch : (layout : List ℕ) (v slave : SlaveValue) (Read : List ℕ → Type 0) (End : Type 0) (hasher : Sha256) (number n count i place : ℕ) (read calls : List ℕ)
-    → (s : Stands layout v Read hasher slave number n) → (next : IsRead number s.read read calls count) → Differs slave (map entry_in next.strings) i → place ≡ n + i
+pub ends_mismatch : (layout : List ℕ) (v slave : SlaveValue) (Read : List ℕ → Type 0) (Told : List Entry → Type 0) (End : Type 0) (hasher : Sha256) (number n count i place : ℕ) (read calls : List ℕ)
+    → (s : Stands layout v Read Told hasher slave number n) → (next : IsRead number s.read read calls count) → Differs slave (map entry_in next.strings) i → place ≡ n + i
     → Audits layout v End (s.read ++ read) (Err (audits.Mismatch place))
-ends_mismatch layout v slave Read End hasher number n count i place read calls s next differs is =
+ends_mismatch layout v slave Read Told End hasher number n count i place read calls s next differs is =
     subst (λ k. Mismatches layout v (s.read ++ read) k) (sym is) (mismatch_more layout v slave s.read read calls number n count i s.settled s.numbered s.last next differs)
 
 -- too many chapters
-pub ends_too_long : (layout : List ℕ) (v slave : SlaveValue) (Read : List ℕ → Type 0) (End : Type 0) (hasher : Sha256) (number n : ℕ)
-    → (s : Stands layout v Read hasher slave number n) → 4294967296 < number → Audits layout v End s.read (Err (audits.TooLong n))
-ends_too_long layout v slave Read End hasher number n s many =
+pub ends_too_long : (layout : List ℕ) (v slave : SlaveValue) (Read : List ℕ → Type 0) (Told : List Entry → Type 0) (End : Type 0) (hasher : Sha256) (number n : ℕ)
+    → (s : Stands layout v Read Told hasher slave number n) → 4294967296 < number → Audits layout v End s.read (Err (audits.TooLong n))
+ends_too_long layout v slave Read Told End hasher number n s many =
     record { before = s.read; rest = []; joined = sym (append-nil s.read); settled = s.settled; why = (let k = s.numbered in omega (arith, k, many)) }
 
 -- what the next chapter's parts say

@@ -1,6 +1,6 @@
 -- Calls that the slave answers as they say, and one that it doesn't.
-use Rattle.std.proofs.Common.{◌≡◌, ◌≤◌, ℕ, List, [], ◌∷◌, ◌++◌, length, map, refl, sym, ap, ◌∙◌, subst, arith, length-append}
-use Rattle.std.proofs.lemmas.List.{length-map, map-append}
+use Rattle.std.proofs.Common.{◌≡◌, ◌≤◌, ℕ, List, [], ◌∷◌, ◌++◌, suc, length, map, take, refl, sym, ap, ◌∙◌, subst, arith, append_assoc, length-append}
+use Rattle.std.proofs.lemmas.List.{length-map, map-append, take_at}
 use Rattle.xcp_slave.specs.Run.{Run}
 use Rattle.xcp_slave.specs.SlaveValue.{SlaveValue}
 use Rattle.xcp_slave.specs.Step.{Answers}
@@ -52,3 +52,28 @@ few_checked bytes left n most strings walks spells few =
     let b = length-append walks.done on.0 in
     let c = walks.number in
     omega (arith, a, b, c, few)
+
+-- one more call is heard
+pub heard_more : (Hears : List Entry → Type 0) (done : List (List ℕ)) (s : List ℕ) (call : Entry) → call ≡ entry_in s → Hears (map entry_in done ++ call ∷ []) → Hears (map entry_in (done ++ s ∷ []))
+heard_more Hears done s call is heard = subst Hears (ap (λ e. map entry_in done ++ e ∷ []) is ∙ sym (map-append entry_in done (s ∷ []))) heard
+
+-- all calls are heard
+pub heard_all : (Hears : List Entry → Type 0) (bytes left : List ℕ) (n : ℕ) (walks : Walks bytes left n) → Hears (map entry_in walks.done) → left ≡ []
+    → (strings : List (List ℕ)) → Spells bytes strings → Hears (map entry_in strings)
+heard_all Hears bytes left n walks heard none strings spells =
+    subst (λ ss. Hears (map entry_in ss)) (spelt_same walks.done strings ((walks_all bytes left n walks none).whole ∙ sym spells.whole)) heard
+
+-- the calls up to this one are heard
+pub heard_here : (Hears : List Entry → Type 0) (bytes left more s : List ℕ) (n : ℕ) (call : Entry) (walks : Walks bytes left n) → left ≡ framed s ++ more → call ≡ entry_in s
+    → (strings : List (List ℕ)) → Spells bytes strings → Hears (map entry_in walks.done ++ call ∷ []) → Hears (take (suc n) (map entry_in strings))
+heard_here Hears bytes left more s n call walks next is strings spells heard =
+    let on = goes_on bytes left walks.done strings spells walks.joined in
+    let first = first_is left more s on.0 on.2 next in
+    let front = map entry_in walks.done ++ call ∷ [] in
+    let all : map entry_in strings ≡ front ++ map entry_in first.0 =
+    ap (map entry_in) (on.1 ∙ ap (λ l. walks.done ++ l) first.1) ∙ map-append entry_in walks.done (s ∷ first.0)
+    ∙ ap (λ e. map entry_in walks.done ++ e ∷ map entry_in first.0) (sym is)
+    ∙ sym (append_assoc (map entry_in walks.done) (call ∷ []) (map entry_in first.0)) in
+    let size : length front ≡ suc n =
+    length-append (map entry_in walks.done) (call ∷ []) ∙ (let a = length-map walks.done entry_in in let b = walks.number in omega (arith, a, b)) in
+    subst Hears (sym (ap (take (suc n)) all ∙ take_at front (map entry_in first.0) (suc n) size)) heard

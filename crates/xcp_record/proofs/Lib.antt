@@ -8,3 +8,4 @@ mod ExactLemmas
 mod RecordLemmas
 mod CheckLemmas
 mod AuditLemmas
+mod HeardLemmas

@@ -1,5 +1,5 @@
 -- What an audit says of a file.
-use Rattle.std.specs.Prelude.{◌≡◌, ◌≢◌, ◌<◌, ◌≤◌, ◌⊎◌, ℕ, List, ◌∷◌, ◌++◌, length, Result, Ok, Err}
+use Rattle.std.specs.Prelude.{◌≡◌, ◌≢◌, ◌<◌, ◌≤◌, ◌⊎◌, ℕ, suc, List, [], ◌∷◌, ◌++◌, length, take, Result, Ok, Err}
 use Rattle.xcp_framing.specs.Prefix.{IsFront}
 use Rattle.xcp_slave.specs.Run.{Run}
 use Rattle.xcp_slave.specs.SlaveValue.{SlaveValue}
@@ -57,6 +57,32 @@ Audits layout v End read (Err (faults.TooLong n)) = SettlesUpTo layout v read n 
 Audits layout v End read (Err faults.OtherLayout) = (other : List ℕ) × (length other ≡ 32) × (other ≢ layout) × (read ≡ head other)
 Audits layout v End read (Err faults.Foreign) = IsForeign End read
 Audits layout v End read (Err e) = Unit {0}
+
+-- These are the calls of a whole file of this layout.
+pub record HasCalls (layout bytes : List ℕ) (calls : List Entry) : Type 0 where
+  pub chapters : List (List Entry)
+  pub file : IsFile layout bytes chapters
+  pub all : calls ≡ calls_of chapters
+
+-- They are so many, and those of the whole chapters with which what was read begins.
+pub record HasCallsUpTo (layout read : List ℕ) (n : ℕ) (calls : List Entry) : Type 0 where
+  pub before : List ℕ
+  pub rest : List ℕ
+  pub joined : read ≡ before ++ rest
+  pub has : HasCalls layout before calls
+  pub count : length calls ≡ n
+
+-- The calls that a witness of an audit is told, by what it says and has read: those of the file; of a file with a call that differs those
+-- up to this one; those before another fault; none where there is no head.
+abbrev pub Hears : List ℕ → List ℕ → Result ℕ AuditFault → List Entry → Type 0
+Hears layout read (Ok n) calls = HasCalls layout read calls
+Hears layout read (Err (faults.Mismatch i)) calls = (all : List Entry) × HasCalls layout read all × (calls ≡ take (suc i) all)
+Hears layout read (Err (faults.Cut n)) calls = HasCallsUpTo layout read n calls
+Hears layout read (Err (faults.Altered n)) calls = HasCallsUpTo layout read n calls
+Hears layout read (Err (faults.TooLong n)) calls = HasCallsUpTo layout read n calls
+Hears layout read (Err faults.OtherLayout) calls = calls ≡ []
+Hears layout read (Err faults.Foreign) calls = calls ≡ []
+Hears layout read (Err e) calls = (calls ≡ []) ⊎ ((n : ℕ) × HasCallsUpTo layout read n calls)
 
 -- It says that so many calls are settled, unless a read failed or no memory was left.
 abbrev pub SaysSettled : ℕ → Result ℕ AuditFault → Type 0

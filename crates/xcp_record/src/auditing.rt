@@ -1,11 +1,12 @@
 //! An audit of a journal's file.
-ghost use Rattle.std.specs.Prelude.{◌≡◌, ◌≢◌, ◌<◌, ◌≤◌, ◌+◌, ◌^◌, ℕ, List, [], Err, MatchBool, OnOk, IfErr, IfSome, drop, false, length, map, true};
+ghost use Rattle.std.specs.Prelude.{◌≡◌, ◌≢◌, ◌<◌, ◌≤◌, ◌+◌, ◌^◌, ℕ, suc, List, [], Err, MatchBool, OnOk, IfErr, IfSome, drop, false, length, map, take, true};
 ghost use Rattle.std.specs.Io.KnownBytes.{Consumes, IsAtEnd};
 ghost use Rattle.sha2.specs.Hashers.{Holds256};
 ghost use Rattle.xcp_slave.specs.SlaveValue.{SlaveValue};
 ghost use Rattle.xcp_slave.specs.Step.{Answers};
 ghost use Rattle.xcp_slave.specs.Run.{Run};
-ghost use Rattle.xcp_record.specs.Audit.{Audits, Differs, HoldsRun, SaysSettled};
+ghost use Rattle.xcp_record.specs.Audit.{Audits, Differs, Hears, HoldsRun, SaysSettled};
+ghost use Rattle.xcp_trace.specs.declared.journal.Entry.{Entry};
 ghost use Rattle.xcp_trace.specs.EntrySpelling.{entry_in};
 ghost use Rattle.xcp_record.specs.FileFormat.{head, most_calls};
 ghost use Rattle.xcp_framing.specs.Prefix.{IsFront};
@@ -19,6 +20,7 @@ use crate::fault::AuditFault;
 use crate::filling::fill;
 use crate::head::{HEAD_BYTES, MAGIC, same};
 use crate::spelling::{first_call, read_call};
+use crate::witness::Witness;
 use sha2::{Digest, Sha256};
 use std::alloc::Global;
 use std::io::Read;
@@ -30,19 +32,23 @@ use xcp_trace::Entry;
 const MOST_CHAPTERS: u64 = 4_294_967_296;
 
 /// Audits the file of a journal: reads it to its end, and executes each request on the slave, which has
-/// to be at its opening. The file is of the layout whose file has this SHA-256.
+/// to be at its opening. The file is of the layout whose file has this SHA-256. The witness is told each
+/// call before it is executed.
 ///
 /// `Ok` is the number of calls, where the file is whole and each call has the slave's answer. A chapter's
 /// digest is looked at before its calls. There is room for one chapter: at most 34,013,184 bytes.
-pub fn audit<R: Read>(
+pub fn audit<R: Read, T: Witness>(
     alloc: Global,
     slave: Slave,
     layout: &[u8; 32],
     reader: &mut Watched<R>,
+    witness: &mut T,
 ) -> Result<u64, AuditFault>
     ensures audits { (read : List ℕ)
         × Consumes (R.remaining reader.old.inner) (R.remaining reader.new.inner) read
-        × Audits layout.now slave (IsAtEnd (R.remaining reader.new.inner)) read result }
+        × Audits layout.now slave (IsAtEnd (R.remaining reader.new.inner)) read result
+        × (calls : List Entry)
+        × T.hears witness.old calls witness.new × Hears layout.now read result calls }
     ensures quiet { result ≢ Err AuditFault.Read → reader.new.failures ≡ reader.old.failures }
     ensures failed { result ≡ Err AuditFault.Read → reader.old.failures < reader.new.failures }
     // Of a file that holds a run of the slave it says nothing else.
@@ -50,19 +56,22 @@ pub fn audit<R: Read>(
         → HoldsRun layout.now slave all n → SaysSettled n result) }
 {
     each_request_has_one_answer();
-    audit_chapters(alloc, slave, layout, reader)
+    audit_chapters(alloc, slave, layout, reader, witness)
 }
 
 /// Audits the file of a journal, as `audit` does.
-fn audit_chapters<R: Read>(
+fn audit_chapters<R: Read, T: Witness>(
     alloc: Global,
     mut slave: Slave,
     layout: &[u8; 32],
     reader: &mut Watched<R>,
+    witness: &mut T,
 ) -> Result<u64, AuditFault>
     ensures audits { (read : List ℕ)
         × Consumes (R.remaining reader.old.inner) (R.remaining reader.new.inner) read
-        × Audits layout.now slave (IsAtEnd (R.remaining reader.new.inner)) read result }
+        × Audits layout.now slave (IsAtEnd (R.remaining reader.new.inner)) read result
+        × (calls : List Entry)
+        × T.hears witness.old calls witness.new × Hears layout.now read result calls }
     ensures quiet { result ≢ Err AuditFault.Read → reader.new.failures ≡ reader.old.failures }
     ensures failed { result ≡ Err AuditFault.Read → reader.old.failures < reader.new.failures }
 {
@@ -76,7 +85,7 @@ fn audit_chapters<R: Read>(
         match next_chapter(number, reader, &mut hasher, &mut parts) {
             Ok(None) => return Ok(calls),
             Ok(Some(count)) => {
-                if let Err(place) = check_calls(&mut slave, &parts.calls, calls) {
+                if let Err(place) = check_calls(&mut slave, &parts.calls, calls, witness) {
                     return Err(AuditFault::Mismatch(place));
                 }
                 calls += count;
@@ -171,9 +180,14 @@ fn next_chapter<R: Read>(
     }
 }
 
-/// Executes the requests of calls on the slave. The error is the first that the slave answers otherwise,
-/// where so many calls stand before these.
-fn check_calls(slave: &mut Slave, bytes: &[u8], before: u64) -> Result<(), u64>
+/// Executes the requests of calls on the slave, and tells them. The error is the first that the slave
+/// answers otherwise, where so many calls stand before these.
+fn check_calls<T: Witness>(
+    slave: &mut Slave,
+    bytes: &[u8],
+    before: u64,
+    witness: &mut T,
+) -> Result<(), u64>
     requires calls { (strings : List (List ℕ)) × Spells bytes.now strings × (length strings ≤ most_calls) }
     requires before { before < 2 ^ 62 }
     ensures ok { (strings : List (List ℕ)) → Spells bytes.now strings
@@ -181,6 +195,11 @@ fn check_calls(slave: &mut Slave, bytes: &[u8], before: u64) -> Result<(), u64>
     ensures err { (strings : List (List ℕ)) → Spells bytes.now strings
         → IfErr result (λ place. (i : ℕ) × (place ≡ before + i)
         × Differs slave.old (map entry_in strings) i) }
+    ensures told { (strings : List (List ℕ)) → Spells bytes.now strings
+        → OnOk result (T.hears witness.old (map entry_in strings) witness.new) }
+    ensures told_some { (strings : List (List ℕ)) → Spells bytes.now strings
+        → IfErr result (λ place. (i : ℕ) × (place ≡ before + i)
+        × T.hears witness.old (take (suc i) (map entry_in strings)) witness.new) }
 {
     let mut left = bytes;
     let mut place = before;
@@ -188,7 +207,9 @@ fn check_calls(slave: &mut Slave, bytes: &[u8], before: u64) -> Result<(), u64>
         let Some((string, more)) = first_call(left) else {
             unreachable!()
         };
-        if !answers(slave, &read_call(string)) {
+        let call = read_call(string);
+        witness.told(&call);
+        if !answers(slave, &call) {
             return Err(place);
         }
         left = more;

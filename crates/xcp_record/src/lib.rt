@@ -1,7 +1,7 @@
 //! The file of a journal: chapters are written to it one by one, and it is audited.
 //!
 //! A [`Recorder`] writes: a head that names the layout, and then each chapter with the digest of all
-//! that stands before. [`audit`] reads such a file and executes each request on a fresh slave.
+//! that stands before. [`audit`] reads such a file and executes each request on a fresh slave; a [`Witness`] is told the calls.
 //! `specs/FileFormat.antt` has the bytes, `specs/JournalFile.antt` what chapters a file has, and
 //! `specs/Audit.antt` what an audit promises.
 #![tactic(auto)]
@@ -14,8 +14,10 @@ mod head;
 mod law;
 mod recorder;
 mod spelling;
+mod witness;
 
 pub use auditing::audit;
 pub use fault::{AuditFault, RecordFault};
 pub use law::a_file_has_one_journal;
 pub use recorder::Recorder;
+pub use witness::{Silent, Witness};

@@ -1,0 +1,41 @@
+//! A witness that counts the calls of a journal's file.
+
+use xcp_record::{AuditFault, Witness};
+use xcp_trace::Entry;
+
+/// How many calls it was told, and whether their callers are 0, 1, 2, and again, as those of the files are.
+#[derive(Clone, Copy, Debug, PartialEq, Eq)]
+pub(crate) struct Counting {
+    pub calls: u64,
+    pub in_order: bool,
+}
+
+impl Witness for Counting {
+    ghost use Rattle.std.specs.Prelude.{⊤};
+
+    ghost hears = { λ x calls y. ⊤ };
+
+    fn told(&mut self, call: &Entry) {
+        if u64::from(call.caller) != self.calls % 3 {
+            self.in_order = false;
+        }
+        self.calls = self.calls.wrapping_add(1);
+    }
+
+    ghost hears_none = { λ x. tt };
+
+    ghost hears_more = { λ x y z a b p q. tt };
+}
+
+/// What a witness counts, by what the audit says.
+pub(crate) fn counted(said: &Result<u64, AuditFault>) -> Counting {
+    let calls = match said {
+        Ok(calls) | Err(AuditFault::Cut(calls)) | Err(AuditFault::Altered(calls)) => *calls,
+        Err(AuditFault::Mismatch(call)) => call.saturating_add(1),
+        Err(_) => 0,
+    };
+    Counting {
+        calls,
+        in_order: true,
+    }
+}
