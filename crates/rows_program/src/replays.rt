@@ -132,6 +132,8 @@ fn faults_are_told(rt: HostRuntime) -> Result<(), Fail> {
             Fault::Mismatch { caller: 1, at: 3 },
             "mismatch caller 1 at 3, 5",
         ),
+        (Fault::MismatchedCall(7), "mismatch call 7, 5"),
+        (Fault::Journal(3), "journal 3, 6"),
     ];
     for (fault, text) in rows {
         let found = format!(in rt.alloc(); "{fault}, {}", fault.status())?;

@@ -1,5 +1,5 @@
 -- What clap's matches say of the options of a subcommand.
-use Rattle.std.proofs.Common.{◌≡◌, ◌≤◌, ◌<◌, arith, ℕ, codes, List, Option, Some, None, IfSome, Bor, Box, refl, sym, ◌∙◌, ap, subst}
+use Rattle.std.proofs.Common.{◌≡◌, ◌≤◌, ◌<◌, arith, ℕ, codes, List, Option, Some, None, slice_index, IfSome, Bor, Box, refl, sym, ◌∙◌, ap, subst}
 use Rattle.std.specs.Option.{option_map, option_and_then}
 use Rattle.std.specs.Box.{box_value}
 use Rattle.clap.specs.Words.{Row, Text, first_of, subcommand_rows}
@@ -8,7 +8,7 @@ use Rattle.clap.specs.declared.parser.matches.ArgMatches.TheViews.{out-SubComman
 use Rattle.std.specs.Str.Parse.{digits_value, without_leading_plus}
 use Rattle.xcp_program.specs.CommandLine.{Asks, AsksTooMany, HasNumber, HasNumberIn, HasText, Numeric, Spells, SpellsIn, tools}
 use Rattle.xcp_program.specs.declared.purpose.Options.{Options}
-use Rattle.xcp_program.specs.declared.purpose.Options.TheVariants.{Describe, Replay, Serve, Stay}
+use Rattle.xcp_program.specs.declared.purpose.Options.TheVariants.{Audit, Describe, Replay, Serve, Stay}
 
 -- the name that stands beside a subcommand's rows
 pub name_beside_rows : {Z : Type 0} (o : Option (Box SubCommand Z)) → option_map (λ p. p.0) (subcommand_rows o) ≡ option_map (λ b. (out-SubCommand (box_value b)).name.now) o
@@ -54,15 +54,18 @@ has_spelt_in found command o n m h k = subst (λ (x : ℕ). HasNumberIn found co
 pub has_spelt : (found : Option (Text × List Row)) (o : Numeric) (n m : ℕ) → HasNumber found o n → Spells found o.name m → HasNumber found o m
 has_spelt found = has_spelt_in found (codes "serve")
 
--- a server's name is no other's
-named_apart : (a b : Text) (found : Option (Text × List Row)) → option_map (λ p. p.0) found ≡ Some a → option_map (λ p. p.0) found ≡ Some b → (a ≡ b → ⊥) → ⊥
+-- nothing is two subcommands
+pub named_apart : (a b : Text) (found : Option (Text × List Row)) → option_map (λ p. p.0) found ≡ Some a → option_map (λ p. p.0) found ≡ Some b → (a ≡ b → ⊥) → ⊥
 named_apart a b found h k apart = apart (some_is a b (sym h ∙ k))
 
 no_replay : codes "replay" ≡ codes "serve" → ⊥
 no_replay e = cc
 
-no_description : codes "describe" ≡ codes "serve" → ⊥
+pub no_description : codes "describe" ≡ codes "serve" → ⊥
 no_description e = cc
+
+pub no_audit : codes "audit" ≡ codes "serve" → ⊥
+no_audit e = let first : 97 ≡ 115 = ap (λ (t : Text). slice_index t 0) e in absurd (omega (arith, first))
 
 -- what is asked for has not too many tools
 pub not_too_many : (found : Option (Text × List Row)) (o : Options) → Asks found o → AsksTooMany found → ⊥
@@ -74,3 +77,4 @@ not_too_many found (Serve config host p t k n m ms) h many =
     omega arith
 not_too_many found (Stay config host p t k ms s) h many = many.ends h.stays
 not_too_many found (Describe config host p) h many = named_apart (codes "describe") (codes "serve") found h.config.text.name many.tools.spelt.value.name no_description
+not_too_many found (Audit config file lines) h many = named_apart (codes "audit") (codes "serve") found h.config.text.name many.tools.spelt.value.name no_audit

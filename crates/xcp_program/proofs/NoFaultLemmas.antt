@@ -1,4 +1,4 @@
--- Words in which clap finds no fault name a replay with its file, a server with its file and its numbers, or a description.
+-- Words in which clap finds no fault name a replay with its file, a server with its file and its numbers, a description, or an audit.
 use Rattle.std.proofs.Common.{◌≡◌, ◌==◌, inl, inr, ◌∙◌, ◌||◌, ℕ, suc, length, Bool, codes, true, false, not, refl, sym, ap, subst, true≢false, List, [], ◌∷◌, ◌++◌, drop, fold, take, Option, Some, None, IfSome, is_some, if◌then◌else◌, option_and_then, option_map, find, slice_get, bytes_eq, unwrap_or}
 use Rattle.std.specs.List.{list_all}
 use Rattle.std.specs.Option.{option_map_or}
@@ -15,11 +15,11 @@ use Rattle.clap.proofs.ValueTestLemmas.{accepts-Accepts}
 use Rattle.clap.specs.declared.builder.value_parser.ValueParser.TheVariants.{Unsigned}
 use Rattle.clap.specs.declared.error.kind.ErrorKind.TheVariants as kind
 use Rattle.xcp_program.specs.CommandLine.{HasNumber, HasNumberIn, Numeric, chapter, cycles, host_default, named_port, patience, period, port, program, tasks, tools}
-use Rattle.xcp_program.specs.private.CommandLine.{AsksDescription, AsksRun, AsksSomething, HasFlag}
+use Rattle.xcp_program.specs.private.CommandLine.{AsksAudit, AsksDescription, AsksRun, AsksSomething, HasFlag}
 use Rattle.xcp_program.proofs.ClapRowLemmas.{Each, EachRule, Good, IsGiven, Keeps, default_row, defaults_leave, found_row, found_rule, keeps_flag, keeps_set, leaves_row, no_kinds, default_among, parts, row_for}
 use Rattle.xcp_program.proofs.ClapWalkLemmas.{NoHelp, settles, walk_kept, walk_stops}
 
--- ---- the program as clap builds it: `replay`, `serve`, `describe` and `help`, and the arguments of each
+-- ---- the program as clap builds it: `replay`, `serve`, `describe`, `audit` and `help`, and the arguments of each
 
 abbrev shape_at : List Shape → Shape
 shape_at [] = help_shape
@@ -36,10 +36,13 @@ abbrev serve_shape : Shape
 serve_shape = shape_at (drop 1 (built program).subs)
 
 abbrev help_of : Shape
-help_of = shape_at (drop 3 (built program).subs)
+help_of = shape_at (drop 4 (built program).subs)
 
 abbrev describe_shape : Shape
 describe_shape = shape_at (drop 2 (built program).subs)
+
+abbrev audit_shape : Shape
+audit_shape = shape_at (drop 3 (built program).subs)
 
 -- the nth argument of a subcommand
 abbrev nth : ℕ → Shape → Rule
@@ -100,6 +103,18 @@ keeps_describe = (
     keeps_set describe_shape.rules (nth 1 describe_shape) refl refl refl (λ again rows e. no_kinds _ _ e),
     (
       keeps_set describe_shape.rules (nth 2 describe_shape) refl refl refl (λ again rows e. no_kinds _ _ e),
+      (λ again values rows e v. v, tt),
+    ),
+  ),
+)
+
+keeps_audit : EachRule (Keeps (Good audit_shape.rules)) audit_shape.rules
+keeps_audit = (
+  keeps_set audit_shape.rules (nth 0 audit_shape) refl refl refl (λ again rows e. no_kinds _ _ e),
+  (
+    keeps_set audit_shape.rules (nth 1 audit_shape) refl refl refl (λ again rows e. no_kinds _ _ e),
+    (
+      keeps_flag audit_shape.rules (nth 2 audit_shape) (codes "true") refl refl refl refl (λ again y ys rows e. no_values (length ys) (parts _ _ e).0),
       (λ again values rows e v. v, tt),
     ),
   ),
@@ -249,6 +264,18 @@ some_text a b e = cc
 one_value : (a b : Text) → a ∷ [] ≡ b ∷ [] → b ≡ a
 one_value a b e = cc
 
+-- a flag of a subcommand says whether it was given
+flag_among : (s : Shape) (command : Text) (words : List Text) → (rows_at s words).0 ≡ command → (rows_at s words).1 ≡ all_rows s words → (a : Rule) → takes_values a ≡ false → a.missing ≡ codes "true" ∷ []
+    → Stands a (all_rows s words) (Some (codes "false")) → HasFlag (Some (rows_at s words)) command a.id
+flag_among s command words named all a none missing h = go (is_given a.id (all_rows s words)) refl
+  where
+    value : (text : Text) → h.text ≡ text → first_of a.id (rows_at s words).1 ≡ Some text
+    value text is = ap (first_of a.id) all ∙ h.value ∙ ap Some is
+
+    go : (g : Bool) → is_given a.id (all_rows s words) ≡ g → HasFlag (Some (rows_at s words)) command a.id
+    go true e = inl (record { name = ap Some named; value = value (codes "true") (one_value _ _ (sym missing ∙ h.flag e none)) }, ap (is_given a.id) all ∙ e)
+    go false e = inr (record { name = ap Some named; value = value (codes "false") (some_text _ _ (h.otherwise e)) }, ap (is_given a.id) all ∙ e)
+
 module _ (words : List Text) (e : level_fault serve_shape [] nothing_held words false [] ≡ []) where
   wants : (is_given (codes "config") (all_rows serve_shape words) ≡ true) × (is_given (codes "port") (all_rows serve_shape words) ≡ true)
   wants = two_wanted _ _ (checked serve_shape words keeps_serve e)
@@ -283,13 +310,6 @@ module _ (words : List Text) (e : level_fault serve_shape [] nothing_held words 
   patience_stands : Stands (nth 9 serve_shape) (all_rows serve_shape words) patience.default
   patience_stands = by_default serve_shape words keeps_serve e (take 9 serve_shape.rules) (drop 10 serve_shape.rules) (nth 9 serve_shape) (codes "60") refl refl refl refl refl refl
 
-  flag_is : HasFlag (Some (rows_at serve_shape words))
-  flag_is = go (is_given (codes "stay") (all_rows serve_shape words)) refl
-    where
-      go : (g : Bool) → is_given (codes "stay") (all_rows serve_shape words) ≡ g → HasFlag (Some (rows_at serve_shape words))
-      go true e = inl (record { name = refl; value = stay_stands.value ∙ ap Some (one_value _ _ (stay_stands.flag e refl)) }, e)
-      go false e = inr (record { name = refl; value = stay_stands.value ∙ sym (stay_stands.otherwise e) }, e)
-
   serve_asked : AsksRun (Some (rows_at serve_shape words))
   serve_asked =
       let p = number_stands words (nth 1 serve_shape) port refl (λ text h. accepts-Accepts false (Unsigned 1024 65535) text h) port_stands in
@@ -311,7 +331,7 @@ module _ (words : List Text) (e : level_fault serve_shape [] nothing_held words 
         s = s.0;
         config = record { text = record { name = refl; value = config_stands.value }; given = wants.0 };
         host = record { text = record { name = refl; value = address_stands.value }; otherwise = λ none. some_text _ _ (address_stands.otherwise none) };
-        stay = flag_is;
+        stay = flag_among serve_shape (codes "serve") words refl refl (nth 3 serve_shape) refl refl stay_stands;
         port = p.1;
         tools = t.1;
         tasks = k.1;
@@ -349,6 +369,30 @@ module _ (words : List Text) (e : level_fault describe_shape [] nothing_held wor
         },
       )
 
+-- ---- `audit`
+
+module _ (words : List Text) (e : level_fault audit_shape [] nothing_held words false [] ≡ []) where
+  both_given : (is_given (codes "config") (all_rows audit_shape words) ≡ true) × (is_given (codes "file") (all_rows audit_shape words) ≡ true)
+  both_given = two_wanted _ _ (checked audit_shape words keeps_audit e)
+
+  option_stands : Stands (nth 0 audit_shape) (all_rows audit_shape words) None
+  option_stands = by_words audit_shape words keeps_audit e (nth 0 audit_shape) refl refl both_given.0
+
+  journal_stands : Stands (nth 1 audit_shape) (all_rows audit_shape words) None
+  journal_stands = by_words audit_shape words keeps_audit e (nth 1 audit_shape) refl refl both_given.1
+
+  lines_stands : Stands (nth 2 audit_shape) (all_rows audit_shape words) (Some (codes "false"))
+  lines_stands = by_default audit_shape words keeps_audit e (take 2 audit_shape.rules) (drop 3 audit_shape.rules) (nth 2 audit_shape) (codes "false") refl refl refl refl refl refl
+
+  audit_asked : AsksAudit (Some (rows_at audit_shape words))
+  audit_asked = record {
+    file = option_stands.text;
+    journal = journal_stands.text;
+    config = record { text = record { name = refl; value = option_stands.value }; given = both_given.0 };
+    place = record { text = record { name = refl; value = journal_stands.value }; given = both_given.1 };
+    lines = flag_among audit_shape (codes "audit") words refl refl (nth 2 audit_shape) refl refl lines_stands;
+  }
+
 -- ---- the program's own words
 
 first_true : (b : Bool) → (b || false) ≡ true → b ≡ true
@@ -364,20 +408,21 @@ wanted rows false e = absurd (no_kinds _ _ e)
 
 entered_asks : (stop : Option (Text × List Text)) → NoHelp stop → entered_fault (built program) stop ≡ [] → is_some (entered (built program) stop) ≡ true → AsksSomething (entered (built program) stop)
 entered_asks None n f h = absurd (true≢false (sym h))
-entered_asks (Some p) n f h = go (answers_to p.0 (label_of replay_shape)) (answers_to p.0 (label_of serve_shape)) (answers_to p.0 (label_of describe_shape)) (answers_to p.0 (label_of help_of)) (turned p.0 (codes "help") n) f h
+entered_asks (Some p) n f h = go (answers_to p.0 (label_of replay_shape)) (answers_to p.0 (label_of serve_shape)) (answers_to p.0 (label_of describe_shape)) (answers_to p.0 (label_of audit_shape)) (answers_to p.0 (label_of help_of)) (turned p.0 (codes "help") n) f h
   where
-    named : Bool → Bool → Bool → Bool → Option Shape
-    named x y d z = if x then Some replay_shape else (if y then Some serve_shape else (if d then Some describe_shape else (if z then Some help_of else None)))
+    named : Bool → Bool → Bool → Bool → Bool → Option Shape
+    named x y d a z = if x then Some replay_shape else (if y then Some serve_shape else (if d then Some describe_shape else (if a then Some audit_shape else (if z then Some help_of else None))))
 
-    go : (x y d z : Bool) → (z ≡ true → ⊥)
-        → option_map_or (λ s. level_fault s [] nothing_held p.1 false []) (named x y d z) [] ≡ []
-        → is_some (option_map (λ s. rows_at s p.1) (named x y d z)) ≡ true
-        → AsksSomething (option_map (λ s. rows_at s p.1) (named x y d z))
-    go true y d z other f h = inl (replay_asked p.1 f)
-    go false true d z other f h = inl (serve_asked p.1 f)
-    go false false true z other f h = inr (description_asked p.1 f)
-    go false false false true other f h = absurd (other refl)
-    go false false false false other f h = absurd (true≢false (sym h))
+    go : (x y d a z : Bool) → (z ≡ true → ⊥)
+        → option_map_or (λ s. level_fault s [] nothing_held p.1 false []) (named x y d a z) [] ≡ []
+        → is_some (option_map (λ s. rows_at s p.1) (named x y d a z)) ≡ true
+        → AsksSomething (option_map (λ s. rows_at s p.1) (named x y d a z))
+    go true y d a z other f h = inl (replay_asked p.1 f)
+    go false true d a z other f h = inl (serve_asked p.1 f)
+    go false false true a z other f h = inr (inl (description_asked p.1 f))
+    go false false false true z other f h = inr (inr (audit_asked p.1 f))
+    go false false false false true other f h = absurd (other refl)
+    go false false false false false other f h = absurd (true≢false (sym h))
 
 -- words without a fault ask for something
 pub words_ask : (words : List Text) → fault_of program words ≡ [] → AsksSomething (subcommand_of program words)

@@ -5,7 +5,7 @@ use Rattle.std.specs.Str.Parse.{IsNumeral, digits_value, without_leading_plus}
 use Rattle.clap.specs.Takes.{is_given}
 use Rattle.clap.specs.Words.{App, IsAmong, Kinds, Row, Rule, Text, first_of, kind_of, new_app, new_rule, with_rule, with_subcommand}
 use Rattle.xcp_program.specs.declared.purpose.Options.{Options}
-use Rattle.xcp_program.specs.declared.purpose.Options.TheVariants.{Describe, Replay, Serve, Stay}
+use Rattle.xcp_program.specs.declared.purpose.Options.TheVariants.{Audit, Describe, Replay, Serve, Stay}
 use Rattle.xcp_program.specs.declared.purpose.OptionsFault.{OptionsFault}
 use Rattle.xcp_program.specs.declared.purpose.OptionsFault.TheVariants.{Memory, TooManyTools, Words}
 use Rattle.xcp_program.specs.declared.words.Unasked.{Unasked}
@@ -73,14 +73,14 @@ host_default = codes "127.0.0.1"
 abbrev pub host_rule : Rule
 host_rule = record (new_rule (codes "host")) { long = Some (codes "host"); action = Some Set; value_names = 1; defaults = host_default ∷ [] }
 
--- `--stay`, a flag
-abbrev pub stay_rule : Rule
-stay_rule = record (new_rule (codes "stay")) { long = Some (codes "stay"); action = Some SetTrue }
+-- `--NAME`, a flag
+abbrev pub flag_rule : Text → Rule
+flag_rule name = record (new_rule name) { long = Some name; action = Some SetTrue }
 
 -- `serve --config FILE --port PORT [--host HOST] [--stay] [--tools T] [--tasks K] [--cycles N] [--chapter M] [--period MS] [--patience S]`
 abbrev pub serve_app : App
 serve_app = with_rule (with_rule (with_rule (with_rule (with_rule (with_rule (with_rule (with_rule (with_rule (with_rule (new_app (codes "serve"))
-    config_rule) (numeric_rule port)) host_rule) stay_rule) (numeric_rule tools)) (numeric_rule tasks)) (numeric_rule cycles)) (numeric_rule chapter)) (numeric_rule period)) (numeric_rule patience)
+    config_rule) (numeric_rule port)) host_rule) (flag_rule (codes "stay"))) (numeric_rule tools)) (numeric_rule tasks)) (numeric_rule cycles)) (numeric_rule chapter)) (numeric_rule period)) (numeric_rule patience)
 
 -- the port that a description names
 abbrev pub named_port : Numeric
@@ -90,6 +90,14 @@ named_port = record { name = codes "port"; least = 1024; most = 65535; default =
 abbrev pub describe_app : App
 describe_app = with_rule (with_rule (with_rule (new_app (codes "describe")) config_rule) host_rule) (numeric_rule named_port)
 
+-- `FILE`, which has to be there
+abbrev pub file_rule : Rule
+file_rule = record (new_rule (codes "file")) { action = Some Set; value_names = 1; required = true }
+
+-- `audit --config FILE FILE [--lines]`
+abbrev pub audit_app : App
+audit_app = with_rule (with_rule (with_rule (new_app (codes "audit")) config_rule) file_rule) (flag_rule (codes "lines"))
+
 abbrev pub with_a_version : App → App
 with_a_version a = record a { top = record a.top { has_version = true } }
 
@@ -98,7 +106,7 @@ with_a_subcommand_wanted a = record a { top = record a.top { subcommand_required
 
 -- the program, which has a version and wants one of its subcommands
 abbrev pub program : App
-program = with_subcommand (with_subcommand (with_subcommand (with_a_subcommand_wanted (with_a_version (new_app (codes "xcpd")))) replay_app.top) serve_app.top) describe_app.top
+program = with_subcommand (with_subcommand (with_subcommand (with_subcommand (with_a_subcommand_wanted (with_a_version (new_app (codes "xcpd")))) replay_app.top) serve_app.top) describe_app.top) audit_app.top
 
 -- the words after a subcommand give this option
 abbrev pub gives : Text → Option (Text × List Row) → Bool
@@ -109,10 +117,14 @@ pub record HasText (found : Option (Text × List Row)) (command option text : Te
   pub name : option_map (λ p. p.0) found ≡ Some command
   pub value : option_and_then (λ p. first_of option p.1) found ≡ Some text
 
--- the same of `--config`, which the words give
-pub record HasFile (found : Option (Text × List Row)) (command file : Text) : Type 0 where
-  pub text : HasText found command (codes "config") file
-  pub given : gives (codes "config") found ≡ true
+-- the same of one that the words give
+pub record HasGiven (found : Option (Text × List Row)) (command option word : Text) : Type 0 where
+  pub text : HasText found command option word
+  pub given : gives option found ≡ true
+
+-- the same of `--config`
+abbrev pub HasFile : Option (Text × List Row) → Text → Text → Type 0
+HasFile found command file = HasGiven found command (codes "config") file
 
 -- a subcommand with its rows is a replay with this configuration file
 abbrev pub IsReplay : Option (Text × List Row) → Text → Type 0
@@ -185,12 +197,19 @@ pub record IsDescription (found : Option (Text × List Row)) (file address : Tex
   pub host : HasHost found (codes "describe") address
   pub port : HasNumberIn found (codes "describe") named_port p
 
+-- a subcommand with its rows is an audit of this journal by this configuration file, with or without the flag `--lines`
+pub record IsAudit (found : Option (Text × List Row)) (file word : Text) (lines : Bool) : Type 0 where
+  pub config : HasFile found (codes "audit") file
+  pub journal : HasGiven found (codes "audit") (codes "file") word
+  pub flag : gives (codes "lines") found ≡ lines
+
 -- what a subcommand with its rows asks for
 abbrev pub Asks : Option (Text × List Row) → Options → Type 0
 Asks found (Replay config) = IsReplay found (string_bytes config)
 Asks found (Serve config host p t k n m ms) = IsServe found (string_bytes config) (string_bytes host) p t k n m ms
 Asks found (Stay config host p t k ms s) = IsStay found (string_bytes config) (string_bytes host) p t k ms s
 Asks found (Describe config host p) = IsDescription found (string_bytes config) (string_bytes host) p
+Asks found (Audit config file lines) = IsAudit found (string_bytes config) (string_bytes file) lines
 
 -- each number is in its option's bounds, and the tools of a server that ends are few
 abbrev pub InRange : Options → Type 0
@@ -200,6 +219,7 @@ InRange (Serve config host p t k n m ms) = (port.least ≤ p) × (p ≤ port.mos
 InRange (Stay config host p t k ms s) = (port.least ≤ p) × (p ≤ port.most) × (tools.least ≤ t) × (t ≤ tools.most) × (tasks.least ≤ k) × (k ≤ tasks.most) × (period.least ≤ ms) × (ms ≤ period.most)
     × (patience.least ≤ s) × (s ≤ patience.most)
 InRange (Describe config host p) = (named_port.least ≤ p) × (p ≤ named_port.most)
+InRange (Audit config file lines) = ⊤
 
 -- Why the words ask for nothing, by the kinds of error of the first fault that clap finds in them (a wish for help is one), and by the
 -- subcommand that they name, with its rows: the error has one of these kinds; or clap finds no fault, and the tools are too many. Memory: an

@@ -53,7 +53,7 @@ abbrev pub IsFault : List ℕ → Fault → Type 0
 IsFault config f = (n : ℕ) × (f ≡ faults.Configuration n) × IsFaulty config n
 
 -- What a replay did, by what it returned. Configuration(n): the configuration has the fault of that number, and nothing was
--- written. An allocation may fail before a slave stands: then nothing was written either. A mismatch is no end of a replay.
+-- written. An allocation may fail before a slave stands: then nothing was written either. A mismatch or a journal's fault is no end of a replay.
 abbrev pub Ends : List ℕ → Option (List ℕ) → Option (List ℕ) → Option (List ℕ) → Result ℕ Fault → Type 0
 Ends config script old new (Ok n) = Replays config script old new (Ok n)
 Ends config script old new (Err (faults.Configuration n)) = IsFaulty config n × (new ≡ old)
@@ -62,3 +62,5 @@ Ends config script old new (Err (faults.Stream n)) = ((n ≡ 1) × Replays confi
 Ends config script old new (Err faults.Memory) = (new ≡ old) ⊎ Replays config script old new (Err errors.Memory)
 Ends config script old new (Err (faults.MismatchedChapter number)) = ⊥
 Ends config script old new (Err (faults.Mismatch caller at)) = ⊥
+Ends config script old new (Err (faults.MismatchedCall at)) = ⊥
+Ends config script old new (Err (faults.Journal n)) = ⊥

@@ -1,12 +1,12 @@
 //! The words of the command line.
 ghost use Rattle.std.specs.Prelude.{◌≡◌, ◌⊎◌, ◌<◌, ◌^◌, List, [], ℕ, map, option_map, false, true, None};
-ghost use Rattle.std.specs.Prelude.{IfOk, IfErr, IfSome, codes, string_bytes};
+ghost use Rattle.std.specs.Prelude.{IfOk, IfErr, IfSome, string_bytes};
 ghost use Rattle.clap.specs.Words.{app_of, kind_of, rule_of, subcommand_of, subcommand_rows_of, takes};
 ghost use Rattle.clap.specs.Words.{fault_of as faults_in};
 ghost use Rattle.clap.specs.declared.builder.command.Command.TheViews.{out-Command as fields_of};
 ghost use Rattle.xcp_program.specs.CommandLine.{Asks, AsksTooMany, InRange, HasText, IsMistake, Spells, SpellsIn, gives};
-ghost use Rattle.xcp_program.specs.private.CommandLine.{AsksDescription, AsksServe, AsksSomething, HasFlag, IsRefusal, placed_app};
-ghost use Rattle.xcp_program.specs.CommandLine.{config_rule, describe_app, host_rule, numeric_rule, program, replay_app, serve_app, stay_rule};
+ghost use Rattle.xcp_program.specs.private.CommandLine.{AsksAudit, AsksDescription, AsksServe, AsksSomething, HasFlag, IsRefusal, placed_app};
+ghost use Rattle.xcp_program.specs.CommandLine.{audit_app, config_rule, describe_app, file_rule, flag_rule, host_rule, numeric_rule, program, replay_app, serve_app};
 
 use crate::purpose::{Options, OptionsFault};
 use clap::builder::ValueParser;
@@ -69,6 +69,23 @@ with one line there, and this status:
   3  stream 2: writing failed
   4  memory: an allocation failed";
 
+/// What help says below the options of an audit.
+const VERDICTS: &str =
+    "Each call of the journal is executed again, on a new slave of the layout file, and its answer compared. It prints: calls N
+(N is the number of all calls), and: settled. Where the file is cut short or altered, it prints calls N alone: so many calls
+stand before, and are good. With --lines there is a line for each call before, its parts with a tab between them: the
+caller's number, the request as a replay reads it, and the answer as a replay writes it.
+
+Wrong words end the program with status 1, and what is wrong with them on standard error. Any other fault ends it
+with one line there, and this status:
+  1  configuration N: the file can't be read (0), is no TOML (1), lacks a key (2), has a value of the wrong
+     type (3), out of its range (4), areas that overlap (5), or too many segments, bytes or events (6)
+  3  stream 2: writing failed
+  4  memory: an allocation failed
+  5  mismatch call I: call I is the first, counted from 0, that has another answer than the slave's
+  6  journal N: the journal's file can't be opened (0) or read (1), ends inside a chapter (3), has a chapter that isn't
+     as it was written (4), is of another layout (5), is no such file, is of another version or too long (6)";
+
 /// The option `--config`, which each subcommand wants.
 fn config_option<'a>(alloc: Global) -> Arg<'a>
     ensures rule { rule_of result ≡ config_rule }
@@ -124,15 +141,27 @@ fn numeric<'a>(
     }
 }
 
-/// The option `--stay`.
-fn stay_option<'a>(alloc: Global) -> Arg<'a>
-    ensures rule { rule_of result ≡ stay_rule }
+/// A flag, with its help.
+fn flag<'a>(alloc: Global, name: &'a str, help: &'a str) -> Arg<'a>
+    ensures rule { rule_of result ≡ flag_rule name.entry.now }
     ensures local { result.global ≡ false }
 {
-    Arg::new(alloc, "stay")
-        .long("stay")
+    Arg::new(alloc, name)
+        .long(name)
         .action(ArgAction::SetTrue)
-        .help("Tools come and go, and the tasks have no end")
+        .help(help)
+}
+
+/// The journal's file, which an audit wants.
+fn file_word<'a>(alloc: Global) -> Arg<'a>
+    ensures rule { rule_of result ≡ file_rule }
+    ensures local { result.global ≡ false }
+{
+    Arg::new(alloc, "file")
+        .value_name("JOURNAL")
+        .required(true)
+        .action(ArgAction::Set)
+        .help("The file of a journal")
 }
 
 /// The option `--host`, with its value's name and its help.
@@ -164,7 +193,11 @@ fn placed_command<'a>(alloc: Global) -> Result<Command<'a>, AllocError>
     );
     let serve = serve.arg(port)?;
     let serve = serve.arg(host_option(alloc, "A", "The address of this machine to listen on"))?;
-    Ok(serve.arg(stay_option(alloc))?)
+    Ok(serve.arg(flag(
+        alloc,
+        "stay",
+        "Tools come and go, and the tasks have no end",
+    ))?)
 }
 
 /// The subcommand `serve`.
@@ -219,6 +252,21 @@ fn describe_command<'a>(alloc: Global) -> Result<Command<'a>, AllocError>
     Ok(describe.arg(port)?)
 }
 
+/// The subcommand `audit`.
+fn audit_command<'a>(alloc: Global) -> Result<Command<'a>, AllocError>
+    ensures app { IfOk result (λ c. app_of c ≡ audit_app) }
+    ensures local { IfOk result (λ c. (fields_of c).has_globals ≡ false) }
+{
+    let audit = Command::new(alloc, "audit")
+        .about(
+            "Checks the file of a journal: executes each of its calls again, and compares the answers",
+        )
+        .after_help(VERDICTS);
+    let audit = audit.arg(config_option(alloc))?;
+    let audit = audit.arg(file_word(alloc))?;
+    Ok(audit.arg(flag(alloc, "lines", "Prints each call as a line"))?)
+}
+
 /// The program's command line.
 fn program<'a>(alloc: Global) -> Result<Command<'a>, AllocError>
     ensures { IfOk result (λ c. app_of c ≡ program) }
@@ -226,6 +274,7 @@ fn program<'a>(alloc: Global) -> Result<Command<'a>, AllocError>
     let replay = replay_command(alloc)?;
     let serve = serve_command(alloc)?;
     let describe = describe_command(alloc)?;
+    let audit = audit_command(alloc)?;
     let top = Command::new(alloc, "xcpd")
         .about("A calibration slave: XCP of ASAM MCD-1, major version 1")
         .version(VERSION)
@@ -234,7 +283,8 @@ fn program<'a>(alloc: Global) -> Result<Command<'a>, AllocError>
     Ok(
         top.subcommand(replay)?
             .subcommand(serve)?
-            .subcommand(describe)?,
+            .subcommand(describe)?
+            .subcommand(audit)?,
     )
 }
 
@@ -316,17 +366,20 @@ fn asked(alloc: Global, matches: &ArgMatches<'_>) -> Result<Options, OptionsFaul
         }
         None => match text_in(matches, "describe", "config") {
             Some(_) => description_asked(alloc, matches),
-            None => server_asked(alloc, matches),
+            None => match text_in(matches, "audit", "config") {
+                Some(_) => audit_asked(alloc, matches),
+                None => server_asked(alloc, matches),
+            },
         },
     }
 }
 
-/// Whether the matches of a server have the flag `--stay`.
-fn stays(matches: &ArgMatches<'_>) -> bool
-    requires { HasFlag (subcommand_rows_of matches.now) }
-    ensures { result ≡ gives (codes "stay") (subcommand_rows_of matches.now) }
+/// Whether the matches of a subcommand have this flag.
+fn has_flag(matches: &ArgMatches<'_>, command: &str, flag: &str) -> bool
+    requires { HasFlag (subcommand_rows_of matches.now) command.now flag.now }
+    ensures { result ≡ gives flag.now (subcommand_rows_of matches.now) }
 {
-    match text_in(matches, "serve", "stay") {
+    match text_in(matches, command, flag) {
         Some(text) => text == "true",
         None => false,
     }
@@ -350,7 +403,7 @@ fn server_asked(alloc: Global, matches: &ArgMatches<'_>) -> Result<Options, Opti
     let period = number_in(matches, "period");
     let config = String::from_str(alloc, config)?;
     let host = String::from_str(alloc, host)?;
-    if stays(matches) {
+    if has_flag(matches, "serve", "stay") {
         Ok(Options::Stay {
             config,
             host,
@@ -394,5 +447,26 @@ fn description_asked(alloc: Global, matches: &ArgMatches<'_>) -> Result<Options,
         config,
         host,
         port: decimal_in(matches, "describe", "port") as u16,
+    })
+}
+
+/// What the matches of an audit ask for.
+fn audit_asked(alloc: Global, matches: &ArgMatches<'_>) -> Result<Options, OptionsFault>
+    requires { AsksAudit (subcommand_rows_of matches.now) }
+    ensures asked { IfOk result (λ o. Asks (subcommand_rows_of matches.now) o) }
+    ensures refused { IfErr result (λ e. e ≡ OptionsFault.Memory) }
+{
+    let Some(config) = text_in(matches, "audit", "config") else {
+        unreachable!()
+    };
+    let Some(file) = text_in(matches, "audit", "file") else {
+        unreachable!()
+    };
+    let config = String::from_str(alloc, config)?;
+    let file = String::from_str(alloc, file)?;
+    Ok(Options::Audit {
+        config,
+        file,
+        lines: has_flag(matches, "audit", "lines"),
     })
 }

@@ -35,12 +35,20 @@ pub enum Fault {
         /// ends.
         at: usize,
     },
+    /// The call of this index in a journal's file, from 0, is the first that has another answer than the slave's.
+    #[error("mismatch call {0}")]
+    MismatchedCall(u64),
+    /// A journal's file: 0 where it can't be opened, 1 where reading failed, 3 where it ends inside a chapter, 4 where a chapter
+    /// isn't as it was written, 5 where it is of another layout, 6 where it is no such file, is of another version, or has more
+    /// chapters than a journal can have.
+    #[error("journal {0}")]
+    Journal(u8),
 }
 
 impl Fault {
     ghost use Rattle.xcp_program.specs.ExitStatus.{status_of};
 
-    /// The status with which the program ends, 1 to 5.
+    /// The status with which the program ends, 1 to 6.
     pub fn status(&self) -> u8
         ensures { result ≡ status_of self.now }
     {
@@ -49,7 +57,8 @@ impl Fault {
             Fault::Line(_) => 2,
             Fault::Stream(_) => 3,
             Fault::Memory => 4,
-            Fault::MismatchedChapter(_) | Fault::Mismatch { .. } => 5,
+            Fault::MismatchedChapter(_) | Fault::MismatchedCall(_) | Fault::Mismatch { .. } => 5,
+            Fault::Journal(_) => 6,
         }
     }
 }

@@ -57,6 +57,15 @@ pub enum Options {
         /// The port at which they do, 1,024 to 65,535.
         port: u16,
     },
+    /// To execute the calls of a journal's file again, on a new slave that this file describes, and compare their answers.
+    Audit {
+        /// The name of the configuration file.
+        config: String,
+        /// The name of the journal's file.
+        file: String,
+        /// Whether each call is printed as a line.
+        lines: bool,
+    },
 }
 
 /// Why the words ask for nothing that the program does.

@@ -1,12 +1,14 @@
-//! The XCP slave as a program: `xcpd replay`, `xcpd serve` and `xcpd describe`. What it does is in `xcp_program`, `xcp_server`
-//! and `xcp_describe`; here are the system's words, the file, the streams, the port and the status.
+//! The XCP slave as a program: `xcpd replay`, `xcpd serve`, `xcpd describe` and `xcpd audit`. What it does is in `xcp_program`,
+//! `xcp_server`, `xcp_describe` and `xcp_audit`; here are the system's words, the file, the streams, the port and the status.
 #![tactic(auto)]
 
+mod audit;
 mod log;
 mod stay;
 
 ghost use Rattle.std.specs.Prelude.{◌≡◌, ◌≤◌, ◌+◌, IfOk, vec_len};
 
+use crate::audit::audit_by;
 use crate::stay::{patience, stay_by};
 use std::fs::File;
 use std::io;
@@ -160,6 +162,16 @@ fn main(rt: HostRuntime) -> ExitCode {
         Ok(Options::Describe { config, host, port }) => {
             return describe_or_tell(&rt, config.as_str(), host.as_str(), port);
         }
+        Ok(
+            Options::Audit {
+                config,
+                file,
+                lines,
+            },
+        ) => match text_of(&rt, config.as_str()) {
+            Ok(text) => audit_by(&rt, text.as_str(), file.as_str(), lines).err(),
+            Err(fault) => Some(fault),
+        },
         Err(unasked) => return tell(&rt, &unasked),
     };
     match fault {

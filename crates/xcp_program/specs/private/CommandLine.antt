@@ -1,18 +1,18 @@
--- What the three commands of the program ask for.
-use Rattle.std.specs.Prelude.{◌≡◌, ◌⊎◌, ℕ, List, Option, codes, false}
+-- What the four commands of the program ask for.
+use Rattle.std.specs.Prelude.{◌≡◌, ◌⊎◌, ℕ, List, Option, codes, true, false}
 use Rattle.clap.specs.Words.{App, Row, Text, new_app, with_rule}
 use Rattle.xcp_program.specs.declared.purpose.OptionsFault.{OptionsFault}
 use Rattle.xcp_program.specs.declared.purpose.OptionsFault.TheVariants.{Memory, TooManyTools, Words}
-use Rattle.xcp_program.specs.CommandLine.{AsksTooMany, HasFile, HasHost, HasNumber, HasText, IsDescription, IsReplay, Stays, gives}
-use Rattle.xcp_program.specs.CommandLine.{chapter, config_rule, cycles, host_rule, numeric_rule, patience, period, port, stay_rule, tasks, tools}
+use Rattle.xcp_program.specs.CommandLine.{AsksTooMany, HasFile, HasGiven, HasHost, HasNumber, HasText, IsDescription, IsReplay, gives}
+use Rattle.xcp_program.specs.CommandLine.{chapter, config_rule, cycles, flag_rule, host_rule, numeric_rule, patience, period, port, tasks, tools}
 
 -- `serve` with the first four of its options
 abbrev pub placed_app : App
-placed_app = with_rule (with_rule (with_rule (with_rule (new_app (codes "serve")) config_rule) (numeric_rule port)) host_rule) stay_rule
+placed_app = with_rule (with_rule (with_rule (with_rule (new_app (codes "serve")) config_rule) (numeric_rule port)) host_rule) (flag_rule (codes "stay"))
 
--- the text of the flag `--stay` says whether the words give it
-abbrev pub HasFlag : Option (Text × List Row) → Type 0
-HasFlag found = (HasText found (codes "serve") (codes "stay") (codes "true") × Stays found) ⊎ (HasText found (codes "serve") (codes "stay") (codes "false") × (gives (codes "stay") found ≡ false))
+-- the text of a subcommand's flag says whether the words give it
+abbrev pub HasFlag : Option (Text × List Row) → Text → Text → Type 0
+HasFlag found command flag = (HasText found command flag (codes "true") × (gives flag found ≡ true)) ⊎ (HasText found command flag (codes "false") × (gives flag found ≡ false))
 
 -- it is a server: all its options, each with its text or number
 pub record AsksServe (found : Option (Text × List Row)) : Type 0 where
@@ -27,7 +27,7 @@ pub record AsksServe (found : Option (Text × List Row)) : Type 0 where
   pub s : ℕ
   pub config : HasFile found (codes "serve") file
   pub host : HasHost found (codes "serve") address
-  pub stay : HasFlag found
+  pub stay : HasFlag found (codes "serve") (codes "stay")
   pub port : HasNumber found port p
   pub tools : HasNumber found tools t
   pub tasks : HasNumber found tasks k
@@ -36,7 +36,15 @@ pub record AsksServe (found : Option (Text × List Row)) : Type 0 where
   pub period : HasNumber found period ms
   pub patience : HasNumber found patience s
 
--- it is a description, it is a replay or a server, and it is one of the three
+-- it is an audit: its option, its file and its flag, each with its text
+pub record AsksAudit (found : Option (Text × List Row)) : Type 0 where
+  pub file : Text
+  pub journal : Text
+  pub config : HasFile found (codes "audit") file
+  pub place : HasGiven found (codes "audit") (codes "file") journal
+  pub lines : HasFlag found (codes "audit") (codes "lines")
+
+-- it is a description, it is a replay or a server, and it is one of the four
 abbrev pub AsksDescription : Option (Text × List Row) → Type 0
 AsksDescription found = (file : Text) × (host : Text) × (p : ℕ) × IsDescription found file host p
 
@@ -44,7 +52,7 @@ abbrev pub AsksRun : Option (Text × List Row) → Type 0
 AsksRun found = ((file : Text) × IsReplay found file) ⊎ AsksServe found
 
 abbrev pub AsksSomething : Option (Text × List Row) → Type 0
-AsksSomething found = AsksRun found ⊎ AsksDescription found
+AsksSomething found = AsksRun found ⊎ (AsksDescription found ⊎ AsksAudit found)
 
 -- why words in which clap finds no fault ask for nothing
 abbrev pub IsRefusal : Option (Text × List Row) → OptionsFault → Type 0

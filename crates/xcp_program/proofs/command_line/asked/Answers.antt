@@ -1,22 +1,32 @@
-use Rattle.std.proofs.Common.{◌≡◌, codes, Option, Some, List, inl, inr, sym, ◌∙◌}
-use Rattle.clap.specs.Words.{Row, Text}
-use Rattle.xcp_program.specs.CommandLine.{HasText}
+use Rattle.std.proofs.Common.{◌≡◌, codes, inl, inr}
+use Rattle.xcp_program.proofs.CommandLineLemmas.{named_apart, no_audit, no_description}
 use Rattle.xcp_program.proofs.command_line.asked.Goals as goal
 
--- nothing is both a server and a description
-not_both : (a b : Text) (found : Option (Text × List Row)) → HasText found (codes "serve") (codes "config") a → HasText found (codes "describe") (codes "config") b → ⊥
-not_both a b found h k = absurd (apart (sym h.name ∙ k.name))
-  where
-    apart : Some (codes "serve") ≡ Some (codes "describe") → ⊥
-    apart e = cc
+described_audit : codes "describe" ≡ codes "audit" → ⊥
+described_audit e = cc
 
 pub description_asked-requires : goal.description_asked-requires
 description_asked-requires c = elim c.requires [
   | inl run ↦ elim run [
     | inl replay ↦ absurd (c.text_in.ensures.none c.in-None.is replay.0 replay.1.text)
-    | inr serve ↦ absurd (not_both _ _ _ serve.config.text c.in-Some-text_in.ensures.some)
+    | inr serve ↦ absurd (named_apart _ _ _ c.in-Some-text_in.ensures.some.name serve.config.text.name no_description)
   ]
-  | inr description ↦ description
+  | inr other ↦ elim other [
+    | inl description ↦ description
+    | inr audit ↦ absurd (named_apart _ _ _ c.in-Some-text_in.ensures.some.name audit.config.text.name described_audit)
+  ]
+]
+
+pub audit_asked-requires : goal.audit_asked-requires
+audit_asked-requires c = elim c.requires [
+  | inl run ↦ elim run [
+    | inl replay ↦ absurd (c.text_in.ensures.none c.in-None.is replay.0 replay.1.text)
+    | inr serve ↦ absurd (named_apart _ _ _ c.in-Some-text_in-2.ensures.some.name serve.config.text.name no_audit)
+  ]
+  | inr other ↦ elim other [
+    | inl description ↦ absurd (c.text_in-in-None.ensures.none c.in-None-text_in.is description.0 description.3.config.text)
+    | inr audit ↦ audit
+  ]
 ]
 
 pub server_asked-requires : goal.server_asked-requires
@@ -25,5 +35,8 @@ server_asked-requires c = elim c.requires [
     | inl replay ↦ absurd (c.text_in.ensures.none c.in-None.is replay.0 replay.1.text)
     | inr serve ↦ serve
   ]
-  | inr description ↦ absurd (c.text_in-in-None.ensures.none c.in-None-text_in.is description.0 description.3.config.text)
+  | inr other ↦ elim other [
+    | inl description ↦ absurd (c.text_in-in-None.ensures.none c.in-None-text_in.is description.0 description.3.config.text)
+    | inr audit ↦ absurd (c.text_in-in-None-text_in.ensures.none c.in-None-text_in-2.is audit.file audit.config.text)
+  ]
 ]

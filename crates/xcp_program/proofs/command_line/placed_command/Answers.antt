@@ -16,4 +16,4 @@ returns-clause-app c =
     let with_file = c.in_ok-serve.ensures.shape c.config_option.ensures.local ∙ ap₂ with_rule new_is c.config_option.ensures.rule in
     let with_port = c.in_ok-serve-2.ensures.shape (ap is_global c.help-port.ensures ∙ c.numeric.ensures.local) ∙ ap₂ with_rule with_file port_is in
     let with_host = c.in_ok-serve-3.ensures.shape c.host_option.ensures.local ∙ ap₂ with_rule with_port c.host_option.ensures.rule in
-    c.in_ok-arg.ensures.shape c.stay_option.ensures.local ∙ ap₂ with_rule with_host c.stay_option.ensures.rule
+    c.in_ok-arg.ensures.shape c.flag.ensures.local ∙ ap₂ with_rule with_host c.flag.ensures.rule

@@ -13,4 +13,5 @@ returns c =
     ap app_of_fields c.subcommand_required-top.ensures ∙ ap with_a_subcommand_wanted version_is in
     let first_is = c.in_ok-subcommand.ensures.shape (search rules) ∙ ap₂ with_subcommand top_is (ap (λ (a : App). a.top) c.in_ok-replay.ensures.app) in
     let second_is = c.in_ok-subcommand-2.ensures.shape (search rules) ∙ ap₂ with_subcommand first_is (ap (λ (a : App). a.top) c.in_ok-serve.ensures.app) in
-    c.in_ok-subcommand-3.ensures.shape (search rules) ∙ ap₂ with_subcommand second_is (ap (λ (a : App). a.top) c.in_ok-describe.ensures.app)
+    let third_is = c.in_ok-subcommand-3.ensures.shape (search rules) ∙ ap₂ with_subcommand second_is (ap (λ (a : App). a.top) c.in_ok-describe.ensures.app) in
+    c.in_ok-subcommand-4.ensures.shape (search rules) ∙ ap₂ with_subcommand third_is (ap (λ (a : App). a.top) c.in_ok-audit.ensures.app)

@@ -1,0 +1,126 @@
+//! The file of a small slave's journal.
+
+use arrayvec::ArrayVec;
+use sha2::{Digest, Sha256};
+use std::alloc::{AllocError, Global};
+use std::test::Fail;
+use xcp_program::layout_of;
+use xcp_record::Recorder;
+use xcp_slave::{Request, Slave};
+use xcp_trace::Journal;
+
+/// The layout file: MAX_CTO 8, 16 bytes at 0x1000, and an event channel with 2 bytes of signals.
+pub(crate) const CONFIG: &str = "id = 'ECU1'
+max_cto = 8
+max_dto = 64
+[[segment]]
+address = 0x1000
+data = '000102030405060708090A0B0C0D0E0F'
+[signals]
+address = 0x8000
+length = 2
+[[event]]
+name = '10ms'
+cycle = 10
+unit = 6
+";
+
+/// These bytes, in place.
+fn taken<const N: usize>(bytes: &[u8]) -> ArrayVec<u8, N> {
+    let mut taken = ArrayVec::new();
+    let _ = taken.try_extend_from_slice(bytes);
+    taken
+}
+
+/// The request of this number: commands, one of them without bytes and one answered by three packets; events, one of them on a
+/// channel that isn't there and one of too few signals; a drain, a store and a Hangup.
+fn request(number: usize) -> Request {
+    match number {
+        0 => Request::Command(taken(&[0xFF, 0])),
+        1 => Request::Command(taken(&[0xF6, 0, 0, 0, 0, 0x10, 0, 0])),
+        2 => Request::Command(taken(&[0xF5, 16])),
+        3 => Request::Command(taken(&[])),
+        4 => Request::Event(0, taken(&[0xAB, 4])),
+        5 => Request::Event(65_535, taken(&[1, 2])),
+        6 => Request::Event(0, taken(&[1])),
+        7 => Request::Drain,
+        8 => Request::FinishStore,
+        9 => Request::Command(taken(&[0xF9, 1, 0, 0])),
+        10 => Request::FinishStore,
+        _ => Request::Hangup,
+    }
+}
+
+/// How many requests there are.
+pub(crate) const REQUESTS: usize = 12;
+
+/// The callers of the requests.
+const CALLERS: [u8; REQUESTS] = [0, 0, 0, 0, 9, 10, 99, 1, 100, 0, 255, 2];
+
+/// The lines of the calls.
+pub(crate) const LINES: [&str; REQUESTS] = [
+    "0\tFF00\tFF05C00840000101\n",
+    "0\tF600000000100000\tFF\n",
+    "0\tF510\tFF00010203040506 FF0708090A0B0C0D FF0E0F\n",
+    "0\t\t-\n",
+    "9\tevent 0 AB04\tsampled 0\n",
+    "10\tevent 65535 0102\tno channel\n",
+    "99\tevent 0 01\tbad signals\n",
+    "1\tdrain\tnothing\n",
+    "100\tstore\tno store\n",
+    "0\tF9010000\tFF\n",
+    "255\tstore\tstored 0\n",
+    "2\thangup\t-\n",
+];
+
+/// The slave of the layout file.
+fn slave(alloc: Global) -> Result<Slave, Fail> {
+    let Ok(layout) = layout_of(alloc, CONFIG) else {
+        return Err(Fail::new("the layout file is faulty"));
+    };
+    Ok(Slave::new(alloc, layout)?)
+}
+
+/// The calls of the requests of these numbers, from the first to before the second.
+fn journal(
+    alloc: Global,
+    slave: &mut Slave,
+    first: usize,
+    end: usize,
+) -> Result<Journal, AllocError> {
+    let mut journal = Journal::new(alloc);
+    for number in first..end.min(REQUESTS) {
+        let request = request(number);
+        let answer = slave.submit(&request);
+        journal.reserve()?;
+        journal.push(CALLERS[number], &request, &answer);
+    }
+    Ok(journal)
+}
+
+/// The file of a journal of two chapters, of 5 and 7 calls; or with a second chapter by a slave of its own, to which nobody is
+/// connected.
+pub(crate) fn file(alloc: Global, whole: bool) -> Result<Vec<u8>, Fail> {
+    let digest = Sha256::digest(CONFIG.as_bytes());
+    let mut recorder = Recorder::new(alloc, Vec::new(alloc), &digest)?;
+    let mut first = slave(alloc)?;
+    let mut second = slave(alloc)?;
+    let calls = journal(alloc, &mut first, 0, 5)?;
+    append(&mut recorder, 0, &calls)?;
+    let calls = journal(
+        alloc,
+        if whole { &mut first } else { &mut second },
+        5,
+        REQUESTS,
+    )?;
+    append(&mut recorder, 1, &calls)?;
+    Ok(recorder.into_stream())
+}
+
+/// Appends a chapter of these calls.
+fn append(recorder: &mut Recorder<Vec<u8>>, number: u64, calls: &Journal) -> Result<(), Fail> {
+    if calls.len() > 65_536 {
+        return Err(Fail::new("too many calls"));
+    }
+    Ok(recorder.append(number, calls.entries())?)
+}

@@ -1,0 +1,4 @@
+pub mod CallLine
+pub mod Printing
+pub mod PrintedAudit
+pub mod private

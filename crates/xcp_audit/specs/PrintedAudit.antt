@@ -1,0 +1,66 @@
+-- What is printed of an audit, and what is answered.
+use Rattle.std.specs.Prelude.{◌≡◌, ◌≢◌, ◌<◌, ℕ, Bool, List, [], ◌++◌, Option, Some, None, Result, Ok, Err, IfSome, if◌then◌else◌, codes, decimal}
+use Rattle.std.specs.Io.KnownBytes.{Consumes, IsAtEnd}
+use Rattle.sha2.specs.Sha256.{sha256}
+use Rattle.xcp_memory.specs.Layout.{LayoutValue}
+use Rattle.xcp_slave.specs.SlaveValue.{opening}
+use Rattle.xcp_trace.specs.declared.Entry.{Entry}
+use Rattle.xcp_record.specs.declared.AuditFault.{AuditFault}
+use Rattle.xcp_record.specs.declared.AuditFault.TheVariants as found
+use Rattle.xcp_record.specs.Audit.{Audits, Hears, HoldsRun, SaysSettled}
+use Rattle.xcp_program.specs.declared.Fault.{Fault}
+use Rattle.xcp_program.specs.declared.Fault.TheVariants as faults
+use Rattle.xcp_audit.specs.declared.printer.Trouble.{Trouble}
+use Rattle.xcp_audit.specs.declared.printer.Trouble.TheVariants as troubles
+use Rattle.xcp_audit.specs.CallLine.{lines_of}
+use Rattle.xcp_audit.specs.Printing.{Prints, Stand}
+
+-- the lines behind those of the calls, by what the audit says
+abbrev pub end_of : Result ℕ AuditFault → List ℕ
+end_of (Ok n) = codes "calls " ++ decimal n ++ codes "\nsettled\n"
+end_of (Err (found.Cut n)) = codes "calls " ++ decimal n ++ codes "\n"
+end_of (Err (found.Altered n)) = codes "calls " ++ decimal n ++ codes "\n"
+end_of (Err (found.TooLong n)) = codes "calls " ++ decimal n ++ codes "\n"
+end_of (Err e) = []
+
+-- what is answered, likewise
+abbrev pub verdict_of : Result ℕ AuditFault → Result (Unit {0}) Fault
+verdict_of (Ok n) = Ok tt
+verdict_of (Err found.Read) = Err (faults.Journal 1)
+verdict_of (Err found.Memory) = Err faults.Memory
+verdict_of (Err (found.Mismatch i)) = Err (faults.MismatchedCall i)
+verdict_of (Err (found.Cut n)) = Err (faults.Journal 3)
+verdict_of (Err (found.Altered n)) = Err (faults.Journal 4)
+verdict_of (Err found.OtherLayout) = Err (faults.Journal 5)
+verdict_of (Err found.Foreign) = Err (faults.Journal 6)
+verdict_of (Err (found.TooLong n)) = Err (faults.Journal 6)
+
+-- the printer's trouble comes first
+abbrev pub answer_after : Option Trouble → Result ℕ AuditFault → Result (Unit {0}) Fault
+answer_after (Some troubles.Write) said = Err (faults.Stream 2)
+answer_after (Some troubles.Memory) said = Err faults.Memory
+answer_after None said = verdict_of said
+
+-- Where a journal's reader stands: the bytes that it has left, where they are known, and how many of its reads have failed.
+pub record Reading : Type 0 where
+  pub left : Option (List ℕ)
+  pub failures : ℕ
+
+-- a read failed exactly where the audit says so
+pub record ReadsTo (old new : Reading) (said : Result ℕ AuditFault) : Type 0 where
+  pub failed : said ≡ Err found.Read → old.failures < new.failures
+  pub quiet : said ≢ Err found.Read → new.failures ≡ old.failures
+
+-- An audit of a file by a new slave of this layout, whose file has these bytes. What it says is printed, and where lines are wanted the
+-- lines of its calls before that; then it is answered.
+pub record PrintsAudit (config : List ℕ) (layout : LayoutValue) (before after : Reading) (lines : Bool) (old new : Stand) (result : Result (Unit {0}) Fault) : Type 0 where
+  pub said : Result ℕ AuditFault
+  pub read : List ℕ
+  pub consumed : Consumes before.left after.left read
+  pub audits : Audits (sha256 config) (opening layout) (IsAtEnd after.left) read said
+  pub settles : IfSome before.left (λ all. (n : ℕ) → HoldsRun (sha256 config) (opening layout) all n → SaysSettled n said)
+  pub reads : ReadsTo before after said
+  pub calls : List Entry
+  pub hears : Hears (sha256 config) read said calls
+  pub printed : Prints old new ((if lines then lines_of calls else []) ++ end_of said)
+  pub answered : result ≡ answer_after new.trouble said

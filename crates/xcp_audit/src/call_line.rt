@@ -1,0 +1,59 @@
+//! The line of a call.
+ghost use Rattle.std.specs.Prelude.{◌≡◌, ◌++◌, OnOk, codes, decimal};
+ghost use Rattle.hex.specs.Hex.{encode_upper};
+ghost use Rattle.xcp_audit.specs.CallLine.{line_of, words_asked};
+
+use std::alloc::AllocError;
+use xcp_framing::told_of;
+use xcp_packet::Packet;
+use xcp_script::push_text;
+use xcp_slave::Request;
+use xcp_trace::Entry;
+
+/// Appends a call's line. After an `Err` a front of it may have been appended.
+pub(crate) fn push_line(text: &mut Vec<u8>, call: &Entry) -> Result<(), AllocError>
+    ensures { OnOk result (text.new.items ≡ text.old.items ++ line_of call.now) }
+{
+    let alloc = *text.allocator();
+    let caller = call.caller;
+    let caller = format!(in alloc; "{caller}\t")?;
+    text.extend_from_slice(caller.as_bytes())?;
+    push_request(text, &call.exchange.request)?;
+    text.push(b'\t')?;
+    let mut packet = Packet::new();
+    let told = told_of(&call.exchange.answer, &mut packet);
+    push_text(text, told, &packet)
+}
+
+/// Appends the words of a request.
+fn push_request(text: &mut Vec<u8>, request: &Request) -> Result<(), AllocError>
+    ensures { OnOk result (text.new.items ≡ text.old.items ++ words_asked request.now) }
+{
+    match request {
+        Request::Command(packet) => push_hex(text, packet.as_slice()),
+        Request::Event(channel, signals) => push_event(text, *channel, signals.as_slice()),
+        Request::Drain => text.extend_from_slice(b"drain"),
+        Request::FinishStore => text.extend_from_slice(b"store"),
+        Request::Hangup => text.extend_from_slice(b"hangup"),
+    }
+}
+
+/// Appends the words of an event.
+fn push_event(text: &mut Vec<u8>, channel: u16, signals: &[u8]) -> Result<(), AllocError>
+    ensures { OnOk result (text.new.items
+        ≡ text.old.items ++ codes "event " ++ decimal channel ++ codes " " ++ encode_upper signals.now) }
+{
+    let alloc = *text.allocator();
+    let digits = hex::encode_upper(alloc, signals)?;
+    let event = format!(in alloc; "event {channel} {digits}")?;
+    text.extend_from_slice(event.as_bytes())
+}
+
+/// Appends bytes in upper-case hex.
+fn push_hex(text: &mut Vec<u8>, bytes: &[u8]) -> Result<(), AllocError>
+    ensures { OnOk result (text.new.items ≡ text.old.items ++ encode_upper bytes.now) }
+{
+    let alloc = *text.allocator();
+    let digits = hex::encode_upper(alloc, bytes)?;
+    text.extend_from_slice(digits.as_bytes())
+}
