@@ -88,15 +88,18 @@ fn admit(
     Ok((unnamed, accept_tools(rt.alloc(), &listener, tools)?))
 }
 
-/// Tells what came of a server: its chapters and calls once its callers are settled, then its fault.
+/// Tells what came of a server: its chapters and calls once its callers are settled, then its fault, else that these couldn't be written.
 fn print_end(rt: &HostRuntime, told: Result<Report, Fault>) -> Option<Fault> {
     match told {
         Ok(report) => {
-            let _ = println!(rt;
+            let written = println!(rt;
                 "chapters {}\ncalls {}\nsettled",
                 report.chapters, report.calls
             );
-            report.fault
+            match report.fault {
+                None if written.is_err() => Some(Fault::Stream(2)),
+                fault => fault,
+            }
         }
         Err(fault) => Some(fault),
     }
@@ -105,12 +108,22 @@ fn print_end(rt: &HostRuntime, told: Result<Report, Fault>) -> Option<Fault> {
 /// Tells why the program is asked nothing.
 fn tell(rt: &HostRuntime, unasked: &Unasked) -> ExitCode {
     let status = unasked.status();
-    let _ = if status == 0 {
-        print!(rt; "{unasked}")
-    } else {
-        eprint!(rt; "{unasked}")
-    };
+    if status == 0 {
+        return end(rt, print!(rt; "{unasked}").err().map(|_| Fault::Stream(2)));
+    }
+    let _ = eprint!(rt; "{unasked}");
     ExitCode::from(status)
+}
+
+/// Tells the fault, if there is one, and ends with its status.
+fn end(rt: &HostRuntime, fault: Option<Fault>) -> ExitCode {
+    match fault {
+        None => ExitCode::from(0),
+        Some(fault) => {
+            let _ = eprintln!(rt; "xcpd: {fault}");
+            ExitCode::from(fault.status())
+        }
+    }
 }
 
 fn main(rt: HostRuntime) -> ExitCode {
@@ -174,11 +187,5 @@ fn main(rt: HostRuntime) -> ExitCode {
         },
         Err(unasked) => return tell(&rt, &unasked),
     };
-    match fault {
-        None => ExitCode::from(0),
-        Some(fault) => {
-            let _ = eprintln!(rt; "xcpd: {fault}");
-            ExitCode::from(fault.status())
-        }
-    }
+    end(&rt, fault)
 }

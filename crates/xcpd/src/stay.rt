@@ -37,10 +37,10 @@ pub fn stay_by<R: Threads + Wait + Clock + Copy + Send + Sync + 'static>(
     let _ = println!(rt; "listening {port}");
     let log = Log { rt, host, port };
     match stay(handle, rt.alloc(), unnamed, &listener, plan, &halt, &log) {
-        Ok(told) => {
-            let _ = println!(rt; "chapters {}\ncalls {}\nsettled", told.chapters, told.calls);
-            Ok(())
-        }
+        Ok(told) => println!(rt;
+            "chapters {}\ncalls {}\nsettled",
+            told.chapters, told.calls
+        ).map_err(|_| Fault::Stream(2)),
         Err(error) => Err(fault_of(error)),
     }
 }
