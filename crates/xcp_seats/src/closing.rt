@@ -1,7 +1,12 @@
 //! A connection that ends with its first failed write.
+ghost use Rattle.std.specs.Io.{WritesAtMost};
 
-use std::io::{self, Write};
+use crate::patient::is_interrupted;
+use std::io::{self, ErrorKind, Write};
 use std::net::{Shutdown, TcpStream};
+
+/// How often a write may be broken off by signals.
+const TRIES: u32 = 4_294_967_295;
 
 /// A connection's socket to write to. Where a write fails, as it does too when the tool has read nothing for the time that was set at the
 /// socket, the connection is closed in both directions: whoever reads from it is not left waiting.
@@ -15,11 +20,24 @@ impl Closing {
     pub fn new(stream: TcpStream) -> Closing {
         Closing { stream }
     }
+
+    /// A write that is made again where a signal broke it off.
+    fn write_on(&mut self, buf: &[u8]) -> io::Result<usize>
+        ensures { WritesAtMost result buf.now }
+    {
+        for _try in 0..TRIES {
+            match self.stream.write(buf) {
+                Err(e) if is_interrupted(&e) => {}
+                written => return written,
+            }
+        }
+        Err(ErrorKind::Interrupted.into())
+    }
 }
 
 impl Write for Closing {
     fn write(&mut self, buf: &[u8]) -> io::Result<usize> {
-        let written = self.stream.write(buf);
+        let written = self.write_on(buf);
         if written.is_err() {
             // Where the tool has closed it, there is nothing to do.
             let _ = self.stream.shutdown(Shutdown::Both);

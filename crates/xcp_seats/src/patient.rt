@@ -107,12 +107,17 @@ impl Read for Patient {
                     }
                     return Ok(count);
                 }
-                Err(e) if is_late(&e) && !self.edge.is_inside() => {}
+                Err(e) if is_interrupted(&e) || is_late(&e) && !self.edge.is_inside() => {}
                 Err(e) => return Err(e),
             }
         }
         Err(ErrorKind::TimedOut.into())
     }
+}
+
+/// Whether a call was broken off by a signal, as where the program was stopped and goes on. It is made again.
+pub(crate) fn is_interrupted(e: &io::Error) -> bool {
+    e.kind() == ErrorKind::Interrupted
 }
 
 /// Whether a read failed since nothing came in time.
