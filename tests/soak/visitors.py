@@ -44,13 +44,14 @@ class Visitor:
         return tool
 
     def ask_a_little(self, tool):
-        """Commands that change nothing, and are answered the same whatever other tools do."""
-        tool.expect(b"\xfb", b"\xff\x00\x01\x00\x08\x00\x00\x10")
-        tool.expect(b"\xe9", bytes([0xFF, len(self.layout.segments), 1]))
-        tool.expect(b"\xd9", bytes([0xFF, 1, self.layout.max_dto - 1, 1, 0, 0, 0, 0]))
-        for number, segment in enumerate(self.layout.segments):
-            tool.expect(bytes([0xE8, 0, number, 0, 0]), struct.pack("<BxxxI", 0xFF, segment.address))
-        tool.expect(b"\xfc", b"\xfe\x00")
+        """Commands that are answered the same whatever other tools do. They change nothing but that a block of the calibrator's would be over."""
+        with self.soak.mta:
+            tool.expect(b"\xfb", b"\xff\x00\x01\x00\x08\x00\x00\x10")
+            tool.expect(b"\xe9", bytes([0xFF, len(self.layout.segments), 1]))
+            tool.expect(b"\xd9", bytes([0xFF, 1, self.layout.max_dto - 1, 1, 0, 0, 0, 0]))
+            for number, segment in enumerate(self.layout.segments):
+                tool.expect(bytes([0xE8, 0, number, 0, 0]), struct.pack("<BxxxI", 0xFF, segment.address))
+            tool.expect(b"\xfc", b"\xfe\x00")
 
     def visit(self, way):
         tool = self.come()
@@ -99,8 +100,9 @@ class Visitor:
         tool.leave()
 
     def send_empty_frame(self, tool):
-        tool.socket.sendall(bytes(4))
-        self.ask_a_little(tool)
+        with self.soak.mta:
+            tool.socket.sendall(bytes(4))
+            self.ask_a_little(tool)
         tool.leave()
 
     def send_too_long(self, tool):
