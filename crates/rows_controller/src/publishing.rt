@@ -1,5 +1,5 @@
 //! Which requests publish an image.
-use crate::openings::{BYTES, controller};
+use crate::openings::{BYTES, controller, in_use};
 use crate::rows::Ask::{Command, Drain, Event, FinishStore, Hangup};
 use crate::rows::Said::{BadSignals, NoChannel, NoStore, Nothing, Packet, Sampled, Silent, Stored};
 use crate::rows::{Row, Seen, first_wrong, held, take};
@@ -185,5 +185,47 @@ fn an_image_is_published_where_it_changes(rt: HostRuntime) -> Result<(), Fail> {
     assert_eq!(rt; (before, writes, pages), (None, None, None));
     controller.audit();
     assert!(rt; held(&mut keeper) == opening && seen.number == 10);
+    Ok(())
+}
+
+// Rows that are wrong in one thing each: what is told, a byte of it, that an image is published or none, a byte of
+// it, and where that stands.
+static WRONG: [[Row; 1]; 6] = [
+    [(Command(&[0xFD]), Silent, None)],
+    [(Command(&[0xFD]), Packet(&[0xFF, 0, 0, 0, 0, 1]), None)],
+    [(
+        Command(&[0xFD]),
+        Packet(&[0xFF, 0, 0, 0, 0, 0]),
+        Some((0, &[0])),
+    )],
+    [(
+        Command(&[0xED, 1, 0, 0, 1, 0x10, 0, 0, 0x55]),
+        Packet(&[0xFF]),
+        None,
+    )],
+    [(
+        Command(&[0xED, 1, 0, 0, 1, 0x10, 0, 0, 0x55]),
+        Packet(&[0xFF]),
+        Some((1, &[0x56])),
+    )],
+    [(
+        Command(&[0xED, 1, 0, 0, 1, 0x10, 0, 0, 0x55]),
+        Packet(&[0xFF]),
+        Some((2, &[0x55])),
+    )],
+];
+
+#[test]
+fn wrong_rows_are_found(rt: HostRuntime) -> Result<(), Fail> {
+    for rows in &WRONG {
+        let mut controller = in_use(rt.alloc())?;
+        let mut reader = controller.take_reader().ok_or("a reader")?;
+        let mut seen = Seen::first(&BYTES);
+        let _opening = take(&mut reader);
+        assert_eq!(rt;
+            first_wrong(&mut controller, &mut reader, &mut seen, rows),
+            Some(0)
+        );
+    }
     Ok(())
 }
