@@ -58,7 +58,8 @@ class Server:
         words = ["--stay", "--port", port, "--tools", SEATS, "--tasks", TASKS, "--period", PERIOD, "--patience", PATIENCE]
         words = [program, "serve", "--config", layout, *map(str, words)]
         pipe = subprocess.PIPE
-        self.process = subprocess.Popen(words, stdin=pipe, stdout=pipe, stderr=pipe, text=True, bufsize=1)
+        environment = {"MALLOC_ARENA_MAX": "1", **os.environ}  # as in the unit of SERVICE
+        self.process = subprocess.Popen(words, stdin=pipe, stdout=pipe, stderr=pipe, text=True, bufsize=1, env=environment)
         self.began = time.monotonic()
         self.port, self.log, self.lines = port, Log(self.process.stderr), queue.Queue()
         threading.Thread(target=self.read, daemon=True).start()
