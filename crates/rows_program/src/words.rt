@@ -40,8 +40,8 @@ impl Env for Started<'_> {
 }
 
 /// What a program that was started with these words does: the file of a replay, the file of a server with its host, port,
-/// tools, tasks, cycles, chapter and period, or, behind `stay`, with its host, port, tools, tasks, period and patience, the file
-/// of a description with its host and port, the file of an audit, its journal and whether lines are wanted, or the status, a blank
+/// tools, tasks, cycles, chapter and period, or, behind `stay`, with its host, port, tools, tasks, period and patience (and behind
+/// either the file of its journal, if it is named), the file of a description with its host and port, the file of an audit, its journal and whether lines are wanted, or the status, a blank
 /// and what it tells.
 fn told(alloc: Global, words: &[u8]) -> Result<String, AllocError> {
     match asked(alloc, read_words(&(Started(words), alloc))) {
@@ -56,9 +56,13 @@ fn told(alloc: Global, words: &[u8]) -> Result<String, AllocError> {
                 cycles,
                 chapter,
                 period,
+                journal,
             },
         ) => {
-            format!(in alloc; "{config} {host} {port} {tools} {tasks} {cycles} {chapter} {period}")
+            let written = written(alloc, journal)?;
+            format!(in alloc;
+                "{config} {host} {port} {tools} {tasks} {cycles} {chapter} {period}{written}"
+            )
         }
         Ok(
             Options::Stay {
@@ -69,8 +73,14 @@ fn told(alloc: Global, words: &[u8]) -> Result<String, AllocError> {
                 tasks,
                 period,
                 patience,
+                journal,
             },
-        ) => format!(in alloc; "stay {config} {host} {port} {tools} {tasks} {period} {patience}"),
+        ) => {
+            let written = written(alloc, journal)?;
+            format!(in alloc;
+                "stay {config} {host} {port} {tools} {tasks} {period} {patience}{written}"
+            )
+        }
         Ok(Options::Describe { config, host, port }) => format!(in alloc; "{config} {host} {port}"),
         Ok(
             Options::Audit {
@@ -80,6 +90,14 @@ fn told(alloc: Global, words: &[u8]) -> Result<String, AllocError> {
             },
         ) => format!(in alloc; "{config} {file} {lines}"),
         Err(e) => format!(in alloc; "{} {e}", e.status()),
+    }
+}
+
+/// A blank and the file of a journal, if it is named.
+fn written(alloc: Global, journal: Option<String>) -> Result<String, AllocError> {
+    match journal {
+        None => Ok(String::new(alloc)),
+        Some(file) => format!(in alloc; " {file}"),
     }
 }
 
@@ -128,17 +146,18 @@ const SERVE_HELP: &str =
 Usage: xcpd serve [OPTIONS] --config <FILE> --port <PORT>
 
 Options:
-      --config <FILE>  The layout file, in TOML: identification, packet lengths, segments, signals, events
-      --port <PORT>    The port to listen on, 1,024 to 65,535
-      --host <A>       The address of this machine to listen on [default: 127.0.0.1]
-      --stay           Tools come and go, and the tasks have no end
-      --tools <T>      How many tools may connect, 1 or 2, with --stay 1 to 4 [default: 1]
-      --tasks <K>      How many tasks raise events, 0 to 6 [default: 1]
-      --cycles <N>     How many cycles each task runs, 1 to 1,000; not for --stay [default: 100]
-      --chapter <M>    From how many calls on a chapter of the journal is cut off, 1 to 65,536; not for --stay [default: 65536]
-      --period <MS>    The milliseconds from one cycle of a task to its next, 0 to 1,000 [default: 0]
-      --patience <S>   The seconds that a tool may stop inside a frame, or read nothing, 1 to 3,600; only for --stay [default: 60]
-  -h, --help           Print help
+      --config <FILE>   The layout file, in TOML: identification, packet lengths, segments, signals, events
+      --port <PORT>     The port to listen on, 1,024 to 65,535
+      --host <A>        The address of this machine to listen on [default: 127.0.0.1]
+      --stay            Tools come and go, and the tasks have no end
+      --tools <T>       How many tools may connect, 1 or 2, with --stay 1 to 4 [default: 1]
+      --tasks <K>       How many tasks raise events, 0 to 6 [default: 1]
+      --cycles <N>      How many cycles each task runs, 1 to 1,000; not for --stay [default: 100]
+      --chapter <M>     From how many calls on a chapter of the journal is cut off, 1 to 65,536; not for --stay [default: 65536]
+      --period <MS>     The milliseconds from one cycle of a task to its next, 0 to 1,000 [default: 0]
+      --patience <S>    The seconds that a tool may stop inside a frame, or read nothing, 1 to 3,600; only for --stay [default: 60]
+      --journal <FILE>  A new file that all calls are written to, for an audit
+  -h, --help            Print help
 
 Its first line is: listening PORT. It accepts T connections, answers each until it ends, and runs the tasks meanwhile.
 When all have ended it prints: chapters C (C is the number of chapters, the open one included), calls N (N is the
@@ -148,6 +167,8 @@ had begun.
 With --stay tools come and go, up to T at a time (1 to 4), until a line `stop` on standard input ends it; the tasks run
 until then, and --cycles and --chapter are ignored. How each connection ended is told on standard error then, and the
 status is not that of a connection's fault. Without it T is 1 or 2, and --patience is ignored.
+With --journal all calls are written to FILE, which must not be there yet: with --stay chapter by chapter, else at the
+end. One line more is printed then, behind settled: recorded N (N is the number of calls that stand in FILE).
 
 Wrong words end the program with status 1, and what is wrong with them on standard error. Any other fault ends it
 with one line there, and this status:
@@ -158,6 +179,7 @@ with one line there, and this status:
   4  memory: an allocation failed, or a thread couldn't be started
   5  mismatch chapter K: chapter K of the journal doesn't follow the one before
   5  mismatch caller C at I: what caller C was answered differs from the journal, first at its call I
+  6  journal N: the journal's file can't be made, or is there already (1), or not all calls could be written (2)
 ";
 
 const DESCRIBE_HELP: &str = "0 Prints the A2L file of the slave: ASAP2 1.6, on standard output
@@ -294,7 +316,7 @@ fn the_words_of_a_description(rt: HostRuntime) -> Result<(), Fail> {
 }
 
 /// What the program does with words of `serve` behind a configuration file F and a port.
-const SERVERS: [(&[u8], &str); 14] = [
+const SERVERS: [(&[u8], &str); 16] = [
     (
         b"xcpd|serve|--config|F|--port|5555",
         "F 127.0.0.1 5555 1 1 100 65536 0",
@@ -347,11 +369,19 @@ const SERVERS: [(&[u8], &str); 14] = [
         b"xcpd|serve|--config|F|--port|2000|--patience|7",
         "F 127.0.0.1 2000 1 1 100 65536 0",
     ),
+    (
+        b"xcpd|serve|--journal|J|--config|F|--port|2000",
+        "F 127.0.0.1 2000 1 1 100 65536 0 J",
+    ),
+    (
+        b"xcpd|serve|--config|F|--port|2000|--journal=",
+        "F 127.0.0.1 2000 1 1 100 65536 0 ",
+    ),
     (b"xcpd|serve|--help", SERVE_HELP),
 ];
 
 /// What it does with words of `serve` that have `--stay`.
-const STAYING: [(&[u8], &str); 9] = [
+const STAYING: [(&[u8], &str); 10] = [
     (
         b"xcpd|serve|--config|F|--port|5555|--stay",
         "stay F 127.0.0.1 5555 1 1 0 60",
@@ -379,6 +409,10 @@ const STAYING: [(&[u8], &str); 9] = [
     (
         b"xcpd|serve|--config|F|--port|2000|--stay|--cycles|1|--chapter|5",
         "stay F 127.0.0.1 2000 1 1 0 60",
+    ),
+    (
+        b"xcpd|serve|--config|F|--port|2000|--stay|--journal|J",
+        "stay F 127.0.0.1 2000 1 1 0 60 J",
     ),
     (
         b"xcpd|serve|--config|F|--port|2000|--tools|3",

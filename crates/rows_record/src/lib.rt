@@ -1,5 +1,5 @@
 //! Rows of a journal's file: written and audited, through public items alone; a byte altered, the file cut short,
-//! chapters exchanged.
+//! chapters exchanged; and chapters that are given to a scribe.
 #![tactic(auto)]
 
 #[cfg(test)]
@@ -8,6 +8,8 @@ mod by_hand;
 mod files;
 #[cfg(test)]
 mod hearing;
+#[cfg(test)]
+mod scribing;
 #[cfg(test)]
 mod slaves;
 #[cfg(test)]

@@ -10,6 +10,7 @@ use std::time::{Clock, Duration, Instant};
 use xcp_framing::Watched;
 use xcp_locked::Entry;
 use xcp_program::Fault;
+use xcp_scribe::Recording;
 use xcp_server::{Ending, Report, serve_ends};
 use xcp_slave::Request;
 
@@ -18,6 +19,8 @@ type Tasks = (u8, u32, u32);
 
 // What a tool sends, and what runs beside it; the chapters, the calls and the fault that are told.
 type Row = (&'static [u8], Tasks, u64, u64, Option<Fault>);
+
+type Written = Recording<Vec<u8>>;
 
 const CONNECT: &[u8] = &[2, 0, 0, 0, 0xff, 0];
 
@@ -33,18 +36,22 @@ fn ended<R: Threads + Wait + Clock + Sync>(
     sent: &'static [u8],
     tasks: Tasks,
     period: u32,
-) -> Result<Ending<&'static [u8], Vec<u8>>, Fail> {
+) -> Result<Ending<&'static [u8], Vec<u8>, Written>, Fail> {
     let (tasks, cycles, chapter) = tasks;
     let tasks = tasks.min(6);
     let unnamed = small(alloc, 2 + tasks).ok_or("a slave")?;
     let writer: Vec<u8> = Vec::new(alloc);
     let ends = Vec::from_array(alloc, [(Watched::new(sent), Watched::new(writer))])?;
-    let ending = serve_ends(rt, alloc, unnamed, ends, tasks, cycles, chapter, period)
-        .ok()
-        .ok_or("an end")?;
+    let written: Written = Recording::new(alloc, Vec::new(alloc), [7; 32])?;
+    let ending = serve_ends(
+        rt, alloc, unnamed, ends, tasks, cycles, chapter, period, written,
+    )
+    .ok()
+    .ok_or("an end")?;
     Ok(ending)
 }
 
+// What is told, once all calls were written down.
 fn served<R: Threads + Wait + Clock + Sync>(
     rt: &R,
     alloc: Global,
@@ -53,7 +60,11 @@ fn served<R: Threads + Wait + Clock + Sync>(
     period: u32,
 ) -> Result<Report, Fail> {
     let ending = ended(rt, alloc, sent, tasks, period)?;
-    Ok(ending.told.ok().ok_or("a report")?)
+    let report = ending.told.ok().ok_or("a report")?;
+    if ending.scribe.calls() != report.calls {
+        return Err("all calls written down".into());
+    }
+    Ok(report)
 }
 
 #[test]
@@ -119,7 +130,8 @@ fn one_fails<R: Threads + Wait + Clock + Sync>(
     let mut ends = Vec::new(alloc);
     ends.push((Watched::new(given(2)), Watched::new(Hole { room: 1_000 })))?;
     ends.push((Watched::new(given(good_reads)), Watched::new(Hole { room })))?;
-    let ending = serve_ends(rt, alloc, unnamed, ends, 0, 1, 65_536, 0)
+    let written: Option<Written> = None;
+    let ending = serve_ends(rt, alloc, unnamed, ends, 0, 1, 65_536, 0, written)
         .ok()
         .ok_or("an end")?;
     Ok(ending.told.ok().ok_or("a report")?)
@@ -154,7 +166,8 @@ fn short<R: Threads + Wait + Clock + Sync>(rt: &R, alloc: Global) -> Option<Resu
     let unnamed = small(alloc, 3)?;
     let end = (Watched::new(CONNECT), Watched::new(Hole { room: 1_000 }));
     let ends = Vec::from_array(alloc, [end]).ok()?;
-    let ending = serve_ends(rt, alloc, unnamed, ends, 1, 100, 65_536, 0).ok()?;
+    let written: Option<Written> = None;
+    let ending = serve_ends(rt, alloc, unnamed, ends, 1, 100, 65_536, 0, written).ok()?;
     Some(ending.told)
 }
 

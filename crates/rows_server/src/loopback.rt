@@ -8,6 +8,7 @@ use std::sync::Wait;
 use std::test::Fail;
 use std::thread::{Threads, join};
 use std::time::Clock;
+use xcp_scribe::Recording;
 use xcp_server::{Report, accept_tools, serve_ends};
 
 // What a tool gets of a slave that it connects to, sends this to, and reads so many bytes of.
@@ -37,7 +38,8 @@ fn serve_one<R: Threads + Wait + Clock + Sync>(
 ) -> Option<Report> {
     let unnamed = small(alloc, 4)?;
     let ends = accept_tools(alloc, listener, 1).ok()?;
-    serve_ends(rt, alloc, unnamed, ends, 2, 2, 65_536, 0)
+    let written: Option<Recording<Vec<u8>>> = None;
+    serve_ends(rt, alloc, unnamed, ends, 2, 2, 65_536, 0, written)
         .ok()?
         .told
         .ok()

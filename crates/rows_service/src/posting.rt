@@ -9,7 +9,10 @@ use std::sync::Wait;
 use std::test::Fail;
 use xcp_locked::{Discord, Locked, Name, Opening, Unnamed, Unsettled};
 use xcp_packet::Packet;
-use xcp_service::{Collector, Member, Post, Posting, Route, Unkept, Unrouted, call, resign_all};
+use xcp_scribe::Recording;
+use xcp_service::{
+    Collector, Member, Post, Posting, Resigned, Route, Unkept, Unrouted, call, resign_all,
+};
 use xcp_slave::Request;
 
 // What two members do once each has called twice.
@@ -27,8 +30,10 @@ enum Way {
     Exchanged,
 }
 
-// How many members resigned, how many chapters the keeper took, and whether it meets the slave.
-type Came = Result<(usize, u64, bool), Unkept>;
+// How many members resigned, how many chapters the keeper took, whether it meets the slave, and how many calls were written down.
+type Came = Result<(usize, u64, bool, u64), Unkept>;
+
+type Written = Recording<Vec<u8>>;
 
 fn call_twice<N: Name, M: Route>(
     rt: &impl Wait,
@@ -81,6 +86,7 @@ fn post_routed<N: Name, M: Route>(
     requires relay { unrouted ≡ M.relay }
     requires opened { AreOpened opening.callers.items }
 {
+    let written: Written = Recording::new(alloc, Vec::new(alloc), [7; 32])?;
     let Opening {
         mut locked,
         callers,
@@ -90,7 +96,7 @@ fn post_routed<N: Name, M: Route>(
         post,
         mut members,
         collector,
-    } = unrouted.open::<M>(alloc, callers)?;
+    } = unrouted.open::<M, Written>(alloc, callers, written)?;
     call_twice(rt, alloc, &mut locked, &post, &mut members);
     hand_over(rt, alloc, &mut locked, &post, &mut members, way);
     if way == Way::Exchanged {
@@ -108,11 +114,20 @@ fn ended<N: Name, M: Route>(
     alloc: Global,
     locked: &Locked<N>,
     post: &Post<N, M>,
-    collector: Result<Collector<N, M>, Unkept>,
+    collector: Result<Collector<N, M, Written>, Unkept>,
     members: Vec<Member<N, M>>,
 ) -> Came {
-    let (keeper, all) = resign_all(alloc, post, collector?, members)?;
-    Ok((all.len(), keeper.chapters(), keeper.meets(locked)))
+    let Resigned {
+        keeper,
+        scribe,
+        members,
+    } = resign_all(alloc, post, collector?, members)?;
+    Ok((
+        members.len(),
+        keeper.chapters(),
+        keeper.meets(locked),
+        scribe.calls(),
+    ))
 }
 
 fn post_named<N: Name>(
@@ -142,7 +157,7 @@ fn receipts(chapter: u64, caller: usize, at: usize) -> Unkept {
 #[test]
 fn members_hand_over_and_resign(rt: HostRuntime) -> Result<(), Fail> {
     let rows: [(Way, Came); 5] = [
-        (Way::InOrder, Ok((2, 1, true))),
+        (Way::InOrder, Ok((2, 1, true, 4))),
         (Way::AtHand, Err(Unkept::Memory)),
         (Way::OnTheWay, Err(Unkept::Memory)),
         (Way::NotCut, Err(receipts(0, 0, 0))),

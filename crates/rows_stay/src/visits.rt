@@ -11,6 +11,7 @@ use std::test::Fail;
 use std::thread::{Threads, join};
 use std::time::{Clock, Duration};
 use xcp_locked::Unnamed;
+use xcp_scribe::Recording;
 use xcp_seats::Halt;
 use xcp_stay::{Plan, Report, stay};
 
@@ -54,7 +55,7 @@ fn visit_all<R: Wait>(
     right
 }
 
-// Serves one tool at a time, and no task. It is so many seconds patient.
+// Serves one tool at a time, and no task. It is so many seconds patient. Nothing is told where not all calls were written down.
 pub fn serve<R: Threads + Wait + Clock + Sync>(
     rt: &HostRuntime,
     handle: &R,
@@ -73,16 +74,17 @@ pub fn serve<R: Threads + Wait + Clock + Sync>(
         period: 0,
         patience: Duration::from_secs(patience),
     };
-    stay(
-        handle,
-        alloc,
-        unnamed,
-        listener,
-        plan,
-        halt,
-        &Quiet { rt, port },
+    let written: Recording<Vec<u8>> = Recording::new(alloc, Vec::new(alloc), [7; 32]).ok()?;
+    let quiet = Quiet { rt, port };
+    let (report, written) = stay(
+        handle, alloc, unnamed, listener, plan, written, halt, &quiet,
     )
-    .ok()
+    .ok()?;
+    if written.calls() == report.calls && written.fault().is_none() {
+        Some(report)
+    } else {
+        None
+    }
 }
 
 // How many of so many visits were answered as they should, and what is told of the server.

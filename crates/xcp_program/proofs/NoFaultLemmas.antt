@@ -1,5 +1,5 @@
 -- Words in which clap finds no fault name a replay with its file, a server with its file and its numbers, a description, or an audit.
-use Rattle.std.proofs.Common.{◌≡◌, ◌==◌, inl, inr, ◌∙◌, ◌||◌, ℕ, suc, length, Bool, codes, true, false, not, refl, sym, ap, subst, true≢false, List, [], ◌∷◌, ◌++◌, drop, fold, take, Option, Some, None, IfSome, is_some, if◌then◌else◌, option_and_then, option_map, find, slice_get, bytes_eq, unwrap_or}
+use Rattle.std.proofs.Common.{◌≡◌, ◌==◌, ◌⊎◌, inl, inr, ◌∙◌, ◌||◌, ℕ, suc, length, Bool, codes, true, false, not, refl, sym, ap, subst, true≢false, List, [], ◌∷◌, ◌++◌, drop, fold, take, Option, Some, None, IfSome, is_some, if◌then◌else◌, option_and_then, option_map, find, slice_get, bytes_eq, unwrap_or}
 use Rattle.std.specs.List.{list_all}
 use Rattle.std.specs.Option.{option_map_or}
 use Rattle.std.proofs.Math.Dec.{eqb-zero-suc}
@@ -15,7 +15,7 @@ use Rattle.clap.proofs.ValueTestLemmas.{accepts-Accepts}
 use Rattle.clap.specs.declared.builder.value_parser.ValueParser.TheVariants.{Unsigned}
 use Rattle.clap.specs.declared.error.kind.ErrorKind.TheVariants as kind
 use Rattle.xcp_program.specs.CommandLine.{HasNumber, HasNumberIn, Numeric, chapter, cycles, host_default, named_port, patience, period, port, program, tasks, tools}
-use Rattle.xcp_program.specs.private.CommandLine.{AsksAudit, AsksDescription, AsksRun, AsksSomething, HasFlag}
+use Rattle.xcp_program.specs.private.CommandLine.{AsksAudit, AsksDescription, AsksRun, AsksSomething, HasFlag, IsChosen}
 use Rattle.xcp_program.proofs.ClapRowLemmas.{Each, EachRule, Good, IsGiven, Keeps, default_row, defaults_leave, found_row, found_rule, keeps_flag, keeps_set, leaves_row, no_kinds, default_among, parts, row_for}
 use Rattle.xcp_program.proofs.ClapWalkLemmas.{NoHelp, settles, walk_kept, walk_stops}
 
@@ -84,7 +84,10 @@ keeps_serve = (
                   keeps_set serve_shape.rules (nth 8 serve_shape) refl refl refl (λ again rows e. no_kinds _ _ e),
                   (
                     keeps_set serve_shape.rules (nth 9 serve_shape) refl refl refl (λ again rows e. no_kinds _ _ e),
-                    (λ again values rows e v. v, tt),
+                    (
+                      keeps_set serve_shape.rules (nth 10 serve_shape) refl refl refl (λ again rows e. no_kinds _ _ e),
+                      (λ again values rows e v. v, tt),
+                    ),
                   ),
                 ),
               ),
@@ -203,11 +206,23 @@ default_stands a v rows all same good passes = go (row_for a.id rows) refl good
     }
     go (Some r) e h = stands a all (Some v) r (same ∙ ap (λ (o : Option Row). Some (unwrap_or o (default_row a v))) e) h
 
+-- an option that needn't be given and has no default: it stands, or nothing does
+choice_stands : (a : Rule) (rows all : List Row) → row_for a.id all ≡ row_for a.id rows → IfSome (row_for a.id rows) (IsGiven a) → Stands a all None ⊎ ((is_given a.id all ≡ false) × (first_of a.id all ≡ None))
+choice_stands a rows all same good = go (row_for a.id rows) refl good
+  where
+    go : (o : Option Row) → row_for a.id rows ≡ o → IfSome o (IsGiven a) → Stands a all None ⊎ ((is_given a.id all ≡ false) × (first_of a.id all ≡ None))
+    go None e h = inr (ap (λ (o : Option Row). option_map_or (λ q. explicit_source q.source) o false) (same ∙ e), ap (option_and_then (λ q. slice_get q.values 0)) (same ∙ e))
+    go (Some r) e h = inl (stands a all None r (same ∙ e) h)
+
 -- ---- an option of a subcommand whose words have no fault
 
 module _ (s : Shape) (words : List Text) (kept : EachRule (Keeps (Good s.rules)) s.rules) (e : level_fault s [] nothing_held words false [] ≡ []) where
   by_words : (a : Rule) → arg_by_id s.rules a.id ≡ Some a → list_all (leaves_row a.id) s.rules ≡ true → is_given a.id (all_rows s words) ≡ true → Stands a (all_rows s words) None
   by_words a one leaves given = wanted_stands a (given_rows s words) (all_rows s words) (defaults_leave a.id s.rules (given_rows s words) leaves) (row_is_good s words kept e a one) given
+
+  by_choice : (a : Rule) → arg_by_id s.rules a.id ≡ Some a → list_all (leaves_row a.id) s.rules ≡ true
+      → Stands a (all_rows s words) None ⊎ ((is_given a.id (all_rows s words) ≡ false) × (first_of a.id (all_rows s words) ≡ None))
+  by_choice a one leaves = choice_stands a (given_rows s words) (all_rows s words) (defaults_leave a.id s.rules (given_rows s words) leaves) (row_is_good s words kept e a one)
 
   by_default : (before after : List Rule) (a : Rule) (v : Text) → before ++ a ∷ after ≡ s.rules → list_all (leaves_row a.id) before ≡ true → list_all (leaves_row a.id) after ≡ true → a.defaults ≡ v ∷ []
       → arg_by_id s.rules a.id ≡ Some a → value_passes a v ≡ true → Stands a (all_rows s words) (Some v)
@@ -276,6 +291,19 @@ flag_among s command words named all a none missing h = go (is_given a.id (all_r
     go true e = inl (record { name = ap Some named; value = value (codes "true") (one_value _ _ (sym missing ∙ h.flag e none)) }, ap (is_given a.id) all ∙ e)
     go false e = inr (record { name = ap Some named; value = value (codes "false") (some_text _ _ (h.otherwise e)) }, ap (is_given a.id) all ∙ e)
 
+no_text : (a : Text) → Some a ≡ None → ⊥
+no_text a e = cc
+
+-- an option that needn't be given, and has no default
+choice_among : (s : Shape) (command : Text) (words : List Text) → (rows_at s words).0 ≡ command → (rows_at s words).1 ≡ all_rows s words → (a : Rule)
+    → Stands a (all_rows s words) None ⊎ ((is_given a.id (all_rows s words) ≡ false) × (first_of a.id (all_rows s words) ≡ None)) → IsChosen (Some (rows_at s words)) command a.id
+choice_among s command words named all a (inl h) = go (is_given a.id (all_rows s words)) refl
+  where
+    go : (g : Bool) → is_given a.id (all_rows s words) ≡ g → IsChosen (Some (rows_at s words)) command a.id
+    go true e = inl (h.text, record { text = record { name = ap Some named; value = ap (first_of a.id) all ∙ h.value }; given = ap (is_given a.id) all ∙ e })
+    go false e = absurd (no_text _ (sym (h.otherwise e)))
+choice_among s command words named all a (inr h) = inr (ap (is_given a.id) all ∙ h.0, λ text has. no_text text (sym has.value ∙ ap (first_of a.id) all ∙ h.1))
+
 module _ (words : List Text) (e : level_fault serve_shape [] nothing_held words false [] ≡ []) where
   wants : (is_given (codes "config") (all_rows serve_shape words) ≡ true) × (is_given (codes "port") (all_rows serve_shape words) ≡ true)
   wants = two_wanted _ _ (checked serve_shape words keeps_serve e)
@@ -310,6 +338,9 @@ module _ (words : List Text) (e : level_fault serve_shape [] nothing_held words 
   patience_stands : Stands (nth 9 serve_shape) (all_rows serve_shape words) patience.default
   patience_stands = by_default serve_shape words keeps_serve e (take 9 serve_shape.rules) (drop 10 serve_shape.rules) (nth 9 serve_shape) (codes "60") refl refl refl refl refl refl
 
+  written_stands : Stands (nth 10 serve_shape) (all_rows serve_shape words) None ⊎ ((is_given (codes "journal") (all_rows serve_shape words) ≡ false) × (first_of (codes "journal") (all_rows serve_shape words) ≡ None))
+  written_stands = by_choice serve_shape words keeps_serve e (nth 10 serve_shape) refl refl
+
   serve_asked : AsksRun (Some (rows_at serve_shape words))
   serve_asked =
       let p = number_stands words (nth 1 serve_shape) port refl (λ text h. accepts-Accepts false (Unsigned 1024 65535) text h) port_stands in
@@ -339,6 +370,7 @@ module _ (words : List Text) (e : level_fault serve_shape [] nothing_held words 
         chapter = m.1;
         period = ms.1;
         patience = s.1;
+        journal = choice_among serve_shape (codes "serve") words refl refl (nth 10 serve_shape) written_stands;
       })
 
 -- ---- `describe`

@@ -1,12 +1,12 @@
 //! The words of the command line.
-ghost use Rattle.std.specs.Prelude.{◌≡◌, ◌⊎◌, ◌<◌, ◌^◌, List, [], ℕ, map, option_map, false, true, None};
+ghost use Rattle.std.specs.Prelude.{◌≡◌, ◌⊎◌, ◌<◌, ◌^◌, List, [], ℕ, codes, map, option_map, false, true, None};
 ghost use Rattle.std.specs.Prelude.{IfOk, IfErr, IfSome, string_bytes};
 ghost use Rattle.clap.specs.Words.{app_of, kind_of, rule_of, subcommand_of, subcommand_rows_of, takes};
 ghost use Rattle.clap.specs.Words.{fault_of as faults_in};
 ghost use Rattle.clap.specs.declared.builder.command.Command.TheViews.{out-Command as fields_of};
-ghost use Rattle.xcp_program.specs.CommandLine.{Asks, AsksTooMany, InRange, HasText, IsMistake, Spells, SpellsIn, gives};
-ghost use Rattle.xcp_program.specs.private.CommandLine.{AsksAudit, AsksDescription, AsksServe, AsksSomething, HasFlag, IsRefusal, placed_app};
-ghost use Rattle.xcp_program.specs.CommandLine.{audit_app, config_rule, describe_app, file_rule, flag_rule, host_rule, numeric_rule, program, replay_app, serve_app};
+ghost use Rattle.xcp_program.specs.CommandLine.{Asks, AsksTooMany, InRange, HasChoice, HasText, IsMistake, Spells, SpellsIn, gives};
+ghost use Rattle.xcp_program.specs.private.CommandLine.{AsksAudit, AsksDescription, AsksServe, AsksSomething, HasFlag, IsChosen, IsRefusal, placed_app};
+ghost use Rattle.xcp_program.specs.CommandLine.{audit_app, choice_rule, config_rule, describe_app, file_rule, flag_rule, host_rule, numeric_rule, program, replay_app, serve_app};
 
 use crate::purpose::{Options, OptionsFault};
 use clap::builder::ValueParser;
@@ -47,6 +47,8 @@ had begun.
 With --stay tools come and go, up to T at a time (1 to 4), until a line `stop` on standard input ends it; the tasks run
 until then, and --cycles and --chapter are ignored. How each connection ended is told on standard error then, and the
 status is not that of a connection's fault. Without it T is 1 or 2, and --patience is ignored.
+With --journal all calls are written to FILE, which must not be there yet: with --stay chapter by chapter, else at the
+end. One line more is printed then, behind settled: recorded N (N is the number of calls that stand in FILE).
 
 Wrong words end the program with status 1, and what is wrong with them on standard error. Any other fault ends it
 with one line there, and this status:
@@ -56,7 +58,8 @@ with one line there, and this status:
      failed (2), a frame is too long (3) or cut short (4), the reads were spent (6); the journal is full (7)
   4  memory: an allocation failed, or a thread couldn't be started
   5  mismatch chapter K: chapter K of the journal doesn't follow the one before
-  5  mismatch caller C at I: what caller C was answered differs from the journal, first at its call I";
+  5  mismatch caller C at I: what caller C was answered differs from the journal, first at its call I
+  6  journal N: the journal's file can't be made, or is there already (1), or not all calls could be written (2)";
 
 /// What help says below the options of a description.
 const FAULTS: &str =
@@ -177,6 +180,18 @@ fn host_option<'a>(alloc: Global, value: &'a str, help: &'a str) -> Arg<'a>
         .help(help)
 }
 
+/// The file of a journal, which needn't be named.
+fn journal_option<'a>(alloc: Global) -> Arg<'a>
+    ensures rule { rule_of result ≡ choice_rule (codes "journal") }
+    ensures local { result.global ≡ false }
+{
+    Arg::new(alloc, "journal")
+        .long("journal")
+        .value_name("FILE")
+        .action(ArgAction::Set)
+        .help("A new file that all calls are written to, for an audit")
+}
+
 /// The front of `serve`: the options that say of which slave, at which port and host, and whether it stays.
 fn placed_command<'a>(alloc: Global) -> Result<Command<'a>, AllocError>
     ensures app { IfOk result (λ c. app_of c ≡ placed_app) }
@@ -229,7 +244,8 @@ fn serve_command<'a>(alloc: Global) -> Result<Command<'a>, AllocError>
     let patience = numeric(alloc, "patience", "S", 1, 3_600, Some("60")).help(
         "The seconds that a tool may stop inside a frame, or read nothing, 1 to 3,600; only for --stay",
     );
-    Ok(serve.arg(patience)?)
+    let serve = serve.arg(patience)?;
+    Ok(serve.arg(journal_option(alloc))?)
 }
 
 /// The subcommand `describe`.
@@ -385,6 +401,23 @@ fn has_flag(matches: &ArgMatches<'_>, command: &str, flag: &str) -> bool
     }
 }
 
+/// The text of an option that needn't be given, of its own, if it is.
+fn choice_in(
+    alloc: Global,
+    matches: &ArgMatches<'_>,
+    command: &str,
+    option: &str,
+) -> Result<Option<String>, AllocError>
+    requires { IsChosen (subcommand_rows_of matches.now) command.now option.now }
+    ensures { IfOk result (λ t. HasChoice (subcommand_rows_of matches.now) command.now option.now
+        (option_map string_bytes t)) }
+{
+    match text_in(matches, command, option) {
+        Some(text) => Ok(Some(String::from_str(alloc, text)?)),
+        None => Ok(None),
+    }
+}
+
 /// What the matches of a server ask for.
 fn server_asked(alloc: Global, matches: &ArgMatches<'_>) -> Result<Options, OptionsFault>
     requires { AsksServe (subcommand_rows_of matches.now) }
@@ -403,6 +436,7 @@ fn server_asked(alloc: Global, matches: &ArgMatches<'_>) -> Result<Options, Opti
     let period = number_in(matches, "period");
     let config = String::from_str(alloc, config)?;
     let host = String::from_str(alloc, host)?;
+    let journal = choice_in(alloc, matches, "serve", "journal")?;
     if has_flag(matches, "serve", "stay") {
         Ok(Options::Stay {
             config,
@@ -412,6 +446,7 @@ fn server_asked(alloc: Global, matches: &ArgMatches<'_>) -> Result<Options, Opti
             tasks,
             period,
             patience: number_in(matches, "patience"),
+            journal,
         })
     } else if tools > MOST_TOOLS {
         Err(OptionsFault::TooManyTools)
@@ -425,6 +460,7 @@ fn server_asked(alloc: Global, matches: &ArgMatches<'_>) -> Result<Options, Opti
             cycles: number_in(matches, "cycles"),
             chapter: number_in(matches, "chapter"),
             period,
+            journal,
         })
     }
 }

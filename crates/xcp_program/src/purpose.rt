@@ -30,6 +30,8 @@ pub enum Options {
         chapter: u32,
         /// The milliseconds from one cycle of a task to its next, 0 to 1,000.
         period: u32,
+        /// The name of the file that the journal is written to, if it is.
+        journal: Option<String>,
     },
     /// The same, while tools come and go.
     Stay {
@@ -47,6 +49,8 @@ pub enum Options {
         period: u32,
         /// The seconds that a tool may stop inside a frame, or read nothing of what is sent to it, 1 to 3,600.
         patience: u32,
+        /// The name of the file that the journal is written to, if it is.
+        journal: Option<String>,
     },
     /// To describe, for tools, the slave that this file describes.
     Describe {

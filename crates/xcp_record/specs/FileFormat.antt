@@ -43,3 +43,7 @@ most_calls = 65536
 
 abbrev pub most_call : ℕ
 most_call = 519
+
+-- the number of the last chapter that there can be
+abbrev pub last_chapter : ℕ
+last_chapter = 4294967295

@@ -2,7 +2,7 @@
 ghost use Rattle.std.specs.Prelude.{◌≡◌, ◌≤◌, ◌<◌, ◌+◌, ◌≢◌, ◌⊎◌, ◌*◌, ◌++◌, ◌∷◌, [], ℕ, List, Option, Err, OnOk, OnErr, IfOk, IfErr, length, true, false};
 ghost use Rattle.sha2.specs.Hashers.{Holds256};
 ghost use Rattle.xcp_trace.specs.declared.journal.Entry.{Entry};
-ghost use Rattle.xcp_record.specs.FileFormat.{most_call, most_calls};
+ghost use Rattle.xcp_record.specs.FileFormat.{last_chapter, most_call, most_calls};
 ghost use Rattle.xcp_record.specs.Recording.{Records, StopsInside};
 ghost use Rattle.xcp_record.specs.private.Calls.{IsSealed, SpellsAll};
 
@@ -107,6 +107,9 @@ impl<W: Write> Recorder<W> {
             → self.old.writer.failures < self.new.writer.failures }
         ensures quiet { result ≢ Err RecordFault.Write
             → self.new.writer.failures ≡ self.old.writer.failures }
+        ensures number { result ≡ Err RecordFault.Number
+            → (number ≢ self.old.chapters) ⊎ (last_chapter < number) }
+        ensures since { result ≡ Err RecordFault.Stopped → self.old.stopped ≡ true }
     {
         if self.stopped {
             return Err(RecordFault::Stopped);

@@ -9,19 +9,20 @@ use std::sync::Wait;
 use std::time::Clock;
 use together::Work;
 use xcp_locked::Name;
+use xcp_scribe::Scribe;
 use xcp_service::{Collector, Member, Post, Route, Unkept};
 
 /// Keeps chapters, until the post is closed.
 #[derive(Drop)]
-pub struct Keeping<'a, N: Name, M: Route> {
-    pub collector: Collector<N, M>,
+pub struct Keeping<'a, N: Name, M: Route, S: Scribe> {
+    pub collector: Collector<N, M, S>,
     pub post: &'a Post<N, M>,
     pub halt: &'a Halt,
 }
 
-impl<'a, N: Name, M: Route> Keeping<'a, N, M> {
+impl<'a, N: Name, M: Route, S: Scribe> Keeping<'a, N, M, S> {
     /// Takes what comes. Where something isn't as it must be, it asks the server to end.
-    fn keep<R: Wait>(self, rt: &R) -> Result<Collector<N, M>, Unkept> {
+    fn keep<R: Wait>(self, rt: &R) -> Result<Collector<N, M, S>, Unkept> {
         let kept = self.collector.collect(rt, self.post);
         if kept.is_err() {
             self.halt.ask(rt);
@@ -53,25 +54,25 @@ impl<'a, N: Name, M: Route, W: Watcher> Warding<'a, N, M, W> {
 
 /// What is done beside the seats, each in a thread of its own.
 #[derive(Drop)]
-pub enum Duty<'a, N: Name, M: Route, C, W> {
+pub enum Duty<'a, N: Name, M: Route, S: Scribe, C, W> {
     Task(Ticker<'a, N, M, C>),
-    Keep(Keeping<'a, N, M>),
+    Keep(Keeping<'a, N, M, S>),
     Ward(Warding<'a, N, M, W>),
 }
 
 /// What comes of it.
 #[derive(Drop)]
-pub enum Performed<N: Name, M: Route> {
+pub enum Performed<N: Name, M: Route, S: Scribe> {
     Task(Member<N, M>),
-    Kept(Result<Collector<N, M>, Unkept>),
+    Kept(Result<Collector<N, M, S>, Unkept>),
     Warded,
 }
 
 /// A duty. Clauses see nothing of it, which keeps proofs about its thread small.
 #[derive(Drop)]
-pub struct Assigned<'a, N: Name, M: Route, C, W>(pub Duty<'a, N, M, C, W>);
+pub struct Assigned<'a, N: Name, M: Route, S: Scribe, C, W>(pub Duty<'a, N, M, S, C, W>);
 
-impl<'a, N: Name, M: Route, C, W> Model for Assigned<'a, N, M, C, W> {
+impl<'a, N: Name, M: Route, S: Scribe, C, W> Model for Assigned<'a, N, M, S, C, W> {
     ghost use Rattle.std.specs.Prelude.{⊤};
 
     ghost Value = { ⊤ };
@@ -81,9 +82,9 @@ impl<'a, N: Name, M: Route, C, W> Model for Assigned<'a, N, M, C, W> {
 
 /// What comes of a duty.
 #[derive(Drop)]
-pub struct Outcome<N: Name, M: Route>(pub Performed<N, M>);
+pub struct Outcome<N: Name, M: Route, S: Scribe>(pub Performed<N, M, S>);
 
-impl<N: Name, M: Route> Model for Outcome<N, M> {
+impl<N: Name, M: Route, S: Scribe> Model for Outcome<N, M, S> {
     ghost use Rattle.std.specs.Prelude.{⊤};
 
     ghost Value = { ⊤ };
@@ -91,14 +92,19 @@ impl<N: Name, M: Route> Model for Outcome<N, M> {
     ghost view = { λ _. tt };
 }
 
-impl<'a, N: Name + Send + Sync, M: Route + Send + Sync, C: Clock + Sync, W: Watcher + Sync> Work<
-    Outcome<N, M>,
-> for Assigned<'a, N, M, C, W> {
+impl<
+    'a,
+    N: Name + Send + Sync,
+    M: Route + Send + Sync,
+    S: Scribe + Send,
+    C: Clock + Sync,
+    W: Watcher + Sync,
+> Work<Outcome<N, M, S>> for Assigned<'a, N, M, S, C, W> {
     ghost use Rattle.std.specs.Prelude.{⊤};
 
     ghost gives = { λ d p. ⊤ };
 
-    fn run<R: Wait>(self, rt: &R) -> Outcome<N, M> {
+    fn run<R: Wait>(self, rt: &R) -> Outcome<N, M, S> {
         let Assigned(duty) = self;
         match duty {
             Duty::Task(task) => Outcome(Performed::Task(task.tick(rt))),
@@ -110,7 +116,7 @@ impl<'a, N: Name + Send + Sync, M: Route + Send + Sync, C: Clock + Sync, W: Watc
         }
     }
 
-    fn leave(self) -> Outcome<N, M> {
+    fn leave(self) -> Outcome<N, M, S> {
         let Assigned(duty) = self;
         match duty {
             Duty::Task(task) => Outcome(Performed::Task(task.member)),

@@ -1,7 +1,7 @@
 -- Which of the types of a connection may cross to another thread.
 use denote.RattleType.{RattleType}
 use denote.Ref.{NamedLft}
-use denote.Param.Send.{AllSend, IsSend, IsSync, recorded_send, sendable, struct_send, view_send}
+use denote.Param.Send.{AllSend, IsSend, recorded_send, sendable, struct_send, view_send}
 use denote.Struct.Declared as declared
 use denote.Struct.Struct.{Struct}
 use Rattle.std.proofs.Crossing.{crosses}

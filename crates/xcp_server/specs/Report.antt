@@ -1,10 +1,11 @@
 -- What is told at the end of a server.
-use Rattle.std.specs.Prelude.{◌≡◌, ℕ, ◌+◌, List, [], ◌∷◌, ◌++◌, Option, Some, None, Result, Ok, Err, MatchResult, length}
+use Rattle.std.specs.Prelude.{◌≡◌, ℕ, ◌+◌, List, [], ◌∷◌, ◌++◌, Option, Some, None, Result, Ok, Err, MatchResult, length, map}
 use Rattle.std.specs.List.{slice_get}
 use Rattle.xcp_bank.specs.BankId.{BankId}
 use Rattle.xcp_bank.specs.BankEnds.{six_readers}
 use Rattle.xcp_memory.specs.Layout.{LayoutValue}
 use Rattle.xcp_slave.specs.Run.{Run}
+use Rattle.xcp_trace.specs.declared.Entry.{Entry}
 use Rattle.xcp_slave.specs.SlaveValue.{opening}
 use Rattle.xcp_framing.specs.Serve.{number_of}
 use Rattle.xcp_framing.specs.CountedCalls.{Watched}
@@ -15,7 +16,7 @@ use Rattle.xcp_locked.specs.Caller.{CallerValue, callers_of}
 use Rattle.xcp_locked.specs.Chapters.{Disagree, IsWhole, entries_of}
 use Rattle.xcp_locked.specs.Journal.{exchanges}
 use Rattle.xcp_server.specs.LastHangup.{EndsSession}
-use Rattle.xcp_locked.specs.LockedSlave.{IsReached}
+use Rattle.xcp_locked.specs.LockedSlave.{ChapterValue, IsReached}
 use Rattle.xcp_locked.specs.Publications.{image_of}
 use Rattle.xcp_server.specs.ServerOutcome.{Closes, CountTheirCommands}
 use Rattle.xcp_server.specs.declared.closing.Closing.{Closing}
@@ -70,9 +71,14 @@ pub record IsReport {N I O : Type 0} (layout : LayoutValue) (c : Closing N I O) 
   pub whole : IsWhole layout c.locked c.chapters.items c.callers.items
   pub fault : r.fault ≡ first_of (fault_of_ends c.ends.items) (fault_of_tasks c.fault)
 
+-- the calls of chapters, chapter by chapter
+abbrev pub calls_in : List ChapterValue → List (List Entry)
+calls_in chapters = map (λ (c : ChapterValue). c.entries) chapters
+
 -- A server's work was done on a slave of this layout, by tasks that no gate ended, and this is what it gives back: what is told of
--- the work, the journal of its open chapter, which is a run from where the chapter begins, and its connections as the work left them.
-pub record IsServed {I O : Type 0} (N : Type 0) (remaining : I → Option (List ℕ)) (contents : O → Option (List ℕ)) (layout : LayoutValue) (turns cycles chapter tasks callers : ℕ) (bank : BankId) (ends : List (Watched I × Watched O)) (ending : Ending I O) : Type 0 where
+-- the work, the journal of its open chapter, which is a run from where the chapter begins, its connections as the work left them, and the
+-- scribe, which was given the calls of all chapters, in order, those of the open one last.
+pub record IsServed {I O S : Type 0} (N : Type 0) (remaining : I → Option (List ℕ)) (contents : O → Option (List ℕ)) (wrote : S → List (List Entry) → Type 0) (layout : LayoutValue) (turns cycles chapter tasks callers : ℕ) (bank : BankId) (ends : List (Watched I × Watched O)) (ending : Ending I O S) : Type 0 where
   pub closing : Closing N I O
   pub closes : Closes remaining contents layout ⊥ layout.max_cto turns cycles chapter tasks (callers_of layout callers) (six_readers bank (image_of (opening layout))) ends closing
   pub frames : CountTheirCommands closing.ends.items closing.callers.items
@@ -82,3 +88,4 @@ pub record IsServed {I O : Type 0} (N : Type 0) (remaining : I → Option (List 
   pub told : MatchResult ending.told (IsReport layout closing) (IsMismatch layout closing)
   pub journal : ending.journal.entries ≡ closing.locked.journal
   pub left : ending.left.items ≡ closing.left.items
+  pub written : wrote ending.scribe (calls_in closing.chapters.items ++ closing.locked.journal ∷ [])

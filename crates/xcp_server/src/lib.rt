@@ -15,6 +15,7 @@ mod dealing;
 mod hearing;
 mod laws;
 mod pumping;
+mod recording;
 mod report;
 mod sending;
 mod server;

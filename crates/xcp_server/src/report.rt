@@ -22,16 +22,18 @@ pub struct Report {
     pub fault: Option<Fault>,
 }
 
-/// What a server gives back: what is told of it, its journal, and its connections, in the order of
-/// accepting, as they were left. Contracts alone see the latter.
+/// What a server gives back: what is told of it, its journal, its connections, in the order of
+/// accepting, as they were left, and the scribe that was given the calls. Contracts alone see the
+/// connections.
 #[derive(Drop)]
-pub struct Ending<I: Read + Drop, O: Write + Drop> {
+pub struct Ending<I: Read + Drop, O: Write + Drop, S> {
     /// What is told, or `MismatchedChapter` where a chapter doesn't follow the one before it, or
     /// `Mismatch` where the receipts of a caller aren't the journal's.
     pub told: Result<Report, Fault>,
     /// The calls of the open chapter, in order, with their callers' numbers.
     pub journal: Journal,
     pub left: Vec<Left<I, O>>,
+    pub scribe: S,
 }
 
 /// Settles all callers of a server for each chapter, one after another, and tells how many chapters

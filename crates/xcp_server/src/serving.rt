@@ -1,7 +1,8 @@
 //! Connections and tasks, up to what is told of them.
-ghost use Rattle.std.specs.Prelude.{◌≡◌, ◌<◌, ◌≤◌, ◌+◌, MatchResult, vec_len};
+ghost use Rattle.std.specs.Prelude.{◌≡◌, ◌<◌, ◌≤◌, ◌+◌, [], MatchResult, vec_len};
 ghost use Rattle.xcp_server.specs.Report.{IsServed};
 
+use crate::recording::write_down;
 use crate::report::{Ending, conclude};
 use crate::server::run_server;
 use crate::timetable::Timetable;
@@ -14,6 +15,7 @@ use std::time::Clock;
 use xcp_framing::Watched;
 use xcp_locked::{Name, Unnamed};
 use xcp_program::Fault;
+use xcp_scribe::Scribe;
 
 /// The most reads of one connection.
 const TURNS: u32 = 1_000_000;
@@ -26,32 +28,12 @@ const PUMP_TURNS: u32 = 4_000_000_000;
 /// joins them, ends the session, settles all callers for each chapter and tells how many chapters and
 /// calls there were, or which chapter doesn't follow the one before it, or which caller's receipts
 /// aren't the journal's. A task begins its cycle n once n periods, in milliseconds, have passed since
-/// the call. `Memory`, and no other fault, is the call's own: it comes where memory or a thread is
-/// refused, before anybody has begun.
-pub fn serve_ends<I: Read + Send + Drop, O: Write + Send + Drop, R: Threads + Wait + Clock + Sync>(
-    rt: &R,
-    alloc: Global,
-    unnamed: Unnamed,
-    ends: Vec<(Watched<I>, Watched<O>)>,
-    tasks: u8,
-    cycles: u32,
-    chapter: u32,
-    period: u32,
-) -> Result<Ending<I, O>, Fault>
-    requires some { 0 < vec_len ends }
-    requires callers { vec_len ends + tasks + vec_len ends ≤ unnamed.callers }
-    requires readers { tasks ≤ 6 }
-    ensures served { MatchResult result (IsServed Brand I.remaining O.contents unnamed.layout 1000000
-        cycles chapter tasks unnamed.callers unnamed.bank ends.items) (λ f. f ≡ Fault.Memory) }
-{
-    serve_named::<Brand, I, O, R>(rt, alloc, unnamed, ends, tasks, cycles, chapter, period)
-}
-
-/// The same, for a slave that has a name.
-fn serve_named<
-    N: Name + Send + Sync,
+/// the call. The scribe is given the calls of all chapters at the end, in order. `Memory`, and no other
+/// fault, is the call's own: it comes where memory or a thread is refused, before anybody has begun.
+pub fn serve_ends<
     I: Read + Send + Drop,
     O: Write + Send + Drop,
+    S: Scribe,
     R: Threads + Wait + Clock + Sync,
 >(
     rt: &R,
@@ -62,13 +44,45 @@ fn serve_named<
     cycles: u32,
     chapter: u32,
     period: u32,
-) -> Result<Ending<I, O>, Fault>
+    scribe: S,
+) -> Result<Ending<I, O, S>, Fault>
+    requires some { 0 < vec_len ends }
+    requires callers { vec_len ends + tasks + vec_len ends ≤ unnamed.callers }
+    requires readers { tasks ≤ 6 }
+    requires scribe { S.wrote scribe [] }
+    ensures served { MatchResult result (IsServed Brand I.remaining O.contents S.wrote unnamed.layout 1000000
+        cycles chapter tasks unnamed.callers unnamed.bank ends.items) (λ f. f ≡ Fault.Memory) }
+{
+    serve_named::<Brand, I, O, S, R>(
+        rt, alloc, unnamed, ends, tasks, cycles, chapter, period, scribe,
+    )
+}
+
+/// The same, for a slave that has a name.
+fn serve_named<
+    N: Name + Send + Sync,
+    I: Read + Send + Drop,
+    O: Write + Send + Drop,
+    S: Scribe,
+    R: Threads + Wait + Clock + Sync,
+>(
+    rt: &R,
+    alloc: Global,
+    unnamed: Unnamed,
+    ends: Vec<(Watched<I>, Watched<O>)>,
+    tasks: u8,
+    cycles: u32,
+    chapter: u32,
+    period: u32,
+    scribe: S,
+) -> Result<Ending<I, O, S>, Fault>
     requires name { (unnamed.name ≡ N.name) × (unnamed.callers ≡ N.parts)
         × (unnamed.layout ≡ N.layout) × (unnamed.bank ≡ N.bank) }
     requires some { 0 < vec_len ends }
     requires callers { vec_len ends + tasks + vec_len ends ≤ unnamed.callers }
     requires readers { tasks ≤ 6 }
-    ensures served { MatchResult result (IsServed N I.remaining O.contents unnamed.layout 1000000
+    requires scribe { S.wrote scribe [] }
+    ensures served { MatchResult result (IsServed N I.remaining O.contents S.wrote unnamed.layout 1000000
         cycles chapter tasks unnamed.callers unnamed.bank ends.items) (λ f. f ≡ Fault.Memory) }
 {
     let gate = Timetable::new(rt, period);
@@ -78,11 +92,14 @@ fn serve_named<
         return Err(Fault::Memory);
     };
     let told = conclude(&mut closing);
+    closing.locked.audit();
     let journal = closing.locked.into_journal();
+    let scribe = write_down(scribe, &closing.chapters, &journal);
     let left = closing.left;
     Ok(Ending {
         told,
         journal,
         left,
+        scribe,
     })
 }

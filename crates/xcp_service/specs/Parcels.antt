@@ -1,5 +1,6 @@
 -- What goes to a keeper by its post, and what came of it.
-use Rattle.std.specs.Prelude.{◌≡◌, ◌+◌, ℕ, ⊤, List, [], ◌∷◌, ◌++◌}
+use Rattle.std.specs.Prelude.{◌≡◌, ◌+◌, ℕ, ⊤, List, [], ◌∷◌, ◌++◌, map}
+use Rattle.xcp_trace.specs.declared.Entry.{Entry}
 use Rattle.xcp_memory.specs.Layout.{LayoutValue}
 use Rattle.xcp_locked.specs.Caller.{CallerValue, callers_of}
 use Rattle.xcp_locked.specs.LockedSlave.{ChapterValue}
@@ -12,6 +13,10 @@ use Rattle.xcp_service.specs.Sheaves.{receipts_in}
 pub record ParcelValue : Type 0 where
   pub chapters : List ChapterValue
   pub sheaves : List SheafValue
+
+-- the calls of chapters, chapter by chapter
+abbrev pub calls_in : List ChapterValue → List (List Entry)
+calls_in chapters = map (λ (c : ChapterValue). c.entries) chapters
 
 abbrev pub parcel_of_chapter : ChapterValue → ParcelValue
 parcel_of_chapter c = record { chapters = c ∷ []; sheaves = [] }

@@ -1,7 +1,8 @@
-//! A keeper, with the end of the post from which it takes.
-ghost use Rattle.std.specs.Prelude.{◌≡◌, [], true};
+//! A keeper, with the end of the post from which it takes, and who writes down what it takes.
+ghost use Rattle.std.specs.Prelude.{◌≡◌, ◌++◌, [], List, true};
 ghost use Rattle.xcp_service.specs.Keeping.{receipts_by};
-ghost use Rattle.xcp_service.specs.Parcels.{receipts_put};
+ghost use Rattle.xcp_service.specs.Parcels.{calls_in, receipts_put};
+ghost use Rattle.xcp_trace.specs.declared.journal.Entry.{Entry};
 
 use crate::keeper::{Keeper, Unkept};
 use crate::parcel::Parcel;
@@ -12,51 +13,64 @@ use std::alloc::Global;
 use std::marker::{Model, PhantomData};
 use std::sync::Wait;
 use xcp_locked::Name;
+use xcp_scribe::Scribe;
 
-/// A keeper that takes what comes by its post. What it took is what was handed in: the chapters, and of each caller its sheaves.
+/// A keeper that takes what comes by its post. What it took is what was handed in: the chapters, and of each caller its sheaves. Its
+/// scribe was given the calls of these chapters, in order.
 #[derive(Drop)]
-pub struct Collector<N: Name, M: Route> {
+pub struct Collector<N: Name, M: Route, S: Scribe> {
     keeper: Keeper<N>,
     taker: Taker<Parcel<N>>,
+    scribe: S,
     of: PhantomData<M>,
 }
 
-impl<N: Name, M: Route> Model for Collector<N, M> {
+impl<N: Name, M: Route, S: Scribe> Model for Collector<N, M, S> {
     ghost use Rattle.std.specs.Prelude.{◌≡◌};
     ghost use Rattle.xcp_service.specs.Keeping.{KeeperValue};
+    ghost use Rattle.xcp_service.specs.Parcels.{calls_in};
     ghost use Rattle.xcp_service.specs.private.Collected.{IsCollected};
 
     ghost Value = { KeeperValue };
 
     ghost view = { λ c. c.keeper };
 
-    ghost invariant = { λ c. (c.taker.relay ≡ M.relay) × IsCollected c.keeper c.taker.taken };
+    ghost invariant = { λ c. (c.taker.relay ≡ M.relay) × IsCollected c.keeper c.taker.taken × S.wrote c.scribe (calls_in c.keeper.chapters) };
 }
 
-impl<N: Name, M: Route> Collector<N, M> {
-    /// A keeper that has taken nothing yet.
-    pub(crate) fn new(alloc: Global, taker: Taker<Parcel<N>>) -> Collector<N, M>
-        requires { (taker.relay ≡ M.relay) × (taker.taken ≡ []) }
+impl<N: Name, M: Route, S: Scribe> Collector<N, M, S> {
+    /// A keeper that has taken nothing yet, and a scribe that was given nothing yet.
+    pub(crate) fn new(alloc: Global, taker: Taker<Parcel<N>>, scribe: S) -> Collector<N, M, S>
+        requires taker { (taker.relay ≡ M.relay) × (taker.taken ≡ []) }
+        requires scribe { S.wrote scribe [] }
     {
         Collector {
             keeper: Keeper::new(alloc),
             taker,
+            scribe,
             of: PhantomData,
         }
     }
 
-    /// Has the keeper take what comes, until the post is closed and nothing lies there. Where something isn't as it must be it goes no
-    /// further.
-    pub fn collect(self, rt: &impl Wait, post: &Post<N, M>) -> Result<Collector<N, M>, Unkept> {
+    /// Has the keeper take what comes, until the post is closed and nothing lies there; each chapter is written down before. Where
+    /// something isn't as it must be it goes no further.
+    pub fn collect(self, rt: &impl Wait, post: &Post<N, M>) -> Result<Collector<N, M, S>, Unkept> {
         let Collector {
             mut keeper,
             mut taker,
+            mut scribe,
             of,
         } = self;
         for _parcel in rt.forever() {
             let Some((tag, parcel)) = post.take(rt, &mut taker) else {
-                return Ok(Collector { keeper, taker, of });
+                return Ok(Collector {
+                    keeper,
+                    taker,
+                    scribe,
+                    of,
+                });
             };
+            write_down(&mut scribe, &parcel);
             keeper.take(tag, parcel)?;
         }
         unreachable!()
@@ -71,11 +85,23 @@ impl<N: Name, M: Route> Collector<N, M> {
         post.meets(giver, &mut self.taker)
     }
 
-    /// The keeper, which takes nothing more.
-    pub fn into_keeper(self) -> Keeper<N>
-        ensures { result ≡ self }
+    /// The keeper, which takes nothing more, and its scribe.
+    pub fn into_parts(self) -> (Keeper<N>, S)
+        ensures keeper { result.0 ≡ self }
+        ensures wrote { S.wrote result.1 (calls_in result.0.chapters) }
     {
-        let Collector { keeper, .. } = self;
-        keeper
+        let Collector { keeper, scribe, .. } = self;
+        (keeper, scribe)
+    }
+}
+
+/// Gives a scribe the calls of the chapter that comes, if one does.
+fn write_down<N: Name, S: Scribe>(scribe: &mut S, parcel: &Parcel<N>)
+    ensures { (chapters : List (List Entry)) → S.wrote scribe.old chapters
+        → S.wrote scribe.new (chapters ++ calls_in parcel.now.chapters) }
+{
+    if let Some(chapter) = &parcel.chapter {
+        chapter.audit();
+        scribe.write(chapter.entries());
     }
 }

@@ -1,7 +1,7 @@
 //! Callers that call no more.
 ghost use Rattle.std.specs.List.{AllByRecursion};
 ghost use Rattle.std.specs.Prelude.{◌≡◌, IfOk};
-ghost use Rattle.xcp_service.specs.Parcels.{AreNumbered, IsHandedOver};
+ghost use Rattle.xcp_service.specs.Parcels.{AreNumbered, IsHandedOver, calls_in};
 
 use crate::collector::Collector;
 use crate::keeper::{Keeper, Unkept};
@@ -14,6 +14,7 @@ use relay::Giver;
 use std::alloc::Global;
 use std::marker::Model;
 use xcp_locked::{Caller, Name};
+use xcp_scribe::Scribe;
 
 /// A caller that has handed over all its receipts. Contracts see it as a caller that has all of them still.
 #[derive(Drop)]
@@ -40,16 +41,26 @@ impl<N: Name> Former<N> {
     }
 }
 
+/// What is left once all members have resigned.
+#[derive(Drop)]
+pub struct Resigned<N: Name, S: Scribe> {
+    pub keeper: Keeper<N>,
+    pub scribe: S,
+    /// The members, in the order of their numbers.
+    pub members: Vec<Former<N>>,
+}
+
 /// All members resign, which must come in the order of their numbers. The keeper then has all receipts that each of them ever had, in
 /// order. `Memory` comes also where some are still at hand or on their way.
-pub fn resign_all<N: Name, M: Route>(
+pub fn resign_all<N: Name, M: Route, S: Scribe>(
     alloc: Global,
     post: &Post<N, M>,
-    collector: Collector<N, M>,
+    collector: Collector<N, M, S>,
     members: Vec<Member<N, M>>,
-) -> Result<(Keeper<N>, Vec<Former<N>>), Unkept>
-    ensures numbered { IfOk result (λ r. AreNumbered 0 r.1.items) }
-    ensures handed { IfOk result (λ r. AllByRecursion (IsHandedOver r.0) r.1.items) }
+) -> Result<Resigned<N, S>, Unkept>
+    ensures numbered { IfOk result (λ r. AreNumbered 0 r.members.items) }
+    ensures handed { IfOk result (λ r. AllByRecursion (IsHandedOver r.keeper) r.members.items) }
+    ensures wrote { IfOk result (λ r. S.wrote r.scribe (calls_in r.keeper.chapters)) }
 {
     let mut collector = collector;
     let mut all = Vec::new(alloc);
@@ -65,5 +76,10 @@ pub fn resign_all<N: Name, M: Route>(
         }
         all.push_reserved(former);
     }
-    Ok((collector.into_keeper(), all))
+    let (keeper, scribe) = collector.into_parts();
+    Ok(Resigned {
+        keeper,
+        scribe,
+        members: all,
+    })
 }

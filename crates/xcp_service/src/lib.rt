@@ -25,7 +25,7 @@ mod waiting;
 
 pub use calling::{CHAPTER, call};
 pub use collector::Collector;
-pub use former::{Former, resign_all};
+pub use former::{Former, Resigned, resign_all};
 pub use keeper::{Keeper, Unkept};
 pub use member::Member;
 pub use opening::{Posting, Unrouted};

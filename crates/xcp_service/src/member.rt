@@ -20,6 +20,7 @@ use std::marker::{Model, PhantomData};
 use std::sync::Wait;
 use xcp_locked::{Caller, Locked, LockedError, Name};
 use xcp_packet::Packet;
+use xcp_scribe::Scribe;
 use xcp_slave::{Request, Told};
 
 /// A caller that hands its receipts over, chapter by chapter. Contracts see it as a caller that has all receipts it ever had:
@@ -108,7 +109,11 @@ impl<N: Name, M: Route> Member<N, M> {
 
     /// Whether the keeper took all receipts that it ever had: the caller then calls no more. `None` where some are still at hand, or
     /// on their way.
-    pub fn resign(self, post: &Post<N, M>, collector: &mut Collector<N, M>) -> Option<Former<N>>
+    pub fn resign<S: Scribe>(
+        self,
+        post: &Post<N, M>,
+        collector: &mut Collector<N, M, S>,
+    ) -> Option<Former<N>>
         ensures former { IfSome result (λ f. f ≡ self) }
         ensures handed { IfSome result (λ f. IsHandedOver collector.new f) }
         ensures same { collector.new ≡ collector.old }

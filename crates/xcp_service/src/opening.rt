@@ -11,6 +11,7 @@ use relay::{Giver, Relay, Taker};
 use std::alloc::{AllocError, Global};
 use std::marker::Model;
 use xcp_locked::{Caller, Name};
+use xcp_scribe::Scribe;
 
 /// A post that no type names yet.
 #[derive(Drop)]
@@ -32,11 +33,11 @@ impl<N: Name> Model for Unrouted<N> {
 
 /// What an opening of a post gives out.
 #[derive(Drop)]
-pub struct Posting<N: Name, M: Route> {
+pub struct Posting<N: Name, M: Route, S: Scribe> {
     pub post: Post<N, M>,
     /// The callers, as members of this post.
     pub members: Vec<Member<N, M>>,
-    pub collector: Collector<N, M>,
+    pub collector: Collector<N, M, S>,
 }
 
 impl<N: Name> Unrouted<N> {
@@ -46,14 +47,16 @@ impl<N: Name> Unrouted<N> {
         Ok(Unrouted { relay, taker })
     }
 
-    /// Opens it for all callers that an opening of a slave gives out.
-    pub fn open<M: Route>(
+    /// Opens it for all callers that an opening of a slave gives out, with a scribe that was given nothing yet.
+    pub fn open<M: Route, S: Scribe>(
         self,
         alloc: Global,
         callers: Vec<Caller<N>>,
-    ) -> Result<Posting<N, M>, AllocError>
+        scribe: S,
+    ) -> Result<Posting<N, M, S>, AllocError>
         requires relay { self ≡ M.relay }
         requires callers { AreOpened callers.items }
+        requires scribe { S.wrote scribe [] }
         ensures members { IfOk result (λ p. p.members.items ≡ callers.items) }
     {
         let Unrouted { relay, mut taker } = self;
@@ -66,7 +69,7 @@ impl<N: Name> Unrouted<N> {
         Ok(Posting {
             post: Post::new(relay, chapters),
             members,
-            collector: Collector::new(alloc, taker),
+            collector: Collector::new(alloc, taker, scribe),
         })
     }
 }

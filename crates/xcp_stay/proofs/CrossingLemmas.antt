@@ -24,6 +24,7 @@ use Rattle.xcp_locked.specs.contracts.sheaf.Sheaf as Sheaf
 use Rattle.xcp_outlet.proofs.end.DataEnd.TheSendSync as samples
 use Rattle.xcp_outlet.proofs.intake.SendEnd.TheSendSync as outgoing
 use Rattle.xcp_outlet.proofs.sending.Sent.TheSendSync as sent
+use Rattle.xcp_scribe.specs.declared.scribe.Scribe as Scribe
 use Rattle.xcp_seats.proofs.closing.Closing.TheSendSync as closing
 use Rattle.xcp_seats.proofs.door.Door.TheSendSync as door
 use Rattle.xcp_seats.proofs.duty.Warding.TheSendSync as warding
@@ -150,16 +151,18 @@ keeper_crosses N g l =
     (struct_crosses (KeeperInside.the_type N g l)
     (search sendable, (search sendable, (search (sendable, crosses, slave.the_send, slave.the_sync) depth 20, (search (sendable, crosses, waiting_crosses) depth 20, (noted_crosses (Chapter.the_row N g l), (noted_crosses (Sheaf.the_row N g l), tt)))))))
 
-collector_crosses : (N M : RattleType) (g : Name.Ghosts N.Denot) (l : Ledger.Ghosts N.Denot) (h : Route.Ghosts M.Denot) → IsSend (Collector.the_row N M g l h)
-collector_crosses N M g l h =
-    view_send (CollectorInside.the_row N M g l h) _ _ _ _
-    (struct_crosses (CollectorInside.the_type N M g l h) (keeper_crosses N g l, (search (sendable, crosses, taker.the_send, parcel_crosses) depth 20, (search (sendable, crosses) depth 20, tt))))
+-- with a scribe that may cross
+collector_crosses : (N M S : RattleType) (g : Name.Ghosts N.Denot) (l : Ledger.Ghosts N.Denot) (h : Route.Ghosts M.Denot) (s : Scribe.Ghosts S.Denot) → IsSend S → IsSend (Collector.the_row N M S g l h s)
+collector_crosses N M S g l h s x =
+    view_send (CollectorInside.the_row N M S g l h s) _ _ _ _
+    (struct_crosses (CollectorInside.the_type N M S g l h s) (keeper_crosses N g l, (search (sendable, crosses, taker.the_send, parcel_crosses) depth 20, (x, (search (sendable, crosses) depth 20, tt)))))
 
-performed_crosses : (N M : RattleType) (g : Name.Ghosts N.Denot) (l : Ledger.Ghosts N.Denot) (h : Route.Ghosts M.Denot) → IsSend (Performed.the_field N M g l h).row
-performed_crosses N M g l h = enum_send (enum.shape (Performed.the_type N M g l h)) ((member_crosses N M g l h, tt), ((search (sendable, crosses, collector_crosses, unkept.the_send) depth 20, tt), (tt, tt)))
+performed_crosses : (N M S : RattleType) (g : Name.Ghosts N.Denot) (l : Ledger.Ghosts N.Denot) (h : Route.Ghosts M.Denot) (s : Scribe.Ghosts S.Denot) → IsSend S → IsSend (Performed.the_field N M S g l h s).row
+performed_crosses N M S g l h s x =
+    enum_send (enum.shape (Performed.the_type N M S g l h s)) ((member_crosses N M g l h, tt), ((search (sendable, crosses, collector_crosses N M S g l h s x, unkept.the_send) depth 20, tt), (tt, tt)))
 
-pub outcome_crosses : (N M : RattleType) (g : Name.Ghosts N.Denot) (l : Ledger.Ghosts N.Denot) (h : Route.Ghosts M.Denot) → IsSend (Outcome.the_row N M g l h)
-outcome_crosses N M g l h = view_send (OutcomeInside.the_row N M g l h) _ _ _ _ (struct_crosses (OutcomeInside.the_type N M g l h) (performed_crosses N M g l h, tt))
+pub outcome_crosses : (N M S : RattleType) (g : Name.Ghosts N.Denot) (l : Ledger.Ghosts N.Denot) (h : Route.Ghosts M.Denot) (s : Scribe.Ghosts S.Denot) → IsSend S → IsSend (Outcome.the_row N M S g l h s)
+outcome_crosses N M S g l h s x = view_send (OutcomeInside.the_row N M S g l h s) _ _ _ _ (struct_crosses (OutcomeInside.the_type N M S g l h s) (performed_crosses N M S g l h s x, tt))
 
 -- what is done beside the seats, where the clock, and who is told of tools, may be shared
 ticker_crosses : (κ : NamedLft) (N M C : RattleType) (g : Name.Ghosts N.Denot) (l : Ledger.Ghosts N.Denot) (h : Route.Ghosts M.Denot) → IsSync C → IsSend (Ticker.the_field κ N M C g l h).row
@@ -167,15 +170,18 @@ ticker_crosses κ N M C g l h c =
     struct_send (declared.shape (Ticker.the_type κ N M C g l h))
     (search (sendable, crosses, shared.the_sync) depth 20, (search (sendable, crosses) depth 20, (search sendable, (member_crosses N M g l h, (reader.the_send N g l, (search (sendable, crosses) depth 20, (search (sendable, crosses, halt.the_sync) depth 20, tt)))))))
 
-keeping_crosses : (κ : NamedLft) (N M : RattleType) (g : Name.Ghosts N.Denot) (l : Ledger.Ghosts N.Denot) (h : Route.Ghosts M.Denot) → IsSend (Keeping.the_field κ N M g l h).row
-keeping_crosses κ N M g l h =
-    struct_send (declared.shape (Keeping.the_type κ N M g l h))
-    (collector_crosses N M g l h, (search (sendable, crosses, post.the_sync) depth 20, (search (sendable, crosses, halt.the_sync) depth 20, tt)))
+keeping_crosses : (κ : NamedLft) (N M S : RattleType) (g : Name.Ghosts N.Denot) (l : Ledger.Ghosts N.Denot) (h : Route.Ghosts M.Denot) (s : Scribe.Ghosts S.Denot) → IsSend S → IsSend (Keeping.the_field κ N M S g l h s).row
+keeping_crosses κ N M S g l h s x =
+    struct_send (declared.shape (Keeping.the_type κ N M S g l h s))
+    (collector_crosses N M S g l h s x, (search (sendable, crosses, post.the_sync) depth 20, (search (sendable, crosses, halt.the_sync) depth 20, tt)))
 
-duty_crosses : (κ : NamedLft) (N M C W : RattleType) (g : Name.Ghosts N.Denot) (l : Ledger.Ghosts N.Denot) (h : Route.Ghosts M.Denot) → IsSync C → IsSync W → IsSend (Duty.the_field κ N M C W g l h).row
-duty_crosses κ N M C W g l h c w =
-    enum_send (enum.shape (Duty.the_type κ N M C W g l h))
-    ((ticker_crosses κ N M C g l h c, tt), ((keeping_crosses κ N M g l h, tt), ((search (sendable, crosses, warding.the_field_send) depth 20, tt), tt)))
+duty_crosses : (κ : NamedLft) (N M S C W : RattleType) (g : Name.Ghosts N.Denot) (l : Ledger.Ghosts N.Denot) (h : Route.Ghosts M.Denot) (s : Scribe.Ghosts S.Denot) → IsSend S → IsSync C → IsSync W
+    → IsSend (Duty.the_field κ N M S C W g l h s).row
+duty_crosses κ N M S C W g l h s x c w =
+    enum_send (enum.shape (Duty.the_type κ N M S C W g l h s))
+    ((ticker_crosses κ N M C g l h c, tt), ((keeping_crosses κ N M S g l h s x, tt), ((search (sendable, crosses, warding.the_field_send) depth 20, tt), tt)))
 
-pub assigned_crosses : (κ : NamedLft) (N M C W : RattleType) (g : Name.Ghosts N.Denot) (l : Ledger.Ghosts N.Denot) (h : Route.Ghosts M.Denot) → IsSync C → IsSync W → IsSend (Assigned.the_row κ N M C W g l h)
-assigned_crosses κ N M C W g l h c w = view_send (AssignedInside.the_row κ N M C W g l h) _ _ _ _ (struct_crosses (AssignedInside.the_type κ N M C W g l h) (duty_crosses κ N M C W g l h c w, tt))
+pub assigned_crosses : (κ : NamedLft) (N M S C W : RattleType) (g : Name.Ghosts N.Denot) (l : Ledger.Ghosts N.Denot) (h : Route.Ghosts M.Denot) (s : Scribe.Ghosts S.Denot) → IsSend S → IsSync C → IsSync W
+    → IsSend (Assigned.the_row κ N M S C W g l h s)
+assigned_crosses κ N M S C W g l h s x c w =
+    view_send (AssignedInside.the_row κ N M S C W g l h s) _ _ _ _ (struct_crosses (AssignedInside.the_type κ N M S C W g l h s) (duty_crosses κ N M S C W g l h s x c w, tt))

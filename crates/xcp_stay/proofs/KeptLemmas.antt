@@ -1,20 +1,23 @@
 -- What is told of a server that stayed.
 use Rattle.std.proofs.Common.{◌≡◌, ℕ, List, subst, sym}
+use Rattle.xcp_trace.specs.declared.Entry.{Entry}
 use Rattle.xcp_memory.specs.Layout.{LayoutValue}
 use Rattle.xcp_slave.specs.SlaveValue.{SlaveValue}
 use Rattle.xcp_locked.specs.Caller.{CallerValue}
 use Rattle.xcp_locked.specs.Chapters.{AreJoined}
 use Rattle.xcp_service.specs.Keeping.{AreKeptSettled, KeeperValue}
+use Rattle.xcp_service.specs.Parcels.{calls_in}
 use Rattle.xcp_stay.specs.Stay.{AreAllMembers, IsKept}
 use Rattle.xcp_stay.specs.declared.staying.Report.{Report}
 
-pub kept_as : (l : LayoutValue) (count : ℕ) (k : KeeperValue) (cs : List CallerValue) (n m : ℕ) (v : SlaveValue) (r : Report) → r.chapters ≡ n → r.calls ≡ m
-    → AreJoined l k.chapters n m v → AreKeptSettled k → AreAllMembers count k cs → IsKept l count r
-kept_as l count k cs n m v r chapters calls joined settled all = record {
+pub kept_as : (l : LayoutValue) (count : ℕ) (wrote : List (List Entry) → Type 0) (k : KeeperValue) (cs : List CallerValue) (n m : ℕ) (v : SlaveValue) (r : Report) → r.chapters ≡ n → r.calls ≡ m
+    → AreJoined l k.chapters n m v → AreKeptSettled k → AreAllMembers count k cs → wrote (calls_in k.chapters) → IsKept l count wrote r
+kept_as l count wrote k cs n m v r chapters calls joined settled all written = record {
   keeper = k;
   last = v;
   joined = subst (λ (x : ℕ). AreJoined l k.chapters x r.calls v) (sym chapters) (subst (λ (x : ℕ). AreJoined l k.chapters n x v) (sym calls) joined);
   settled = settled;
   members = cs;
   all = all;
+  written = written;
 }

@@ -2,13 +2,15 @@
 ghost use Rattle.std.specs.Prelude.{◌≡◌, [], IfOk};
 ghost use Rattle.xcp_locked.specs.Chapters.{AreJoined};
 ghost use Rattle.xcp_service.specs.Keeping.{AreKeptSettled};
+ghost use Rattle.xcp_service.specs.Parcels.{calls_in};
 ghost use Rattle.xcp_stay.specs.Stay.{AreAllMembers};
 
 use std::alloc::{AllocError, Global};
 use std::sync::Wait;
 use xcp_locked::{Discord, Locked, Name};
+use xcp_scribe::Scribe;
 use xcp_seats::{Outcome, Performed};
-use xcp_service::{Collector, Former, Keeper, Member, Post, Route, Unkept, resign_all};
+use xcp_service::{Collector, Former, Keeper, Member, Post, Resigned, Route, Unkept, resign_all};
 
 /// Why a server that stays doesn't begin, or ends early.
 #[derive(Clone, Copy, Debug, PartialEq, Eq)]
@@ -44,10 +46,12 @@ impl From<Unkept> for StayError {
     }
 }
 
-/// What is left of a server that stayed: its keeper, which took all chapters, the slave, and its callers. Nobody calls it any more.
+/// What is left of a server that stayed: its keeper, which took all chapters, the scribe that wrote them down, the slave, and its callers.
+/// Nobody calls it any more.
 #[derive(Drop)]
-pub struct Stayed<N: Name> {
+pub struct Stayed<N: Name, S: Scribe> {
     pub keeper: Keeper<N>,
+    pub scribe: S,
     pub locked: Locked<N>,
     /// The callers of seats and tasks, in the order of their numbers.
     pub members: Vec<Former<N>>,
@@ -55,17 +59,17 @@ pub struct Stayed<N: Name> {
 
 /// The members of seats and tasks, and what came of their keeper, once all have ended.
 #[derive(Drop)]
-pub(crate) struct Gathered<N: Name, M: Route> {
+pub(crate) struct Gathered<N: Name, M: Route, S: Scribe> {
     pub members: Vec<Member<N, M>>,
-    pub kept: Option<Result<Collector<N, M>, Unkept>>,
+    pub kept: Option<Result<Collector<N, M, S>, Unkept>>,
 }
 
 /// Gathers what came of the seats and of the duties beside them.
-pub(crate) fn gather<N: Name, M: Route>(
+pub(crate) fn gather<N: Name, M: Route, S: Scribe>(
     alloc: Global,
     seats: Vec<(Member<N, M>, Member<N, M>, ())>,
-    duties: Vec<Outcome<N, M>>,
-) -> Result<Gathered<N, M>, AllocError> {
+    duties: Vec<Outcome<N, M, S>>,
+) -> Result<Gathered<N, M, S>, AllocError> {
     let mut gathered = Gathered {
         members: Vec::new(alloc),
         kept: None,
@@ -86,19 +90,20 @@ pub(crate) fn gather<N: Name, M: Route>(
 
 /// Ends what so many members did: the open chapter is cut off, all hand over what they have at hand, the keeper takes what is left, and
 /// each member resigns. The error is the keeper's, or what it finds at last.
-pub(crate) fn conclude<N: Name, M: Route, R: Wait>(
+pub(crate) fn conclude<N: Name, M: Route, S: Scribe, R: Wait>(
     rt: &R,
     alloc: Global,
     locked: Locked<N>,
     post: &Post<N, M>,
-    gathered: Gathered<N, M>,
+    gathered: Gathered<N, M, S>,
     count: usize,
-) -> Result<Stayed<N>, StayError>
+) -> Result<Stayed<N, S>, StayError>
     ensures joined { IfOk result (λ s. AreJoined N.layout s.keeper.chapters
         s.locked.chapter s.locked.before s.locked.base) }
     ensures settled { IfOk result (λ s. AreKeptSettled s.keeper) }
     ensures closed { IfOk result (λ s. (s.locked.journal ≡ []) × (s.locked.base ≡ s.locked.slave)) }
     ensures members { IfOk result (λ s. AreAllMembers count s.keeper s.members.items) }
+    ensures wrote { IfOk result (λ s. S.wrote s.scribe (calls_in s.keeper.chapters)) }
 {
     let Gathered { members, kept } = gathered;
     let Some(kept) = kept else {
@@ -114,12 +119,17 @@ pub(crate) fn conclude<N: Name, M: Route, R: Wait>(
         member.hand_rest_over(rt, alloc, &locked, post);
     }
     let collector = collector.collect(rt, post)?;
-    let (keeper, members) = resign_all(alloc, post, collector, members)?;
+    let Resigned {
+        keeper,
+        scribe,
+        members,
+    } = resign_all(alloc, post, collector, members)?;
     if members.len() != count || !keeper.meets(&locked) {
         return Err(StayError::Discord(Discord::Chapter(keeper.chapters())));
     }
     Ok(Stayed {
         keeper,
+        scribe,
         locked,
         members,
     })

@@ -3,7 +3,7 @@ ghost use Rattle.std.specs.Prelude.{◌≡◌, ◌≤◌, ◌+◌, [], IfOk, len
 ghost use Rattle.std.specs.Vec.Iter.{into_iter_items};
 ghost use Rattle.xcp_locked.specs.Chapters.{AreJoined};
 ghost use Rattle.xcp_service.specs.Keeping.{AreKeptSettled};
-ghost use Rattle.xcp_service.specs.Parcels.{AreOpened};
+ghost use Rattle.xcp_service.specs.Parcels.{AreOpened, calls_in};
 ghost use Rattle.xcp_stay.specs.Stay.{AreAllMembers, IsKept};
 
 use crate::ending::{Gathered, StayError, Stayed, conclude, gather};
@@ -16,6 +16,7 @@ use std::time::{Clock, Duration};
 use std::vec::IntoIter;
 use together::run_crews;
 use xcp_locked::{Locked, Name, Opening, Reader, Unnamed};
+use xcp_scribe::Scribe;
 use xcp_seats::{
     Assigned, Door, Duty, Hall, Halt, Keeping, Outcome, Pace, Parts, Place, Ticker, Warding,
     Watcher, make_seat,
@@ -71,44 +72,58 @@ struct Common<'a, N: Name, M: Route, C, W> {
 ///
 /// Where a chapter or a caller's receipts aren't as they must be it ends at once, with `Discord`. `Memory` and `Listener` come before
 /// anybody has begun; `Memory` comes also where the keeper has none, or a caller that hands over what it has at last.
-pub fn stay<W: Watcher + Sync, R: Threads + Wait + Clock + Sync>(
+pub fn stay<S: Scribe + Send, W: Watcher + Sync, R: Threads + Wait + Clock + Sync>(
     rt: &R,
     alloc: Global,
     unnamed: Unnamed,
     listener: &TcpListener,
     plan: Plan,
+    scribe: S,
     halt: &Halt,
     watcher: &W,
-) -> Result<Report, StayError>
+) -> Result<(Report, S), StayError>
     requires callers { plan.tools + plan.tools + plan.tasks ≤ unnamed.callers }
     requires readers { plan.tasks ≤ 6 }
-    ensures kept { IfOk result (IsKept unnamed.layout (plan.tools + plan.tools + plan.tasks)) }
+    requires scribe { S.wrote scribe [] }
+    ensures kept { IfOk result (λ r. IsKept unnamed.layout (plan.tools + plan.tools + plan.tasks)
+        (S.wrote r.1) r.0) }
 {
-    stay_and_tell::<Brand, W, R>(rt, alloc, unnamed, listener, plan, halt, watcher)
+    stay_and_tell::<Brand, S, W, R>(rt, alloc, unnamed, listener, plan, scribe, halt, watcher)
 }
 
 /// The same, for a slave that has a name.
-fn stay_and_tell<N: Name + Send + Sync, W: Watcher + Sync, R: Threads + Wait + Clock + Sync>(
+fn stay_and_tell<
+    N: Name + Send + Sync,
+    S: Scribe + Send,
+    W: Watcher + Sync,
+    R: Threads + Wait + Clock + Sync,
+>(
     rt: &R,
     alloc: Global,
     unnamed: Unnamed,
     listener: &TcpListener,
     plan: Plan,
+    scribe: S,
     halt: &Halt,
     watcher: &W,
-) -> Result<Report, StayError>
+) -> Result<(Report, S), StayError>
     requires name { (unnamed.name ≡ N.name) × (unnamed.callers ≡ N.parts)
         × (unnamed.layout ≡ N.layout) × (unnamed.bank ≡ N.bank) }
     requires callers { plan.tools + plan.tools + plan.tasks ≤ unnamed.callers }
     requires readers { plan.tasks ≤ 6 }
-    ensures kept { IfOk result (IsKept unnamed.layout (plan.tools + plan.tools + plan.tasks)) }
+    requires scribe { S.wrote scribe [] }
+    ensures kept { IfOk result (λ r. IsKept unnamed.layout (plan.tools + plan.tools + plan.tasks)
+        (S.wrote r.1) r.0) }
 {
-    let stayed = stay_named::<N, W, R>(rt, alloc, unnamed, listener, plan, halt, watcher)?;
-    Ok(tell(&stayed))
+    let stayed = stay_named::<N, S, W, R>(
+        rt, alloc, unnamed, listener, plan, scribe, halt, watcher,
+    )?;
+    let told = tell(&stayed);
+    Ok((told, stayed.scribe))
 }
 
 /// What is told of a server that left this.
-fn tell<N: Name>(stayed: &Stayed<N>) -> Report
+fn tell<N: Name, S: Scribe>(stayed: &Stayed<N, S>) -> Report
     ensures chapters { result.chapters ≡ stayed.now.locked.chapter }
     ensures calls { result.calls ≡ stayed.now.locked.before }
 {
@@ -121,25 +136,33 @@ fn tell<N: Name>(stayed: &Stayed<N>) -> Report
 /// Stays as `stay` does, on a slave that has a name, and gives back what is left then. All chapters that its keeper took are one run from
 /// the opening to the slave as it is left, and each of them is settled by all callers; what it took of each member is all that this one ever
 /// had.
-pub fn stay_named<N: Name + Send + Sync, W: Watcher + Sync, R: Threads + Wait + Clock + Sync>(
+pub fn stay_named<
+    N: Name + Send + Sync,
+    S: Scribe + Send,
+    W: Watcher + Sync,
+    R: Threads + Wait + Clock + Sync,
+>(
     rt: &R,
     alloc: Global,
     unnamed: Unnamed,
     listener: &TcpListener,
     plan: Plan,
+    scribe: S,
     halt: &Halt,
     watcher: &W,
-) -> Result<Stayed<N>, StayError>
+) -> Result<Stayed<N, S>, StayError>
     requires name { (unnamed.name ≡ N.name) × (unnamed.callers ≡ N.parts)
         × (unnamed.layout ≡ N.layout) × (unnamed.bank ≡ N.bank) }
     requires callers { plan.tools + plan.tools + plan.tasks ≤ unnamed.callers }
     requires readers { plan.tasks ≤ 6 }
+    requires scribe { S.wrote scribe [] }
     ensures joined { IfOk result (λ s. AreJoined unnamed.layout s.keeper.chapters
         s.locked.chapter s.locked.before s.locked.base) }
     ensures settled { IfOk result (λ s. AreKeptSettled s.keeper) }
     ensures closed { IfOk result (λ s. (s.locked.journal ≡ []) × (s.locked.base ≡ s.locked.slave)) }
     ensures members { IfOk result (λ s. AreAllMembers (plan.tools + plan.tools + plan.tasks)
         s.keeper s.members.items) }
+    ensures wrote { IfOk result (λ s. S.wrote s.scribe (calls_in s.keeper.chapters)) }
 {
     let max_cto = unnamed.max_cto();
     let ready = Ready {
@@ -147,13 +170,14 @@ pub fn stay_named<N: Name + Send + Sync, W: Watcher + Sync, R: Threads + Wait + 
         unrouted: Unrouted::new(alloc)?,
         max_cto,
     };
-    stay_by_post::<N, Brand, W, R>(rt, alloc, ready, listener, plan, halt, watcher)
+    stay_by_post::<N, Brand, S, W, R>(rt, alloc, ready, listener, plan, scribe, halt, watcher)
 }
 
 /// The same, with a post that has a name.
 fn stay_by_post<
     N: Name + Send + Sync,
     M: Route + Send + Sync,
+    S: Scribe + Send,
     W: Watcher + Sync,
     R: Threads + Wait + Clock + Sync,
 >(
@@ -162,19 +186,22 @@ fn stay_by_post<
     ready: Ready<N>,
     listener: &TcpListener,
     plan: Plan,
+    scribe: S,
     halt: &Halt,
     watcher: &W,
-) -> Result<Stayed<N>, StayError>
+) -> Result<Stayed<N, S>, StayError>
     requires relay { ready.unrouted ≡ M.relay }
     requires opened { AreOpened ready.opening.callers.items }
     requires callers { plan.tools + plan.tools + plan.tasks ≤ length ready.opening.callers.items }
     requires readers { plan.tasks ≤ 6 }
+    requires scribe { S.wrote scribe [] }
     ensures joined { IfOk result (λ s. AreJoined N.layout s.keeper.chapters
         s.locked.chapter s.locked.before s.locked.base) }
     ensures settled { IfOk result (λ s. AreKeptSettled s.keeper) }
     ensures closed { IfOk result (λ s. (s.locked.journal ≡ []) × (s.locked.base ≡ s.locked.slave)) }
     ensures members { IfOk result (λ s. AreAllMembers (plan.tools + plan.tools + plan.tasks)
         s.keeper s.members.items) }
+    ensures wrote { IfOk result (λ s. S.wrote s.scribe (calls_in s.keeper.chapters)) }
 {
     let Ready {
         opening,
@@ -190,7 +217,7 @@ fn stay_by_post<
         post,
         members,
         collector,
-    } = unrouted.open::<M>(alloc, callers)?;
+    } = unrouted.open::<M, S>(alloc, callers, scribe)?;
     let doors = make_doors(alloc, plan.tools)?;
     let shared = Shared {
         lock: Mutex::new(locked),
@@ -219,10 +246,10 @@ fn stay_by_post<
 
 /// Who serves: members and readers, of whom the first ones get something to do, and a keeper.
 #[derive(Drop)]
-struct Crew<N: Name, M: Route> {
+struct Crew<N: Name, M: Route, S: Scribe> {
     members: Vec<Member<N, M>>,
     readers: [Reader<N>; 6],
-    collector: Collector<N, M>,
+    collector: Collector<N, M, S>,
 }
 
 /// Serves until somebody asks for the end, and gathers all who did.
@@ -230,6 +257,7 @@ fn serve<
     'a,
     N: Name + Send + Sync,
     M: Route + Send + Sync,
+    S: Scribe + Send,
     C: Clock + Sync,
     W: Watcher + Sync,
     R: Threads + Wait + Sync,
@@ -238,10 +266,10 @@ fn serve<
     alloc: Global,
     common: &Common<'a, N, M, C, W>,
     listener: &TcpListener,
-    crew: Crew<N, M>,
+    crew: Crew<N, M, S>,
     max_cto: u8,
     plan: Plan,
-) -> Result<Gathered<N, M>, StayError>
+) -> Result<Gathered<N, M, S>, StayError>
     requires doors { length common.now.doors.now ≡ plan.tools }
     requires callers { plan.tools + plan.tools + plan.tasks ≤ length crew.members.items }
     requires readers { plan.tasks ≤ 6 }
@@ -319,14 +347,14 @@ fn make_seats<'a, N: Name, M: Route, C, W>(
 }
 
 /// What is done beside the seats: so many tasks, with the next members and the next readers; a keeper; and a ward.
-fn make_duties<'a, N: Name, M: Route, C, W>(
+fn make_duties<'a, N: Name, M: Route, S: Scribe, C, W>(
     alloc: Global,
     common: &Common<'a, N, M, C, W>,
     members: &mut IntoIter<Member<N, M>>,
     readers: &mut IntoIter<Reader<N>>,
-    collector: Collector<N, M>,
+    collector: Collector<N, M, S>,
     tasks: u8,
-) -> Result<Vec<Assigned<'a, N, M, C, W>>, AllocError>
+) -> Result<Vec<Assigned<'a, N, M, S, C, W>>, AllocError>
     requires callers { tasks ≤ length (into_iter_items members.old) }
     requires readers { tasks ≤ length (into_iter_items readers.old) }
 {
@@ -363,8 +391,8 @@ fn make_duties<'a, N: Name, M: Route, C, W>(
 }
 
 /// What comes of the seats and of the duties, each at its place.
-type Results<N, M> = Result<
-    (Vec<(Member<N, M>, Member<N, M>, ())>, Vec<Outcome<N, M>>),
+type Results<N, M, S> = Result<
+    (Vec<(Member<N, M>, Member<N, M>, ())>, Vec<Outcome<N, M, S>>),
     AllocError,
 >;
 
@@ -373,6 +401,7 @@ fn run<
     'a,
     N: Name + Send + Sync,
     M: Route + Send + Sync,
+    S: Scribe + Send,
     C: Clock + Sync,
     W: Watcher + Sync,
     R: Threads + Wait + Sync,
@@ -380,7 +409,7 @@ fn run<
     rt: &R,
     alloc: Global,
     seats: Vec<Parts<'a, N, M, W>>,
-    duties: Vec<Assigned<'a, N, M, C, W>>,
-) -> Results<N, M> {
+    duties: Vec<Assigned<'a, N, M, S, C, W>>,
+) -> Results<N, M, S> {
     run_crews(rt, alloc, seats, duties)
 }

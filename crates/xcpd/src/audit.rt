@@ -1,18 +1,28 @@
 //! An audit of a journal's file, by the program's words.
 
+use crate::text_of;
 use std::fs::File;
 use std::io;
 use xcp_audit::{Printer, print_audit};
 use xcp_framing::Watched;
 use xcp_program::{Fault, layout_of};
 
-/// Audits the file of a journal by a slave of this text's layout, and prints what came of it. The file is opened once the text has no fault.
-pub fn audit_by(rt: &HostRuntime, text: &str, path: &str, lines: bool) -> Result<(), Fault> {
-    let layout = layout_of(rt.alloc(), text)?;
+/// Audits the file of a journal by a slave of this configuration file's layout, and prints what came of it. The journal is opened once
+/// the layout has no fault.
+pub fn audit_by(rt: &HostRuntime, config: &str, path: &str, lines: bool) -> Result<(), Fault> {
+    let text = text_of(rt, config)?;
+    let layout = layout_of(rt.alloc(), text.as_str())?;
     let Ok(file) = File::open(rt, path) else {
         return Err(Fault::Journal(0));
     };
     let mut reader = Watched::new(file);
     let mut printer = Printer::new(rt.alloc(), io::writer(rt));
-    print_audit(rt.alloc(), text, layout, &mut reader, &mut printer, lines)
+    print_audit(
+        rt.alloc(),
+        text.as_str(),
+        layout,
+        &mut reader,
+        &mut printer,
+        lines,
+    )
 }

@@ -3,12 +3,15 @@
 #![tactic(auto)]
 
 mod audit;
+mod journal;
 mod log;
 mod stay;
 
 ghost use Rattle.std.specs.Prelude.{◌≡◌, ◌≤◌, ◌+◌, IfOk, vec_len};
+ghost use Rattle.xcp_scribe.specs.Scribing.{HasBegun};
 
 use crate::audit::audit_by;
+use crate::journal::{Written, journal_at, print_recorded};
 use crate::stay::{patience, stay_by};
 use std::fs::File;
 use std::io;
@@ -25,7 +28,7 @@ use xcp_stay::Plan;
 const TURNS: u32 = 1_000_000;
 
 /// The text of the configuration file.
-fn text_of(rt: &HostRuntime, path: &str) -> Result<String, Fault> {
+pub fn text_of(rt: &HostRuntime, path: &str) -> Result<String, Fault> {
     let Ok(file) = File::open(rt, path) else {
         return Err(Fault::Configuration(0));
     };
@@ -63,7 +66,7 @@ fn describe_or_tell(rt: &HostRuntime, path: &str, host: &str, port: u16) -> Exit
     }
 }
 
-/// A slave of the configuration file's layout with a caller for each tool, task and pump, and the
+/// A slave of the configuration file's layout with a caller for each tool, task and pump, what writes its journal down, and the
 /// tools that have connected.
 fn admit(
     rt: &HostRuntime,
@@ -72,9 +75,10 @@ fn admit(
     port: u16,
     tools: u8,
     tasks: u8,
-) -> Result<(Unnamed, Tools), Fault>
+    journal: &Option<String>,
+) -> Result<(Unnamed, Written, Tools), Fault>
     requires { (1 ≤ tools) × (tools ≤ 2) × (tasks ≤ 6) }
-    ensures { IfOk result (λ r. (vec_len r.1 ≡ tools) × (r.0.callers ≡ tools + tasks + tools)) }
+    ensures { IfOk result (λ r. (vec_len r.2 ≡ tools) × (r.0.callers ≡ tools + tasks + tools) × HasBegun r.1) }
 {
     let text = text_of(rt, path)?;
     let layout = layout_of(rt.alloc(), text.as_str())?;
@@ -84,8 +88,13 @@ fn admit(
     let Ok(listener) = TcpListener::bind(rt, (host, port)) else {
         return Err(Fault::Stream(0));
     };
+    let written = journal_at(rt, text.as_str(), journal)?;
     let _ = println!(rt; "listening {port}");
-    Ok((unnamed, accept_tools(rt.alloc(), &listener, tools)?))
+    Ok((
+        unnamed,
+        written,
+        accept_tools(rt.alloc(), &listener, tools)?,
+    ))
 }
 
 /// Tells what came of a server: its chapters and calls once its callers are settled, then its fault, else that these couldn't be written.
@@ -126,9 +135,42 @@ fn end(rt: &HostRuntime, fault: Option<Fault>) -> ExitCode {
     }
 }
 
+/// Serves tools and runs tasks until all have ended, and tells what came of it.
+fn serve_by(
+    rt: &HostRuntime,
+    path: &str,
+    host: &str,
+    port: u16,
+    tools: u8,
+    tasks: u8,
+    cycles: u32,
+    chapter: u32,
+    period: u32,
+    journal: &Option<String>,
+) -> Result<(), Fault>
+    requires { (1 ≤ tools) × (tools ≤ 2) × (tasks ≤ 6) }
+{
+    let (unnamed, written, ends) = admit(rt, path, host, port, tools, tasks, journal)?;
+    let ending = serve_ends(
+        rt,
+        rt.alloc(),
+        unnamed,
+        ends,
+        tasks,
+        cycles,
+        chapter,
+        period,
+        written,
+    )?;
+    let told = print_end(rt, ending.told);
+    match told.or(print_recorded(rt, &ending.scribe)) {
+        None => Ok(()),
+        Some(fault) => Err(fault),
+    }
+}
+
 fn main(rt: HostRuntime) -> ExitCode {
-    let alloc = rt.alloc();
-    let fault = match asked(alloc, read_words(&rt)) {
+    let fault = match asked(rt.alloc(), read_words(&rt)) {
         Ok(Options::Replay { config }) => run(&rt, config.as_str()).err(),
         Ok(
             Options::Serve {
@@ -140,16 +182,15 @@ fn main(rt: HostRuntime) -> ExitCode {
                 cycles,
                 chapter,
                 period,
+                journal,
             },
-        ) => match admit(&rt, config.as_str(), host.as_str(), port, tools, tasks) {
-            Ok((unnamed, ends)) => {
-                match serve_ends(&rt, alloc, unnamed, ends, tasks, cycles, chapter, period) {
-                    Ok(ending) => print_end(&rt, ending.told),
-                    Err(fault) => Some(fault),
-                }
-            }
-            Err(fault) => Some(fault),
-        },
+        ) => {
+            let (path, host) = (config.as_str(), host.as_str());
+            serve_by(
+                &rt, path, host, port, tools, tasks, cycles, chapter, period, &journal,
+            )
+            .err()
+        }
         Ok(
             Options::Stay {
                 config,
@@ -159,6 +200,7 @@ fn main(rt: HostRuntime) -> ExitCode {
                 tasks,
                 period,
                 patience: seconds,
+                journal,
             },
         ) => {
             let plan = Plan {
@@ -167,10 +209,8 @@ fn main(rt: HostRuntime) -> ExitCode {
                 period,
                 patience: patience(seconds),
             };
-            match text_of(&rt, config.as_str()) {
-                Ok(text) => stay_by(&rt, &rt, text.as_str(), host.as_str(), port, plan).err(),
-                Err(fault) => Some(fault),
-            }
+            let (path, host) = (config.as_str(), host.as_str());
+            stay_by(&rt, &rt, path, host, port, plan, &journal).err()
         }
         Ok(Options::Describe { config, host, port }) => {
             return describe_or_tell(&rt, config.as_str(), host.as_str(), port);
@@ -181,10 +221,7 @@ fn main(rt: HostRuntime) -> ExitCode {
                 file,
                 lines,
             },
-        ) => match text_of(&rt, config.as_str()) {
-            Ok(text) => audit_by(&rt, text.as_str(), file.as_str(), lines).err(),
-            Err(fault) => Some(fault),
-        },
+        ) => audit_by(&rt, config.as_str(), file.as_str(), lines).err(),
         Err(unasked) => return tell(&rt, &unasked),
     };
     end(&rt, fault)

@@ -1,7 +1,9 @@
 //! A server that stays, by the program's words.
 ghost use Rattle.std.specs.Prelude.{◌≤◌, ◌+◌, IfOk};
 
+use crate::journal::{Written, journal_at, print_recorded};
 use crate::log::Log;
+use crate::text_of;
 use std::net::TcpListener;
 use std::sync::{Arc, Wait};
 use std::thread::Threads;
@@ -10,21 +12,23 @@ use std::{io, thread};
 use xcp_locked::{Discord, Unnamed};
 use xcp_program::{Fault, layout_of};
 use xcp_seats::Halt;
-use xcp_stay::{Plan, StayError, stay, wait_for_stop};
+use xcp_stay::{Plan, Report, StayError, stay, wait_for_stop};
 
-/// Serves tools at this port until a line of standard input says `stop`, on a slave of this text's layout, and prints how many chapters
-/// and calls there were. Where serving ends by itself, nobody waits for standard input.
+/// Serves tools at this port until a line of standard input says `stop`, on a slave of this configuration file's layout, and prints
+/// how many chapters and calls there were. Where serving ends by itself, nobody waits for standard input.
 pub fn stay_by<R: Threads + Wait + Clock + Copy + Send + Sync + 'static>(
     rt: &HostRuntime,
     handle: &R,
-    text: &str,
+    path: &str,
     host: &str,
     port: u16,
     plan: Plan,
+    journal: &Option<String>,
 ) -> Result<(), Fault>
     requires { (1 ≤ plan.tools) × (plan.tools ≤ 4) × (plan.tasks ≤ 6) }
 {
-    let layout = layout_of(rt.alloc(), text)?;
+    let text = text_of(rt, path)?;
+    let layout = layout_of(rt.alloc(), text.as_str())?;
     let Ok(unnamed) = Unnamed::new(rt.alloc(), layout, plan.tools + plan.tools + plan.tasks) else {
         return Err(Fault::Memory);
     };
@@ -34,14 +38,30 @@ pub fn stay_by<R: Threads + Wait + Clock + Copy + Send + Sync + 'static>(
     let Ok(halt) = halt_by_input(rt, handle) else {
         return Err(Fault::Memory);
     };
+    let written = journal_at(rt, text.as_str(), journal)?;
     let _ = println!(rt; "listening {port}");
     let log = Log { rt, host, port };
-    match stay(handle, rt.alloc(), unnamed, &listener, plan, &halt, &log) {
-        Ok(told) => println!(rt;
-            "chapters {}\ncalls {}\nsettled",
-            told.chapters, told.calls
-        ).map_err(|_| Fault::Stream(2)),
+    match stay(
+        handle,
+        rt.alloc(),
+        unnamed,
+        &listener,
+        plan,
+        written,
+        &halt,
+        &log,
+    ) {
+        Ok((told, written)) => tell(rt, &told, &written),
         Err(error) => Err(fault_of(error)),
+    }
+}
+
+/// Prints what is told of a server that stayed, and how many of its calls were written down.
+fn tell(rt: &HostRuntime, told: &Report, written: &Written) -> Result<(), Fault> {
+    let printed = println!(rt; "chapters {}\ncalls {}\nsettled", told.chapters, told.calls);
+    match print_recorded(rt, written) {
+        Some(fault) => Err(fault),
+        None => printed.map_err(|_| Fault::Stream(2)),
     }
 }
 

@@ -14,6 +14,10 @@ placed_app = with_rule (with_rule (with_rule (with_rule (new_app (codes "serve")
 abbrev pub HasFlag : Option (Text × List Row) → Text → Text → Type 0
 HasFlag found command flag = (HasText found command flag (codes "true") × (gives flag found ≡ true)) ⊎ (HasText found command flag (codes "false") × (gives flag found ≡ false))
 
+-- an option that needn't be given: it has its text, or the words don't give it and it has none
+abbrev pub IsChosen : Option (Text × List Row) → Text → Text → Type 0
+IsChosen found command option = ((text : Text) × HasGiven found command option text) ⊎ ((gives option found ≡ false) × ((text : Text) → ¬ (HasText found command option text)))
+
 -- it is a server: all its options, each with its text or number
 pub record AsksServe (found : Option (Text × List Row)) : Type 0 where
   pub file : Text
@@ -35,6 +39,7 @@ pub record AsksServe (found : Option (Text × List Row)) : Type 0 where
   pub chapter : HasNumber found chapter m
   pub period : HasNumber found period ms
   pub patience : HasNumber found patience s
+  pub journal : IsChosen found (codes "serve") (codes "journal")
 
 -- it is an audit: its option, its file and its flag, each with its text
 pub record AsksAudit (found : Option (Text × List Row)) : Type 0 where

@@ -1,13 +1,21 @@
-use Rattle.std.proofs.Common.{ap, subst, sym, ◌∙◌}
+use Rattle.std.proofs.Common.{◌≡◌, List, ◌∷◌, [], ◌++◌, ap, subst, sym, ◌∙◌}
 use Rattle.std.specs.Prelude.{MatchResult}
+use Rattle.xcp_trace.specs.declared.Entry.{Entry}
 use Rattle.xcp_memory.specs.Layout.{LayoutValue}
-use Rattle.xcp_server.specs.Report.{IsMismatch, IsReport}
+use Rattle.xcp_locked.specs.LockedSlave.{ChapterValue}
+use Rattle.xcp_server.specs.Report.{IsMismatch, IsReport, calls_in}
 use Rattle.xcp_server.proofs.serving.serve_named.Goals as goal
 
 pub returns : goal.returns
 returns g c =
     let closing = c.in-Ok.closing in
-    let told = subst (λ (l : LayoutValue). MatchResult c.conclude-told.result (IsReport l closing) (IsMismatch l closing)) (sym c.requires.name.2) c.conclude-told.ensures.told in record {
+    let same = c.conclude-told.ensures.same in
+    let told = subst (λ (l : LayoutValue). MatchResult c.conclude-told.result (IsReport l closing) (IsMismatch l closing)) (sym c.requires.name.2) c.conclude-told.ensures.told in
+    let journal : c.into_journal-journal.result.entries ≡ closing.locked.journal = c.into_journal-journal.ensures ∙ ap (λ l. l.journal) same.locked in
+    let chapters : c.deref.result.now ≡ closing.chapters.items = c.deref.ensures.value ∙ ap (λ v. v.items) same.chapters in
+    let written = subst (λ (cs : List ChapterValue). g.S.Scribe.wrote c.write_down-scribe.result (calls_in cs ++ closing.locked.journal ∷ [])) chapters
+    (subst (λ (es : List Entry). g.S.Scribe.wrote c.write_down-scribe.result (calls_in c.deref.result.now ++ es ∷ [])) journal c.write_down-scribe.ensures) in
+    record {
       served = record {
         closing = closing;
         closes = c.in-Ok.ensures.closes;
@@ -16,7 +24,8 @@ returns g c =
         run = c.in-Ok.ensures.run;
         reached = c.in-Ok.ensures.reached;
         told = told;
-        journal = c.into_journal-journal.ensures ∙ ap (λ l. l.journal) c.conclude-told.ensures.same.locked;
-        left = ap (λ v. v.items) c.conclude-told.ensures.same.left;
+        journal = journal;
+        left = ap (λ v. v.items) same.left;
+        written = written;
       };
     }
