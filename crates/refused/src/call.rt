@@ -1,6 +1,6 @@
 //! The calls that take memory, each by a word.
 use crate::outcome::Outcome;
-use crate::{cores, cuts, layouts, openings, scripts, served, submits};
+use crate::{controllers, cores, cuts, layouts, openings, scripts, served, submits};
 use std::alloc::Global;
 use std::sync::Wait;
 
@@ -14,13 +14,14 @@ pub enum Call {
     LockedNew,
     Submit,
     Cut,
+    ControllerOpen,
     ServeDesk,
     ServeTool,
     ReplayOn,
     Replay,
 }
 
-pub const ALL: [Call; 11] = [
+pub const ALL: [Call; 12] = [
     Call::ReadLayout,
     Call::CoreNew,
     Call::CoreRun,
@@ -28,6 +29,7 @@ pub const ALL: [Call; 11] = [
     Call::LockedNew,
     Call::Submit,
     Call::Cut,
+    Call::ControllerOpen,
     Call::ServeDesk,
     Call::ServeTool,
     Call::ReplayOn,
@@ -44,6 +46,7 @@ impl Call {
             Call::LockedNew => "Locked::new",
             Call::Submit => "Locked::submit",
             Call::Cut => "Locked::cut",
+            Call::ControllerOpen => "Controller::open",
             Call::ServeDesk => "serve-desk",
             Call::ServeTool => "serve-tool",
             Call::ReplayOn => "replay_on",
@@ -71,6 +74,7 @@ impl Call {
             Call::LockedNew => openings::open(alloc),
             Call::Submit => submits::submit_rows(alloc),
             Call::Cut => cuts::cut_twice(alloc),
+            Call::ControllerOpen => controllers::open(alloc),
             Call::ServeDesk => served::serve_desk(alloc),
             Call::ServeTool => served::serve_tool(rt, alloc),
             Call::ReplayOn => scripts::replay_desk(alloc),

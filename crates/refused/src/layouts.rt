@@ -25,6 +25,16 @@ unit = 6
 
 pub const MAX_CTO: u8 = 32;
 
+/// The image at the opening: both segments, and then zeros.
+pub fn opening_image() -> [u8; 2040] {
+    let mut image = [0; 2040];
+    image[..24].copy_from_slice(&[
+        0, 1, 2, 3, 4, 5, 6, 7, 8, 9, 10, 11, 12, 13, 14, 15, 0xAA, 0xAA, 0xAA, 0xAA, 0xAA, 0xAA,
+        0xAA, 0xAA,
+    ]);
+    image
+}
+
 /// That layout, for another call.
 pub fn layout(alloc: Global) -> Result<Layout, Outcome> {
     Ok(read_layout(alloc, CONFIG)?)

@@ -5,6 +5,7 @@
 #![tactic(auto)]
 
 mod call;
+mod controllers;
 mod cores;
 mod cuts;
 mod layouts;

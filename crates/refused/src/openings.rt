@@ -1,7 +1,7 @@
 //! A slave that no type names yet, and its opening.
 ghost use Rattle.std.specs.Prelude.{◌≡◌, IfOk};
 
-use crate::layouts::{MAX_CTO, layout};
+use crate::layouts::{MAX_CTO, layout, opening_image};
 use crate::outcome::Outcome;
 use std::alloc::Global;
 use std::marker::Brand;
@@ -35,14 +35,9 @@ fn open_named<N: Name>(alloc: Global, unnamed: Unnamed) -> Outcome
     }
 }
 
-// Whether nothing was called yet, and the image is that of the layout: both segments, and then zeros.
+// Whether nothing was called yet, and the image is that of the layout.
 fn is_opening<N: Name>(opening: &Opening<N>) -> bool {
     let mut image = [1; 2040];
-    let mut wanted = [0; 2040];
-    wanted[..24].copy_from_slice(&[
-        0, 1, 2, 3, 4, 5, 6, 7, 8, 9, 10, 11, 12, 13, 14, 15, 0xAA, 0xAA, 0xAA, 0xAA, 0xAA, 0xAA,
-        0xAA, 0xAA,
-    ]);
     let calls = opening.locked.image(&mut image);
-    calls == 0 && image == wanted && opening.callers.len() == usize::from(CALLERS)
+    calls == 0 && image == opening_image() && opening.callers.len() == usize::from(CALLERS)
 }
