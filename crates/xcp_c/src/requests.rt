@@ -41,11 +41,13 @@ pub extern "C" fn xcp_command(
     ensures refused { result ≡ false → ((slave.old.value ≡ None) ⊎ (255 < length bytes.now))
         × (slave.new ≡ slave.old) }
 {
-    let mut packet = Packet::new();
-    if packet.try_extend_from_slice(bytes).is_err() {
-        return false;
+    let mut request = Request::Command(Packet::new());
+    if let Request::Command(packet) = &mut request {
+        if packet.try_extend_from_slice(bytes).is_err() {
+            return false;
+        }
     }
-    submit(alloc, slave, &Request::Command(packet), answer)
+    submit(alloc, slave, &request, answer)
 }
 
 /// An event channel fires with these signals. False where the handle owns no slave, or where they are
@@ -62,11 +64,13 @@ pub extern "C" fn xcp_event(
     ensures refused { result ≡ false → ((slave.old.value ≡ None) ⊎ (64 < length bytes.now))
         × (slave.new ≡ slave.old) }
 {
-    let mut signals = ArrayVec::new();
-    if signals.try_extend_from_slice(bytes).is_err() {
-        return false;
+    let mut request = Request::Event(channel, ArrayVec::new());
+    if let Request::Event(_, signals) = &mut request {
+        if signals.try_extend_from_slice(bytes).is_err() {
+            return false;
+        }
     }
-    submit(alloc, slave, &Request::Event(channel, signals), answer)
+    submit(alloc, slave, &request, answer)
 }
 
 /// Takes the first packet that waits to be sent. False where the handle owns no slave.
