@@ -25,4 +25,4 @@ pub run_crews-requires-send-W : goal.run_crews-requires-send-W
 run_crews-requires-send-W g c κs within = search (sendable, crosses, assigned_crosses) depth 12
 
 pub run_crews-requires-send-A : goal.run_crews-requires-send-A
-run_crews-requires-send-A g c κs within = param_send 1 _ (arg_send _ no _ (hearer_crosses (named_lft 10 2 tt κs) (param 0 g.row.N) (param 1 g.row.M) (param 4 g.row.W) g.N.Name g.N.Ledger g.M.Route c.type_bounds.sync-W))
+run_crews-requires-send-A g c κs within = param_send 1 _ (arg_send _ no _ (hearer_crosses (named_lft 11 2 tt κs) (param 0 g.row.N) (param 1 g.row.M) (param 4 g.row.W) g.N.Name g.N.Ledger g.M.Route c.type_bounds.sync-W))

@@ -9,7 +9,7 @@ stay_by_post-requires-after_bounds g c κs within =
     let given = c.in_ok-new.ensures.callers in
     let opened = ap length given ∙ length-callers_of c.args.unnamed.layout c.args.unnamed.callers in
     let enough = c.requires.callers in
-    (omega arith, (refl, ((c.args.unnamed.layout, c.args.unnamed.callers, given), (omega (arith, opened, enough), c.requires.readers))))
+    (omega arith, (refl, ((c.args.unnamed.layout, c.args.unnamed.callers, given), (omega (arith, opened, enough), (c.requires.readers, c.requires.scribe)))))
 
 pub returns-clause-joined : goal.returns-clause-joined
 returns-clause-joined g c =
