@@ -4,6 +4,7 @@
 //! `specs/Stay.antt` has what is true of all calls that it accepted.
 #![tactic(auto)]
 
+mod boxed;
 mod ending;
 mod staying;
 mod stop_line;

@@ -6,8 +6,10 @@ ghost use Rattle.xcp_service.specs.Keeping.{AreKeptSettled};
 ghost use Rattle.xcp_service.specs.Parcels.{AreOpened, calls_in};
 ghost use Rattle.xcp_stay.specs.Stay.{AreAllMembers, IsKept};
 
+use crate::boxed::Boxed;
 use crate::ending::{Gathered, StayError, Stayed, conclude, gather};
 use std::alloc::{AllocError, Global};
+use std::boxed::Box;
 use std::marker::Brand;
 use std::net::TcpListener;
 use std::sync::{Mutex, Wait};
@@ -170,7 +172,33 @@ pub fn stay_named<
         unrouted: Unrouted::new(alloc)?,
         max_cto,
     };
-    stay_by_post::<N, Brand, S, W, R>(rt, alloc, ready, listener, plan, scribe, halt, watcher)
+    let Ok(scribe) = Box::new(alloc, scribe) else {
+        return Err(StayError::Memory);
+    };
+    let boxed = Boxed { scribe };
+    let stayed = stay_by_post::<N, Brand, S, W, R>(
+        rt, alloc, ready, listener, plan, boxed, halt, watcher,
+    )?;
+    Ok(unboxed(stayed))
+}
+
+/// What is left, with the scribe out of its box.
+fn unboxed<N: Name, S: Scribe>(stayed: Stayed<N, Boxed<S>>) -> Stayed<N, S>
+    ensures { (result.keeper ≡ stayed.keeper) × (result.locked ≡ stayed.locked)
+        × (result.members ≡ stayed.members) × (result.scribe ≡ stayed.scribe.scribe.value) }
+{
+    let Stayed {
+        keeper,
+        scribe,
+        locked,
+        members,
+    } = stayed;
+    Stayed {
+        keeper,
+        scribe: Box::into_inner(scribe.scribe),
+        locked,
+        members,
+    }
 }
 
 /// The same, with a post that has a name.
@@ -186,22 +214,22 @@ fn stay_by_post<
     ready: Ready<N>,
     listener: &TcpListener,
     plan: Plan,
-    scribe: S,
+    scribe: Boxed<S>,
     halt: &Halt,
     watcher: &W,
-) -> Result<Stayed<N, S>, StayError>
+) -> Result<Stayed<N, Boxed<S>>, StayError>
     requires relay { ready.unrouted ≡ M.relay }
     requires opened { AreOpened ready.opening.callers.items }
     requires callers { plan.tools + plan.tools + plan.tasks ≤ length ready.opening.callers.items }
     requires readers { plan.tasks ≤ 6 }
-    requires scribe { S.wrote scribe [] }
+    requires scribe { S.wrote scribe.scribe.value [] }
     ensures joined { IfOk result (λ s. AreJoined N.layout s.keeper.chapters
         s.locked.chapter s.locked.before s.locked.base) }
     ensures settled { IfOk result (λ s. AreKeptSettled s.keeper) }
     ensures closed { IfOk result (λ s. (s.locked.journal ≡ []) × (s.locked.base ≡ s.locked.slave)) }
     ensures members { IfOk result (λ s. AreAllMembers (plan.tools + plan.tools + plan.tasks)
         s.keeper s.members.items) }
-    ensures wrote { IfOk result (λ s. S.wrote s.scribe (calls_in s.keeper.chapters)) }
+    ensures wrote { IfOk result (λ s. S.wrote s.scribe.scribe.value (calls_in s.keeper.chapters)) }
 {
     let Ready {
         opening,
@@ -217,7 +245,7 @@ fn stay_by_post<
         post,
         members,
         collector,
-    } = unrouted.open::<M, S>(alloc, callers, scribe)?;
+    } = unrouted.open::<M, Boxed<S>>(alloc, callers, scribe)?;
     let doors = make_doors(alloc, plan.tools)?;
     let shared = Shared {
         lock: Mutex::new(locked),

@@ -1,0 +1,19 @@
+//! A scribe in a box.
+
+use std::boxed::Box;
+use xcp_scribe::Scribe;
+use xcp_trace::Entries;
+
+/// A scribe whose size nobody has to know through whose hands it goes.
+#[derive(Drop)]
+pub(crate) struct Boxed<S: Scribe> {
+    pub(crate) scribe: Box<S>,
+}
+
+impl<S: Scribe> Scribe for Boxed<S> {
+    ghost wrote = { λ b chapters. S.wrote b.scribe.value chapters };
+
+    fn write(&mut self, calls: Entries<'_>) {
+        self.scribe.as_mut().write(calls);
+    }
+}
