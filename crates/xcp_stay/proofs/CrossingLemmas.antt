@@ -25,7 +25,6 @@ use Rattle.xcp_outlet.proofs.end.DataEnd.TheSendSync as samples
 use Rattle.xcp_outlet.proofs.intake.SendEnd.TheSendSync as outgoing
 use Rattle.xcp_outlet.proofs.sending.Sent.TheSendSync as sent
 use Rattle.xcp_scribe.specs.declared.scribe.Scribe as Scribe
-use Rattle.xcp_stay.specs.contracts.boxed.Boxed as Boxed
 use Rattle.xcp_seats.proofs.closing.Closing.TheSendSync as closing
 use Rattle.xcp_seats.proofs.door.Door.TheSendSync as door
 use Rattle.xcp_seats.proofs.duty.Warding.TheSendSync as warding
@@ -164,10 +163,6 @@ performed_crosses N M S g l h s x =
 
 pub outcome_crosses : (N M S : RattleType) (g : Name.Ghosts N.Denot) (l : Ledger.Ghosts N.Denot) (h : Route.Ghosts M.Denot) (s : Scribe.Ghosts S.Denot) → IsSend S → IsSend (Outcome.the_row N M S g l h s)
 outcome_crosses N M S g l h s x = view_send (OutcomeInside.the_row N M S g l h s) _ _ _ _ (struct_crosses (OutcomeInside.the_type N M S g l h s) (performed_crosses N M S g l h s x, tt))
-
--- a scribe in its box
-pub boxed_crosses : (S : RattleType) (s : Scribe.Ghosts S.Denot) → IsSend S → IsSend (Boxed.the_row S s)
-boxed_crosses S s x = struct_crosses (Boxed.the_type S s) (search (sendable, crosses) depth 20, tt)
 
 -- what is done beside the seats, where the clock, and who is told of tools, may be shared
 ticker_crosses : (κ : NamedLft) (N M C : RattleType) (g : Name.Ghosts N.Denot) (l : Ledger.Ghosts N.Denot) (h : Route.Ghosts M.Denot) → IsSync C → IsSend (Ticker.the_field κ N M C g l h).row

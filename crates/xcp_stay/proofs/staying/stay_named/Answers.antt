@@ -1,6 +1,8 @@
-use Rattle.std.proofs.Common.{IfOk, ap, length, refl, subst, sym, ◌∙◌, arith}
+use Rattle.std.proofs.Common.{[], ap, length, refl, subst, sym, ◌∙◌, arith}
 use Rattle.xcp_locked.specs.Chapters.{AreJoined}
+use Rattle.xcp_locked.specs.LockedSlave.{LockedValue}
 use Rattle.xcp_memory.specs.Layout.{LayoutValue}
+use Rattle.xcp_service.specs.Keeping.{KeeperValue}
 use Rattle.xcp_stay.proofs.CountLemmas.{length-callers_of}
 use Rattle.xcp_stay.proofs.staying.stay_named.Goals as goal
 
@@ -9,8 +11,14 @@ stay_by_post-requires-after_bounds g c κs within =
     let given = c.in_ok-new.ensures.callers in
     let opened = ap length given ∙ length-callers_of c.args.unnamed.layout c.args.unnamed.callers in
     let enough = c.requires.callers in
-    (omega arith, (refl, ((c.args.unnamed.layout, c.args.unnamed.callers, given), (omega (arith, opened, enough), (c.requires.readers, c.requires.scribe)))))
+    let boxed = (c.in-Ok.ensures {u = tt}).ok in
+    (omega arith, (refl, ((c.args.unnamed.layout, c.args.unnamed.callers, given), (omega (arith, opened, enough), (c.requires.readers, subst (λ s. g.S.Scribe.wrote s []) (sym boxed) c.requires.scribe)))))
 
 pub returns-clause-joined : goal.returns-clause-joined
 returns-clause-joined g c =
-    subst (λ (l : LayoutValue). IfOk c.stay_by_post.result (λ s. AreJoined l s.keeper.chapters s.locked.chapter s.locked.before s.locked.base)) (sym c.requires.name.2) c.stay_by_post.ensures.joined
+    let left = c.unboxed.result in
+    let stayed = c.in_ok-stayed.stayed in
+    let same = c.unboxed.ensures in
+    subst (λ (l : LayoutValue). AreJoined l left.keeper.chapters left.locked.chapter left.locked.before left.locked.base) (sym c.requires.name.2)
+    (subst (λ (k : KeeperValue). AreJoined g.N.Name.layout k.chapters left.locked.chapter left.locked.before left.locked.base) (sym same.0)
+    (subst (λ (l : LockedValue). AreJoined g.N.Name.layout stayed.keeper.chapters l.chapter l.before l.base) (sym same.1) (c.in_ok-stayed.ensures {u = tt}).joined))
