@@ -17,6 +17,9 @@ use std::fs::File;
 use std::io;
 use std::net::TcpListener;
 use std::process::ExitCode;
+use std::sync::Wait;
+use std::thread::Threads;
+use std::time::Clock;
 use xcp_describe::{DescribeError, describe};
 use xcp_framing::Watched;
 use xcp_locked::Unnamed;
@@ -136,8 +139,9 @@ fn end(rt: &HostRuntime, fault: Option<Fault>) -> ExitCode {
 }
 
 /// Serves tools and runs tasks until all have ended, and tells what came of it.
-fn serve_by(
+fn serve_by<R: Threads + Wait + Clock + Sync>(
     rt: &HostRuntime,
+    handle: &R,
     path: &str,
     host: &str,
     port: u16,
@@ -152,7 +156,7 @@ fn serve_by(
 {
     let (unnamed, written, ends) = admit(rt, path, host, port, tools, tasks, journal)?;
     let ending = serve_ends(
-        rt,
+        handle,
         rt.alloc(),
         unnamed,
         ends,
@@ -187,7 +191,7 @@ fn main(rt: HostRuntime) -> ExitCode {
         ) => {
             let (path, host) = (config.as_str(), host.as_str());
             serve_by(
-                &rt, path, host, port, tools, tasks, cycles, chapter, period, &journal,
+                &rt, &rt, path, host, port, tools, tasks, cycles, chapter, period, &journal,
             )
             .err()
         }
