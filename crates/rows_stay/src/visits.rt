@@ -11,9 +11,26 @@ use std::test::Fail;
 use std::thread::{Threads, join};
 use std::time::{Clock, Duration};
 use xcp_locked::Unnamed;
-use xcp_scribe::Recording;
+use xcp_scribe::Scribe;
 use xcp_seats::Halt;
 use xcp_stay::{Plan, Report, stay};
+use xcp_trace::Entries;
+
+// Counts the calls that it is given.
+#[derive(Drop)]
+struct Counting(u64);
+
+impl Scribe for Counting {
+    ghost use Rattle.std.specs.Prelude.{⊤};
+
+    ghost wrote = { λ s chapters. ⊤ };
+
+    fn write(&mut self, mut calls: Entries<'_>) {
+        while let Some(_call) = calls.next() {
+            self.0 = self.0.wrapping_add(1);
+        }
+    }
+}
 
 // Connects, and whether CONNECT is answered so many times by frames that are numbered from 0.
 fn visit(rt: &HostRuntime, port: u16, times: u16) -> bool {
@@ -55,7 +72,7 @@ fn visit_all<R: Wait>(
     right
 }
 
-// Serves one tool at a time, and no task. It is so many seconds patient. Nothing is told where not all calls were written down.
+// Serves one tool at a time, and no task. It is so many seconds patient. Nothing is told where a scribe wasn't given all calls.
 pub fn serve<R: Threads + Wait + Clock + Sync>(
     rt: &HostRuntime,
     handle: &R,
@@ -74,13 +91,10 @@ pub fn serve<R: Threads + Wait + Clock + Sync>(
         period: 0,
         patience: Duration::from_secs(patience),
     };
-    let written: Recording<Vec<u8>> = Recording::new(alloc, Vec::new(alloc), [7; 32]).ok()?;
     let quiet = Quiet { rt, port };
-    let (report, written) = stay(
-        handle, alloc, unnamed, listener, plan, written, halt, &quiet,
-    )
-    .ok()?;
-    if written.calls() == report.calls && written.fault().is_none() {
+    let scribe = Counting(0);
+    let (report, scribe) = stay(handle, alloc, unnamed, listener, plan, scribe, halt, &quiet).ok()?;
+    if scribe.0 == report.calls {
         Some(report)
     } else {
         None

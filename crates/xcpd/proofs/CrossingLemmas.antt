@@ -1,0 +1,34 @@
+-- What writes a server's journal down may cross to another thread.
+use denote.RattleType.{RattleType}
+use denote.Param.Send.{AllSend, IsSend, recorded_send, sendable, struct_send, view_send}
+use denote.Struct.Declared as declared
+use denote.Struct.Struct.{Struct}
+use Rattle.std.proofs.Crossing.{crosses}
+use Rattle.xcp_framing.specs.contracts.tally.Tally as Tally
+use Rattle.xcp_framing.specs.contracts.watched.Watched as Watched
+use Rattle.xcp_framing.specs.contracts.watched.Watched.TheInside as WatchedInside
+use Rattle.xcp_record.proofs.fault.RecordFault.TheSendSync as fault
+use Rattle.xcp_record.specs.contracts.recorder.Recorder as Recorder
+use Rattle.xcp_scribe.specs.contracts.recording.Recording as Recording
+
+-- a struct, as all its fields may
+struct_crosses : (T : declared.Declared) → AllSend (declared.fields T) → IsSend (declared.row T)
+struct_crosses T all = recorded_send (Struct (declared.shape T)) T.D T.to T.to_one (struct_send (declared.shape T) all)
+
+-- a tally owns nothing
+tally_crosses : IsSend Tally.the_field.row
+tally_crosses = search (sendable, crosses) depth 20
+
+watched_crosses : (T : RattleType) → IsSend T → IsSend (Watched.the_row T)
+watched_crosses T s = view_send (WatchedInside.the_row T) _ _ _ _ (struct_crosses (WatchedInside.the_type T) (s, (tally_crosses, (tally_crosses, tt))))
+
+recorder_crosses : (W : RattleType) → IsSend W → IsSend (Recorder.the_field W).row
+recorder_crosses W w =
+    struct_send (declared.shape (Recorder.the_type W))
+    (watched_crosses W w, (search (sendable, crosses) depth 20, (search sendable, (search sendable, (search sendable, (search (sendable, crosses) depth 20, (search (sendable, crosses) depth 20, tt)))))))
+
+-- a recording whose stream may
+pub recording_crosses : (W : RattleType) → IsSend W → IsSend (Recording.the_row W)
+recording_crosses W w =
+    struct_crosses (Recording.the_type W)
+    (recorder_crosses W w, (search (sendable, crosses) depth 20, (search (sendable, crosses) depth 20, (search (sendable, crosses, fault.the_send) depth 20, tt))))
