@@ -16,7 +16,7 @@ use xcp_seats::Halt;
 use xcp_stay::{Plan, Report, stay};
 use xcp_trace::Entries;
 
-// Counts the calls that it is given.
+// Counts the chapters that it is given.
 #[derive(Drop)]
 struct Counting(u64);
 
@@ -25,10 +25,8 @@ impl Scribe for Counting {
 
     ghost wrote = { λ s chapters. ⊤ };
 
-    fn write(&mut self, mut calls: Entries<'_>) {
-        while let Some(_call) = calls.next() {
-            self.0 = self.0.wrapping_add(1);
-        }
+    fn write(&mut self, _calls: Entries<'_>) {
+        self.0 = self.0.wrapping_add(1);
     }
 }
 
@@ -72,7 +70,7 @@ fn visit_all<R: Wait>(
     right
 }
 
-// Serves one tool at a time, and no task. It is so many seconds patient. Nothing is told where a scribe wasn't given all calls.
+// Serves one tool at a time, and no task. It is so many seconds patient. Nothing is told where a scribe wasn't given as many chapters.
 pub fn serve<R: Threads + Wait + Clock + Sync>(
     rt: &HostRuntime,
     handle: &R,
@@ -94,7 +92,7 @@ pub fn serve<R: Threads + Wait + Clock + Sync>(
     let quiet = Quiet { rt, port };
     let scribe = Counting(0);
     let (report, scribe) = stay(handle, alloc, unnamed, listener, plan, scribe, halt, &quiet).ok()?;
-    if scribe.0 == report.calls {
+    if scribe.0 == report.chapters {
         Some(report)
     } else {
         None
