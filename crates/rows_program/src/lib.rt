@@ -5,6 +5,8 @@
 #[cfg(test)]
 mod layouts;
 #[cfg(test)]
+mod periods;
+#[cfg(test)]
 mod replays;
 #[cfg(test)]
 mod sources;

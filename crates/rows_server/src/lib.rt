@@ -6,6 +6,8 @@ mod ends;
 #[cfg(test)]
 mod loopback;
 #[cfg(test)]
+mod losses;
+#[cfg(test)]
 mod mismatches;
 #[cfg(test)]
 mod sessions;

@@ -1,4 +1,5 @@
 pub mod CommandLine
 pub mod ExitStatus
+pub mod Periods
 pub mod ReplayOutcome
 pub mod private

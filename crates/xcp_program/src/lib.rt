@@ -1,5 +1,5 @@
 //! The XCP slave's program, but for its `main`: the words of its command line, its faults with their statuses, the
-//! reading of the layout file, and a replay of a script on the slave that this file describes.
+//! reading of the layout file, the periods of its tasks, and a replay of a script on the slave that this file describes.
 //!
 //! `specs/CommandLine.antt` has the command line, `specs/ReplayOutcome.antt` what a replay promises,
 //! `specs/ExitStatus.antt` the statuses.
@@ -8,6 +8,7 @@
 mod command_line;
 mod fault;
 mod layout;
+mod periods;
 mod purpose;
 mod replaying;
 mod source;
@@ -16,6 +17,7 @@ mod words;
 pub use command_line::options;
 pub use fault::Fault;
 pub use layout::layout_of;
+pub use periods::periods_of;
 pub use purpose::{Options, OptionsFault};
 pub use replaying::replay;
 pub use source::{read_text, read_whole};

@@ -1,46 +1,67 @@
-//! When a task's cycles begin.
+//! When the tasks' cycles begin, and what they lose.
 
+use std::sync::atomic::{AtomicU64, Ordering};
 use std::thread;
 use std::time::{Clock, Duration, Instant};
 
-/// Lets a task begin its cycle n once n periods have passed since the server began, or at once where the period is 0.
+/// Lets a task begin its cycle n once n of its periods have passed since the server began, or at once where its period is 0.
+/// It counts the events that were lost.
 #[derive(Drop)]
 pub struct Pace<'a, R> {
     clock: &'a R,
     /// When the server began, if the clock could be read.
     began: Option<Instant>,
-    /// The period in milliseconds.
-    period: u32,
+    /// The period of each task, in nanoseconds.
+    periods: [u64; 6],
+    /// How many events found no room for their packets.
+    lost: AtomicU64,
 }
 
 impl<'a, R: Clock> Pace<'a, R> {
     /// The pace of a server that begins now.
-    pub fn new(clock: &'a R, period: u32) -> Pace<'a, R> {
+    pub fn new(clock: &'a R, periods: [u64; 6]) -> Pace<'a, R> {
         Pace {
             clock,
             began: Instant::now(clock).ok(),
-            period,
+            periods,
+            lost: AtomicU64::new(0),
         }
     }
 
-    /// Waits until this cycle is due.
-    pub fn wait(&self, cycle: u64) {
-        if self.period > 0 {
-            thread::sleep(self.clock, self.left(cycle));
+    /// Waits until this cycle of a task is due.
+    pub fn wait(&self, task: u8, cycle: u64) {
+        let period = self.period(task);
+        if period > 0 {
+            thread::sleep(self.clock, self.left(period, cycle));
         }
     }
 
-    /// Whether a cycle begins at once behind the one before it.
-    pub fn is_free(&self) -> bool {
-        self.period == 0
+    /// Whether a cycle of a task begins at once behind the one before it.
+    pub fn is_free(&self, task: u8) -> bool {
+        self.period(task) == 0
     }
 
-    /// How long a task still has to wait for this cycle. Where the clock can't be read it is a period.
-    fn left(&self, cycle: u64) -> Duration {
-        let due = Duration::from_millis(cycle.saturating_mul(u64::from(self.period)));
+    /// Counts an event that found no room for its packets.
+    pub fn lose(&self) {
+        self.lost.fetch_add(1, Ordering::SeqCst);
+    }
+
+    /// How many events found no room for their packets, of all tasks.
+    pub fn lost(&self) -> u64 {
+        self.lost.load(Ordering::SeqCst)
+    }
+
+    /// The period of a task.
+    fn period(&self, task: u8) -> u64 {
+        self.periods.get(usize::from(task)).copied().unwrap_or(0)
+    }
+
+    /// How long a task of this period still has to wait for this cycle. Where the clock can't be read it is a period.
+    fn left(&self, period: u64, cycle: u64) -> Duration {
+        let due = Duration::from_nanos(cycle.saturating_mul(period));
         match self.passed() {
             Some(passed) => due.saturating_sub(passed),
-            None => Duration::from_millis(u64::from(self.period)),
+            None => Duration::from_nanos(period),
         }
     }
 

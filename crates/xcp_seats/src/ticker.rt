@@ -10,7 +10,7 @@ use std::time::Clock;
 use xcp_locked::{Name, Reader, event};
 use xcp_packet::Packet;
 use xcp_service::{Member, Route, Shared, call};
-use xcp_slave::Request;
+use xcp_slave::{Request, Told};
 
 /// A task: its number, its member, its reader, and the image that it read last. Its cycles have no end.
 #[derive(Drop)]
@@ -41,22 +41,17 @@ impl<'a, N: Name, M: Route, C: Clock> Ticker<'a, N, M, C> {
         let mut image = [0; 2040];
         let mut cycle: u64 = 0;
         for _cycle in rt.forever() {
-            pace.wait(cycle);
-            if pace.is_free() {
+            pace.wait(task, cycle);
+            if pace.is_free(task) {
                 shared.post.wait_for_keeper(rt);
             }
             if halt.is_asked() {
                 break;
             }
-            raise(
-                rt,
-                alloc,
-                shared,
-                &mut member,
-                &mut reader,
-                task,
-                (cycle % 256) as u32,
-            );
+            let byte = (cycle % 256) as u32;
+            if raise(rt, alloc, shared, &mut member, &mut reader, task, byte) {
+                pace.lose();
+            }
             reader.acquire();
             reader.read(0, &mut image);
             if task == 0 {
@@ -68,8 +63,8 @@ impl<'a, N: Name, M: Route, C: Clock> Ticker<'a, N, M, C> {
     }
 }
 
-/// Submits the event of a cycle, and tells the reader, under the same hold, what was published by then. An event for which there is
-/// no memory is lost.
+/// Submits the event of a cycle, and tells the reader, under the same hold, what was published by then. The answer is whether the event
+/// found no room for its packets. One for which there is no memory is lost too, and isn't in the journal.
 fn raise<N: Name, M: Route>(
     rt: &impl Wait,
     alloc: Global,
@@ -78,12 +73,12 @@ fn raise<N: Name, M: Route>(
     reader: &mut Reader<N>,
     task: u8,
     cycle: u32,
-) {
+) -> bool {
     let request = event(member.caller(), task, cycle);
     let mut packet = Packet::new();
     member.reserve();
     let mut locked = shared.lock.lock(rt);
-    let _ = call(
+    let told = call(
         rt,
         alloc,
         &mut locked,
@@ -93,6 +88,7 @@ fn raise<N: Name, M: Route>(
         &mut packet,
     );
     locked.tell(reader);
+    matches!(told, Ok(Told::Overrun))
 }
 
 /// Submits a request. Where there is no memory for it, it is lost.

@@ -1,5 +1,5 @@
 -- What is told at the end of a server.
-use Rattle.std.specs.Prelude.{◌≡◌, ℕ, ◌+◌, List, [], ◌∷◌, ◌++◌, Option, Some, None, Result, Ok, Err, MatchResult, length, map}
+use Rattle.std.specs.Prelude.{◌≡◌, ℕ, ◌+◌, ◌-◌, ◌^◌, min, sum_by, count_by, Bool, true, false, List, [], ◌∷◌, ◌++◌, Option, Some, None, Result, Ok, Err, MatchResult, length, map}
 use Rattle.std.specs.List.{slice_get}
 use Rattle.xcp_bank.specs.BankId.{BankId}
 use Rattle.xcp_bank.specs.BankEnds.{six_readers}
@@ -7,6 +7,8 @@ use Rattle.xcp_memory.specs.Layout.{LayoutValue}
 use Rattle.xcp_slave.specs.Run.{Run}
 use Rattle.xcp_trace.specs.declared.Entry.{Entry}
 use Rattle.xcp_slave.specs.SlaveValue.{opening}
+use Rattle.xcp_slave.specs.declared.answer.Answer.{Answer}
+use Rattle.xcp_slave.specs.declared.answer.Answer.TheVariants as answers
 use Rattle.xcp_framing.specs.Serve.{number_of}
 use Rattle.xcp_framing.specs.CountedCalls.{Watched}
 use Rattle.xcp_framing.specs.declared.serving.ServeError.{ServeError}
@@ -21,6 +23,7 @@ use Rattle.xcp_locked.specs.Publications.{image_of}
 use Rattle.xcp_server.specs.ServerOutcome.{Closes, CountTheirCommands}
 use Rattle.xcp_server.specs.declared.closing.Closing.{Closing}
 use Rattle.xcp_locked.specs.declared.joining.Discord.{Discord}
+use Rattle.xcp_locked.specs.declared.receipt.Receipt.{Receipt}
 use Rattle.xcp_locked.specs.declared.joining.Discord.TheVariants as discords
 use Rattle.xcp_locked.specs.declared.tasks.TaskError.{TaskError}
 use Rattle.xcp_locked.specs.declared.tasks.TaskError.TheVariants as tasks
@@ -28,6 +31,18 @@ use Rattle.xcp_program.specs.declared.fault.Fault.{Fault}
 use Rattle.xcp_program.specs.declared.fault.Fault.TheVariants.{Memory, Mismatch, MismatchedChapter, Stream}
 use Rattle.xcp_server.specs.declared.report.Ending.{Ending}
 use Rattle.xcp_server.specs.declared.report.Report.{Report}
+
+-- an event's packets found no room
+abbrev pub is_overrun : Answer → Bool
+is_overrun answers.Overrun = true
+is_overrun _ = false
+
+-- how many of these calls, and of a caller's, were such events
+abbrev pub lost_in : List Receipt → ℕ
+lost_in receipts = count_by (λ (r : Receipt). is_overrun r.answer) receipts
+
+abbrev pub lost_by : CallerValue → ℕ
+lost_by c = lost_in c.receipts
 
 -- the fault that is told where a connection ended so
 abbrev pub fault_of_end : ServeError → Fault
@@ -68,6 +83,7 @@ pub record IsMismatch {N I O : Type 0} (layout : LayoutValue) (c : Closing N I O
 pub record IsReport {N I O : Type 0} (layout : LayoutValue) (c : Closing N I O) (r : Report) : Type 0 where
   pub chapters : r.chapters ≡ length c.chapters.items + 1
   pub calls : r.calls ≡ length (entries_of c.chapters.items ++ c.locked.journal)
+  pub lost : r.lost ≡ min (sum_by lost_by c.callers.items) (2 ^ 64 - 1)
   pub whole : IsWhole layout c.locked c.chapters.items c.callers.items
   pub fault : r.fault ≡ first_of (fault_of_ends c.ends.items) (fault_of_tasks c.fault)
 

@@ -1,14 +1,15 @@
 //! What is told at the end of a server.
-ghost use Rattle.std.specs.Prelude.{◌≡◌, ◌<◌, IfOk, MatchResult, sum_by, vec_len};
+ghost use Rattle.std.specs.Prelude.{◌≡◌, ◌<◌, ◌-◌, ◌^◌, IfOk, MatchResult, min, sum_by, vec_len};
 ghost use Rattle.xcp_locked.specs.Caller.{accepted_by};
 ghost use Rattle.xcp_server.specs.ServerOutcome.{SameClosing};
-ghost use Rattle.xcp_server.specs.Report.{IsMismatch, IsReport, fault_of_end, fault_of_ends, fault_of_tasks, first_of};
+ghost use Rattle.xcp_server.specs.Report.{IsMismatch, IsReport, fault_of_end, fault_of_ends, fault_of_tasks, first_of, lost_by, lost_in};
 
 use crate::{Closing, Left, settle_all};
 use std::io::{Read, Write};
 use xcp_framing::{ServeError, Served};
-use xcp_locked::{Discord, Journal, Name, TaskError};
+use xcp_locked::{Caller, Discord, Journal, Name, Receipts, TaskError};
 use xcp_program::Fault;
+use xcp_slave::Answer;
 
 /// What is told of a server whose callers are all settled.
 #[derive(Clone, Copy, Debug, PartialEq, Eq)]
@@ -17,6 +18,8 @@ pub struct Report {
     pub chapters: u64,
     /// How many calls were accepted, all of them in the journal's chapters.
     pub calls: u64,
+    /// How many of them were events that found no room for their packets, 2^64 - 1 at most.
+    pub lost: u64,
     /// The fault of the first faulty connection, in the order of accepting, else that of the tasks
     /// or of the last Hangup.
     pub fault: Option<Fault>,
@@ -52,6 +55,7 @@ pub fn conclude<N: Name, I: Read + Drop, O: Write + Drop>(
         Ok(calls) => Ok(Report {
             chapters: closing.chapters.len() as u64 + 1,
             calls,
+            lost: count_lost(&closing.callers),
             fault,
         }),
         Err(Discord::Chapter(number)) => Err(Fault::MismatchedChapter(number)),
@@ -60,6 +64,33 @@ pub fn conclude<N: Name, I: Read + Drop, O: Write + Drop>(
             at: unsettled.at,
         }),
     }
+}
+
+/// How many calls of these callers were events that found no room for their packets, 2^64 - 1 at most.
+fn count_lost<N: Name>(callers: &[Caller<N>]) -> u64
+    ensures { result ≡ min (sum_by lost_by callers.now) (2 ^ 64 - 1) }
+{
+    let mut lost: u64 = 0;
+    let mut left = callers;
+    while let Some((caller, rest)) = left.split_first() {
+        lost = lost.saturating_add(lost_of(&caller.receipts));
+        left = rest;
+    }
+    lost
+}
+
+/// The same of one caller's receipts.
+fn lost_of(receipts: &Receipts) -> u64
+    ensures { result ≡ min (lost_in receipts.now.list) (2 ^ 64 - 1) }
+{
+    let mut lost: u64 = 0;
+    let mut left = receipts.iter();
+    while let Some(receipt) = left.next() {
+        if matches!(receipt.answer, Answer::Overrun) {
+            lost = lost.saturating_add(1);
+        }
+    }
+    lost
 }
 
 /// The fault that is told, of the ends of the connections and of what ended the tasks.

@@ -11,8 +11,9 @@ ghost use Rattle.xcp_locked.specs.LockedSlave.{IsReached};
 ghost use Rattle.xcp_slave.specs.Run.{Run};
 ghost use Rattle.xcp_slave.specs.SlaveValue.{opening};
 ghost use Rattle.xcp_server.specs.ServerOutcome.{Closes, CountTheirCommands, PartedAs};
+ghost use Rattle.xcp_server.specs.private.ServerRoom.{IsRoom};
 
-use crate::closing::{close_all, make_rooms};
+use crate::closing::{Rooms, close_all, make_rooms};
 use crate::connection::close_each;
 use crate::dealing::{Duties, Limits, deal};
 use crate::{Closing, Connection, Parted};
@@ -23,7 +24,7 @@ use std::sync::{Mutex, Wait};
 use std::thread::Threads;
 use together::run_crews;
 use xcp_framing::Watched;
-use xcp_locked::{Done, Gate, Locked, Name, Opening, Task, Unnamed};
+use xcp_locked::{Caller, Done, Gate, Locked, Name, Opening, Reader, Task, Unnamed};
 
 /// Opens a slave, serves each reader and writer by frames, and runs so many tasks, all at the same
 /// time; joins them all; and submits a last `Hangup` as the first caller. A task has a thread of its
@@ -72,14 +73,90 @@ pub fn run_server<
         turns,
         pump_turns,
     };
+    let opening = Locked::<N>::new(alloc, unnamed)?;
+    let ready = prepare(alloc, opening, ends, tasks)?;
+    Ok(run_ready(rt, alloc, ready, gate, tasks, cycles, chapter, limits)?)
+}
+
+/// A slave that is open, and all that a server needs before anybody begins.
+#[derive(Drop)]
+pub struct Ready<N: Name, I: Read + Drop, O: Write + Drop> {
+    locked: Locked<N>,
+    callers: Vec<Caller<N>>,
+    readers: Vec<Reader<N>>,
+    ends: Vec<(Watched<I>, Watched<O>)>,
+    rooms: Rooms<N, I, O>,
+    stops: Vec<AtomicBool>,
+}
+
+/// Makes all that takes memory.
+fn prepare<N: Name, I: Read + Drop, O: Write + Drop>(
+    alloc: Global,
+    opening: Opening<N>,
+    ends: Vec<(Watched<I>, Watched<O>)>,
+    tasks: u8,
+) -> Result<Ready<N, I, O>, AllocError>
+    ensures callers { IfOk result (λ r. r.callers.items ≡ opening.callers.items) }
+    ensures readers { IfOk result (λ r. r.readers.items ≡ opening.readers) }
+    ensures ends { IfOk result (λ r. r.ends.items ≡ ends.items) }
+    ensures rooms { IfOk result (λ r. IsRoom (vec_len r.callers) (vec_len r.ends) tasks (vec_len r.readers) r.rooms) }
+    ensures stops { IfOk result (λ r. vec_len r.stops ≡ vec_len r.ends) }
+{
     let Opening {
         locked,
         callers,
         readers,
-    } = Locked::<N>::new(alloc, unnamed)?;
+    } = opening;
     let readers = Vec::from_array(alloc, readers)?;
-    let rooms = make_rooms(alloc, callers.len(), ends.len(), tasks, readers.len())?;
     let stops = make_stops(alloc, ends.len())?;
+    let rooms = make_rooms(alloc, callers.len(), ends.len(), tasks, readers.len())?;
+    Ok(Ready {
+        locked,
+        callers,
+        readers,
+        ends,
+        rooms,
+        stops,
+    })
+}
+
+/// Deals out what is ready, runs all parts, and puts together what comes of them.
+fn run_ready<
+    N: Name + Send + Sync,
+    G: Gate + Sync,
+    I: Read + Send + Drop,
+    O: Write + Send + Drop,
+    R: Threads + Wait + Sync,
+>(
+    rt: &R,
+    alloc: Global,
+    ready: Ready<N, I, O>,
+    gate: &G,
+    tasks: u8,
+    cycles: u32,
+    chapter: u32,
+    limits: Limits,
+) -> Result<Closing<N, I, O>, AllocError>
+    requires some { 0 < vec_len ready.ends }
+    requires enough { vec_len ready.ends + tasks + vec_len ready.ends ≤ vec_len ready.callers }
+    requires few { (tasks ≤ 16) × (tasks ≤ vec_len ready.readers) }
+    requires rooms { IsRoom (vec_len ready.callers) (vec_len ready.ends) tasks (vec_len ready.readers) ready.rooms }
+    requires stops { vec_len ready.stops ≡ vec_len ready.ends }
+    ensures closes { IfOk result (λ r. Closes I.remaining O.contents N.layout G.may_end
+        limits.max_cto limits.turns cycles chapter tasks
+        ready.callers.items ready.readers.items ready.ends.items r) }
+    ensures callers { IfOk result (λ r. vec_len r.callers ≡ vec_len ready.callers) }
+    ensures run { IfOk result (λ r. Run r.locked.base (exchanges r.locked.journal) r.locked.slave) }
+    ensures reached { IfOk result (λ r. IsReached N.layout r.locked.before r.locked.base) }
+{
+    let Ready {
+        locked,
+        callers,
+        readers,
+        ends,
+        rooms,
+        stops,
+    } = ready;
     let lock = Mutex::new(locked);
     let Duties {
         connections,

@@ -27,8 +27,8 @@ const PUMP_TURNS: u32 = 4_000_000_000;
 /// all at the same time, of which task 0 cuts the open chapter from `chapter` calls on, 1 to 65,536;
 /// joins them, ends the session, settles all callers for each chapter and tells how many chapters and
 /// calls there were, or which chapter doesn't follow the one before it, or which caller's receipts
-/// aren't the journal's. A task begins its cycle n once n periods, in milliseconds, have passed since
-/// the call. The scribe is given the calls of all chapters at the end, in order. `Memory`, and no other
+/// aren't the journal's. A task begins its cycle n once n of its periods, in nanoseconds, have passed
+/// since the call. The scribe is given the calls of all chapters at the end, in order. `Memory`, and no other
 /// fault, is the call's own: it comes where memory or a thread is refused, before anybody has begun.
 pub fn serve_ends<
     I: Read + Send + Drop,
@@ -43,7 +43,7 @@ pub fn serve_ends<
     tasks: u8,
     cycles: u32,
     chapter: u32,
-    period: u32,
+    periods: [u64; 6],
     scribe: S,
 ) -> Result<Ending<I, O, S>, Fault>
     requires some { 0 < vec_len ends }
@@ -54,7 +54,7 @@ pub fn serve_ends<
         cycles chapter tasks unnamed.callers unnamed.bank ends.items) (λ f. f ≡ Fault.Memory) }
 {
     serve_named::<Brand, I, O, S, R>(
-        rt, alloc, unnamed, ends, tasks, cycles, chapter, period, scribe,
+        rt, alloc, unnamed, ends, tasks, cycles, chapter, periods, scribe,
     )
 }
 
@@ -73,7 +73,7 @@ fn serve_named<
     tasks: u8,
     cycles: u32,
     chapter: u32,
-    period: u32,
+    periods: [u64; 6],
     scribe: S,
 ) -> Result<Ending<I, O, S>, Fault>
     requires name { (unnamed.name ≡ N.name) × (unnamed.callers ≡ N.parts)
@@ -85,7 +85,7 @@ fn serve_named<
     ensures served { MatchResult result (IsServed N I.remaining O.contents S.wrote unnamed.layout 1000000
         cycles chapter tasks unnamed.callers unnamed.bank ends.items) (λ f. f ≡ Fault.Memory) }
 {
-    let gate = Timetable::new(rt, period);
+    let gate = Timetable::new(rt, periods);
     let Ok(mut closing) = run_server::<N, _, _, _, _>(
         rt, alloc, unnamed, ends, tasks, cycles, chapter, TURNS, PUMP_TURNS, &gate,
     ) else {

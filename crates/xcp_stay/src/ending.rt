@@ -55,6 +55,8 @@ pub struct Stayed<N: Name, S: Scribe> {
     pub locked: Locked<N>,
     /// The callers of seats and tasks, in the order of their numbers.
     pub members: Vec<Former<N>>,
+    /// How many events of tasks found no room for their packets.
+    pub lost: u64,
 }
 
 /// The members of seats and tasks, and what came of their keeper, once all have ended.
@@ -97,6 +99,7 @@ pub(crate) fn conclude<N: Name, M: Route, S: Scribe, R: Wait>(
     post: &Post<N, M>,
     gathered: Gathered<N, M, S>,
     count: usize,
+    lost: u64,
 ) -> Result<Stayed<N, S>, StayError>
     ensures joined { IfOk result (λ s. AreJoined N.layout s.keeper.chapters
         s.locked.chapter s.locked.before s.locked.base) }
@@ -132,5 +135,6 @@ pub(crate) fn conclude<N: Name, M: Route, S: Scribe, R: Wait>(
         scribe,
         locked,
         members,
+        lost,
     })
 }

@@ -32,8 +32,8 @@ pub struct Plan {
     pub tools: u8,
     /// How many tasks run, 0 to 6.
     pub tasks: u8,
-    /// The milliseconds from one cycle of a task to its next. With 0 the next one begins at once.
-    pub period: u32,
+    /// The nanoseconds from one cycle of each task to its next. With 0 the next one begins at once.
+    pub periods: [u64; 6],
     /// How long a write may be held up, and a frame that has begun may be cut short, before the connection is closed.
     pub patience: Duration,
 }
@@ -45,6 +45,8 @@ pub struct Report {
     pub chapters: u64,
     /// How many calls were accepted, all of them in these chapters.
     pub calls: u64,
+    /// How many of them were events of tasks that found no room for their packets.
+    pub lost: u64,
 }
 
 /// A slave and a post that are open, and MAX_CTO of the slave.
@@ -128,10 +130,12 @@ fn stay_and_tell<
 fn tell<N: Name, S: Scribe>(stayed: &Stayed<N, S>) -> Report
     ensures chapters { result.chapters ≡ stayed.now.locked.chapter }
     ensures calls { result.calls ≡ stayed.now.locked.before }
+    ensures lost { result.lost ≡ stayed.now.lost }
 {
     Report {
         chapters: stayed.locked.chapter(),
         calls: stayed.locked.before(),
+        lost: stayed.lost,
     }
 }
 
@@ -192,12 +196,14 @@ fn unboxed<N: Name, S: Scribe>(stayed: Stayed<N, Boxed<S>>) -> Stayed<N, S>
         scribe,
         locked,
         members,
+        lost,
     } = stayed;
     Stayed {
         keeper,
         scribe: Box::into_inner(scribe.scribe),
         locked,
         members,
+        lost,
     }
 }
 
@@ -252,7 +258,7 @@ fn stay_by_post<
         post,
     };
     let hall = Hall::new();
-    let pace = Pace::new(rt, plan.period);
+    let pace = Pace::new(rt, plan.periods);
     let common = Common {
         shared: &shared,
         doors: doors.as_slice(),
@@ -269,7 +275,15 @@ fn stay_by_post<
     let gathered = serve(rt, alloc, &common, listener, crew, max_cto, plan)?;
     let Shared { lock, post } = shared;
     let count = plan.tools as usize + plan.tools as usize + plan.tasks as usize;
-    conclude(rt, alloc, lock.into_inner(), &post, gathered, count)
+    conclude(
+        rt,
+        alloc,
+        lock.into_inner(),
+        &post,
+        gathered,
+        count,
+        pace.lost(),
+    )
 }
 
 /// Who serves: members and readers, of whom the first ones get something to do, and a keeper.

@@ -12,7 +12,7 @@ ghost use Rattle.xcp_scribe.specs.Scribing.{HasBegun};
 
 use crate::audit::audit_by;
 use crate::journal::{Written, journal_at, print_recorded};
-use crate::stay::{patience, stay_by};
+use crate::stay::{Staying, patience, stay_by};
 use std::fs::File;
 use std::io;
 use std::net::TcpListener;
@@ -23,9 +23,10 @@ use std::time::Clock;
 use xcp_describe::{DescribeError, describe};
 use xcp_framing::Watched;
 use xcp_locked::Unnamed;
-use xcp_program::{Fault, Options, Unasked, asked, layout_of, read_text, read_words, replay};
+use xcp_program::{
+    Fault, Options, Unasked, asked, layout_of, periods_of, read_text, read_words, replay,
+};
 use xcp_server::{Report, Tools, accept_tools, serve_ends};
-use xcp_stay::Plan;
 
 /// The most reads of one replay.
 const TURNS: u32 = 1_000_000;
@@ -69,8 +70,11 @@ fn describe_or_tell(rt: &HostRuntime, path: &str, host: &str, port: u16) -> Exit
     }
 }
 
-/// A slave of the configuration file's layout with a caller for each tool, task and pump, what writes its journal down, and the
-/// tools that have connected.
+/// What a server begins with: a slave, the periods of its tasks, what writes its journal down, and the tools that have connected.
+type Admitted = (Unnamed, [u64; 6], Written, Tools);
+
+/// A slave of the configuration file's layout with a caller for each tool, task and pump, the periods of its tasks, what writes its
+/// journal down, and the tools that have connected.
 fn admit(
     rt: &HostRuntime,
     path: &str,
@@ -78,13 +82,16 @@ fn admit(
     port: u16,
     tools: u8,
     tasks: u8,
+    pace: bool,
+    period: u32,
     journal: &Option<String>,
-) -> Result<(Unnamed, Written, Tools), Fault>
+) -> Result<Admitted, Fault>
     requires { (1 ≤ tools) × (tools ≤ 2) × (tasks ≤ 6) }
-    ensures { IfOk result (λ r. (vec_len r.2 ≡ tools) × (r.0.callers ≡ tools + tasks + tools) × HasBegun r.1) }
+    ensures { IfOk result (λ r. (vec_len r.3 ≡ tools) × (r.0.callers ≡ tools + tasks + tools) × HasBegun r.2) }
 {
     let text = text_of(rt, path)?;
     let layout = layout_of(rt.alloc(), text.as_str())?;
+    let periods = periods_of(&layout, pace, period);
     let Ok(unnamed) = Unnamed::new(rt.alloc(), layout, tools + tasks + tools) else {
         return Err(Fault::Memory);
     };
@@ -95,19 +102,26 @@ fn admit(
     let _ = println!(rt; "listening {port}");
     Ok((
         unnamed,
+        periods,
         written,
         accept_tools(rt.alloc(), &listener, tools)?,
     ))
 }
 
-/// Tells what came of a server: its chapters and calls once its callers are settled, then its fault, else that these couldn't be written.
+/// Prints the last lines of a server whose callers are settled. Lost events have a line if there are any.
+pub fn print_counts(rt: &HostRuntime, chapters: u64, calls: u64, lost: u64) -> io::Result<()> {
+    println!(rt; "chapters {chapters}\ncalls {calls}")?;
+    if lost > 0 {
+        println!(rt; "lost {lost}")?;
+    }
+    println!(rt; "settled")
+}
+
+/// Tells what came of a server: its counts once its callers are settled, then its fault, else that these couldn't be written.
 fn print_end(rt: &HostRuntime, told: Result<Report, Fault>) -> Option<Fault> {
     match told {
         Ok(report) => {
-            let written = println!(rt;
-                "chapters {}\ncalls {}\nsettled",
-                report.chapters, report.calls
-            );
+            let written = print_counts(rt, report.chapters, report.calls, report.lost);
             match report.fault {
                 None if written.is_err() => Some(Fault::Stream(2)),
                 fault => fault,
@@ -150,11 +164,14 @@ fn serve_by<R: Threads + Wait + Clock + Sync>(
     cycles: u32,
     chapter: u32,
     period: u32,
+    pace: bool,
     journal: &Option<String>,
 ) -> Result<(), Fault>
     requires { (1 ≤ tools) × (tools ≤ 2) × (tasks ≤ 6) }
 {
-    let (unnamed, written, ends) = admit(rt, path, host, port, tools, tasks, journal)?;
+    let (unnamed, periods, written, ends) = admit(
+        rt, path, host, port, tools, tasks, pace, period, journal,
+    )?;
     let ending = serve_ends(
         handle,
         rt.alloc(),
@@ -163,7 +180,7 @@ fn serve_by<R: Threads + Wait + Clock + Sync>(
         tasks,
         cycles,
         chapter,
-        period,
+        periods,
         written,
     )?;
     let told = print_end(rt, ending.told);
@@ -187,11 +204,12 @@ fn main(rt: HostRuntime) -> ExitCode {
                 chapter,
                 period,
                 journal,
+                pace,
             },
         ) => {
             let (path, host) = (config.as_str(), host.as_str());
             serve_by(
-                &rt, &rt, path, host, port, tools, tasks, cycles, chapter, period, &journal,
+                &rt, &rt, path, host, port, tools, tasks, cycles, chapter, period, pace, &journal,
             )
             .err()
         }
@@ -205,16 +223,18 @@ fn main(rt: HostRuntime) -> ExitCode {
                 period,
                 patience: seconds,
                 journal,
+                pace,
             },
         ) => {
-            let plan = Plan {
+            let staying = Staying {
                 tools,
                 tasks,
                 period,
+                pace,
                 patience: patience(seconds),
             };
             let (path, host) = (config.as_str(), host.as_str());
-            stay_by(&rt, &rt, path, host, port, plan, &journal).err()
+            stay_by(&rt, &rt, path, host, port, staying, &journal).err()
         }
         Ok(Options::Describe { config, host, port }) => {
             return describe_or_tell(&rt, config.as_str(), host.as_str(), port);

@@ -1,18 +1,44 @@
 //! A server that stays, by the program's words.
-ghost use Rattle.std.specs.Prelude.{◌≤◌, ◌+◌, IfOk};
+ghost use Rattle.std.specs.Prelude.{◌≡◌, ◌≤◌};
 
 use crate::journal::{Written, journal_at, print_recorded};
 use crate::log::Log;
-use crate::text_of;
+use crate::{print_counts, text_of};
 use std::net::TcpListener;
 use std::sync::{Arc, Wait};
 use std::thread::Threads;
 use std::time::{Clock, Duration};
 use std::{io, thread};
 use xcp_locked::{Discord, Unnamed};
-use xcp_program::{Fault, layout_of};
+use xcp_memory::Layout;
+use xcp_program::{Fault, layout_of, periods_of};
 use xcp_seats::Halt;
 use xcp_stay::{Plan, Report, StayError, stay, wait_for_stop};
+
+/// How a server is asked to stay: as a plan of one, but that a pace says whether tasks have the periods of their channels.
+#[derive(Clone, Copy)]
+pub struct Staying {
+    pub tools: u8,
+    pub tasks: u8,
+    /// Milliseconds.
+    pub period: u32,
+    pub pace: bool,
+    pub patience: Duration,
+}
+
+impl Staying {
+    /// The plan of a server on a slave of this layout.
+    fn plan(&self, layout: &Layout) -> Plan
+        ensures { (result.tools ≡ self.now.tools) × (result.tasks ≡ self.now.tasks) }
+    {
+        Plan {
+            tools: self.tools,
+            tasks: self.tasks,
+            periods: periods_of(layout, self.pace, self.period),
+            patience: self.patience,
+        }
+    }
+}
 
 /// Serves tools at this port until a line of standard input says `stop`, on a slave of this configuration file's layout, and prints
 /// how many chapters and calls there were. Where serving ends by itself, nobody waits for standard input.
@@ -22,13 +48,14 @@ pub fn stay_by<R: Threads + Wait + Clock + Copy + Send + Sync + 'static>(
     path: &str,
     host: &str,
     port: u16,
-    plan: Plan,
+    staying: Staying,
     journal: &Option<String>,
 ) -> Result<(), Fault>
-    requires { (1 ≤ plan.tools) × (plan.tools ≤ 4) × (plan.tasks ≤ 6) }
+    requires { (1 ≤ staying.tools) × (staying.tools ≤ 4) × (staying.tasks ≤ 6) }
 {
     let text = text_of(rt, path)?;
     let layout = layout_of(rt.alloc(), text.as_str())?;
+    let plan = staying.plan(&layout);
     let Ok(unnamed) = Unnamed::new(rt.alloc(), layout, plan.tools + plan.tools + plan.tasks) else {
         return Err(Fault::Memory);
     };
@@ -58,7 +85,7 @@ pub fn stay_by<R: Threads + Wait + Clock + Copy + Send + Sync + 'static>(
 
 /// Prints what is told of a server that stayed, and how many of its calls were written down.
 fn tell(rt: &HostRuntime, told: &Report, written: &Written) -> Result<(), Fault> {
-    let printed = println!(rt; "chapters {}\ncalls {}\nsettled", told.chapters, told.calls);
+    let printed = print_counts(rt, told.chapters, told.calls, told.lost);
     match print_recorded(rt, written) {
         Some(fault) => Err(fault),
         None => printed.map_err(|_| Fault::Stream(2)),
