@@ -70,11 +70,11 @@ no_audit e = let first : 97 ≡ 115 = ap (λ (t : Text). slice_index t 0) e in a
 -- what is asked for has not too many tools
 pub not_too_many : (found : Option (Text × List Row)) (o : Options) → Asks found o → AsksTooMany found → ⊥
 not_too_many found (Replay config) h many = named_apart (codes "replay") (codes "serve") found h.text.name many.tools.spelt.value.name no_replay
-not_too_many found (Serve config host p t k n m ms journal) h many =
+not_too_many found (Serve config host p t k n m ms journal pace) h many =
     let same : t ≡ many.number = same_number found (codes "serve") tools.name t many.number h.tools.spelt many.tools.spelt in
     let least : t ≤ 2 = h.few in
     let above : 2 < many.number = many.many in
     omega arith
-not_too_many found (Stay config host p t k ms s journal) h many = many.ends h.stays
+not_too_many found (Stay config host p t k ms s journal pace) h many = many.ends h.stays
 not_too_many found (Describe config host p) h many = named_apart (codes "describe") (codes "serve") found h.config.text.name many.tools.spelt.value.name no_description
 not_too_many found (Audit config file lines) h many = named_apart (codes "audit") (codes "serve") found h.config.text.name many.tools.spelt.value.name no_audit

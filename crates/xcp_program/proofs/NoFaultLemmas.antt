@@ -86,7 +86,10 @@ keeps_serve = (
                     keeps_set serve_shape.rules (nth 9 serve_shape) refl refl refl (λ again rows e. no_kinds _ _ e),
                     (
                       keeps_set serve_shape.rules (nth 10 serve_shape) refl refl refl (λ again rows e. no_kinds _ _ e),
-                      (λ again values rows e v. v, tt),
+                      (
+                        keeps_flag serve_shape.rules (nth 11 serve_shape) (codes "true") refl refl refl refl (λ again y ys rows e. no_values (length ys) (parts _ _ e).0),
+                        (λ again values rows e v. v, tt),
+                      ),
                     ),
                   ),
                 ),
@@ -341,6 +344,9 @@ module _ (words : List Text) (e : level_fault serve_shape [] nothing_held words 
   written_stands : Stands (nth 10 serve_shape) (all_rows serve_shape words) None ⊎ ((is_given (codes "journal") (all_rows serve_shape words) ≡ false) × (first_of (codes "journal") (all_rows serve_shape words) ≡ None))
   written_stands = by_choice serve_shape words keeps_serve e (nth 10 serve_shape) refl refl
 
+  pace_stands : Stands (nth 11 serve_shape) (all_rows serve_shape words) (Some (codes "false"))
+  pace_stands = by_default serve_shape words keeps_serve e (take 11 serve_shape.rules) (drop 12 serve_shape.rules) (nth 11 serve_shape) (codes "false") refl refl refl refl refl refl
+
   serve_asked : AsksRun (Some (rows_at serve_shape words))
   serve_asked =
       let p = number_stands words (nth 1 serve_shape) port refl (λ text h. accepts-Accepts false (Unsigned 1024 65535) text h) port_stands in
@@ -371,6 +377,7 @@ module _ (words : List Text) (e : level_fault serve_shape [] nothing_held words 
         period = ms.1;
         patience = s.1;
         journal = choice_among serve_shape (codes "serve") words refl refl (nth 10 serve_shape) written_stands;
+        pace = flag_among serve_shape (codes "serve") words refl refl (nth 11 serve_shape) refl refl pace_stands;
       })
 
 -- ---- `describe`

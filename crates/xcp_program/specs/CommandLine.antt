@@ -82,11 +82,11 @@ abbrev pub choice_rule : Text → Rule
 choice_rule name = record (new_rule name) { long = Some name; action = Some Set; value_names = 1 }
 
 -- `serve --config FILE --port PORT [--host HOST] [--stay] [--tools T] [--tasks K] [--cycles N] [--chapter M] [--period MS] [--patience S]
--- [--journal FILE]`
+-- [--journal FILE] [--pace]`
 abbrev pub serve_app : App
-serve_app = with_rule (with_rule (with_rule (with_rule (with_rule (with_rule (with_rule (with_rule (with_rule (with_rule (with_rule (new_app (codes "serve"))
+serve_app = with_rule (with_rule (with_rule (with_rule (with_rule (with_rule (with_rule (with_rule (with_rule (with_rule (with_rule (with_rule (new_app (codes "serve"))
     config_rule) (numeric_rule port)) host_rule) (flag_rule (codes "stay"))) (numeric_rule tools)) (numeric_rule tasks)) (numeric_rule cycles)) (numeric_rule chapter)) (numeric_rule period)) (numeric_rule patience))
-    (choice_rule (codes "journal"))
+    (choice_rule (codes "journal"))) (flag_rule (codes "pace"))
 
 -- the port that a description names
 abbrev pub named_port : Numeric
@@ -175,8 +175,9 @@ Stays found = gives (codes "stay") found ≡ true
 abbrev pub HasJournal : Option (Text × List Row) → Option Text → Type 0
 HasJournal found journal = HasChoice found (codes "serve") (codes "journal") journal
 
--- a subcommand with its rows is a server that ends, with this configuration file, this host, these numbers and this file for its journal
-pub record IsServe (found : Option (Text × List Row)) (file address : Text) (p t k n m ms : ℕ) (written : Option Text) : Type 0 where
+-- a subcommand with its rows is a server that ends, with this configuration file, this host, these numbers, this file for its journal, and
+-- with or without the flag `--pace`
+pub record IsServe (found : Option (Text × List Row)) (file address : Text) (p t k n m ms : ℕ) (written : Option Text) (paced : Bool) : Type 0 where
   pub config : HasFile found (codes "serve") file
   pub host : HasHost found (codes "serve") address
   pub port : HasNumber found port p
@@ -187,10 +188,11 @@ pub record IsServe (found : Option (Text × List Row)) (file address : Text) (p 
   pub chapter : HasNumber found chapter m
   pub period : HasNumber found period ms
   pub journal : HasJournal found written
+  pub pace : gives (codes "pace") found ≡ paced
   pub ends : ¬ (Stays found)
 
 -- a subcommand with its rows is a server that stays, likewise
-pub record IsStay (found : Option (Text × List Row)) (file address : Text) (p t k ms s : ℕ) (written : Option Text) : Type 0 where
+pub record IsStay (found : Option (Text × List Row)) (file address : Text) (p t k ms s : ℕ) (written : Option Text) (paced : Bool) : Type 0 where
   pub config : HasFile found (codes "serve") file
   pub host : HasHost found (codes "serve") address
   pub port : HasNumber found port p
@@ -199,6 +201,7 @@ pub record IsStay (found : Option (Text × List Row)) (file address : Text) (p t
   pub period : HasNumber found period ms
   pub patience : HasNumber found patience s
   pub journal : HasJournal found written
+  pub pace : gives (codes "pace") found ≡ paced
   pub stays : Stays found
 
 -- a subcommand with its rows is a server that ends, with more tools than such a one may have
@@ -223,17 +226,17 @@ pub record IsAudit (found : Option (Text × List Row)) (file word : Text) (lines
 -- what a subcommand with its rows asks for
 abbrev pub Asks : Option (Text × List Row) → Options → Type 0
 Asks found (Replay config) = IsReplay found (string_bytes config)
-Asks found (Serve config host p t k n m ms journal) = IsServe found (string_bytes config) (string_bytes host) p t k n m ms (option_map string_bytes journal)
-Asks found (Stay config host p t k ms s journal) = IsStay found (string_bytes config) (string_bytes host) p t k ms s (option_map string_bytes journal)
+Asks found (Serve config host p t k n m ms journal pace) = IsServe found (string_bytes config) (string_bytes host) p t k n m ms (option_map string_bytes journal) pace
+Asks found (Stay config host p t k ms s journal pace) = IsStay found (string_bytes config) (string_bytes host) p t k ms s (option_map string_bytes journal) pace
 Asks found (Describe config host p) = IsDescription found (string_bytes config) (string_bytes host) p
 Asks found (Audit config file lines) = IsAudit found (string_bytes config) (string_bytes file) lines
 
 -- each number is in its option's bounds, and the tools of a server that ends are few
 abbrev pub InRange : Options → Type 0
 InRange (Replay config) = ⊤
-InRange (Serve config host p t k n m ms journal) = (port.least ≤ p) × (p ≤ port.most) × (tools.least ≤ t) × (t ≤ few) × (tasks.least ≤ k) × (k ≤ tasks.most) × (cycles.least ≤ n) × (n ≤ cycles.most)
+InRange (Serve config host p t k n m ms journal pace) = (port.least ≤ p) × (p ≤ port.most) × (tools.least ≤ t) × (t ≤ few) × (tasks.least ≤ k) × (k ≤ tasks.most) × (cycles.least ≤ n) × (n ≤ cycles.most)
     × (chapter.least ≤ m) × (m ≤ chapter.most) × (period.least ≤ ms) × (ms ≤ period.most)
-InRange (Stay config host p t k ms s journal) = (port.least ≤ p) × (p ≤ port.most) × (tools.least ≤ t) × (t ≤ tools.most) × (tasks.least ≤ k) × (k ≤ tasks.most) × (period.least ≤ ms) × (ms ≤ period.most)
+InRange (Stay config host p t k ms s journal pace) = (port.least ≤ p) × (p ≤ port.most) × (tools.least ≤ t) × (t ≤ tools.most) × (tasks.least ≤ k) × (k ≤ tasks.most) × (period.least ≤ ms) × (ms ≤ period.most)
     × (patience.least ≤ s) × (s ≤ patience.most)
 InRange (Describe config host p) = (named_port.least ≤ p) × (p ≤ named_port.most)
 InRange (Audit config file lines) = ⊤

@@ -47,6 +47,7 @@ had begun.
 With --stay tools come and go, up to T at a time (1 to 4), until a line `stop` on standard input ends it; the tasks run
 until then, and --cycles and --chapter are ignored. How each connection ended is told on standard error then, and the
 status is not that of a connection's fault. Without it T is 1 or 2, and --patience is ignored.
+With --pace a task's period is the time that its channel's cycle and unit say; where these say none, it is --period.
 With --journal all calls are written to FILE, which must not be there yet: with --stay chapter by chapter, else at the
 end. One line more is printed then, behind settled: recorded N (N is the number of calls that stand in FILE).
 
@@ -245,7 +246,12 @@ fn serve_command<'a>(alloc: Global) -> Result<Command<'a>, AllocError>
         "The seconds that a tool may stop inside a frame, or read nothing, 1 to 3,600; only for --stay",
     );
     let serve = serve.arg(patience)?;
-    Ok(serve.arg(journal_option(alloc))?)
+    let serve = serve.arg(journal_option(alloc))?;
+    Ok(serve.arg(flag(
+        alloc,
+        "pace",
+        "Each task raises its channel by the channel's own cycle and unit, not by --period, if these say a time",
+    ))?)
 }
 
 /// The subcommand `describe`.
@@ -434,6 +440,7 @@ fn server_asked(alloc: Global, matches: &ArgMatches<'_>) -> Result<Options, Opti
     let tools = number_in(matches, "tools") as u8;
     let tasks = number_in(matches, "tasks") as u8;
     let period = number_in(matches, "period");
+    let pace = has_flag(matches, "serve", "pace");
     let config = String::from_str(alloc, config)?;
     let host = String::from_str(alloc, host)?;
     let journal = choice_in(alloc, matches, "serve", "journal")?;
@@ -447,6 +454,7 @@ fn server_asked(alloc: Global, matches: &ArgMatches<'_>) -> Result<Options, Opti
             period,
             patience: number_in(matches, "patience"),
             journal,
+            pace,
         })
     } else if tools > MOST_TOOLS {
         Err(OptionsFault::TooManyTools)
@@ -461,6 +469,7 @@ fn server_asked(alloc: Global, matches: &ArgMatches<'_>) -> Result<Options, Opti
             chapter: number_in(matches, "chapter"),
             period,
             journal,
+            pace,
         })
     }
 }

@@ -32,6 +32,8 @@ pub enum Options {
         period: u32,
         /// The name of the file that the journal is written to, if it is.
         journal: Option<String>,
+        /// Whether each task goes by its channel's own cycle and unit where these say a time.
+        pace: bool,
     },
     /// The same, while tools come and go.
     Stay {
@@ -51,6 +53,8 @@ pub enum Options {
         patience: u32,
         /// The name of the file that the journal is written to, if it is.
         journal: Option<String>,
+        /// Whether each task goes by its channel's own cycle and unit where these say a time.
+        pace: bool,
     },
     /// To describe, for tools, the slave that this file describes.
     Describe {

@@ -187,6 +187,7 @@ fn main(rt: HostRuntime) -> ExitCode {
                 chapter,
                 period,
                 journal,
+                pace: _,
             },
         ) => {
             let (path, host) = (config.as_str(), host.as_str());
@@ -205,6 +206,7 @@ fn main(rt: HostRuntime) -> ExitCode {
                 period,
                 patience: seconds,
                 journal,
+                pace: _,
             },
         ) => {
             let plan = Plan {

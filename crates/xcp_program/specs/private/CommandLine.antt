@@ -40,6 +40,7 @@ pub record AsksServe (found : Option (Text × List Row)) : Type 0 where
   pub period : HasNumber found period ms
   pub patience : HasNumber found patience s
   pub journal : IsChosen found (codes "serve") (codes "journal")
+  pub pace : HasFlag found (codes "serve") (codes "pace")
 
 -- it is an audit: its option, its file and its flag, each with its text
 pub record AsksAudit (found : Option (Text × List Row)) : Type 0 where
