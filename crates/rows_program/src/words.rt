@@ -41,7 +41,7 @@ impl Env for Started<'_> {
 
 /// What a program that was started with these words does: the file of a replay, the file of a server with its host, port,
 /// tools, tasks, cycles, chapter and period, or, behind `stay`, with its host, port, tools, tasks, period and patience (and behind
-/// either the file of its journal, if it is named, and `paced`, if it is), the file of a description with its host and port, the file of an audit, its journal and whether lines are wanted, or the status, a blank
+/// either the file of its journal, if it is named, and `paced`, if it is), the file of a description with its host and port (and behind `check` if it is only checked), the file of an audit, its journal and whether lines are wanted, or the status, a blank
 /// and what it tells.
 fn told(alloc: Global, words: &[u8]) -> Result<String, AllocError> {
     match asked(alloc, read_words(&(Started(words), alloc))) {
@@ -83,7 +83,17 @@ fn told(alloc: Global, words: &[u8]) -> Result<String, AllocError> {
                 "stay {config} {host} {port} {tools} {tasks} {period} {patience}{written}"
             )
         }
-        Ok(Options::Describe { config, host, port }) => format!(in alloc; "{config} {host} {port}"),
+        Ok(
+            Options::Describe {
+                config,
+                host,
+                port,
+                check,
+            },
+        ) => {
+            let front = if check { "check " } else { "" };
+            format!(in alloc; "{front}{config} {host} {port}")
+        }
         Ok(
             Options::Audit {
                 config,
@@ -195,9 +205,12 @@ Options:
       --config <FILE>  The layout file, in TOML: identification, packet lengths, segments, signals, events
       --host <HOST>    The host at which tools reach the slave [default: 127.0.0.1]
       --port <PORT>    The port at which they do, 1,024 to 65,535 [default: 5555]
+      --check          Describes nothing, and tells what is wrong in the layout file
   -h, --help           Print help
 
 Tools read it: the slave's protocol layer, lists, event channels, segments and pages, as the slave tells them.
+With --check nothing is described. A line is printed for each thing that is found in the layout file: its first fault in
+words, each key that nothing reads, and the first entry that would be refused. The status is 1 then; else it is 0.
 
 Wrong words end the program with status 1, and what is wrong with them on standard error. Any other fault ends it
 with one line there, and this status:
@@ -281,7 +294,7 @@ fn the_words_of_an_audit(rt: HostRuntime) -> Result<(), Fail> {
 }
 
 /// What the program does with words of `describe` behind a configuration file F.
-const DESCRIPTIONS: [(&[u8], &str); 9] = [
+const DESCRIPTIONS: [(&[u8], &str); 13] = [
     (b"xcpd|describe|--config|F", "F 127.0.0.1 5555"),
     (b"xcpd|describe|--config|F|--port|1024", "F 127.0.0.1 1024"),
     (
@@ -291,6 +304,22 @@ const DESCRIPTIONS: [(&[u8], &str); 9] = [
     (
         b"xcpd|describe|--port=65535|--host=10.0.0.7|--config=F",
         "F 10.0.0.7 65535",
+    ),
+    (
+        b"xcpd|describe|--config|F|--check",
+        "check F 127.0.0.1 5555",
+    ),
+    (
+        b"xcpd|describe|--check|--port|1024|--config=F",
+        "check F 127.0.0.1 1024",
+    ),
+    (
+        b"xcpd|describe|--check",
+        "1 error: the following required arguments were not provided:\n  --config <FILE>\n\nUsage: xcpd describe --config <FILE> --check\n\nFor more information, try '--help'.\n",
+    ),
+    (
+        b"xcpd|describe|--config|F|--check|--check",
+        "1 error: the argument '--check' cannot be used multiple times\n\nUsage: xcpd describe [OPTIONS] --config <FILE>\n\nFor more information, try '--help'.\n",
     ),
     (b"xcpd|describe|--help", DESCRIBE_HELP),
     (
