@@ -41,7 +41,7 @@ impl Env for Started<'_> {
 
 /// What a program that was started with these words does: the file of a replay, the file of a server with its host, port,
 /// tools, tasks, cycles, chapter and period, or, behind `stay`, with its host, port, tools, tasks, period and patience (and behind
-/// either the file of its journal, if it is named), the file of a description with its host and port, the file of an audit, its journal and whether lines are wanted, or the status, a blank
+/// either the file of its journal, if it is named, and `paced`, if it is), the file of a description with its host and port (and behind `check` if it is only checked), the file of an audit, its journal and whether lines are wanted, or the status, a blank
 /// and what it tells.
 fn told(alloc: Global, words: &[u8]) -> Result<String, AllocError> {
     match asked(alloc, read_words(&(Started(words), alloc))) {
@@ -57,9 +57,10 @@ fn told(alloc: Global, words: &[u8]) -> Result<String, AllocError> {
                 chapter,
                 period,
                 journal,
+                pace,
             },
         ) => {
-            let written = written(alloc, journal)?;
+            let written = written(alloc, journal, pace)?;
             format!(in alloc;
                 "{config} {host} {port} {tools} {tasks} {cycles} {chapter} {period}{written}"
             )
@@ -74,14 +75,25 @@ fn told(alloc: Global, words: &[u8]) -> Result<String, AllocError> {
                 period,
                 patience,
                 journal,
+                pace,
             },
         ) => {
-            let written = written(alloc, journal)?;
+            let written = written(alloc, journal, pace)?;
             format!(in alloc;
                 "stay {config} {host} {port} {tools} {tasks} {period} {patience}{written}"
             )
         }
-        Ok(Options::Describe { config, host, port }) => format!(in alloc; "{config} {host} {port}"),
+        Ok(
+            Options::Describe {
+                config,
+                host,
+                port,
+                check,
+            },
+        ) => {
+            let front = if check { "check " } else { "" };
+            format!(in alloc; "{front}{config} {host} {port}")
+        }
         Ok(
             Options::Audit {
                 config,
@@ -93,11 +105,12 @@ fn told(alloc: Global, words: &[u8]) -> Result<String, AllocError> {
     }
 }
 
-/// A blank and the file of a journal, if it is named.
-fn written(alloc: Global, journal: Option<String>) -> Result<String, AllocError> {
+/// A blank and the file of a journal, if it is named; and ` paced` behind, if the tasks go by their channels.
+fn written(alloc: Global, journal: Option<String>, pace: bool) -> Result<String, AllocError> {
+    let paced = if pace { " paced" } else { "" };
     match journal {
-        None => Ok(String::new(alloc)),
-        Some(file) => format!(in alloc; " {file}"),
+        None => String::from_str(alloc, paced),
+        Some(file) => format!(in alloc; " {file}{paced}"),
     }
 }
 
@@ -157,6 +170,7 @@ Options:
       --period <MS>     The milliseconds from one cycle of a task to its next, 0 to 1,000 [default: 0]
       --patience <S>    The seconds that a tool may stop inside a frame, or read nothing, 1 to 3,600; only for --stay [default: 60]
       --journal <FILE>  A new file that all calls are written to, for an audit
+      --pace            Each task raises its channel by the channel's own cycle and unit, not by --period, if these say a time
   -h, --help            Print help
 
 Its first line is: listening PORT. It accepts T connections, answers each until it ends, and runs the tasks meanwhile.
@@ -167,6 +181,7 @@ had begun.
 With --stay tools come and go, up to T at a time (1 to 4), until a line `stop` on standard input ends it; the tasks run
 until then, and --cycles and --chapter are ignored. How each connection ended is told on standard error then, and the
 status is not that of a connection's fault. Without it T is 1 or 2, and --patience is ignored.
+With --pace a task's period is the time that its channel's cycle and unit say; where these say none, it is --period.
 With --journal all calls are written to FILE, which must not be there yet: with --stay chapter by chapter, else at the
 end. One line more is printed then, behind settled: recorded N (N is the number of calls that stand in FILE).
 
@@ -190,9 +205,12 @@ Options:
       --config <FILE>  The layout file, in TOML: identification, packet lengths, segments, signals, events
       --host <HOST>    The host at which tools reach the slave [default: 127.0.0.1]
       --port <PORT>    The port at which they do, 1,024 to 65,535 [default: 5555]
+      --check          Describes nothing, and tells what is wrong in the layout file
   -h, --help           Print help
 
 Tools read it: the slave's protocol layer, lists, event channels, segments and pages, as the slave tells them.
+With --check nothing is described. A line is printed for each thing that is found in the layout file: its first fault in
+words, each key that nothing reads, and the first entry that would be refused. The status is 1 then; else it is 0.
 
 Wrong words end the program with status 1, and what is wrong with them on standard error. Any other fault ends it
 with one line there, and this status:
@@ -276,7 +294,7 @@ fn the_words_of_an_audit(rt: HostRuntime) -> Result<(), Fail> {
 }
 
 /// What the program does with words of `describe` behind a configuration file F.
-const DESCRIPTIONS: [(&[u8], &str); 9] = [
+const DESCRIPTIONS: [(&[u8], &str); 13] = [
     (b"xcpd|describe|--config|F", "F 127.0.0.1 5555"),
     (b"xcpd|describe|--config|F|--port|1024", "F 127.0.0.1 1024"),
     (
@@ -286,6 +304,22 @@ const DESCRIPTIONS: [(&[u8], &str); 9] = [
     (
         b"xcpd|describe|--port=65535|--host=10.0.0.7|--config=F",
         "F 10.0.0.7 65535",
+    ),
+    (
+        b"xcpd|describe|--config|F|--check",
+        "check F 127.0.0.1 5555",
+    ),
+    (
+        b"xcpd|describe|--check|--port|1024|--config=F",
+        "check F 127.0.0.1 1024",
+    ),
+    (
+        b"xcpd|describe|--check",
+        "1 error: the following required arguments were not provided:\n  --config <FILE>\n\nUsage: xcpd describe --config <FILE> --check\n\nFor more information, try '--help'.\n",
+    ),
+    (
+        b"xcpd|describe|--config|F|--check|--check",
+        "1 error: the argument '--check' cannot be used multiple times\n\nUsage: xcpd describe [OPTIONS] --config <FILE>\n\nFor more information, try '--help'.\n",
     ),
     (b"xcpd|describe|--help", DESCRIBE_HELP),
     (
@@ -316,7 +350,7 @@ fn the_words_of_a_description(rt: HostRuntime) -> Result<(), Fail> {
 }
 
 /// What the program does with words of `serve` behind a configuration file F and a port.
-const SERVERS: [(&[u8], &str); 16] = [
+const SERVERS: [(&[u8], &str); 18] = [
     (
         b"xcpd|serve|--config|F|--port|5555",
         "F 127.0.0.1 5555 1 1 100 65536 0",
@@ -377,11 +411,19 @@ const SERVERS: [(&[u8], &str); 16] = [
         b"xcpd|serve|--config|F|--port|2000|--journal=",
         "F 127.0.0.1 2000 1 1 100 65536 0 ",
     ),
+    (
+        b"xcpd|serve|--config|F|--port|2000|--pace",
+        "F 127.0.0.1 2000 1 1 100 65536 0 paced",
+    ),
+    (
+        b"xcpd|serve|--pace|--journal|J|--period|10|--config|F|--port|2000",
+        "F 127.0.0.1 2000 1 1 100 65536 10 J paced",
+    ),
     (b"xcpd|serve|--help", SERVE_HELP),
 ];
 
 /// What it does with words of `serve` that have `--stay`.
-const STAYING: [(&[u8], &str); 10] = [
+const STAYING: [(&[u8], &str); 12] = [
     (
         b"xcpd|serve|--config|F|--port|5555|--stay",
         "stay F 127.0.0.1 5555 1 1 0 60",
@@ -415,6 +457,14 @@ const STAYING: [(&[u8], &str); 10] = [
         "stay F 127.0.0.1 2000 1 1 0 60 J",
     ),
     (
+        b"xcpd|serve|--config|F|--pace|--port|2000|--stay",
+        "stay F 127.0.0.1 2000 1 1 0 60 paced",
+    ),
+    (
+        b"xcpd|serve|--stay|--config|F|--port|2000|--journal|J|--period|10|--pace",
+        "stay F 127.0.0.1 2000 1 1 10 60 J paced",
+    ),
+    (
         b"xcpd|serve|--config|F|--port|2000|--tools|3",
         "1 xcpd: more than 2 tools want --stay\n",
     ),
@@ -425,7 +475,7 @@ const STAYING: [(&[u8], &str); 10] = [
 ];
 
 /// What it tells of words of `serve` that are wrong.
-const WRONG_SERVERS: [(&[u8], &str); 27] = [
+const WRONG_SERVERS: [(&[u8], &str); 30] = [
     (
         b"xcpd|serve",
         "1 error: the following required arguments were not provided:\n  --config <FILE>\n  --port <PORT>\n",
@@ -481,6 +531,18 @@ const WRONG_SERVERS: [(&[u8], &str); 27] = [
     (
         b"xcpd|serve|--config|F|--port|5555|--stay|--stay",
         "1 error: the argument '--stay' cannot",
+    ),
+    (
+        b"xcpd|serve|--config|F|--port|5555|--pace=true",
+        "1 error: unexpected value 'true' for '--pace'",
+    ),
+    (
+        b"xcpd|serve|--config|F|--port|5555|--pace|--pace",
+        "1 error: the argument '--pace' cannot",
+    ),
+    (
+        b"xcpd|replay|--config|F|--pace",
+        "1 error: unexpected argument '--pace' found",
     ),
     (
         b"xcpd|serve|--stay",

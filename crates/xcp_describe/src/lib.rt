@@ -6,17 +6,24 @@
 
 mod aml;
 mod asking;
+mod checking;
 mod commands;
 mod daq;
 mod describing;
 mod entry;
+mod findings;
 mod kind;
 mod memory;
 mod naming;
+mod place;
 mod protocol;
 mod refusal;
 mod tables;
 mod text;
+mod unread;
+mod words_of_fault;
 
+pub use checking::check;
 pub use describing::describe;
+pub use findings::Findings;
 pub use refusal::{DescribeError, Why};

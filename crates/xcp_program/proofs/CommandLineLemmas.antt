@@ -76,5 +76,5 @@ not_too_many found (Serve config host p t k n m ms journal pace) h many =
     let above : 2 < many.number = many.many in
     omega arith
 not_too_many found (Stay config host p t k ms s journal pace) h many = many.ends h.stays
-not_too_many found (Describe config host p) h many = named_apart (codes "describe") (codes "serve") found h.config.text.name many.tools.spelt.value.name no_description
+not_too_many found (Describe config host p check) h many = named_apart (codes "describe") (codes "serve") found h.config.text.name many.tools.spelt.value.name no_description
 not_too_many found (Audit config file lines) h many = named_apart (codes "audit") (codes "serve") found h.config.text.name many.tools.spelt.value.name no_audit

@@ -109,7 +109,10 @@ keeps_describe = (
     keeps_set describe_shape.rules (nth 1 describe_shape) refl refl refl (λ again rows e. no_kinds _ _ e),
     (
       keeps_set describe_shape.rules (nth 2 describe_shape) refl refl refl (λ again rows e. no_kinds _ _ e),
-      (λ again values rows e v. v, tt),
+      (
+        keeps_flag describe_shape.rules (nth 3 describe_shape) (codes "true") refl refl refl refl (λ again y ys rows e. no_values (length ys) (parts _ _ e).0),
+        (λ again values rows e v. v, tt),
+      ),
     ),
   ),
 )
@@ -395,18 +398,21 @@ module _ (words : List Text) (e : level_fault describe_shape [] nothing_held wor
   named_port_stands : Stands (nth 2 describe_shape) (all_rows describe_shape words) named_port.default
   named_port_stands = by_default describe_shape words keeps_describe e (take 2 describe_shape.rules) (drop 3 describe_shape.rules) (nth 2 describe_shape) (codes "5555") refl refl refl refl refl refl
 
+  check_stands : Stands (nth 3 describe_shape) (all_rows describe_shape words) (Some (codes "false"))
+  check_stands = by_default describe_shape words keeps_describe e (take 3 describe_shape.rules) (drop 4 describe_shape.rules) (nth 3 describe_shape) (codes "false") refl refl refl refl refl refl
+
   description_asked : AsksDescription (Some (rows_at describe_shape words))
   description_asked =
-      let p = number_among describe_shape (codes "describe") words refl refl (nth 2 describe_shape) named_port refl (λ text h. accepts-Accepts false (Unsigned 1024 65535) text h) named_port_stands in (
-        file_stands.text,
-        host_stands.text,
-        p.0,
-        record {
-          config = record { text = record { name = refl; value = file_stands.value }; given = file_given };
-          host = record { text = record { name = refl; value = host_stands.value }; otherwise = λ none. some_text _ _ (host_stands.otherwise none) };
-          port = p.1;
-        },
-      )
+      let p = number_among describe_shape (codes "describe") words refl refl (nth 2 describe_shape) named_port refl (λ text h. accepts-Accepts false (Unsigned 1024 65535) text h) named_port_stands in
+      record {
+        file = file_stands.text;
+        address = host_stands.text;
+        p = p.0;
+        config = record { text = record { name = refl; value = file_stands.value }; given = file_given };
+        host = record { text = record { name = refl; value = host_stands.value }; otherwise = λ none. some_text _ _ (host_stands.otherwise none) };
+        port = p.1;
+        check = flag_among describe_shape (codes "describe") words refl refl (nth 3 describe_shape) refl refl check_stands;
+      }
 
 -- ---- `audit`
 

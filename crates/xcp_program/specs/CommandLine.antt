@@ -92,9 +92,9 @@ serve_app = with_rule (with_rule (with_rule (with_rule (with_rule (with_rule (wi
 abbrev pub named_port : Numeric
 named_port = record { name = codes "port"; least = 1024; most = 65535; default = Some (codes "5555") }
 
--- `describe --config FILE [--host HOST] [--port PORT]`
+-- `describe --config FILE [--host HOST] [--port PORT] [--check]`
 abbrev pub describe_app : App
-describe_app = with_rule (with_rule (with_rule (new_app (codes "describe")) config_rule) host_rule) (numeric_rule named_port)
+describe_app = with_rule (with_rule (with_rule (with_rule (new_app (codes "describe")) config_rule) host_rule) (numeric_rule named_port)) (flag_rule (codes "check"))
 
 -- `FILE`, which has to be there
 abbrev pub file_rule : Rule
@@ -211,11 +211,12 @@ pub record AsksTooMany (found : Option (Text × List Row)) : Type 0 where
   pub many : few < number
   pub ends : ¬ (Stays found)
 
--- a subcommand with its rows is a description by this configuration file, for this host and port
-pub record IsDescription (found : Option (Text × List Row)) (file address : Text) (p : ℕ) : Type 0 where
+-- a subcommand with its rows is a description by this configuration file, for this host and port, with or without the flag `--check`
+pub record IsDescription (found : Option (Text × List Row)) (file address : Text) (p : ℕ) (checked : Bool) : Type 0 where
   pub config : HasFile found (codes "describe") file
   pub host : HasHost found (codes "describe") address
   pub port : HasNumberIn found (codes "describe") named_port p
+  pub flag : gives (codes "check") found ≡ checked
 
 -- a subcommand with its rows is an audit of this journal by this configuration file, with or without the flag `--lines`
 pub record IsAudit (found : Option (Text × List Row)) (file word : Text) (lines : Bool) : Type 0 where
@@ -228,7 +229,7 @@ abbrev pub Asks : Option (Text × List Row) → Options → Type 0
 Asks found (Replay config) = IsReplay found (string_bytes config)
 Asks found (Serve config host p t k n m ms journal pace) = IsServe found (string_bytes config) (string_bytes host) p t k n m ms (option_map string_bytes journal) pace
 Asks found (Stay config host p t k ms s journal pace) = IsStay found (string_bytes config) (string_bytes host) p t k ms s (option_map string_bytes journal) pace
-Asks found (Describe config host p) = IsDescription found (string_bytes config) (string_bytes host) p
+Asks found (Describe config host p check) = IsDescription found (string_bytes config) (string_bytes host) p check
 Asks found (Audit config file lines) = IsAudit found (string_bytes config) (string_bytes file) lines
 
 -- each number is in its option's bounds, and the tools of a server that ends are few
@@ -238,7 +239,7 @@ InRange (Serve config host p t k n m ms journal pace) = (port.least ≤ p) × (p
     × (chapter.least ≤ m) × (m ≤ chapter.most) × (period.least ≤ ms) × (ms ≤ period.most)
 InRange (Stay config host p t k ms s journal pace) = (port.least ≤ p) × (p ≤ port.most) × (tools.least ≤ t) × (t ≤ tools.most) × (tasks.least ≤ k) × (k ≤ tasks.most) × (period.least ≤ ms) × (ms ≤ period.most)
     × (patience.least ≤ s) × (s ≤ patience.most)
-InRange (Describe config host p) = (named_port.least ≤ p) × (p ≤ named_port.most)
+InRange (Describe config host p check) = (named_port.least ≤ p) × (p ≤ named_port.most)
 InRange (Audit config file lines) = ⊤
 
 -- Why the words ask for nothing, by the kinds of error of the first fault that clap finds in them (a wish for help is one), and by the

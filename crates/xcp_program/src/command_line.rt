@@ -65,6 +65,8 @@ with one line there, and this status:
 /// What help says below the options of a description.
 const FAULTS: &str =
     "Tools read it: the slave's protocol layer, lists, event channels, segments and pages, as the slave tells them.
+With --check nothing is described. A line is printed for each thing that is found in the layout file: its first fault in
+words, each key that nothing reads, and the first entry that would be refused. The status is 1 then; else it is 0.
 
 Wrong words end the program with status 1, and what is wrong with them on standard error. Any other fault ends it
 with one line there, and this status:
@@ -271,7 +273,12 @@ fn describe_command<'a>(alloc: Global) -> Result<Command<'a>, AllocError>
     let port = numeric(alloc, "port", "PORT", 1_024, 65_535, Some("5555")).help(
         "The port at which they do, 1,024 to 65,535",
     );
-    Ok(describe.arg(port)?)
+    let describe = describe.arg(port)?;
+    Ok(describe.arg(flag(
+        alloc,
+        "check",
+        "Describes nothing, and tells what is wrong in the layout file",
+    ))?)
 }
 
 /// The subcommand `audit`.
@@ -492,6 +499,7 @@ fn description_asked(alloc: Global, matches: &ArgMatches<'_>) -> Result<Options,
         config,
         host,
         port: decimal_in(matches, "describe", "port") as u16,
+        check: has_flag(matches, "describe", "check"),
     })
 }
 

@@ -64,6 +64,8 @@ pub enum Options {
         host: String,
         /// The port at which they do, 1,024 to 65,535.
         port: u16,
+        /// Whether the file is only checked, and nothing described.
+        check: bool,
     },
     /// To execute the calls of a journal's file again, on a new slave that this file describes, and compare their answers.
     Audit {

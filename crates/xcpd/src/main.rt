@@ -20,11 +20,12 @@ use std::process::ExitCode;
 use std::sync::Wait;
 use std::thread::Threads;
 use std::time::Clock;
-use xcp_describe::{DescribeError, describe};
+use xcp_describe::{DescribeError, Findings, check, describe};
 use xcp_framing::Watched;
 use xcp_locked::Unnamed;
 use xcp_program::{
-    Fault, Options, Unasked, asked, layout_of, periods_of, read_text, read_words, replay,
+    Fault, Options, Unasked, asked, layout_of, periods_of, read_text, read_whole, read_words,
+    replay,
 };
 use xcp_server::{Report, Tools, accept_tools, serve_ends};
 
@@ -67,6 +68,24 @@ fn describe_or_tell(rt: &HostRuntime, path: &str, host: &str, port: u16) -> Exit
             let _ = eprintln!(rt; "xcpd: {fault}");
             ExitCode::from(fault.status())
         }
+    }
+}
+
+/// Prints what is found in the configuration file.
+fn print_findings(rt: &HostRuntime, path: &str) -> Result<Findings, Fault> {
+    let Ok(file) = File::open(rt, path) else {
+        return Err(Fault::Configuration(0));
+    };
+    let bytes = read_whole(rt.alloc(), file)?;
+    let mut writer = Watched::new(io::writer(rt));
+    check(rt.alloc(), bytes.as_slice(), &mut writer)
+}
+
+/// The same, with the fault on standard error, if there is one, and the status.
+fn check_or_tell(rt: &HostRuntime, path: &str) -> ExitCode {
+    match print_findings(rt, path) {
+        Ok(findings) => ExitCode::from(findings.status()),
+        Err(fault) => end(rt, Some(fault)),
     }
 }
 
@@ -236,8 +255,19 @@ fn main(rt: HostRuntime) -> ExitCode {
             let (path, host) = (config.as_str(), host.as_str());
             stay_by(&rt, &rt, path, host, port, staying, &journal).err()
         }
-        Ok(Options::Describe { config, host, port }) => {
-            return describe_or_tell(&rt, config.as_str(), host.as_str(), port);
+        Ok(
+            Options::Describe {
+                config,
+                host,
+                port,
+                check,
+            },
+        ) => {
+            return if check {
+                check_or_tell(&rt, config.as_str())
+            } else {
+                describe_or_tell(&rt, config.as_str(), host.as_str(), port)
+            };
         }
         Ok(
             Options::Audit {

@@ -3,8 +3,8 @@ use Rattle.std.specs.Prelude.{◌≡◌, ◌⊎◌, ℕ, List, Option, codes, tr
 use Rattle.clap.specs.Words.{App, Row, Text, new_app, with_rule}
 use Rattle.xcp_program.specs.declared.purpose.OptionsFault.{OptionsFault}
 use Rattle.xcp_program.specs.declared.purpose.OptionsFault.TheVariants.{Memory, TooManyTools, Words}
-use Rattle.xcp_program.specs.CommandLine.{AsksTooMany, HasFile, HasGiven, HasHost, HasNumber, HasText, IsDescription, IsReplay, gives}
-use Rattle.xcp_program.specs.CommandLine.{chapter, config_rule, cycles, flag_rule, host_rule, numeric_rule, patience, period, port, tasks, tools}
+use Rattle.xcp_program.specs.CommandLine.{AsksTooMany, HasFile, HasGiven, HasHost, HasNumber, HasNumberIn, HasText, IsReplay, gives}
+use Rattle.xcp_program.specs.CommandLine.{chapter, config_rule, cycles, flag_rule, host_rule, named_port, numeric_rule, patience, period, port, tasks, tools}
 
 -- `serve` with the first four of its options
 abbrev pub placed_app : App
@@ -50,10 +50,17 @@ pub record AsksAudit (found : Option (Text × List Row)) : Type 0 where
   pub place : HasGiven found (codes "audit") (codes "file") journal
   pub lines : HasFlag found (codes "audit") (codes "lines")
 
--- it is a description, it is a replay or a server, and it is one of the four
-abbrev pub AsksDescription : Option (Text × List Row) → Type 0
-AsksDescription found = (file : Text) × (host : Text) × (p : ℕ) × IsDescription found file host p
+-- it is a description: its options, each with its text or number
+pub record AsksDescription (found : Option (Text × List Row)) : Type 0 where
+  pub file : Text
+  pub address : Text
+  pub p : ℕ
+  pub config : HasFile found (codes "describe") file
+  pub host : HasHost found (codes "describe") address
+  pub port : HasNumberIn found (codes "describe") named_port p
+  pub check : HasFlag found (codes "describe") (codes "check")
 
+-- it is a replay or a server, and it is one of the four
 abbrev pub AsksRun : Option (Text × List Row) → Type 0
 AsksRun found = ((file : Text) × IsReplay found file) ⊎ AsksServe found
 

@@ -24,7 +24,7 @@ audit_asked-requires c = elim c.requires [
     | inr serve ↦ absurd (named_apart _ _ _ c.in-Some-text_in-2.ensures.some.name serve.config.text.name no_audit)
   ]
   | inr other ↦ elim other [
-    | inl description ↦ absurd (c.text_in-in-None.ensures.none c.in-None-text_in.is description.0 description.3.config.text)
+    | inl description ↦ absurd (c.text_in-in-None.ensures.none c.in-None-text_in.is description.file description.config.text)
     | inr audit ↦ audit
   ]
 ]
@@ -36,7 +36,7 @@ server_asked-requires c = elim c.requires [
     | inr serve ↦ serve
   ]
   | inr other ↦ elim other [
-    | inl description ↦ absurd (c.text_in-in-None.ensures.none c.in-None-text_in.is description.0 description.3.config.text)
+    | inl description ↦ absurd (c.text_in-in-None.ensures.none c.in-None-text_in.is description.file description.config.text)
     | inr audit ↦ absurd (c.text_in-in-None-text_in.ensures.none c.in-None-text_in-2.is audit.file audit.config.text)
   ]
 ]

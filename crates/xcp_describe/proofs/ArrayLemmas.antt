@@ -1,0 +1,14 @@
+-- The members of an array.
+use Rattle.std.proofs.Common.{◌≡◌, List, [], ◌∷◌, Option, Some, refl, ap}
+use Rattle.toml.specs.Data.{Data, as_array}
+use Rattle.toml.specs.View.{items_of}
+use Rattle.xcp_config.specs.TomlValues.{list_of, members_of}
+
+-- a list, as items and back
+list_of_items : (ds : List Data) → list_of (items_of ds) ≡ ds
+list_of_items [] = refl
+list_of_items (d ∷ ds) = ap (λ es. d ∷ es) (list_of_items ds)
+
+-- a value that is an array of these items has them as its members
+pub members_are : (v : Option Data) (d : Data) (ds : List Data) → v ≡ Some d → as_array d ≡ Some (items_of ds) → members_of v ≡ ds
+members_are v d ds e f = rw (e, f) (list_of_items ds)

@@ -1,0 +1,3 @@
+pub mod UnreadKeys
+pub mod Findings
+pub mod private

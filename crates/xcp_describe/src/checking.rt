@@ -1,0 +1,171 @@
+//! A check of a layout file.
+ghost use Rattle.std.specs.Prelude.{◌≡◌, ◌≢◌, ◌⊎◌, ◌+◌, ℕ, List, Some, None, Err, OnOk, IfOk, IfErr, IfSome, string_bytes};
+ghost use Rattle.std.specs.Io.KnownBytes.{Appends};
+ghost use Rattle.toml.specs.View.{view};
+ghost use Rattle.xcp_framing.specs.Prefix.{AppendsFront};
+ghost use Rattle.xcp_memory.specs.Layout.{LayoutValue};
+ghost use Rattle.xcp_config.specs.ConfigText.{HasLayout};
+ghost use Rattle.xcp_config.specs.TableChecks.{first_fault};
+ghost use Rattle.xcp_describe.specs.Findings.{IsChecked, IsClean, IsEntry, IsUnreadable, clean_text, unreadable};
+ghost use Rattle.xcp_describe.specs.private.Findings.{IsDocument};
+
+use crate::findings::Findings;
+use crate::refusal::DescribeError;
+use crate::tables::Tables;
+use crate::unread::{Unread, unread_in};
+use crate::words_of_fault::InWords;
+use std::alloc::{AllocError, Global};
+use std::io::Write;
+use toml::Value;
+use toml::de::Error;
+use xcp_config::{ConfigError, read_layout};
+use xcp_framing::Watched;
+use xcp_memory::Layout;
+use xcp_program::Fault;
+
+/// Looks at the bytes of a layout file, and writes one line for each thing that it finds: the first fault of the layout, each
+/// key that nothing reads, and the first entry that `describe` refuses; where there is none of these, one line that says so.
+/// The whole text is made before any of it is written.
+///
+/// Faults: `Memory` where an allocation fails, `Stream(2)` where a write failed.
+pub fn check<W: Write>(
+    alloc: Global,
+    file: &[u8],
+    writer: &mut Watched<W>,
+) -> Result<Findings, Fault>
+    // A file that is no document is told as that alone; else the fault and the keys are those of its document, neither more nor fewer.
+    ensures found { IfOk result (λ f. IsUnreadable file.now f ⊎ IsChecked file.now f) }
+    ensures layout { IfOk result (λ f. f.fault ≡ None → (l : LayoutValue) × HasLayout file.now l) }
+    ensures refused { IfErr result (λ e. (e ≡ Fault.Memory) ⊎ (e ≡ Fault.Stream 2)) }
+    // What is written is one text, all of it or a front of it.
+    ensures written { OnOk result ((text : List ℕ) × Appends (W.contents writer.old.inner) (W.contents writer.new.inner) text) }
+    ensures clean { IfOk result (λ f. IsClean f → Appends (W.contents writer.old.inner) (W.contents writer.new.inner) clean_text) }
+    // A fault of the writer comes exactly where a write failed, and want of memory before anything is written.
+    ensures write { result ≡ Err (Fault.Stream 2) → writer.new.failures ≡ writer.old.failures + 1 }
+    ensures front { result ≡ Err (Fault.Stream 2) → (text : List ℕ) × AppendsFront (W.contents writer.old.inner) (W.contents writer.new.inner) text }
+    ensures quiet { result ≢ Err (Fault.Stream 2) → writer.new.failures ≡ writer.old.failures }
+    ensures unwritten { result ≡ Err Fault.Memory → writer.new ≡ writer.old }
+{
+    let (findings, text) = findings_in(alloc, file)?;
+    match writer.write_all(text.as_bytes()) {
+        Ok(()) => Ok(findings),
+        Err(_) => Err(Fault::Stream(2)),
+    }
+}
+
+/// What is found in a file, and the text that tells it.
+fn findings_in(alloc: Global, file: &[u8]) -> Result<(Findings, String), Fault>
+    ensures found { IfOk result (λ r. IsUnreadable file.now r.0 ⊎ IsChecked file.now r.0) }
+    ensures layout { IfOk result (λ r. r.0.fault ≡ None → (l : LayoutValue) × HasLayout file.now l) }
+    ensures clean { IfOk result (λ r. IsClean r.0 → string_bytes r.1 ≡ clean_text) }
+    ensures refused { IfErr result (λ e. e ≡ Fault.Memory) }
+{
+    let Ok(config) = str::from_utf8(file) else {
+        return no_document(String::from_str(alloc, "configuration 1: it is no UTF-8\n"));
+    };
+    match toml::table_from_str(alloc, config) {
+        Ok(table) => findings_of(alloc, config, &Value::Table(table)),
+        Err(e) if e.is_memory() => Err(Fault::Memory),
+        Err(e) => no_document(syntax(alloc, &e)),
+    }
+}
+
+/// The findings in a file that is no document, with their text, if there was memory for it.
+fn no_document(text: Result<String, AllocError>) -> Result<(Findings, String), Fault>
+    ensures found { IfOk result (λ r. r.0 ≡ unreadable) }
+    ensures refused { IfErr result (λ e. e ≡ Fault.Memory) }
+{
+    match text {
+        Ok(text) => Ok((Findings::no_document(), text)),
+        Err(_) => Err(Fault::Memory),
+    }
+}
+
+/// Where a text is no TOML, and why, in one line.
+fn syntax(alloc: Global, error: &Error) -> Result<String, AllocError> {
+    let told = format!(in alloc; "{error}")?;
+    let mut text = String::from_str(alloc, "configuration 1")?;
+    for line in told.as_str().lines() {
+        write!(text, ": {line}")?;
+    }
+    text.push('\n')?;
+    Ok(text)
+}
+
+/// What is found in a document, which this text is, and the text that tells it.
+fn findings_of(alloc: Global, config: &str, document: &Value) -> Result<(Findings, String), Fault>
+    requires { IsDocument config.now (view document.now) }
+    ensures found { IfOk result (λ r. IsChecked config.now r.0) }
+    ensures layout { IfOk result (λ r. r.0.fault ≡ None → (l : LayoutValue) × HasLayout config.now l) }
+    ensures clean { IfOk result (λ r. IsClean r.0 → string_bytes r.1 ≡ clean_text) }
+    ensures refused { IfErr result (λ e. e ≡ Fault.Memory) }
+{
+    let (fault, refused) = layout_findings(alloc, config, document)?;
+    let Ok(unread) = unread_in(alloc, document) else {
+        return Err(Fault::Memory);
+    };
+    let findings = Findings {
+        fault,
+        unread: unread.len(),
+        refused,
+    };
+    match text_of(alloc, findings, unread.as_slice()) {
+        Ok(text) => Ok((findings, text)),
+        Err(_) => Err(Fault::Memory),
+    }
+}
+
+/// The first fault of the layout that a document describes, and where it has none, the first entry that `describe` refuses.
+fn layout_findings(
+    alloc: Global,
+    config: &str,
+    document: &Value,
+) -> Result<(Option<ConfigError>, Option<DescribeError>), Fault>
+    requires { IsDocument config.now (view document.now) }
+    ensures fault { IfOk result (λ r. r.0 ≡ first_fault (view document.now)) }
+    ensures layout { IfOk result (λ r. r.0 ≡ None → (l : LayoutValue) × HasLayout config.now l) }
+    ensures entry { IfOk result (λ r. IfSome r.1 (λ e. IsEntry e × (r.0 ≡ None))) }
+    ensures refused { IfErr result (λ e. e ≡ Fault.Memory) }
+{
+    match read_layout(alloc, config) {
+        Ok(layout) => Ok((None, refused_in(alloc, document, &layout)?)),
+        Err(ConfigError::Memory) => Err(Fault::Memory),
+        Err(fault) => Ok((Some(fault), None)),
+    }
+}
+
+/// The first entry of a document that `describe` refuses, if there is one.
+fn refused_in(
+    alloc: Global,
+    document: &Value,
+    layout: &Layout,
+) -> Result<Option<DescribeError>, Fault>
+    ensures entry { IfOk result (λ r. IfSome r IsEntry) }
+    ensures refused { IfErr result (λ e. e ≡ Fault.Memory) }
+{
+    match Tables::read(alloc, document, layout) {
+        Ok(_) => Ok(None),
+        Err(DescribeError::Program(fault)) => Err(fault),
+        Err(refusal) => Ok(Some(refusal)),
+    }
+}
+
+/// A line for each thing that was found, or one that says that nothing was.
+fn text_of(alloc: Global, findings: Findings, unread: &[Unread<'_>]) -> Result<String, AllocError>
+    ensures { IsClean findings → IfOk result (λ text. string_bytes text ≡ clean_text) }
+{
+    if findings.is_empty() {
+        return String::from_str(alloc, "no fault, and every key is read\n");
+    }
+    let mut text = String::new(alloc);
+    if let Some(fault) = findings.fault {
+        writeln!(text, "configuration {}: {}", fault.number(), InWords(fault))?;
+    }
+    for key in unread {
+        writeln!(text, "{key}")?;
+    }
+    if let Some(refusal) = findings.refused {
+        writeln!(text, "{refusal}")?;
+    }
+    Ok(text)
+}

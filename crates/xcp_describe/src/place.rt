@@ -1,0 +1,23 @@
+//! Where a key of a layout file stands.
+use std::fmt;
+
+/// Where a key stands. As text it is what stands before the key in a line.
+#[derive(Clone, Copy)]
+pub(crate) enum Place {
+    /// In no table.
+    Top,
+    /// In this table.
+    Table(&'static str),
+    /// In a table of this array, by its number from 0.
+    Member(&'static str, usize),
+}
+
+impl fmt::Display for Place {
+    fn fmt<W: fmt::Write>(&self, f: &mut fmt::Formatter<W>) -> fmt::Result {
+        match self {
+            Place::Top => Ok(()),
+            Place::Table(name) => write!(f, "{name}: "),
+            Place::Member(name, number) => write!(f, "{name} {number}: "),
+        }
+    }
+}
