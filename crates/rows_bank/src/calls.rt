@@ -1,7 +1,7 @@
 //! The whole calls of a list, over the bank.
 ghost use Rattle.std.specs.Prelude.{◌≡◌, All, IfSome};
 
-use crate::events::{cut, words};
+use crate::events::{WrongLine, cut, words};
 use pin_core::READERS;
 use std::alloc::{AllocError, Global};
 use std::marker::Model;
@@ -52,44 +52,61 @@ fn number(reader: &mut Reader) -> Option<u64>
     }
 }
 
-/// What a reader's call is answered; it stays, but where it leaves or is dropped.
-fn reads(writer: &mut Writer, verb: &str, reader: Reader) -> Option<(Told, Option<Reader>)>
-    requires { reader.bank ≡ writer.old.bank }
+/// What a call of a reader that stays is answered.
+fn reads(writer: &mut Writer, verb: &str, reader: &mut Reader) -> Option<Told>
+    requires { reader.old.bank ≡ writer.old.bank }
     ensures writer { writer.new.bank ≡ writer.old.bank }
-    ensures reader { IfSome result (λ r. IfSome r.1 (λ x. x.bank ≡ writer.new.bank)) }
+    ensures reader { reader.new.bank ≡ reader.old.bank }
 {
-    let mut reader = reader;
-    let told = match verb {
-        "acquire" => Told::Took(reader.acquire()),
-        "read" => Told::Number(byte(&mut reader)?),
-        "number" => Told::Number(number(&mut reader)?),
+    match verb {
+        "acquire" => Some(Told::Took(reader.acquire())),
+        "holds" => Some(Told::Number(u64::from(reader.holds()))),
+        "read" => Some(Told::Number(byte(reader)?)),
+        "number" => Some(Told::Number(number(reader)?)),
         "tell" => {
             reader.tell(writer);
-            Told::Done
+            Some(Told::Done)
         }
-        "leave" => {
-            reader.leave();
-            return Some((Told::Done, None));
-        }
-        "drop" => return Some((Told::Done, None)),
-        _ => return None,
+        _ => None,
+    }
+}
+
+/// The bytes from one on, and below another; or one byte alone.
+fn bounds(bytes: &str) -> Option<(u16, u16)> {
+    let Some((first, end)) = bytes.split_once(" below ") else {
+        let byte = u16::from(bytes.parse::<u8>().ok()?);
+        return Some((byte, byte + 1));
     };
-    Some((told, Some(reader)))
+    Some((first.parse().ok()?, end.parse().ok()?))
+}
+
+/// Publishes images of one byte each.
+fn publish_all(writer: &mut Writer, first: u16, end: u16)
+    ensures { writer.new.bank ≡ writer.old.bank }
+{
+    for byte in first..end {
+        writer.publish(&[(byte % 256) as u8; IMAGE_BYTES]);
+    }
+}
+
+fn publish(writer: &mut Writer, bytes: &str) -> Option<Told>
+    ensures { writer.new.bank ≡ writer.old.bank }
+{
+    let (first, end) = bounds(bytes)?;
+    publish_all(writer, first, end);
+    Some(Told::Done)
 }
 
 /// What the writer's call is answered.
 fn writes(writer: &mut Writer, verb: &str, rest: &str) -> Option<Told>
     ensures { writer.new.bank ≡ writer.old.bank }
 {
-    Some(match verb {
-        "publish" => {
-            writer.publish(&[rest.parse::<u8>().ok()?; IMAGE_BYTES]);
-            Told::Done
-        }
-        "held" => Told::Number(u64::from(writer.held())),
-        "count" => Told::Number(writer.count()),
-        _ => return None,
-    })
+    match verb {
+        "publish" => publish(writer, rest),
+        "held" => Some(Told::Number(u64::from(writer.held()))),
+        "count" => Some(Told::Number(writer.count())),
+        _ => None,
+    }
 }
 
 /// A bank's ends: its writer, and the readers that haven't left, each at its place. All are of one bank.
@@ -110,8 +127,8 @@ impl Model for Ends {
 }
 
 impl Ends {
-    fn new(alloc: Global) -> Result<Ends, Fail> {
-        let (writer, readers) = Bank::new(alloc, &[7; IMAGE_BYTES])?;
+    fn new(alloc: Global, first: u8) -> Result<Ends, AllocError> {
+        let (writer, readers) = Bank::new(alloc, &[first; IMAGE_BYTES])?;
         let [zero, one, two, three, four, five] = readers;
         let readers = [
             Some(zero),
@@ -121,7 +138,7 @@ impl Ends {
             Some(four),
             Some(five),
         ];
-        Ok(Ends::of(alloc, writer, readers)?)
+        Ends::of(alloc, writer, readers)
     }
 
     fn of(
@@ -135,13 +152,20 @@ impl Ends {
         Ok(Ends { writer, readers })
     }
 
-    /// What a reader's call is answered.
+    /// What a reader's call is answered; it stays, but where it leaves or is dropped.
     fn reads(&mut self, verb: &str, place: &str) -> Option<Told> {
         let slot = self.readers.get_mut(place.parse::<usize>().ok()?)?;
-        let reader = slot.take()?;
-        let (told, stays) = reads(&mut self.writer, verb, reader)?;
-        *slot = stays;
-        Some(told)
+        match verb {
+            "leave" => {
+                slot.take()?.leave();
+                Some(Told::Done)
+            }
+            "drop" => {
+                drop(slot.take()?);
+                Some(Told::Done)
+            }
+            _ => reads(&mut self.writer, verb, slot.as_mut()?),
+        }
     }
 
     /// What a call is answered; none where it means nothing.
@@ -152,22 +176,43 @@ impl Ends {
             _ => self.reads(verb, rest),
         }
     }
+
+    /// Whether a line's call is answered as it says.
+    fn holds(&mut self, line: &str) -> bool {
+        let (question, said) = cut(line);
+        match (self.told(question), wanted(said)) {
+            (Some(told), Some(said)) => told == said,
+            _ => false,
+        }
+    }
+
+    /// The first line with a call, counted from 1, that isn't answered as it says; 0 where there is none.
+    fn first_wrong(&mut self, text: &str) -> Option<u32> {
+        let mut number = 0u32;
+        let mut asked = false;
+        for line in text.lines() {
+            number = number.wrapping_add(1);
+            if line.is_empty() || line.starts_with(' ') {
+                continue;
+            }
+            if !self.holds(line) {
+                return Some(number);
+            }
+            asked = true;
+        }
+        if asked { None } else { Some(0) }
+    }
 }
 
-/// Whether the bank whose first image is all 7 answers the calls of this list so. There has to be one.
-pub(crate) fn bank_answers(alloc: Global, text: &str) -> Result<bool, Fail> {
-    let mut ends = Ends::new(alloc)?;
-    let mut good = false;
-    for line in text.lines() {
-        if line.is_empty() || line.starts_with(' ') {
-            continue;
-        }
-        let (question, said) = cut(line);
-        let told = ends.told(question);
-        if told.is_none() || told != wanted(said) {
-            return Ok(false);
-        }
-        good = true;
+/// The first line that a bank answers otherwise whose first image is of this byte only.
+pub(crate) fn first_wrong_call(alloc: Global, first: u8, text: &str) -> Result<Option<u32>, Fail> {
+    Ok(Ends::new(alloc, first)?.first_wrong(text))
+}
+
+/// Whether such a bank answers all calls as the text says.
+pub(crate) fn calls_hold(alloc: Global, first: u8, text: &str) -> Result<(), Fail> {
+    match first_wrong_call(alloc, first, text)? {
+        None => Ok(()),
+        Some(line) => Err(WrongLine(line).into()),
     }
-    Ok(good)
 }

@@ -1,9 +1,12 @@
 //! Lists as texts. A line that begins with a space has events, with commas between: what happens, and
-//! behind a `>` what it is answered, where that tells something. Another line is the call that the events
-//! below it are made of: the bank does these (`calls`), and the core of pins does the events.
+//! behind a `>` what it is answered, where that tells something, or `refused`; `idle` asks for the first
+//! idle buffer. Another line is the call that the events below it are made of: the bank does these
+//! (`calls`), and the core of pins does the events.
+ghost use Rattle.std.specs.Prelude.{◌<◌, ◌≤◌, length};
+
 use pin_core::Event::{Look, Pin, Publish, Read, Reset, Scan, Unpin, Write};
-use pin_core::{Core, Event, Seen, StepError, run};
-use std::alloc::Global;
+use pin_core::{Core, Event, MAX_WORDS, RunError, Seen, StepError, run};
+use std::alloc::{AllocError, Global};
 use std::test::Fail;
 
 /// What a question is made of, and what it is answered.
@@ -17,90 +20,150 @@ pub(crate) fn words(question: &str) -> (&str, &str) {
     question.split_once(' ').unwrap_or((question, ""))
 }
 
+/// An event of a reader, or of the writer at a buffer.
+fn event_at(verb: &str, place: u8) -> Option<Event> {
+    Some(match verb {
+        "look" => Look(place),
+        "unpin" => Unpin(place, false),
+        "leave" => Unpin(place, true),
+        "pin" => Pin(place),
+        "scan" => Scan(place),
+        "reset" => Reset(place),
+        _ => return None,
+    })
+}
+
 fn event(question: &str) -> Option<Event> {
     let (verb, rest) = words(question);
     let (first, second) = words(rest);
-    Some(match verb {
-        "look" => Look(first.parse().ok()?),
-        "unpin" => Unpin(first.parse().ok()?, false),
-        "leave" => Unpin(first.parse().ok()?, true),
-        "pin" => Pin(first.parse().ok()?),
-        "read" => Read(first.parse().ok()?, second.parse().ok()?),
-        "scan" => Scan(first.parse().ok()?),
-        "reset" => Reset(first.parse().ok()?),
-        "write" => Write(first.parse().ok()?, second.parse().ok()?),
-        "publish" => Publish,
-        _ => return None,
-    })
+    match verb {
+        "publish" => Some(Publish),
+        "read" => Some(Read(first.parse().ok()?, second.parse().ok()?)),
+        "write" => Some(Write(first.parse().ok()?, second.parse().ok()?)),
+        _ => event_at(verb, rest.parse().ok()?),
+    }
 }
 
 /// What an event is answered; none where the text doesn't say it.
 fn seen(event: Event, said: &str) -> Option<Seen> {
-    Some(match event {
-        Look(_) | Pin(_) => Seen::Index(said.parse().ok()?),
-        Read(..) => Seen::Word(said.parse().ok()?),
-        Scan(_) => Seen::Leavings(said.parse().ok()?),
-        _ if said.is_empty() => Seen::Done,
-        _ => return None,
-    })
+    match event {
+        Look(_) | Pin(_) => Some(Seen::Index(said.parse().ok()?)),
+        Read(..) => Some(Seen::Word(said.parse().ok()?)),
+        Scan(_) => Some(Seen::Leavings(said.parse().ok()?)),
+        _ if said.is_empty() => Some(Seen::Done),
+        _ => None,
+    }
 }
 
-/// Events, what they are answered, and one that is refused behind them, where there is one.
+/// A core, and events with their answers that it is to run.
 #[derive(Drop)]
 struct List {
+    core: Core,
     events: Vec<Event>,
     answers: Vec<Seen>,
-    refused: Option<Event>,
 }
 
 impl List {
-    /// Adds an event with its answer; none behind one that is refused.
-    fn add(&mut self, text: &str) -> Result<(), Fail> {
-        if self.refused.is_some() {
-            return Err("an event behind a refused one".into());
-        }
-        let (question, said) = cut(text);
-        let event = event(question).ok_or("an event")?;
-        if said == "refused" {
-            self.refused = Some(event);
-            return Ok(());
-        }
+    /// Adds an event with its answer, if this is one.
+    fn add(&mut self, question: &str, said: &str) -> Result<bool, AllocError> {
+        let Some(event) = event(question) else {
+            return Ok(false);
+        };
+        let Some(seen) = seen(event, said) else {
+            return Ok(false);
+        };
         self.events.push(event)?;
-        self.answers.push(seen(event, said).ok_or("an answer")?)?;
-        Ok(())
+        self.answers.push(seen)?;
+        Ok(true)
     }
 
-    fn add_line(&mut self, line: &str) -> Result<(), Fail> {
-        for text in line.split(',') {
-            self.add(text)?;
+    /// Whether the events that were added are answered so.
+    fn settles(&mut self, alloc: Global) -> Result<bool, RunError> {
+        let answers = run(alloc, &mut self.core, &self.events)?;
+        let good = answers == self.answers;
+        self.events.clear();
+        self.answers.clear();
+        Ok(good)
+    }
+
+    /// Whether the core refuses this event.
+    fn refuses(&mut self, question: &str) -> bool {
+        match event(question) {
+            Some(event) => self.core.step(event) == Err(StepError::NotEnabled),
+            None => false,
         }
-        Ok(())
+    }
+
+    /// Whether a text between commas holds, as far as that is known.
+    fn holds(&mut self, alloc: Global, text: &str) -> Result<bool, Fail> {
+        let (question, said) = cut(text);
+        Ok(if question == "idle" {
+            self.settles(alloc)? && said.parse().ok() == Some(self.core.idle())
+        } else if said == "refused" {
+            self.settles(alloc)? && self.refuses(question)
+        } else {
+            self.add(question, said)?
+        })
+    }
+
+    fn holds_all(&mut self, alloc: Global, line: &str) -> Result<bool, Fail> {
+        for text in line.split(',') {
+            if !self.holds(alloc, text)? {
+                return Ok(false);
+            }
+        }
+        Ok(true)
+    }
+
+    /// The line, counted from 1, at which it is seen that one is wrong; 0 where none has an event.
+    fn first_wrong(&mut self, alloc: Global, text: &str) -> Result<Option<u32>, Fail> {
+        let mut number = 0u32;
+        let mut last = 0;
+        for line in text.lines() {
+            number = number.wrapping_add(1);
+            if line.starts_with(' ') {
+                last = number;
+                if !self.holds_all(alloc, line)? {
+                    return Ok(Some(number));
+                }
+            }
+        }
+        Ok(if last > 0 && self.settles(alloc)? {
+            None
+        } else {
+            Some(last)
+        })
     }
 }
 
-fn read_list(alloc: Global, text: &str) -> Result<List, Fail> {
+/// The line at which a core with this first image answers otherwise; 0 where none has an event.
+pub(crate) fn first_wrong_event(
+    alloc: Global,
+    image: &[u64],
+    text: &str,
+) -> Result<Option<u32>, Fail>
+    requires some_words { 0 < length image.now }
+    requires few_words { length image.now ≤ MAX_WORDS }
+{
     let mut list = List {
+        core: Core::new(alloc, image)?,
         events: Vec::new(alloc),
         answers: Vec::new(alloc),
-        refused: None,
     };
-    for line in text.lines() {
-        if line.starts_with(' ') {
-            list.add_line(line)?;
-        }
-    }
-    Ok(list)
+    list.first_wrong(alloc, text)
 }
 
-/// Whether the core whose first image is 7, and the number 0, answers these events so, of which there has to
-/// be one, and refuses the one behind them.
-pub(crate) fn core_answers(alloc: Global, text: &str) -> Result<bool, Fail> {
-    let list = read_list(alloc, text)?;
-    let mut core = Core::new(alloc, &[7, 0])?;
-    let answers = run(alloc, &mut core, &list.events)?;
-    let good = !answers.is_empty() && answers == list.answers;
-    Ok(match list.refused {
-        None => good,
-        Some(event) => good && core.step(event) == Err(StepError::NotEnabled),
-    })
+/// The line of a text, counted from 1, that is answered otherwise; 0 where none asks.
+#[derive(Debug, Drop)]
+pub struct WrongLine(pub u32);
+
+/// Whether such a core answers all events as the text says.
+pub(crate) fn events_hold(alloc: Global, image: &[u64], text: &str) -> Result<(), Fail>
+    requires some_words { 0 < length image.now }
+    requires few_words { length image.now ≤ MAX_WORDS }
+{
+    match first_wrong_event(alloc, image, text)? {
+        None => Ok(()),
+        Some(line) => Err(WrongLine(line).into()),
+    }
 }

@@ -1,7 +1,8 @@
-// Images published, held and read, worked out by hand.
+//! Images published, held and read, worked out by hand.
 ghost use Rattle.std.specs.Prelude.{◌≡◌, IfOk};
 ghost use Rattle.xcp_bank.specs.BankEnds.{Holds};
 
+use crate::calls::calls_hold;
 use std::alloc::{AllocError, Global};
 use std::test::Fail;
 use xcp_bank::{Bank, IMAGE_BYTES, Reader, Taken, Writer};
@@ -22,20 +23,18 @@ fn begins(first: u8, second: u8) -> [u8; IMAGE_BYTES] {
     image
 }
 
-// A bank's writer and two of its readers; the others are dropped, having held nothing.
-fn two_readers(
-    alloc: Global,
-    image: &[u8; IMAGE_BYTES],
-) -> Result<(Writer, Reader, Reader), AllocError>
-    ensures { IfOk result (λ ends. (ends.1.bank ≡ ends.0.bank) × (ends.2.bank ≡ ends.0.bank)) }
+// A bank's writer and one of its readers; the others are dropped, having held nothing.
+fn one_reader(alloc: Global, image: &[u8; IMAGE_BYTES]) -> Result<(Writer, Reader), AllocError>
+    ensures { IfOk result (λ ends. ends.1.bank ≡ ends.0.bank) }
 {
     let (writer, readers) = Bank::new(alloc, image)?;
-    let [zero, one, two, three, four, five] = readers;
+    let [reader, one, two, three, four, five] = readers;
+    drop(one);
     drop(two);
     drop(three);
     drop(four);
     drop(five);
-    Ok((writer, zero, one))
+    Ok((writer, reader))
 }
 
 // The number of the held image, and its first two bytes.
@@ -58,62 +57,79 @@ fn take(reader: &mut Reader) -> Row
     (taken, number, bytes)
 }
 
+// What is held before and behind a publication, and then taken.
+fn rows_of(writer: &mut Writer, reader: &mut Reader) -> [Row; 4] {
+    let first = take(reader);
+    writer.publish(&begins(0xAB, 0xCD));
+    let (number, bytes) = held(reader);
+    let newer = take(reader);
+    [first, (Taken::Same, number, bytes), newer, take(reader)]
+}
+
 #[test]
 fn held_image_stays(rt: HostRuntime) -> Result<(), Fail> {
-    let (mut writer, mut reader, _other) = two_readers(rt.alloc(), &begins(0x00, 0x01))?;
+    let (mut writer, mut reader) = one_reader(rt.alloc(), &begins(0x00, 0x01))?;
     let before = reader.holds();
-    let first = take(&mut reader);
-    writer.publish(&begins(0xAB, 0xCD));
-    let (number, bytes) = held(&mut reader);
-    let rows = [
-        first,
-        (Taken::Same, number, bytes),
-        take(&mut reader),
-        take(&mut reader),
-    ];
     let wanted = [
         (Taken::Newer, 0, [0x00, 0x01]),
         (Taken::Same, 0, [0x00, 0x01]),
         (Taken::Newer, 1, [0xAB, 0xCD]),
         (Taken::Same, 1, [0xAB, 0xCD]),
     ];
-    assert!(rt; !before && rows == wanted);
+    assert!(rt; !before && rows_of(&mut writer, &mut reader) == wanted);
     Ok(())
 }
 
-// Whether these readers hold, in order, the images 0, 1, and so on, whole, and take number 105 then.
-fn each_holds_its_own(readers: &mut [Reader]) -> bool {
-    for (n, reader) in readers.iter_mut().enumerate() {
-        if !reader.holds() {
-            return false;
-        }
-        let mut image = all(0xFF);
-        reader.read(0, &mut image);
-        if image != all((n % 256) as u8) || reader.number() != n as u64 {
-            return false;
-        }
-        if take(reader) != (Taken::Newer, 105, [105; 2]) {
-            return false;
-        }
-    }
-    true
-}
+// Six readers hold the images 0, 1, and so on, whole, and take number 105 then.
+const SIX: &str = "\
+acquire 0 > newer
+publish 1
+acquire 1 > newer
+publish 2
+acquire 2 > newer
+publish 3
+acquire 3 > newer
+publish 4
+acquire 4 > newer
+publish 5
+acquire 5 > newer
+publish 6 below 106
+count > 106
+read 0 > 0
+number 0 > 0
+acquire 0 > newer
+number 0 > 105
+read 0 > 105
+read 1 > 1
+number 1 > 1
+acquire 1 > newer
+number 1 > 105
+read 1 > 105
+read 2 > 2
+number 2 > 2
+acquire 2 > newer
+number 2 > 105
+read 2 > 105
+read 3 > 3
+number 3 > 3
+acquire 3 > newer
+number 3 > 105
+read 3 > 105
+read 4 > 4
+number 4 > 4
+acquire 4 > newer
+number 4 > 105
+read 4 > 105
+read 5 > 5
+number 5 > 5
+acquire 5 > newer
+number 5 > 105
+read 5 > 105
+";
 
 #[test]
 fn six_readers_hold_six_images(rt: HostRuntime) -> Result<(), Fail> {
-    let (mut writer, readers) = Bank::new(rt.alloc(), &all(0))?;
-    let mut readers = Vec::from_array(rt.alloc(), readers)?;
-    for (n, reader) in readers.iter_mut().enumerate() {
-        if n > 0 {
-            writer.publish(&all((n % 256) as u8));
-        }
-        reader.acquire();
-    }
-    for n in 6..106 {
-        writer.publish(&all(n));
-    }
-    assert!(rt; writer.count() == 106 && each_holds_its_own(&mut readers));
-    Ok(())
+    calls_hold(rt.alloc(), 0, SIX)
 }
 
 // Whether the bytes of this range are read as they are in the image, and nothing else is written.
@@ -130,89 +146,111 @@ fn range_is_read(reader: &mut Reader, image: &[u8; IMAGE_BYTES], at: usize, n: u
     &bytes[..n] == wanted && rest.iter().all(|byte: &u8| -> bool { *byte == 0xFF })
 }
 
+static RANGES: [(usize, usize); 12] = [
+    (0, 0),
+    (3, 0),
+    (0, 1),
+    (5, 2),
+    (5, 5),
+    (7, 9),
+    (7, 10),
+    (8, 8),
+    (1, 2039),
+    (0, 2040),
+    (2039, 1),
+    (2040, 0),
+];
+
+// The first range that is read otherwise.
+fn first_wrong_range(reader: &mut Reader, image: &[u8; IMAGE_BYTES]) -> Option<(usize, usize)> {
+    for (at, n) in &RANGES {
+        if !range_is_read(reader, image, *at, *n) {
+            return Some((*at, *n));
+        }
+    }
+    None
+}
+
 #[test]
 fn any_range_is_read(rt: HostRuntime) -> Result<(), Fail> {
     let mut image = all(0);
     for j in 0..IMAGE_BYTES {
         image[j] = (j % 251) as u8;
     }
-    let (_writer, mut reader, _other) = two_readers(rt.alloc(), &image)?;
+    let (_writer, mut reader) = one_reader(rt.alloc(), &image)?;
     reader.acquire();
-    let ranges = [
-        (0, 0),
-        (3, 0),
-        (0, 1),
-        (5, 2),
-        (5, 5),
-        (7, 9),
-        (7, 10),
-        (8, 8),
-        (1, 2039),
-        (0, 2040),
-        (2039, 1),
-        (2040, 0),
-    ];
-    for (at, n) in ranges {
-        assert!(rt; range_is_read(&mut reader, &image, at, n));
-    }
+    assert!(rt; first_wrong_range(&mut reader, &image).is_none());
     Ok(())
 }
 
 // A reader is told of two publications: what it holds stays until it acquires.
+const TOLD: &str = "\
+acquire 0 > newer
+number 0 > 0
+read 0 > 7
+tell 0
+acquire 0 > same
+number 0 > 0
+read 0 > 7
+publish 8
+publish 9
+tell 0
+tell 1
+number 0 > 0
+read 0 > 7
+acquire 0 > newer
+number 0 > 2
+read 0 > 9
+holds 1 > 0
+";
+
 #[test]
 fn told_reader_keeps_its_image(rt: HostRuntime) -> Result<(), Fail> {
-    let (mut writer, mut reader, mut other) = two_readers(rt.alloc(), &all(7))?;
-    let first = take(&mut reader);
-    reader.tell(&mut writer);
-    let told = take(&mut reader);
-    writer.publish(&all(8));
-    writer.publish(&all(9));
-    reader.tell(&mut writer);
-    other.tell(&mut writer);
-    let (number, bytes) = held(&mut reader);
-    let rows = [first, told, (Taken::Same, number, bytes), take(&mut reader)];
-    let wanted = [
-        (Taken::Newer, 0, [7; 2]),
-        (Taken::Same, 0, [7; 2]),
-        (Taken::Same, 0, [7; 2]),
-        (Taken::Newer, 2, [9; 2]),
-    ];
-    assert!(rt; !other.holds() && rows == wanted);
-    Ok(())
+    calls_hold(rt.alloc(), 7, TOLD)
 }
 
 // Readers that hold and leave, one after another, keep nothing from being published.
+const LEFT: &str = "\
+leave 4
+acquire 3 > newer
+publish 1
+leave 3
+acquire 2 > newer
+publish 2
+leave 2
+acquire 1 > newer
+publish 3
+leave 1
+acquire 0 > newer
+publish 4
+leave 0
+publish 5 below 50
+count > 50
+acquire 5 > newer
+number 5 > 49
+read 5 > 49
+";
+
 #[test]
 fn left_buffers_are_built_again(rt: HostRuntime) -> Result<(), Fail> {
-    let (mut writer, readers) = Bank::new(rt.alloc(), &all(0))?;
-    let mut readers = Vec::from_array(rt.alloc(), readers)?;
-    let mut last = readers.pop().ok_or("a reader")?;
-    readers.pop().ok_or("another")?.leave();
-    for n in 1..5 {
-        let mut reader = readers.pop().ok_or("one more")?;
-        reader.acquire();
-        writer.publish(&all(n));
-        reader.leave();
+    calls_hold(rt.alloc(), 0, LEFT)
+}
+
+// Asks again for what was refused.
+fn asked_again(alloc: Global, image: &[u8; IMAGE_BYTES]) -> Result<(Writer, Reader), AllocError> {
+    match one_reader(alloc, image) {
+        Err(_) => one_reader(alloc, image),
+        ends => ends,
     }
-    for n in 5..50 {
-        writer.publish(&all(n));
-    }
-    assert!(rt; writer.count() == 50 && take(&mut last) == (Taken::Newer, 49, [49; 2]));
-    Ok(())
 }
 
 // Passes whichever allocation is refused (`rt try --test --fail-alloc N`): what was refused is asked for again.
 #[test]
 fn refused_memory_is_asked_for_again(rt: HostRuntime) -> Result<(), Fail> {
-    let (mut writer, mut reader, _other) = match two_readers(rt.alloc(), &all(3)) {
-        Ok(ends) => ends,
-        Err(_) => two_readers(rt.alloc(), &all(3))?,
-    };
+    let (mut writer, mut reader) = asked_again(rt.alloc(), &all(3))?;
     let first = take(&mut reader);
     writer.publish(&all(4));
-    assert_eq!(rt;
-        [first, take(&mut reader)],
-        [(Taken::Newer, 0, [3; 2]), (Taken::Newer, 1, [4; 2])]
-    );
+    let rows = [first, take(&mut reader)];
+    assert!(rt; rows == [(Taken::Newer, 0, [3; 2]), (Taken::Newer, 1, [4; 2])]);
     Ok(())
 }

@@ -1,8 +1,9 @@
 //! Lists of events, worked out by hand, over the core of pins; those that are made of whole calls, over the
 //! bank too. A core's image is here a word and its number, the bank's is that word in all its bytes.
 
-use crate::calls::bank_answers;
-use crate::events::core_answers;
+use crate::calls::{calls_hold, first_wrong_call};
+use crate::events::{events_hold, first_wrong_event};
+use std::alloc::Global;
 use std::test::Fail;
 
 // Six readers hold six images while more are published; one moves on, and one leaves.
@@ -231,13 +232,17 @@ held > 0
 count > 4
 ";
 
+static WHOLE_CALLS: [&str; 4] = [SIX_HOLDERS, TOLD, MANY_PUBLICATIONS, SAME_AGAIN];
+
+fn both_hold(alloc: Global, list: &str) -> Result<(), Fail> {
+    events_hold(alloc, &[7, 0], list)?;
+    calls_hold(alloc, 7, list)
+}
+
 #[test]
 fn whole_calls_are_answered_alike(rt: HostRuntime) -> Result<(), Fail> {
-    for list in [SIX_HOLDERS, TOLD, MANY_PUBLICATIONS, SAME_AGAIN] {
-        assert!(rt;
-            core_answers(rt.alloc(), list)? && bank_answers(rt.alloc(), list)?,
-            "{list}"
-        );
+    for list in &WHOLE_CALLS {
+        both_hold(rt.alloc(), list)?;
     }
     Ok(())
 }
@@ -307,8 +312,54 @@ const TOLD_IN_THE_MIDDLE: &str = "
 
 #[test]
 fn events_are_answered_in_any_order(rt: HostRuntime) -> Result<(), Fail> {
-    for list in [LEFT_IN_MID_BUILD, PUBLISHED_AGAIN, TOLD_IN_THE_MIDDLE] {
-        assert!(rt; core_answers(rt.alloc(), list)?, "{list}");
+    events_hold(rt.alloc(), &[7, 0], LEFT_IN_MID_BUILD)?;
+    events_hold(rt.alloc(), &[7, 0], PUBLISHED_AGAIN)?;
+    events_hold(rt.alloc(), &[7, 0], TOLD_IN_THE_MIDDLE)
+}
+
+// Texts, and the line at which each is wrong: for the core, and for the bank.
+static TEXTS: [(&str, Option<u32>, Option<u32>); 16] = [
+    ("", Some(0), Some(0)),
+    ("\n\n", Some(0), Some(0)),
+    ("held > 0\n scan 1 > 0", None, None),
+    (
+        "held > 0\n\ncount > 1\n pin 0 > 0\n idle > 1\nholds 0 > 0",
+        None,
+        None,
+    ),
+    (
+        " scan 1 > 0, reset 1, write 0 8, write 1 1, publish",
+        None,
+        Some(0),
+    ),
+    (" pin 0 > 1\n look 0 > 0\n idle > 1", Some(3), Some(0)),
+    (" pin 0 > 0\n\n idle > 2", Some(3), Some(0)),
+    (" pin 0 > refused", Some(1), Some(0)),
+    (" pin 0 > 0, read 0 0 > 8", Some(1), Some(0)),
+    (" pin 0 > 0, scan 1", Some(1), Some(0)),
+    (" pins 0 > 0", Some(1), Some(0)),
+    ("held > 0\nheld > 1\nheld > 2", Some(0), Some(2)),
+    (
+        "publish 8 below 10\ncount > 3\nread 0 > 9",
+        Some(0),
+        Some(3),
+    ),
+    ("acquire 0 > same", Some(0), Some(1)),
+    ("acquire 6 > newer", Some(0), Some(1)),
+    ("drop 0\nacquire 0 > newer", Some(0), Some(2)),
+];
+
+// Whether a text is found wrong so.
+fn is_found(alloc: Global, row: &(&str, Option<u32>, Option<u32>)) -> Result<bool, Fail> {
+    let (text, event, call) = row;
+    let found = first_wrong_event(alloc, &[7, 0], text)?;
+    Ok(found == *event && first_wrong_call(alloc, 7, text)? == *call)
+}
+
+#[test]
+fn wrong_lists_are_found(rt: HostRuntime) -> Result<(), Fail> {
+    for row in &TEXTS {
+        assert!(rt; is_found(rt.alloc(), row)?, "{}", row.0);
     }
     Ok(())
 }

@@ -25,13 +25,22 @@ static LINES: [&str; 16] = [
     "unit = 6",
 ];
 
+fn push_line(text: &mut String, line: &str) -> Result<(), AllocError> {
+    text.push_str(line)?;
+    text.push_str("\n")
+}
+
+fn push_document(text: &mut String, place: usize, line: &str) -> Result<(), AllocError> {
+    for (i, old) in LINES.iter().enumerate() {
+        push_line(text, if i == place { line } else { *old })?;
+    }
+    Ok(())
+}
+
 /// The document with one line in the place of another; an empty one drops it.
 fn changed(alloc: Global, place: usize, line: &str) -> Result<String, AllocError> {
     let mut text = String::new(alloc);
-    for (i, old) in LINES.iter().enumerate() {
-        text.push_str(if i == place { line } else { *old })?;
-        text.push_str("\n")?;
-    }
+    push_document(&mut text, place, line)?;
     Ok(text)
 }
 
@@ -59,44 +68,65 @@ fn reads_the_document(alloc: Global, text: &str) -> Result<Option<bool>, Fail> {
     }
 }
 
+/// Whether the document is read as its layout.
+fn document_is_read(alloc: Global) -> Result<Option<bool>, Fail> {
+    let text = changed(alloc, LINES.len(), "")?;
+    reads_the_document(alloc, text.as_str())
+}
+
 #[test]
 fn the_layout_of_the_document(rt: HostRuntime) -> Result<(), Fail> {
-    let text = changed(rt.alloc(), LINES.len(), "")?;
-    assert_eq!(rt; reads_the_document(rt.alloc(), text.as_str())?, Some(true));
+    assert!(rt; document_is_read(rt.alloc())? == Some(true));
     Ok(())
 }
 
-/// The document, and behind it a comment, in all some 65,000 bytes.
-fn long_document(alloc: Global) -> Result<String, AllocError> {
-    let mut text = changed(alloc, LINES.len(), "")?;
+fn push_long_document(text: &mut String) -> Result<(), AllocError> {
+    push_document(text, LINES.len(), "")?;
     text.push_str("#")?;
     for _part in 0..4_050 {
         text.push_str("................")?;
     }
-    Ok(text)
+    Ok(())
 }
 
+/// The bytes of the document with a comment behind it, and whether it is read as its layout.
+fn long_document_is_read(alloc: Global) -> Result<(usize, Option<bool>), Fail> {
+    let mut text = String::new(alloc);
+    push_long_document(&mut text)?;
+    let read = reads_the_document(alloc, text.as_str())?;
+    Ok((text.len(), read))
+}
+
+/// Some 65,000 bytes.
 #[test]
 fn a_long_text_is_read(rt: HostRuntime) -> Result<(), Fail> {
-    let text = long_document(rt.alloc())?;
-    assert!(rt; (64_800..65_536).contains(&text.len()));
-    assert_eq!(rt; reads_the_document(rt.alloc(), text.as_str())?, Some(true));
+    let (length, read) = long_document_is_read(rt.alloc())?;
+    assert!(rt; read == Some(true) && (64_800..65_536).contains(&length));
     Ok(())
+}
+
+/// The document; memory that is refused is asked for again.
+fn document_again(alloc: Global) -> Result<String, AllocError> {
+    match changed(alloc, LINES.len(), "") {
+        Err(_) => changed(alloc, LINES.len(), ""),
+        text => text,
+    }
+}
+
+/// Whether a text is read as the document's layout; it is read again where memory was refused.
+fn reads_again(alloc: Global, text: &str) -> Result<Option<bool>, Fail> {
+    match reads_the_document(alloc, text)? {
+        None => reads_the_document(alloc, text),
+        read => Ok(read),
+    }
 }
 
 // Passes whichever allocation is refused (`rt try --test --fail-alloc N`): the refusal is told as `Memory` and not as
 // another fault, and the same text is then read as with ample memory.
 #[test]
 fn refused_memory_is_told(rt: HostRuntime) -> Result<(), Fail> {
-    let text = match changed(rt.alloc(), LINES.len(), "") {
-        Ok(text) => text,
-        Err(_) => changed(rt.alloc(), LINES.len(), "")?,
-    };
-    let read = match reads_the_document(rt.alloc(), text.as_str())? {
-        None => reads_the_document(rt.alloc(), text.as_str())?,
-        read => read,
-    };
-    assert_eq!(rt; read, Some(true));
+    let text = document_again(rt.alloc())?;
+    assert!(rt; reads_again(rt.alloc(), text.as_str())? == Some(true));
     Ok(())
 }
 
@@ -105,62 +135,75 @@ fn fault(alloc: Global, text: &str) -> Option<ConfigError> {
     read_layout(alloc, text).err()
 }
 
-/// The first row whose fault isn't the one that is found.
-fn wrong(alloc: Global, rows: &[Row]) -> Result<Option<usize>, AllocError> {
-    for (i, (place, line, wanted)) in rows.iter().enumerate() {
-        let text = changed(alloc, *place, line)?;
-        if fault(alloc, text.as_str()) != *wanted {
-            return Ok(Some(i));
+/// The fault of the document with one line in the place of another.
+fn fault_of(alloc: Global, place: usize, line: &str) -> Result<Option<ConfigError>, AllocError> {
+    let text = changed(alloc, place, line)?;
+    Ok(fault(alloc, text.as_str()))
+}
+
+/// Fails with the first line whose fault isn't the one that is found.
+fn have_faults(alloc: Global, rows: &[Row]) -> Result<(), Fail> {
+    for (place, line, wanted) in rows {
+        if fault_of(alloc, *place, line)? != *wanted {
+            return Err(Fail::new(*line));
         }
     }
-    Ok(None)
+    Ok(())
 }
 
 #[test]
 fn values_of_the_slave_itself(rt: HostRuntime) -> Result<(), Fail> {
-    assert_eq!(rt; wrong(rt.alloc(), &OF_THE_SLAVE)?, None);
-    Ok(())
+    have_faults(rt.alloc(), &OF_THE_SLAVE)
 }
 
 #[test]
 fn segments(rt: HostRuntime) -> Result<(), Fail> {
-    assert_eq!(rt; wrong(rt.alloc(), &OF_SEGMENTS)?, None);
-    Ok(())
+    have_faults(rt.alloc(), &OF_SEGMENTS)
 }
 
 #[test]
 fn pages_of_segments(rt: HostRuntime) -> Result<(), Fail> {
-    assert_eq!(rt; wrong(rt.alloc(), &OF_PAGES)?, None);
-    Ok(())
+    have_faults(rt.alloc(), &OF_PAGES)
 }
 
-/// How many pages the first two segments have, where another line stands in the place of the first one's address.
+/// How many pages the first two segments have, if there are two.
+fn pages_of(layout: &Layout) -> Option<(u8, u8)> {
+    if layout.segment_count() < 2 {
+        return None;
+    }
+    Some((layout.segment_pages(0), layout.segment_pages(1)))
+}
+
+/// The same where another line stands in the place of the first one's address.
 fn pages(alloc: Global, line: &str) -> Result<Option<(u8, u8)>, Fail> {
     let text = changed(alloc, 4, line)?;
-    let layout = read_layout(alloc, text.as_str())?;
-    if layout.segment_count() < 2 {
-        return Ok(None);
+    Ok(pages_of(&read_layout(alloc, text.as_str())?))
+}
+
+static PAGES: [(&str, u8); 4] = [
+    ("address = 0x1000", 2),
+    ("address = 0x1000\npages = 2", 2),
+    ("address = 0x1000\npages = 3", 3),
+    ("address = 0x1000\npages = 4", 4),
+];
+
+fn all_have_pages(alloc: Global) -> Result<(), Fail> {
+    for (line, first) in &PAGES {
+        if pages(alloc, line)? != Some((*first, 2)) {
+            return Err(Fail::new(*line));
+        }
     }
-    Ok(Some((layout.segment_pages(0), layout.segment_pages(1))))
+    Ok(())
 }
 
 #[test]
 fn two_pages_where_none_are_told(rt: HostRuntime) -> Result<(), Fail> {
-    for (line, first) in [
-        ("address = 0x1000", 2),
-        ("address = 0x1000\npages = 2", 2),
-        ("address = 0x1000\npages = 3", 3),
-        ("address = 0x1000\npages = 4", 4),
-    ] {
-        assert_eq!(rt; pages(rt.alloc(), line)?, Some((first, 2)), "{line}");
-    }
-    Ok(())
+    all_have_pages(rt.alloc())
 }
 
 #[test]
 fn signals_and_events(rt: HostRuntime) -> Result<(), Fail> {
-    assert_eq!(rt; wrong(rt.alloc(), &OF_SIGNALS_AND_EVENTS)?, None);
-    Ok(())
+    have_faults(rt.alloc(), &OF_SIGNALS_AND_EVENTS)
 }
 
 /// Texts with two faults or more, and the first in the order of the checks.
@@ -194,14 +237,14 @@ static FIRST: [(&str, ConfigError); 9] = [
     ),
 ];
 
-/// The first text whose fault isn't the one that is found.
-fn wrong_text(alloc: Global) -> Option<usize> {
-    for (i, (text, wanted)) in FIRST.iter().enumerate() {
+/// Fails with the first text whose fault isn't the one that is found.
+fn have_first_faults(alloc: Global) -> Result<(), Fail> {
+    for (text, wanted) in &FIRST {
         if fault(alloc, text) != Some(*wanted) {
-            return Some(i);
+            return Err(Fail::new(*text));
         }
     }
-    None
+    Ok(())
 }
 
 /// More segments and events than there may be; that is told before any fault of theirs.
@@ -220,9 +263,8 @@ static MANY: [Row; 2] = [
 
 #[test]
 fn the_first_fault_is_told(rt: HostRuntime) -> Result<(), Fail> {
-    assert_eq!(rt; wrong_text(rt.alloc()), None);
-    assert_eq!(rt; wrong(rt.alloc(), &MANY)?, None);
-    Ok(())
+    have_first_faults(rt.alloc())?;
+    have_faults(rt.alloc(), &MANY)
 }
 
 /// A segment of so many bytes, at an address.
@@ -236,38 +278,46 @@ fn push_segment(text: &mut String, address: &str, bytes: usize) -> Result<(), Al
     text.push_str("\"\n")
 }
 
+fn push_two(text: &mut String, bytes: usize, address: &str) -> Result<(), AllocError> {
+    text.push_str("id = \"E\"\nmax_cto = 8\nmax_dto = 8\n")?;
+    push_segment(text, "0", 1020)?;
+    push_segment(text, address, bytes)?;
+    text.push_str("[signals]\naddress = 0x8000\nlength = 1\n[[event]]\nname = \"e\"\n")
+}
+
 /// The fault of two segments, of 1,020 bytes and of so many.
 fn fault_of_two(
     alloc: Global,
     bytes: usize,
     address: &str,
 ) -> Result<Option<ConfigError>, AllocError> {
-    let mut text = String::from_str(alloc, "id = \"E\"\nmax_cto = 8\nmax_dto = 8\n")?;
-    push_segment(&mut text, "0", 1020)?;
-    push_segment(&mut text, address, bytes)?;
-    text.push_str("[signals]\naddress = 0x8000\nlength = 1\n[[event]]\nname = \"e\"\n")?;
+    let mut text = String::new(alloc);
+    push_two(&mut text, bytes, address)?;
     Ok(fault(alloc, text.as_str()))
 }
 
 /// 2,040 bytes in all are the most; the limit stands before the segment's last address.
-#[test]
-fn bytes_in_all(rt: HostRuntime) -> Result<(), Fail> {
-    let rows = [
-        (1020, "0x1000", None),
-        (1021, "0x1000", Some(ConfigError::TooMany(Key::Data(1)))),
-        (1021, "0xFFFFFFFE", Some(ConfigError::TooMany(Key::Data(1)))),
-        (
-            1020,
-            "0xFFFFFFFE",
-            Some(ConfigError::Range(Key::Address(1))),
-        ),
-    ];
-    for (bytes, address, wanted) in rows {
-        assert_eq!(rt;
-            fault_of_two(rt.alloc(), bytes, address)?,
-            wanted,
-            "{address}"
-        );
+static BYTES_IN_ALL: [(usize, &str, Option<ConfigError>); 4] = [
+    (1020, "0x1000", None),
+    (1021, "0x1000", Some(ConfigError::TooMany(Key::Data(1)))),
+    (1021, "0xFFFFFFFE", Some(ConfigError::TooMany(Key::Data(1)))),
+    (
+        1020,
+        "0xFFFFFFFE",
+        Some(ConfigError::Range(Key::Address(1))),
+    ),
+];
+
+fn all_are_counted(alloc: Global) -> Result<(), Fail> {
+    for (bytes, address, wanted) in &BYTES_IN_ALL {
+        if fault_of_two(alloc, *bytes, address)? != *wanted {
+            return Err(Fail::new(*address));
+        }
     }
     Ok(())
+}
+
+#[test]
+fn bytes_in_all(rt: HostRuntime) -> Result<(), Fail> {
+    all_are_counted(rt.alloc())
 }

@@ -14,7 +14,7 @@ struct Row {
     fault: Option<LayoutFault>,
 }
 
-fn parts(alloc: Global, row: &Row) -> Result<Parts, AllocError> {
+fn segments(alloc: Global, row: &Row) -> Result<Vec<SegmentPart>, AllocError> {
     let mut segments = Vec::new(alloc);
     for (address, size, pages) in row.segments {
         segments.push(SegmentPart {
@@ -23,20 +23,30 @@ fn parts(alloc: Global, row: &Row) -> Result<Parts, AllocError> {
             pages: *pages,
         })?;
     }
+    Ok(segments)
+}
+
+fn events(alloc: Global, row: &Row) -> Result<Vec<EventPart>, AllocError> {
     let mut events = Vec::new(alloc);
     for (name, cycle, unit, priority) in row.events {
-        let name = name.to_vec(alloc)?;
         events.push(EventPart {
-            name,
+            name: name.to_vec(alloc)?,
             cycle: *cycle,
             unit: *unit,
             priority: *priority,
         })?;
     }
+    Ok(events)
+}
+
+fn parts(alloc: Global, row: &Row) -> Result<Parts, AllocError> {
     let (max_cto, max_dto, checksum) = row.own;
     let (signals_address, signals_length) = row.signals;
+    let id = row.id.to_vec(alloc)?;
+    let segments = segments(alloc, row)?;
+    let events = events(alloc, row)?;
     Ok(Parts {
-        id: row.id.to_vec(alloc)?,
+        id,
         max_cto,
         max_dto,
         checksum,
@@ -312,18 +322,21 @@ static ROWS: [Row; 31] = [
     },
 ];
 
-/// The first row whose fault isn't the one that is found.
-fn first_wrong(alloc: Global) -> Result<Option<usize>, AllocError> {
+fn fault(alloc: Global, row: &Row) -> Result<Option<LayoutFault>, AllocError> {
+    Ok(Layout::new(parts(alloc, row)?).err())
+}
+
+/// Fails with the number of the first row whose fault isn't the one that is found.
+fn have_faults(alloc: Global) -> Result<(), Fail> {
     for (number, row) in ROWS.iter().enumerate() {
-        if Layout::new(parts(alloc, row)?).err() != row.fault {
-            return Ok(Some(number));
+        if fault(alloc, row)? != row.fault {
+            return Err(Fail::new(number));
         }
     }
-    Ok(None)
+    Ok(())
 }
 
 #[test]
 fn faults_come_in_order(rt: HostRuntime) -> Result<(), Fail> {
-    assert_eq!(rt; first_wrong(rt.alloc())?, None);
-    Ok(())
+    have_faults(rt.alloc())
 }

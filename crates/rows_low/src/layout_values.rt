@@ -1,5 +1,6 @@
 //! What a layout tells, and the texts of its faults.
 use crate::layouts::{Kind, USUAL, layout};
+use crate::rows::WrongRow;
 use std::alloc::{AllocError, Global};
 use std::test::Fail;
 use xcp_memory::{Area, ChecksumKind, Key, Layout, LayoutFault};
@@ -48,74 +49,86 @@ fn numbers(layout: &Layout) -> [usize; 7] {
     ]
 }
 
-fn order_of(alloc: Global, order: Order) -> Result<Order, Fail> {
-    Ok(layout(alloc, Kind { order, ..USUAL })?.order())
+/// Whether this is the layout of the rows, with three pages of the first segment.
+fn has_its_values(layout: &Layout) -> bool {
+    layout.audit();
+    let wanted = [32, 64, 3, 2, 0x8000, 8, 1];
+    numbers(layout) == wanted
+        && segment(layout, 0) == Some((0x1000, 16, 3, 15))
+        && segment(layout, 1) == Some((0x2000, 8, 2, 0xAA))
+        && event(layout, 0) == Some((10, 6, 0))
+        && layout.checksum() == ChecksumKind::Add14
+        && layout.id() == b"ECU1".as_slice()
+        && is_named(layout, 0, b"10ms")
 }
 
 #[test]
 fn layout_has_its_values(rt: HostRuntime) -> Result<(), Fail> {
-    let layout = layout(rt.alloc(), Kind { pages: 3, ..USUAL })?;
-    layout.audit();
-    assert_eq!(rt; numbers(&layout), [32, 64, 3, 2, 0x8000, 8, 1]);
-    let parts = (segment(&layout, 0), segment(&layout, 1), event(&layout, 0));
-    let wanted = (
-        Some((0x1000, 16, 3, 15)),
-        Some((0x2000, 8, 2, 0xAA)),
-        Some((10, 6, 0)),
-    );
-    assert!(rt; parts == wanted && layout.checksum() == ChecksumKind::Add14);
-    assert!(rt; order_of(rt.alloc(), Order::Motorola)? == Order::Motorola);
-    assert!(rt; layout.id() == b"ECU1".as_slice() && is_named(&layout, 0, b"10ms"));
+    let order = Order::Motorola;
+    let swapped = layout(rt.alloc(), Kind { order, ..USUAL })?.order();
+    let good = has_its_values(&layout(rt.alloc(), Kind { pages: 3, ..USUAL })?);
+    assert!(rt; good && swapped == Order::Motorola);
     Ok(())
 }
 
-/// The first range whose segment, or whose lying in the signals, isn't the one that is found.
-fn first_wrong_range(layout: &Layout) -> Option<(u32, usize)> {
-    let rows = [
-        (0x1000, 16, Some(0), false),
-        (0x100F, 1, Some(0), false),
-        (0x1001, 16, None, false),
-        (0x2007, 1, Some(1), false),
-        (0xFFFF_FFFF, 0xFFFF_FFFF, None, false),
-        (0x8000, 8, None, true),
-        (0x8001, 8, None, false),
-        (0x7FFF, 1, None, false),
-    ];
-    for (address, n, segment, in_signals) in rows {
-        let found = layout.segment_of(address, n);
-        if found != segment || layout.is_in_signals(address, n) != in_signals {
-            return Some((address, n));
+/// A range, the segment in which it lies, and whether it lies in the signals.
+type Range = (u32, usize, Option<usize>, bool);
+
+static RANGES: [Range; 8] = [
+    (0x1000, 16, Some(0), false),
+    (0x100F, 1, Some(0), false),
+    (0x1001, 16, None, false),
+    (0x2007, 1, Some(1), false),
+    (0xFFFF_FFFF, 0xFFFF_FFFF, None, false),
+    (0x8000, 8, None, true),
+    (0x8001, 8, None, false),
+    (0x7FFF, 1, None, false),
+];
+
+/// Whether all ranges are found so.
+fn all_are_found(layout: &Layout) -> Result<(), Fail> {
+    for (number, (address, n, segment, in_signals)) in RANGES.iter().enumerate() {
+        let found = layout.segment_of(*address, *n);
+        if found != *segment || layout.is_in_signals(*address, *n) != *in_signals {
+            return Err(WrongRow(number).into());
         }
     }
-    None
+    Ok(())
 }
 
 #[test]
 fn ranges_lie_in_areas(rt: HostRuntime) -> Result<(), Fail> {
-    let layout = layout(rt.alloc(), USUAL)?;
-    assert!(rt; first_wrong_range(&layout) == None);
-    Ok(())
+    all_are_found(&layout(rt.alloc(), USUAL)?)
 }
 
-fn text(alloc: Global, fault: LayoutFault) -> Result<String, AllocError> {
-    format!(in alloc; "{}: {fault}", fault.number())
+static FAULTS: [(LayoutFault, &str); 3] = [
+    (
+        LayoutFault::Range(Key::Address(0)),
+        "1: Address(0) is out of its range",
+    ),
+    (
+        LayoutFault::Overlap(Area::Segment(0), Area::Signals),
+        "2: Segment(0) and Signals share an address",
+    ),
+    (LayoutFault::TooMany(Key::Data(1)), "3: too many: Data(1)"),
+];
+
+fn is_told(alloc: Global, fault: &LayoutFault, wanted: &str) -> Result<bool, AllocError> {
+    let text = format!(in alloc; "{}: {fault}", fault.number())?;
+    Ok(text.as_str() == wanted)
+}
+
+/// Whether all faults have these numbers and texts.
+fn all_are_told(alloc: Global) -> Result<(), Fail> {
+    for (fault, wanted) in &FAULTS {
+        if !is_told(alloc, fault, wanted)? {
+            return Err(Fail::new(*wanted));
+        }
+    }
+    Ok(())
 }
 
 #[test]
 fn faults_have_numbers_and_texts(rt: HostRuntime) -> Result<(), Fail> {
-    let rows = [
-        (
-            LayoutFault::Range(Key::Address(0)),
-            "1: Address(0) is out of its range",
-        ),
-        (
-            LayoutFault::Overlap(Area::Segment(0), Area::Signals),
-            "2: Segment(0) and Signals share an address",
-        ),
-        (LayoutFault::TooMany(Key::Data(1)), "3: too many: Data(1)"),
-    ];
-    for (fault, wanted) in rows {
-        assert_eq!(rt; text(rt.alloc(), fault)?.as_str(), wanted);
-    }
-    Ok(())
+    all_are_told(rt.alloc())
 }

@@ -67,16 +67,19 @@ fn events(alloc: Global) -> Result<Vec<EventPart>, AllocError> {
 /// The identification `ECU1`, a segment at 0x1000, one of two pages at 0x2000, 8 bytes of signals at 0x8000, and
 /// the event channel `10ms`.
 pub(crate) fn layout(alloc: Global, kind: Kind) -> Result<Layout, Fail> {
+    let id = b"ECU1".to_vec(alloc)?;
+    let segments = segments(alloc, kind)?;
+    let events = events(alloc)?;
     Ok(Layout::new(Parts {
-        id: b"ECU1".to_vec(alloc)?,
+        id,
         max_cto: kind.max_cto,
         max_dto: kind.max_dto,
         checksum: kind.checksum,
         order: kind.order,
-        segments: segments(alloc, kind)?,
+        segments,
         signals_address: 0x8000,
         signals_length: 8,
-        events: events(alloc)?,
+        events,
     })?)
 }
 

@@ -1,14 +1,14 @@
 //! Acquisition lists against worked rows.
 use crate::answers::{refused, told};
-use crate::lists_rows::opened_lists;
-use crate::rows::{Subject, first_wrong};
+use crate::lists_rows::{Lists, opened_lists};
+use crate::rows::{Subject, all_hold};
 use std::alloc::Global;
 use std::test::Fail;
 use xcp_packet::Code;
 
-/// The first row that lists of such a MAX_DTO answer otherwise.
-fn first_wrong_of(alloc: Global, max_dto: i64, rows: &str) -> Result<Option<u32>, Fail> {
-    Ok(first_wrong(&mut opened_lists(alloc, max_dto)?, rows))
+/// Whether lists of such a MAX_DTO answer so.
+fn hold_of(alloc: Global, max_dto: i64, rows: &str) -> Result<(), Fail> {
+    all_hold(&mut opened_lists(alloc, max_dto)?, rows)
 }
 
 #[test]
@@ -34,8 +34,7 @@ fn one_list_is_sampled(rt: HostRuntime) -> Result<(), Fail> {
         any_running > FF 00
         alloc_daq 1 > FE 29
     ";
-    assert_eq!(rt; first_wrong_of(rt.alloc(), 64, rows)?, None);
-    Ok(())
+    hold_of(rt.alloc(), 64, rows)
 }
 
 #[test]
@@ -64,12 +63,11 @@ fn the_controller_s_page_is_sampled(rt: HostRuntime) -> Result<(), Fail> {
         read_daq > FF 02 00 00 10 00
         read_daq > FE 2A
     ";
-    assert_eq!(rt; first_wrong_of(rt.alloc(), 64, rows)?, None);
-    Ok(())
+    hold_of(rt.alloc(), 64, rows)
 }
 
 /// The allocating commands, each as it may follow the one before.
-const ALLOCATING: [&str; 4] = [
+static ALLOCATING: [&str; 4] = [
     "free_daq",
     "alloc_daq 1",
     "alloc_odt 0 1",
@@ -77,7 +75,7 @@ const ALLOCATING: [&str; 4] = [
 ];
 
 /// Which of them may follow so many of them.
-const ALLOWED: [[bool; 4]; 5] = [
+static ALLOWED: [[bool; 4]; 5] = [
     [true, false, false, false],
     [true, true, false, false],
     [true, true, true, false],
@@ -85,12 +83,11 @@ const ALLOWED: [[bool; 4]; 5] = [
     [true, false, false, true],
 ];
 
-/// Whether a command behind so many allocating ones is executed, or refused as out of sequence.
-fn follows(alloc: Global, done: usize, next: &str, allowed: bool) -> Result<bool, Fail> {
-    let mut lists = opened_lists(alloc, 64)?;
+/// Whether the commands before this one are executed, and it is executed too, or refused as out of sequence.
+fn follows(lists: &mut Lists, done: usize, next: &str, allowed: bool) -> bool {
     for command in ALLOCATING.iter().take(done) {
         if lists.told(command) != Some(told(&[])) {
-            return Ok(false);
+            return false;
         }
     }
     let wanted = if allowed {
@@ -98,20 +95,24 @@ fn follows(alloc: Global, done: usize, next: &str, allowed: bool) -> Result<bool
     } else {
         refused(Code::Sequence)
     };
-    Ok(lists.told(next) == Some(wanted))
+    lists.told(next) == Some(wanted)
+}
+
+/// Whether all of them follow so.
+fn all_follow(alloc: Global) -> Result<(), Fail> {
+    for (done, row) in ALLOWED.iter().enumerate() {
+        for (next, allowed) in ALLOCATING.iter().zip(row.iter()) {
+            if !follows(&mut opened_lists(alloc, 64)?, done, next, *allowed) {
+                return Err(Fail::new(*next));
+            }
+        }
+    }
+    Ok(())
 }
 
 #[test]
 fn allocating_commands_follow_each_other(rt: HostRuntime) -> Result<(), Fail> {
-    for (done, row) in ALLOWED.iter().enumerate() {
-        for (next, allowed) in ALLOCATING.iter().zip(row.iter()) {
-            assert!(rt;
-                follows(rt.alloc(), done, next, *allowed)?,
-                "{next} behind {done}"
-            );
-        }
-    }
-    Ok(())
+    all_follow(rt.alloc())
 }
 
 #[test]
@@ -145,8 +146,7 @@ fn pools_are_filled_to_the_last(rt: HostRuntime) -> Result<(), Fail> {
         start_stop_daq_list 0 F > FF 3C
         get_daq_processor_info > FF 00 10 00 01
     ";
-    assert_eq!(rt; first_wrong_of(rt.alloc(), 64, rows)?, None);
-    Ok(())
+    hold_of(rt.alloc(), 64, rows)
 }
 
 #[test]
@@ -178,8 +178,7 @@ fn a_running_list_refuses(rt: HostRuntime) -> Result<(), Fail> {
         get_daq_list_mode 0 > FF 00 00 00 07 09
         get_daq_list_mode 2 > FE 22
     ";
-    assert_eq!(rt; first_wrong_of(rt.alloc(), 64, rows)?, None);
-    Ok(())
+    hold_of(rt.alloc(), 64, rows)
 }
 
 /// The mode has bit 0 of a list that is selected, bit 6 of one that runs; the event channel, the prescaler and
@@ -204,8 +203,7 @@ fn a_list_tells_its_own_mode(rt: HostRuntime) -> Result<(), Fail> {
         get_daq_list_mode 0 > FF 00 00 00 01 00
         get_daq_list_mode 2 > FE 22
     ";
-    assert_eq!(rt; first_wrong_of(rt.alloc(), 64, rows)?, None);
-    Ok(())
+    hold_of(rt.alloc(), 64, rows)
 }
 
 #[test]
@@ -237,8 +235,7 @@ fn an_odt_has_room_in_a_packet(rt: HostRuntime) -> Result<(), Fail> {
         start_stop_synch 1 > FF
         event 0 > FF 08 00 00 01 02 03 AA AA AA
     ";
-    assert_eq!(rt; first_wrong_of(rt.alloc(), 8, rows)?, None);
-    Ok(())
+    hold_of(rt.alloc(), 8, rows)
 }
 
 /// One list with one written entry: two bytes of signals.
@@ -251,13 +248,11 @@ const ONE_LIST: &str = "
     write_daq FF 2 0 8000 > FF
 ";
 
-/// The first row that this list answers otherwise: 0 to 3 of its own, or of the rows given.
-fn first_wrong_of_one_list(alloc: Global, rows: &str) -> Result<Option<u32>, Fail> {
+/// Whether this list answers so: its own rows, and others behind them.
+fn hold_behind(alloc: Global, rows: &str) -> Result<(), Fail> {
     let mut lists = opened_lists(alloc, 64)?;
-    Ok(match first_wrong(&mut lists, ONE_LIST) {
-        None => first_wrong(&mut lists, rows),
-        wrong => wrong,
-    })
+    all_hold(&mut lists, ONE_LIST)?;
+    all_hold(&mut lists, rows)
 }
 
 /// With prescaler 1, 2 and 3. A start of a list that runs begins its prescaler anew.
@@ -320,10 +315,9 @@ fn prescalers_count_events(rt: HostRuntime) -> Result<(), Fail> {
         start_stop_daq_list 1 0 > FF 00
         event 0 > FF 03 00 01 02
     ";
-    for rows in [each, each_second, each_third] {
-        assert_eq!(rt; first_wrong_of_one_list(rt.alloc(), rows)?, None);
-    }
-    Ok(())
+    hold_behind(rt.alloc(), each)?;
+    hold_behind(rt.alloc(), each_second)?;
+    hold_behind(rt.alloc(), each_third)
 }
 
 /// With prescaler 2.
@@ -343,8 +337,7 @@ fn events_are_counted_without_a_sample(rt: HostRuntime) -> Result<(), Fail> {
         sample_len 0 > FF 01
         event 0 > FF 03 00 01 02
     ";
-    assert_eq!(rt; first_wrong_of_one_list(rt.alloc(), rows)?, None);
-    Ok(())
+    hold_behind(rt.alloc(), rows)
 }
 
 #[test]
@@ -370,8 +363,7 @@ fn packets_come_in_the_order_of_the_lists(rt: HostRuntime) -> Result<(), Fail> {
         sample_len 0 > FF 02
         event 0 > FF 02 01 AA 04 03 08 0E 0F
     ";
-    assert_eq!(rt; first_wrong_of(rt.alloc(), 64, rows)?, None);
-    Ok(())
+    hold_of(rt.alloc(), 64, rows)
 }
 
 #[test]
@@ -383,8 +375,7 @@ fn what_is_only_asked(rt: HostRuntime) -> Result<(), Fail> {
         get_daq_resolution_info > FF 3F
         get_daq_processor_info > FF 00 00 00 01
     ";
-    assert_eq!(rt; first_wrong_of(rt.alloc(), 64, rows)?, None);
-    Ok(())
+    hold_of(rt.alloc(), 64, rows)
 }
 
 #[test]
@@ -407,6 +398,5 @@ fn the_pointer_moves_through_its_odt(rt: HostRuntime) -> Result<(), Fail> {
         free_daq > FF
         write_daq FF 1 0 1000 > FE 2A
     ";
-    assert_eq!(rt; first_wrong_of(rt.alloc(), 64, rows)?, None);
-    Ok(())
+    hold_of(rt.alloc(), 64, rows)
 }

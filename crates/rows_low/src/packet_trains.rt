@@ -58,11 +58,19 @@ fn is_cut((width, bytes, packets): &Row) -> bool {
     are(&train, packets) && train.same(&train.copy())
 }
 
+/// The first block that isn't cut so.
+fn first_wrong_block() -> Option<usize> {
+    for (number, row) in BLOCKS.iter().enumerate() {
+        if !is_cut(row) {
+            return Some(number);
+        }
+    }
+    None
+}
+
 #[test]
 fn blocks(rt: HostRuntime) {
-    for (number, row) in BLOCKS.iter().enumerate() {
-        assert!(rt; is_cut(row), "{number}");
-    }
+    assert_eq!(rt; first_wrong_block(), None);
 }
 
 /// FF and these bytes.
@@ -73,41 +81,55 @@ fn one(bytes: &[u8]) -> Train {
     Train::one(packet)
 }
 
-/// A block that one packet holds is this packet; else its width tells.
-#[test]
-fn blocks_are_compared(rt: HostRuntime) {
+/// Eight bytes in packets of seven and of eight, and in one packet; and one byte.
+fn compared() -> [bool; 4] {
     let eight = [1, 2, 3, 4, 5, 6, 7, 8];
     let block = Train::cut(&eight, Width::new(7));
     let longer = Train::cut(&eight, Width::new(8));
     let short = Train::cut(&[1], Width::new(7));
-    assert!(rt; longer.same(&one(&eight)) && !block.same(&longer));
-    assert!(rt; short.same(&one(&[1])) && !short.same(&one(&[2])));
+    [
+        longer.same(&one(&eight)),
+        block.same(&longer),
+        short.same(&one(&[1])),
+        short.same(&one(&[2])),
+    ]
 }
 
-/// The width, if there are several packets, and the bytes.
-fn parts(train: &Train) -> (Option<u8>, &[u8]) {
-    let (width, bytes) = train.parts();
-    (width.map(|width| width.bytes()), bytes)
+/// A block that one packet holds is this packet; else its width tells.
+#[test]
+fn blocks_are_compared(rt: HostRuntime) {
+    assert!(rt; compared() == [true, false, true, false]);
+}
+
+/// Whether this is the width, if there are several packets, and these the bytes.
+fn has_parts(train: &Train, width: Option<u8>, bytes: &[u8]) -> bool {
+    let (found, all) = train.parts();
+    found.map(|width| width.bytes()) == width && all == bytes
 }
 
 /// A packet is made of its bytes, and a block of its data bytes without an FF, and its width.
 #[test]
 fn a_block_has_its_parts(rt: HostRuntime) {
     let eight = [1, 2, 3, 4, 5, 6, 7, 8];
-    let block = Train::cut(&eight, Width::new(7));
-    assert!(rt; parts(&block) == (Some(7), eight.as_slice()));
-    assert!(rt; parts(&one(&eight)) == (None, [0xFF, 1, 2, 3, 4, 5, 6, 7, 8].as_slice()));
+    let block = has_parts(&Train::cut(&eight, Width::new(7)), Some(7), &eight);
+    let packet = has_parts(&one(&eight), None, &[0xFF, 1, 2, 3, 4, 5, 6, 7, 8]);
+    assert!(rt; block && packet);
+}
+
+/// Whether the first packet of eight bytes is this, and these bytes are left.
+fn is_cut_off(packet: &mut Packet, width: u8, rest: Option<&[u8]>, first: &[u8]) -> bool {
+    if width < 7 || width > 254 {
+        return false;
+    }
+    let left = Width::new(width).cut(&[1, 2, 3, 4, 5, 6, 7, 8], packet);
+    left == rest && packet.as_slice() == first
 }
 
 /// The first packet of eight bytes, and the bytes behind it; and of as many as fill it.
 #[test]
 fn a_packet_is_cut_off(rt: HostRuntime) {
-    let eight = [1, 2, 3, 4, 5, 6, 7, 8];
     let mut packet = Packet::new();
-    let rest = Width::new(7).cut(&eight, &mut packet);
-    assert!(rt; rest == Some([8].as_slice()));
-    assert!(rt; packet.as_slice() == [0xFF, 1, 2, 3, 4, 5, 6, 7].as_slice());
-    let rest = Width::new(8).cut(&eight, &mut packet);
-    assert!(rt; rest.is_none());
-    assert!(rt; packet.as_slice() == [0xFF, 1, 2, 3, 4, 5, 6, 7, 8].as_slice());
+    let seven = is_cut_off(&mut packet, 7, Some(&[8]), &[0xFF, 1, 2, 3, 4, 5, 6, 7]);
+    let all = is_cut_off(&mut packet, 8, None, &[0xFF, 1, 2, 3, 4, 5, 6, 7, 8]);
+    assert!(rt; seven && all);
 }

@@ -1,12 +1,17 @@
 //! Pages against worked rows.
 use crate::layouts::{Kind, USUAL, pages};
-use crate::rows::first_wrong;
+use crate::rows::all_hold;
 use std::alloc::Global;
 use std::test::Fail;
 
-/// The first row that pages of such a layout answer otherwise.
-fn first_wrong_of(alloc: Global, kind: Kind, rows: &str) -> Result<Option<u32>, Fail> {
-    Ok(first_wrong(&mut pages(alloc, kind)?, rows))
+/// Whether pages of such a layout answer so.
+fn hold_on(alloc: Global, kind: Kind, rows: &str) -> Result<(), Fail> {
+    all_hold(&mut pages(alloc, kind)?, rows)
+}
+
+/// Whether pages of the usual layout do.
+fn hold(alloc: Global, rows: &str) -> Result<(), Fail> {
+    hold_on(alloc, USUAL, rows)
 }
 
 #[test]
@@ -25,8 +30,7 @@ fn a_range_lies_in_one_area(rt: HostRuntime) -> Result<(), Fail> {
         read FFFFFFFF 1 > FE 24
         read FFFFFFFF 20 > FE 24
     ";
-    assert_eq!(rt; first_wrong_of(rt.alloc(), USUAL, rows)?, None);
-    Ok(())
+    hold(rt.alloc(), rows)
 }
 
 #[test]
@@ -45,8 +49,7 @@ fn a_write_is_seen_by_the_tool(rt: HostRuntime) -> Result<(), Fail> {
         page 1 0 > FF 00
         page 2 0 > FF 01
     ";
-    assert_eq!(rt; first_wrong_of(rt.alloc(), USUAL, rows)?, None);
-    Ok(())
+    hold(rt.alloc(), rows)
 }
 
 #[test]
@@ -72,28 +75,37 @@ fn pages_are_switched(rt: HostRuntime) -> Result<(), Fail> {
         page 0 2 > FE 27
         page 1 2 > FE 28
     ";
-    assert_eq!(rt; first_wrong_of(rt.alloc(), USUAL, rows)?, None);
-    Ok(())
+    hold(rt.alloc(), rows)
+}
+
+/// The type of checksums, and the sum of eight bytes AA.
+static SUMS: [(i64, &str); 6] = [
+    (1, "checksum 2000 8 > FF 00 00 00 50"),
+    (2, "checksum 2000 8 > FF 00 00 05 50"),
+    (3, "checksum 2000 8 > FF 00 00 05 50"),
+    (4, "checksum 2000 8 > FF 00 00 AA A8"),
+    (5, "checksum 2000 8 > FF 00 02 AA A8"),
+    (6, "checksum 2000 8 > FF 55 55 55 54"),
+];
+
+/// What each type refuses.
+const REFUSED_SUMS: &str = "
+    checksum 0 0 > FE 22
+    checksum 1000 14 > FE 24
+    checksum 1000 FFFFFFFC > FE 24
+";
+
+/// Whether the sums of such a type are so.
+fn sums_hold(alloc: Global, checksum: i64, row: &str) -> Result<(), Fail> {
+    let mut pages = pages(alloc, Kind { checksum, ..USUAL })?;
+    all_hold(&mut pages, row)?;
+    all_hold(&mut pages, REFUSED_SUMS)
 }
 
 #[test]
 fn checksums_have_their_width(rt: HostRuntime) -> Result<(), Fail> {
-    let refusals = "
-        checksum 0 0 > FE 22
-        checksum 1000 14 > FE 24
-        checksum 1000 FFFFFFFC > FE 24
-    ";
-    for (checksum, row) in [
-        (1, "checksum 2000 8 > FF 00 00 00 50"),
-        (2, "checksum 2000 8 > FF 00 00 05 50"),
-        (3, "checksum 2000 8 > FF 00 00 05 50"),
-        (4, "checksum 2000 8 > FF 00 00 AA A8"),
-        (5, "checksum 2000 8 > FF 00 02 AA A8"),
-        (6, "checksum 2000 8 > FF 55 55 55 54"),
-    ] {
-        let mut pages = pages(rt.alloc(), Kind { checksum, ..USUAL })?;
-        assert_eq!(rt; first_wrong(&mut pages, row), None, "type {checksum}");
-        assert_eq!(rt; first_wrong(&mut pages, refusals), None, "type {checksum}");
+    for (checksum, row) in &SUMS {
+        sums_hold(rt.alloc(), *checksum, row)?;
     }
     Ok(())
 }
@@ -107,21 +119,25 @@ fn the_image_is_the_controllers(rt: HostRuntime) -> Result<(), Fail> {
         switch 1 0 1 > FF
         image > FF AB CD 2 3 4 5 6 7 8 9 A B C D E F AA AA AA AA AA AA AA AA
     ";
-    assert_eq!(rt; first_wrong_of(rt.alloc(), USUAL, rows)?, None);
-    Ok(())
+    hold(rt.alloc(), rows)
+}
+
+/// Whether audited pages of the usual layout answer so.
+fn hold_and_audit(alloc: Global, rows: &str) -> Result<(), Fail> {
+    let mut pages = pages(alloc, USUAL)?;
+    let held = all_hold(&mut pages, rows);
+    pages.audit();
+    held
 }
 
 #[test]
 fn signals_are_read_by_both(rt: HostRuntime) -> Result<(), Fail> {
-    let mut pages = pages(rt.alloc(), USUAL)?;
     let rows = "
         signals 1 2 3 4 5 6 7 8 > FF
         read 8006 2 > FF 07 08
         read_ecu 8000 2 > FF 01 02
     ";
-    assert_eq!(rt; first_wrong(&mut pages, rows), None);
-    pages.audit();
-    Ok(())
+    hold_and_audit(rt.alloc(), rows)
 }
 
 #[test]
@@ -145,11 +161,16 @@ fn pages_are_copied(rt: HostRuntime) -> Result<(), Fail> {
         copy 0 0 0 1 > FF
         content 0 1 0 > FF 00
     ";
-    assert_eq!(rt; first_wrong_of(rt.alloc(), USUAL, rows)?, None);
-    Ok(())
+    hold(rt.alloc(), rows)
 }
 
 /// Two segments of 8 bytes, all 01 and all 02.
+const TWINS: Kind = Kind {
+    first: &[1; 8],
+    second: &[2; 8],
+    ..USUAL
+};
+
 #[test]
 fn pages_are_copied_between_segments(rt: HostRuntime) -> Result<(), Fail> {
     let up = "
@@ -164,15 +185,8 @@ fn pages_are_copied_between_segments(rt: HostRuntime) -> Result<(), Fail> {
         content 0 0 3 > FF 01
         content 1 1 3 > FF 02
     ";
-    for rows in [up, down] {
-        let twins = Kind {
-            first: &[1; 8],
-            second: &[2; 8],
-            ..USUAL
-        };
-        assert_eq!(rt; first_wrong_of(rt.alloc(), twins, rows)?, None);
-    }
-    Ok(())
+    hold_on(rt.alloc(), TWINS, up)?;
+    hold_on(rt.alloc(), TWINS, down)
 }
 
 #[test]
@@ -195,8 +209,7 @@ fn segments_in_freeze_mode_are_stored(rt: HostRuntime) -> Result<(), Fail> {
         set_freeze 0 0 > FF
         freeze_mode 0 > FF 00
     ";
-    assert_eq!(rt; first_wrong_of(rt.alloc(), USUAL, rows)?, None);
-    Ok(())
+    hold(rt.alloc(), rows)
 }
 
 /// Four pages of the first segment, two of the second.
@@ -228,7 +241,5 @@ fn pages_behind_the_second(rt: HostRuntime) -> Result<(), Fail> {
         content 0 0 1 > FF CD
         content 0 1 1 > FF 01
     ";
-    let kind = Kind { pages: 4, ..USUAL };
-    assert_eq!(rt; first_wrong_of(rt.alloc(), kind, rows)?, None);
-    Ok(())
+    hold_on(rt.alloc(), Kind { pages: 4, ..USUAL }, rows)
 }

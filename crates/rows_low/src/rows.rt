@@ -1,6 +1,7 @@
 //! Rows as texts. A line is what is asked, a `>`, and the bytes that answer it, all numbers in hex;
 //! `-` stands where nothing is sent. Empty lines and comments (`#`) are skipped.
 use arrayvec::ArrayVec;
+use std::test::Fail;
 use xcp_packet::Packet;
 
 /// The numbers of a question.
@@ -79,3 +80,25 @@ pub(crate) fn first_wrong<S: Subject>(subject: &mut S, rows: &str) -> Option<u32
     }
     if asked { None } else { Some(0) }
 }
+
+/// The line of this number, counted from 1.
+fn line_at(rows: &str, number: u32) -> &str {
+    for (before, line) in rows.lines().enumerate() {
+        if before == (number as usize).wrapping_sub(1) {
+            return line.trim();
+        }
+    }
+    "no row asks"
+}
+
+/// Fails with the first row that isn't answered as it says.
+pub(crate) fn all_hold<S: Subject>(subject: &mut S, rows: &str) -> Result<(), Fail> {
+    match first_wrong(subject, rows) {
+        None => Ok(()),
+        Some(number) => Err(Fail::new(line_at(rows, number))),
+    }
+}
+
+/// The row of a table, counted from 0, that isn't so.
+#[derive(Debug, Drop)]
+pub struct WrongRow(pub usize);

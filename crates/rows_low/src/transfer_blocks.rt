@@ -41,35 +41,43 @@ fn takes(transfer: &mut Transfer, n: u8, left: u8) -> bool {
     }
 }
 
-/// Whether a block of this length with MAX_CTO 8 is written whole with its last packet, and the MTA
-/// then stands behind it.
-fn is_written_whole(alloc: Global, n: u8) -> Result<bool, Fail> {
-    let kind = Kind {
-        max_cto: 8,
-        first: &[0; 49],
-        ..USUAL
-    };
-    let mut transfer = Transfer::new(pages(alloc, kind)?);
-    let opening = "
-        EB 02 00 01 > FF
-        F6 00 00 00 00 10 00 00 > FF
-    ";
-    if first_wrong(&mut transfer, opening).is_some() {
-        return Ok(false);
+const OPENING: &str = "
+    EB 02 00 01 > FF
+    F6 00 00 00 00 10 00 00 > FF
+";
+
+/// Whether a block of this length is written whole with its last packet, and the MTA then stands behind it.
+fn is_written_whole(transfer: &mut Transfer, n: u8) -> bool {
+    if first_wrong(transfer, OPENING).is_some() {
+        return false;
     }
     for before in (0..n).step_by(6) {
-        if !takes(&mut transfer, n, n.saturating_sub(before)) {
-            return Ok(false);
+        if !takes(transfer, n, n.saturating_sub(before)) {
+            return false;
         }
     }
     let behind = 0x1000u32.wrapping_add(u32::from(n));
-    Ok(transfer.mta() == Mta::Memory(behind))
+    transfer.mta() == Mta::Memory(behind)
+}
+
+/// A segment of 49 bytes.
+const LONG: Kind = Kind {
+    max_cto: 8,
+    first: &[0; 49],
+    ..USUAL
+};
+
+/// Whether blocks of each length are, with MAX_CTO 8.
+fn all_are_written(alloc: Global) -> Result<(), Fail> {
+    for n in 1..=48u8 {
+        if !is_written_whole(&mut Transfer::new(pages(alloc, LONG)?), n) {
+            return Err(Fail::new(n));
+        }
+    }
+    Ok(())
 }
 
 #[test]
 fn blocks_of_each_length(rt: HostRuntime) -> Result<(), Fail> {
-    for n in 1..=48u8 {
-        assert!(rt; is_written_whole(rt.alloc(), n)?, "{n}");
-    }
-    Ok(())
+    all_are_written(rt.alloc())
 }

@@ -1,5 +1,5 @@
 //! Of several refusals that hold the first of the row is answered, and the MTA stays.
-use crate::rows::first_wrong;
+use crate::rows::{WrongRow, first_wrong};
 use crate::transfer_rows::transfer;
 use std::alloc::Global;
 use std::test::Fail;
@@ -22,12 +22,11 @@ fn set_mta(transfer: &mut Transfer, mta: Mta) -> bool {
     exists
 }
 
-/// Whether one row holds at this MTA after a fresh start, and leaves it.
-fn holds_at(alloc: Global, mta: Mta, row: &str) -> Result<bool, Fail> {
-    let mut transfer = transfer(alloc, 32)?;
-    let set = set_mta(&mut transfer, mta);
-    let wrong = first_wrong(&mut transfer, row);
-    Ok(set && wrong.is_none() && transfer.mta() == mta)
+/// Whether one row holds at this MTA, and leaves it.
+fn holds_at(transfer: &mut Transfer, mta: Mta, row: &str) -> bool {
+    let set = set_mta(transfer, mta);
+    let wrong = first_wrong(transfer, row);
+    set && wrong.is_none() && transfer.mta() == mta
 }
 
 static ROWS: [(Mta, &str); 31] = [
@@ -71,18 +70,17 @@ static ROWS: [(Mta, &str); 31] = [
     (Mta::Nowhere, "ED 01 00 00 00 10 00 00 55 > FE 23"),
 ];
 
-/// The first row that doesn't hold.
-fn first_wrong_row(alloc: Global) -> Result<Option<usize>, Fail> {
+/// Whether all rows do, each after a fresh start.
+fn all_rows_hold(alloc: Global) -> Result<(), Fail> {
     for (number, (mta, row)) in ROWS.iter().enumerate() {
-        if !holds_at(alloc, *mta, row)? {
-            return Ok(Some(number));
+        if !holds_at(&mut transfer(alloc, 32)?, *mta, row) {
+            return Err(WrongRow(number).into());
         }
     }
-    Ok(None)
+    Ok(())
 }
 
 #[test]
 fn refusals_come_in_order(rt: HostRuntime) -> Result<(), Fail> {
-    assert_eq!(rt; first_wrong_row(rt.alloc())?, None);
-    Ok(())
+    all_rows_hold(rt.alloc())
 }

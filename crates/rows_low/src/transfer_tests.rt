@@ -1,18 +1,18 @@
 //! Worked rows of the transfers, as command packets and the packets that answer them.
 use crate::layouts::{Kind, USUAL, pages};
-use crate::rows::first_wrong;
+use crate::rows::all_hold;
 use crate::transfer_rows::transfer;
 use std::alloc::Global;
 use std::test::Fail;
 use xcp_transfer::Transfer;
 
-/// The first row that transfers with such a MAX_CTO answer otherwise.
-fn first_wrong_of(alloc: Global, max_cto: i64, rows: &str) -> Result<Option<u32>, Fail> {
-    Ok(first_wrong(&mut transfer(alloc, max_cto)?, rows))
+/// Whether transfers with such a MAX_CTO answer so.
+fn hold_of(alloc: Global, max_cto: i64, rows: &str) -> Result<(), Fail> {
+    all_hold(&mut transfer(alloc, max_cto)?, rows)
 }
 
 /// Each is a fresh start with MAX_CTO 32.
-const WORKED: [&str; 9] = [
+static WORKED: [&str; 9] = [
     "
     # The identification is a text, which is uploaded from its first byte on.
     FA 00 > FF 00 00 00 04 00 00 00
@@ -75,8 +75,8 @@ const WORKED: [&str; 9] = [
 
 #[test]
 fn worked_rows(rt: HostRuntime) -> Result<(), Fail> {
-    for (number, rows) in WORKED.iter().enumerate() {
-        assert_eq!(rt; first_wrong_of(rt.alloc(), 32, rows)?, None, "{number}");
+    for rows in &WORKED {
+        hold_of(rt.alloc(), 32, rows)?;
     }
     Ok(())
 }
@@ -102,8 +102,7 @@ fn uploads_of_blocks(rt: HostRuntime) -> Result<(), Fail> {
         F5 08 > 07 00 01 02 03 04 05 06 07
         EF 02 07 08 > FE 29 00
     ";
-    assert_eq!(rt; first_wrong_of(rt.alloc(), 8, rows)?, None);
-    Ok(())
+    hold_of(rt.alloc(), 8, rows)
 }
 
 /// Blocks with MAX_CTO 8: six bytes in a packet.
@@ -135,8 +134,7 @@ fn blocks(rt: HostRuntime) -> Result<(), Fail> {
         EB 02 00 00 > FF
         F0 08 E1 E2 E3 E4 E5 E6 > FE 23
     ";
-    assert_eq!(rt; first_wrong_of(rt.alloc(), 8, rows)?, None);
-    Ok(())
+    hold_of(rt.alloc(), 8, rows)
 }
 
 /// DOWNLOAD_MAX with MAX_CTO 8: seven bytes, all that a packet has room for. They move the MTA on.
@@ -152,8 +150,7 @@ fn a_full_packet_is_written(rt: HostRuntime) -> Result<(), Fail> {
         F4 07 00 00 00 10 00 00 > FF 00 D1 D2 D3 D4 D5 D6
         F5 02 > FF D7 08
     ";
-    assert_eq!(rt; first_wrong_of(rt.alloc(), 8, rows)?, None);
-    Ok(())
+    hold_of(rt.alloc(), 8, rows)
 }
 
 /// Signals may come while a block is under way, whose range stays as it is.
@@ -168,56 +165,60 @@ fn signals_leave_a_block(rt: HostRuntime) -> Result<(), Fail> {
         F4 07 00 00 00 10 00 00 > FF 01 02 03 04 05 06 07
         F4 02 00 00 06 80 00 00 > FF 03 02
     ";
-    assert_eq!(rt; first_wrong_of(rt.alloc(), 8, rows)?, None);
-    Ok(())
+    hold_of(rt.alloc(), 8, rows)
 }
 
-/// The first row that transfers with such a type of checksums answer otherwise.
-fn first_wrong_sum(alloc: Global, checksum: i64, rows: &str) -> Result<Option<u32>, Fail> {
+/// For the types of checksums from 1 on.
+static SUMS: [&str; 4] = [
+    "
+    F6 00 00 00 00 20 00 00 > FF
+    F3 00 00 00 08 00 00 00 > FF 01 00 00 50 00 00 00
+    ",
+    "
+    F6 00 00 00 00 20 00 00 > FF
+    F3 00 00 00 08 00 00 00 > FF 02 00 00 50 05 00 00
+    ",
+    "
+    F6 00 00 00 00 20 00 00 > FF
+    F3 00 00 00 08 00 00 00 > FF 03 00 00 50 05 00 00
+    ",
+    // Nowhere, and at a text: the size is looked at first.
+    "
+    F3 00 00 00 00 00 00 00 > FE 22
+    F3 00 00 00 03 00 00 00 > FE 22
+    F3 00 00 00 02 00 00 00 > FE 24
+    FA 00 > FF 00 00 00 04 00 00 00
+    F3 00 00 00 03 00 00 00 > FE 22
+    F3 00 00 00 02 00 00 00 > FE 24
+    ",
+];
+
+/// Whether transfers with such a type of checksums answer so.
+fn sums_hold(alloc: Global, checksum: i64, rows: &str) -> Result<(), Fail> {
     let pages = pages(alloc, Kind { checksum, ..USUAL })?;
-    Ok(first_wrong(&mut Transfer::new(pages), rows))
+    all_hold(&mut Transfer::new(pages), rows)
 }
 
 #[test]
 fn checksums(rt: HostRuntime) -> Result<(), Fail> {
-    let rows = [
-        "
-        F6 00 00 00 00 20 00 00 > FF
-        F3 00 00 00 08 00 00 00 > FF 01 00 00 50 00 00 00
-        ",
-        "
-        F6 00 00 00 00 20 00 00 > FF
-        F3 00 00 00 08 00 00 00 > FF 02 00 00 50 05 00 00
-        ",
-        "
-        F6 00 00 00 00 20 00 00 > FF
-        F3 00 00 00 08 00 00 00 > FF 03 00 00 50 05 00 00
-        ",
-        // Nowhere, and at a text: the size is looked at first.
-        "
-        F3 00 00 00 00 00 00 00 > FE 22
-        F3 00 00 00 03 00 00 00 > FE 22
-        F3 00 00 00 02 00 00 00 > FE 24
-        FA 00 > FF 00 00 00 04 00 00 00
-        F3 00 00 00 03 00 00 00 > FE 22
-        F3 00 00 00 02 00 00 00 > FE 24
-        ",
-    ];
-    for (rows, kind) in rows.iter().zip(1..5) {
-        assert_eq!(rt; first_wrong_sum(rt.alloc(), kind, rows)?, None, "{kind}");
+    for (rows, checksum) in SUMS.iter().zip(1..5) {
+        sums_hold(rt.alloc(), checksum, rows)?;
     }
     Ok(())
 }
 
-/// What the tool writes on the working page, the controller doesn't see.
-fn is_unseen(alloc: Global, rows: &str) -> Result<bool, Fail> {
-    let mut transfer = transfer(alloc, 32)?;
+/// Whether rows hold that change nothing of what the controller sees.
+fn hold_unseen(transfer: &mut Transfer, rows: &str) -> Result<(), Fail> {
     let mut before = [0; 2040];
     transfer.pages().ecu_image(&mut before);
-    let wrong = first_wrong(&mut transfer, rows);
+    all_hold(transfer, rows)?;
     let mut after = [1; 2040];
     transfer.pages().ecu_image(&mut after);
-    Ok(wrong.is_none() && before == after)
+    if before == after {
+        Ok(())
+    } else {
+        Err("the image changed".into())
+    }
 }
 
 #[test]
@@ -226,8 +227,7 @@ fn the_controller_keeps_its_page(rt: HostRuntime) -> Result<(), Fail> {
         EB 02 00 01 > FF
         ED 02 00 00 00 10 00 00 AB CD > FF
     ";
-    assert!(rt; is_unseen(rt.alloc(), rows)?);
-    Ok(())
+    hold_unseen(&mut transfer(rt.alloc(), 32)?, rows)
 }
 
 #[test]
@@ -246,6 +246,5 @@ fn pages_are_copied_and_stored(rt: HostRuntime) -> Result<(), Fail> {
         EB 02 00 00 > FF
         F4 03 00 00 00 10 00 00 > FF 55 01 02
     ";
-    assert_eq!(rt; first_wrong_of(rt.alloc(), 8, rows)?, None);
-    Ok(())
+    hold_of(rt.alloc(), 8, rows)
 }

@@ -166,15 +166,25 @@ fn hand_over<T: Send + Drop, R: Threads + Wait + Sync>(
     )
 }
 
+// Whether a text arrives as it was handed over, and whether the taker meets the giver then.
+fn text_arrives<R: Threads + Wait + Sync>(
+    rt: &R,
+    alloc: Global,
+) -> Result<(bool, bool), AllocError> {
+    let text = String::from_str(alloc, "some text")?;
+    let (relay, mut taker) = Relay::new(alloc)?;
+    let Some(giver) = relay.hire(&mut taker) else {
+        return Err(AllocError);
+    };
+    let (mut giver, (mut taker, came)) = hand_over(rt, &relay, giver, taker, text);
+    let met = relay.meets(&mut giver, &mut taker);
+    let arrived = matches!(&came, Some((0, text)) if text.as_str() == "some text");
+    Ok((arrived, met))
+}
+
 #[test]
 fn a_text_is_handed_over(rt: HostRuntime) -> Result<(), Fail> {
-    let (relay, mut taker) = Relay::new(rt.alloc())?;
-    let Some(giver) = relay.hire(&mut taker) else {
-        return Err(AllocError.into());
-    };
-    let text = String::from_str(rt.alloc(), "some text")?;
-    let (mut giver, (mut taker, came)) = hand_over(&rt, &relay, giver, taker, text);
-    assert!(rt; matches!(&came, Some((0, text)) if text.as_str() == "some text"));
-    assert!(rt; relay.meets(&mut giver, &mut taker));
+    let alloc = rt.alloc();
+    assert_eq!(rt; text_arrives(&rt, alloc)?, (true, true));
     Ok(())
 }

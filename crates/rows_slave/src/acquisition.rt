@@ -1,79 +1,77 @@
 //! Rows of the commands of acquisition lists, and of events.
 use crate::layouts::{Kind, USUAL, connected};
-use crate::rows::{first_wrong, first_wrong_again, first_wrong_of, first_wrong_of_new};
+use crate::rows::{all_hold, hold, hold_again, hold_on_new};
 use std::alloc::Global;
 use std::test::Fail;
 
 /// The outbox takes 64 packets: so many events are sampled, and the next overruns.
-fn first_wrong_of_64(alloc: Global, rows: [&str; 3]) -> Result<Option<u32>, Fail> {
-    let [opening, event, rest] = rows;
+fn hold_behind_64(alloc: Global, rows: &[&str; 3]) -> Result<(), Fail> {
+    let [opening, event, rest] = *rows;
     let mut slave = connected(alloc, USUAL)?;
-    Ok(match first_wrong_again(&mut slave, opening, 64, event) {
-        None => first_wrong(&mut slave, rest),
-        wrong => wrong,
-    })
+    hold_again(&mut slave, opening, 64, event)?;
+    all_hold(&mut slave, rest)
 }
+
+static NO_ROOM: [&str; 3] = [
+    "
+        D5 00 01 00 > FE 29
+        D6 > FF
+        D5 00 11 00 > FE 30
+        D5 00 01 00 > FF
+        D3 00 00 00 00 01 > FE 29
+        D4 00 00 00 01 > FF
+        D3 00 00 00 00 01 > FF
+        E2 00 00 00 00 00 > FF
+        E1 FF 02 00 00 80 00 00 > FF
+        E1 FF 02 00 00 80 00 00 > FE 2A
+        E0 00 00 00 00 00 01 00 > FF
+        DE 01 00 00 > FF 00
+        FD > FF 40 00 00 00 00
+        event 0 01 02 03 04 05 06 07 08 > sampled 1
+        drain > 00 01 02
+    ",
+    "event 0 01 02 03 04 05 06 07 08 > sampled 1",
+    "
+        event 0 01 02 03 04 05 06 07 08 > overrun
+        drain > 00 01 02
+        event 0 01 02 03 04 05 06 07 08 > sampled 1
+    ",
+];
 
 #[test]
 fn a_list_is_sampled_until_there_is_no_room(rt: HostRuntime) -> Result<(), Fail> {
-    let rows = [
-        "
-            D5 00 01 00 > FE 29
-            D6 > FF
-            D5 00 11 00 > FE 30
-            D5 00 01 00 > FF
-            D3 00 00 00 00 01 > FE 29
-            D4 00 00 00 01 > FF
-            D3 00 00 00 00 01 > FF
-            E2 00 00 00 00 00 > FF
-            E1 FF 02 00 00 80 00 00 > FF
-            E1 FF 02 00 00 80 00 00 > FE 2A
-            E0 00 00 00 00 00 01 00 > FF
-            DE 01 00 00 > FF 00
-            FD > FF 40 00 00 00 00
-            event 0 01 02 03 04 05 06 07 08 > sampled 1
-            drain > 00 01 02
-        ",
-        "event 0 01 02 03 04 05 06 07 08 > sampled 1",
-        "
-            event 0 01 02 03 04 05 06 07 08 > overrun
-            drain > 00 01 02
-            event 0 01 02 03 04 05 06 07 08 > sampled 1
-        ",
-    ];
-    assert_eq!(rt; first_wrong_of_64(rt.alloc(), rows)?, None);
-    Ok(())
+    hold_behind_64(rt.alloc(), &NO_ROOM)
 }
+
+static OVERRUN: [&str; 3] = [
+    "
+        D6 > FF
+        D5 00 01 00 > FF
+        D4 00 00 00 01 > FF
+        D3 00 00 00 00 01 > FF
+        E2 00 00 00 00 00 > FF
+        E1 FF 02 00 00 80 00 00 > FF
+        E0 00 00 00 00 00 02 00 > FF
+        DE 01 00 00 > FF 00
+    ",
+    "
+        event 0 01 02 03 04 05 06 07 08 > sampled 1
+        event 0 01 02 03 04 05 06 07 08 > sampled 0
+    ",
+    "
+        event 0 11 12 13 14 15 16 17 18 > overrun
+        F4 02 00 00 00 80 00 00 > FF 11 12
+        event 0 01 02 03 04 05 06 07 08 > sampled 0
+        drain > 00 01 02
+        event 0 11 12 13 14 15 16 17 18 > sampled 1
+        event 0 01 02 03 04 05 06 07 08 > sampled 0
+        event 0 01 02 03 04 05 06 07 08 > overrun
+    ",
+];
 
 #[test]
 fn an_overrun_counts_the_event(rt: HostRuntime) -> Result<(), Fail> {
-    let rows = [
-        "
-            D6 > FF
-            D5 00 01 00 > FF
-            D4 00 00 00 01 > FF
-            D3 00 00 00 00 01 > FF
-            E2 00 00 00 00 00 > FF
-            E1 FF 02 00 00 80 00 00 > FF
-            E0 00 00 00 00 00 02 00 > FF
-            DE 01 00 00 > FF 00
-        ",
-        "
-            event 0 01 02 03 04 05 06 07 08 > sampled 1
-            event 0 01 02 03 04 05 06 07 08 > sampled 0
-        ",
-        "
-            event 0 11 12 13 14 15 16 17 18 > overrun
-            F4 02 00 00 00 80 00 00 > FF 11 12
-            event 0 01 02 03 04 05 06 07 08 > sampled 0
-            drain > 00 01 02
-            event 0 11 12 13 14 15 16 17 18 > sampled 1
-            event 0 01 02 03 04 05 06 07 08 > sampled 0
-            event 0 01 02 03 04 05 06 07 08 > overrun
-        ",
-    ];
-    assert_eq!(rt; first_wrong_of_64(rt.alloc(), rows)?, None);
-    Ok(())
+    hold_behind_64(rt.alloc(), &OVERRUN)
 }
 
 /// Behind these a list of one ODT samples two bytes of the signals.
@@ -86,42 +84,44 @@ const ALLOCATED: &str = "
     E1 FF 02 00 00 80 00 00 > FF
 ";
 
-/// The first row that a slave answers otherwise behind those.
-fn first_wrong_behind(alloc: Global, rows: &str) -> Result<Option<u32>, Fail> {
+/// Whether a slave answers so behind those.
+fn hold_behind(alloc: Global, rows: &str) -> Result<(), Fail> {
     let mut slave = connected(alloc, USUAL)?;
-    Ok(first_wrong_again(&mut slave, ALLOCATED, 1, rows))
+    hold_again(&mut slave, ALLOCATED, 1, rows)
 }
+
+/// With prescaler 1, 2 and 3.
+static PRESCALED: [&str; 3] = [
+    "
+        E0 00 00 00 00 00 01 00 > FF
+        DE 01 00 00 > FF 00
+        event 0 01 02 03 04 05 06 07 08 > sampled 1
+        event 0 01 02 03 04 05 06 07 08 > sampled 1
+        event 0 01 02 03 04 05 06 07 08 > sampled 1
+        event 0 01 02 03 04 05 06 07 08 > sampled 1
+    ",
+    "
+        E0 00 00 00 00 00 02 00 > FF
+        DE 01 00 00 > FF 00
+        event 0 01 02 03 04 05 06 07 08 > sampled 1
+        event 0 01 02 03 04 05 06 07 08 > sampled 0
+        event 0 01 02 03 04 05 06 07 08 > sampled 1
+        event 0 01 02 03 04 05 06 07 08 > sampled 0
+    ",
+    "
+        E0 00 00 00 00 00 03 00 > FF
+        DE 01 00 00 > FF 00
+        event 0 01 02 03 04 05 06 07 08 > sampled 1
+        event 0 01 02 03 04 05 06 07 08 > sampled 0
+        event 0 01 02 03 04 05 06 07 08 > sampled 0
+        event 0 01 02 03 04 05 06 07 08 > sampled 1
+    ",
+];
 
 #[test]
 fn a_prescaler_leaves_events_out(rt: HostRuntime) -> Result<(), Fail> {
-    let rows = [
-        "
-            E0 00 00 00 00 00 01 00 > FF
-            DE 01 00 00 > FF 00
-            event 0 01 02 03 04 05 06 07 08 > sampled 1
-            event 0 01 02 03 04 05 06 07 08 > sampled 1
-            event 0 01 02 03 04 05 06 07 08 > sampled 1
-            event 0 01 02 03 04 05 06 07 08 > sampled 1
-        ",
-        "
-            E0 00 00 00 00 00 02 00 > FF
-            DE 01 00 00 > FF 00
-            event 0 01 02 03 04 05 06 07 08 > sampled 1
-            event 0 01 02 03 04 05 06 07 08 > sampled 0
-            event 0 01 02 03 04 05 06 07 08 > sampled 1
-            event 0 01 02 03 04 05 06 07 08 > sampled 0
-        ",
-        "
-            E0 00 00 00 00 00 03 00 > FF
-            DE 01 00 00 > FF 00
-            event 0 01 02 03 04 05 06 07 08 > sampled 1
-            event 0 01 02 03 04 05 06 07 08 > sampled 0
-            event 0 01 02 03 04 05 06 07 08 > sampled 0
-            event 0 01 02 03 04 05 06 07 08 > sampled 1
-        ",
-    ];
-    for (row, prescaler) in rows.iter().zip(1..4) {
-        assert_eq!(rt; first_wrong_behind(rt.alloc(), row)?, None, "{prescaler}");
+    for rows in &PRESCALED {
+        hold_behind(rt.alloc(), rows)?;
     }
     Ok(())
 }
@@ -158,8 +158,7 @@ fn a_selected_list_samples_the_controllers_page(rt: HostRuntime) -> Result<(), F
         event 1 01 02 03 04 05 06 07 08 > no channel
         event 0 01 02 03 04 05 06 07 > bad signals
     ";
-    assert_eq!(rt; first_wrong_of(rt.alloc(), USUAL, rows)?, None);
-    Ok(())
+    hold(rt.alloc(), rows)
 }
 
 #[test]
@@ -173,8 +172,7 @@ fn events_and_lists_are_told(rt: HostRuntime) -> Result<(), Fail> {
         DA > FF 03 00 00 01 00 00 00
         D9 > FF 01 3F 01 00 00 00 00
     ";
-    assert_eq!(rt; first_wrong_of(rt.alloc(), USUAL, rows)?, None);
-    Ok(())
+    hold(rt.alloc(), rows)
 }
 
 #[test]
@@ -198,8 +196,7 @@ fn an_odt_that_a_packet_does_not_hold(rt: HostRuntime) -> Result<(), Fail> {
         max_dto: 8,
         ..USUAL
     };
-    assert_eq!(rt; first_wrong_of_new(rt.alloc(), kind, rows)?, None);
-    Ok(())
+    hold_on_new(rt.alloc(), kind, rows)
 }
 
 #[test]
@@ -222,8 +219,7 @@ fn a_selected_list_may_outgrow_a_packet(rt: HostRuntime) -> Result<(), Fail> {
         max_dto: 8,
         ..USUAL
     };
-    assert_eq!(rt; first_wrong_of_new(rt.alloc(), kind, rows)?, None);
-    Ok(())
+    hold_on_new(rt.alloc(), kind, rows)
 }
 
 #[test]
@@ -240,6 +236,5 @@ fn a_sessions_end_takes_its_lists(rt: HostRuntime) -> Result<(), Fail> {
         D5 00 01 00 > FE 29
         F4 02 00 00 00 80 00 00 > FF 01 02
     ";
-    assert_eq!(rt; first_wrong_of(rt.alloc(), USUAL, rows)?, None);
-    Ok(())
+    hold(rt.alloc(), rows)
 }

@@ -1,50 +1,42 @@
 //! Requests and answers are copied.
-use arrayvec::ArrayVec;
-use xcp_packet::{Packet, Train, Width};
-use xcp_slave::{Answer, Request};
+use crate::rows::{answer, request};
 
-fn packet(bytes: &[u8]) -> Packet {
-    let mut packet = Packet::new();
-    let _ = packet.try_extend_from_slice(bytes);
-    packet
+static REQUESTS: [&str; 5] = ["F5 04", "event 201 01 02 03", "drain", "store", "hangup"];
+
+fn is_copied(text: &str) -> bool {
+    match request(text) {
+        Some(request) => request.copy() == request,
+        None => false,
+    }
 }
 
-fn event(channel: u16, bytes: &[u8]) -> Request {
-    let mut signals = ArrayVec::new();
-    let _ = signals.try_extend_from_slice(bytes);
-    Request::Event(channel, signals)
-}
+static ANSWERS: [&str; 11] = [
+    "-",
+    "FF 01 02",
+    "FF 01 02 03 04 05 06 07 | FF 08 09",
+    "sampled 3",
+    "overrun",
+    "no channel",
+    "bad signals",
+    "nothing",
+    "stored 2",
+    "no store",
+    "later",
+];
 
-fn are_copied(requests: &[Request]) -> bool {
-    requests.iter().all(|request| request.copy() == *request)
-}
-
-fn answers_are_copied(answers: &[Answer]) -> bool {
-    answers.iter().all(|answer| answer.copy() == *answer && answer.copy().same(answer))
+fn answer_is_copied(text: &str) -> bool {
+    match answer(text) {
+        Some(answer) => answer.copy() == answer && answer.copy().same(&answer),
+        None => false,
+    }
 }
 
 #[test]
 fn requests_and_answers_are_copied(rt: HostRuntime) {
-    let requests = [
-        Request::Command(packet(&[0xF5, 4])),
-        event(513, &[1, 2, 3]),
-        Request::Drain,
-        Request::FinishStore,
-        Request::Hangup,
-    ];
-    assert!(rt; are_copied(&requests));
-    let answers = [
-        Answer::Silent,
-        Answer::Packets(Train::one(packet(&[0xFF, 1, 2]))),
-        Answer::Packets(Train::cut(&[1, 2, 3, 4, 5, 6, 7, 8, 9], Width::new(7))),
-        Answer::Sampled(3),
-        Answer::Overrun,
-        Answer::NoChannel,
-        Answer::BadSignals,
-        Answer::Nothing,
-        Answer::Stored(2),
-        Answer::NoStore,
-        Answer::Later,
-    ];
-    assert!(rt; answers_are_copied(&answers));
+    for text in &REQUESTS {
+        assert!(rt; is_copied(text), "{text}");
+    }
+    for text in &ANSWERS {
+        assert!(rt; answer_is_copied(text), "{text}");
+    }
 }

@@ -1,6 +1,6 @@
 //! Downloads of as many bytes as one may name.
 use crate::layouts::{Kind, USUAL, connected};
-use crate::rows::{answer, first_wrong, first_wrong_of};
+use crate::rows::{answer, first_wrong, hold_on};
 use std::alloc::Global;
 use std::test::Fail;
 use xcp_packet::{Packet, Train};
@@ -115,21 +115,20 @@ fn long(max_cto: i64) -> Kind {
     }
 }
 
-/// The first of them that comes otherwise.
-fn first_wrong_length(alloc: Global) -> Result<Option<usize>, Fail> {
+/// Whether all of them come so.
+fn all_lengths_are_so(alloc: Global) -> Result<(), Fail> {
     for (number, (max_cto, room, n, packets)) in LENGTHS.iter().enumerate() {
-        let mut slave = connected(alloc, long(*max_cto))?;
-        if came(&mut slave, *room, *n) != Some(*packets) {
-            return Ok(Some(number));
+        let found = came(&mut connected(alloc, long(*max_cto))?, *room, *n);
+        if found != Some(*packets) {
+            return Err(Fail::new(number));
         }
     }
-    Ok(None)
+    Ok(())
 }
 
 #[test]
 fn a_download_fills_eight_packets(rt: HostRuntime) -> Result<(), Fail> {
-    assert_eq!(rt; first_wrong_length(rt.alloc())?, None);
-    Ok(())
+    all_lengths_are_so(rt.alloc())
 }
 
 /// MAX_CTO, and a DOWNLOAD of one byte more than eight packets hold; that there are too few data bytes comes
@@ -143,11 +142,7 @@ static TOO_MANY: [(i64, &str); 3] = [
 #[test]
 fn a_download_of_nine_packets_is_refused(rt: HostRuntime) -> Result<(), Fail> {
     for (max_cto, row) in &TOO_MANY {
-        assert_eq!(rt;
-            first_wrong_of(rt.alloc(), long(*max_cto), *row)?,
-            None,
-            "{row}"
-        );
+        hold_on(rt.alloc(), long(*max_cto), row)?;
     }
     Ok(())
 }
@@ -164,6 +159,5 @@ fn a_download_of_all_that_a_packet_holds(rt: HostRuntime) -> Result<(), Fail> {
         F4 07 00 00 00 10 00 00 > FF 00 D1 D2 D3 D4 D5 D6
         F5 02 > FF D7 08
     ";
-    assert_eq!(rt; first_wrong_of(rt.alloc(), long(8), rows)?, None);
-    Ok(())
+    hold_on(rt.alloc(), long(8), rows)
 }

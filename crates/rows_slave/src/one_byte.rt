@@ -1,28 +1,35 @@
 //! Command packets of one byte.
 use crate::layouts::{USUAL, connected};
-use crate::rows::{answer, first_wrong_of};
+use crate::rows::{answer, hold};
 use std::alloc::Global;
 use std::test::Fail;
 use xcp_packet::Packet;
-use xcp_slave::Request;
+use xcp_slave::{Answer, Request};
 
-/// How many of the 256 packets of one byte are answered so, each behind CONNECT.
-fn answered(alloc: Global, text: &str) -> Result<u32, Fail> {
-    let said = answer(text);
-    let mut count = 0u32;
-    for first in 0..=255u8 {
-        let mut slave = connected(alloc, USUAL)?;
-        let mut packet = Packet::new();
-        let _ = packet.try_push(first);
-        if Some(slave.submit(&Request::Command(packet))) == said {
-            count = count.wrapping_add(1);
-        }
-    }
-    Ok(count)
+/// What a packet of one byte is answered behind CONNECT.
+fn told(alloc: Global, first: u8) -> Result<Answer, Fail> {
+    let mut packet = Packet::new();
+    let _ = packet.try_push(first);
+    Ok(connected(alloc, USUAL)?.submit(&Request::Command(packet)))
 }
 
-/// The nine that are executed.
-const EXECUTED: [&str; 9] = [
+/// How many of the 256 packets of one byte are answered FE 20, and how many FE 21.
+fn refused(alloc: Global) -> Result<(u32, u32), Fail> {
+    let mut unknown = 0u32;
+    let mut short = 0u32;
+    for first in 0..=255u8 {
+        let told = Some(told(alloc, first)?);
+        if told == answer("FE 20") {
+            unknown = unknown.wrapping_add(1);
+        } else if told == answer("FE 21") {
+            short = short.wrapping_add(1);
+        }
+    }
+    Ok((unknown, short))
+}
+
+/// The nine that are executed, each by a slave of its own.
+static EXECUTED: [&str; 9] = [
     "FE > FF",
     "FD > FF 00 00 00 00 00",
     "FC > FE 00",
@@ -34,20 +41,15 @@ const EXECUTED: [&str; 9] = [
     "D6 > FF",
 ];
 
-/// The first row that a slave of its own, behind CONNECT, answers otherwise.
-fn first_wrong_alone(alloc: Global) -> Result<Option<&'static str>, Fail> {
-    for row in EXECUTED {
-        if first_wrong_of(alloc, USUAL, row)?.is_some() {
-            return Ok(Some(row));
-        }
+fn all_hold_alone(alloc: Global) -> Result<(), Fail> {
+    for row in &EXECUTED {
+        hold(alloc, row)?;
     }
-    Ok(None)
+    Ok(())
 }
 
 #[test]
 fn packets_of_one_byte(rt: HostRuntime) -> Result<(), Fail> {
-    assert_eq!(rt; answered(rt.alloc(), "FE 20")?, 217);
-    assert_eq!(rt; answered(rt.alloc(), "FE 21")?, 30);
-    assert_eq!(rt; first_wrong_alone(rt.alloc())?, None);
-    Ok(())
+    assert!(rt; refused(rt.alloc())? == (217, 30));
+    all_hold_alone(rt.alloc())
 }

@@ -1,7 +1,7 @@
 //! Rows as texts. A line is what is asked of a slave, a `>`, and what it answers: packets in hex, a `|`
 //! between those of one answer; `event C HEX`, `drain`, `store`, `hangup`, or `image` of its first 24
 //! bytes; `-` where nothing is sent. Empty lines and comments (`#`) are skipped.
-use crate::layouts::{Kind, connected, slave};
+use crate::layouts::{Kind, USUAL, connected, slave};
 use arrayvec::ArrayVec;
 use std::alloc::Global;
 use std::test::Fail;
@@ -156,32 +156,49 @@ pub(crate) fn first_wrong(slave: &mut Slave, rows: &str) -> Option<u32> {
     if asked { None } else { Some(0) }
 }
 
-/// The first line that a slave answers otherwise that was just made.
-pub(crate) fn first_wrong_of_new(
-    alloc: Global,
-    kind: Kind,
-    rows: &str,
-) -> Result<Option<u32>, Fail> {
-    Ok(first_wrong(&mut slave(alloc, kind)?, rows))
+/// The line of this number, counted from 1.
+fn line_at(rows: &str, number: u32) -> &str {
+    for (before, line) in rows.lines().enumerate() {
+        if before == (number as usize).wrapping_sub(1) {
+            return line.trim();
+        }
+    }
+    "no row asks"
 }
 
-/// The first line that a connected slave answers otherwise.
-pub(crate) fn first_wrong_of(alloc: Global, kind: Kind, rows: &str) -> Result<Option<u32>, Fail> {
-    Ok(first_wrong(&mut connected(alloc, kind)?, rows))
+/// Fails with the first row that isn't answered as it says.
+pub(crate) fn all_hold(slave: &mut Slave, rows: &str) -> Result<(), Fail> {
+    match first_wrong(slave, rows) {
+        None => Ok(()),
+        Some(number) => Err(Fail::new(line_at(rows, number))),
+    }
 }
 
-/// The same of some rows, and then of others so many times.
-pub(crate) fn first_wrong_again(
+/// Whether a slave that was just made answers so.
+pub(crate) fn hold_on_new(alloc: Global, kind: Kind, rows: &str) -> Result<(), Fail> {
+    all_hold(&mut slave(alloc, kind)?, rows)
+}
+
+/// Whether a connected slave answers so.
+pub(crate) fn hold_on(alloc: Global, kind: Kind, rows: &str) -> Result<(), Fail> {
+    all_hold(&mut connected(alloc, kind)?, rows)
+}
+
+/// Whether a connected slave of the usual layout does.
+pub(crate) fn hold(alloc: Global, rows: &str) -> Result<(), Fail> {
+    hold_on(alloc, USUAL, rows)
+}
+
+/// Whether some rows hold, and then others so many times.
+pub(crate) fn hold_again(
     slave: &mut Slave,
     rows: &str,
     times: u32,
     again: &str,
-) -> Option<u32> {
-    let mut wrong = first_wrong(slave, rows);
+) -> Result<(), Fail> {
+    all_hold(slave, rows)?;
     for _ in 0..times {
-        if wrong.is_none() {
-            wrong = first_wrong(slave, again);
-        }
+        all_hold(slave, again)?;
     }
-    wrong
+    Ok(())
 }

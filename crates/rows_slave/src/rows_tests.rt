@@ -1,6 +1,7 @@
 //! The reader of rows hides no failure.
-use crate::layouts::USUAL;
-use crate::rows::{answer, first_wrong_of};
+use crate::layouts::{USUAL, connected};
+use crate::rows::{answer, first_wrong};
+use std::alloc::Global;
 use std::test::Fail;
 use xcp_slave::Answer;
 
@@ -26,27 +27,34 @@ static TEXTS: [(&str, Option<u32>); 18] = [
     ("event 1 00 > no channel", None),
 ];
 
-#[test]
-fn wrong_rows_are_found(rt: HostRuntime) -> Result<(), Fail> {
+/// Whether in each text the wrong line is found.
+fn all_are_found(alloc: Global) -> Result<(), Fail> {
     for (text, wrong) in &TEXTS {
-        assert_eq!(rt; first_wrong_of(rt.alloc(), USUAL, text)?, *wrong, "{text}");
+        if first_wrong(&mut connected(alloc, USUAL)?, text) != *wrong {
+            return Err(Fail::new(*text));
+        }
     }
     Ok(())
 }
 
 #[test]
+fn wrong_rows_are_found(rt: HostRuntime) -> Result<(), Fail> {
+    all_are_found(rt.alloc())
+}
+
+fn means(text: &str, answer_meant: Option<Answer>) -> bool {
+    answer(text) == answer_meant
+}
+
+#[test]
 fn answers_have_words(rt: HostRuntime) {
-    let rows = [
-        ("sampled 3", Some(Answer::Sampled(3))),
-        ("stored 2", Some(Answer::Stored(2))),
-        ("overrun", Some(Answer::Overrun)),
-        ("later", Some(Answer::Later)),
-        ("sampled", None),
-        ("sampled 256", None),
-    ];
-    for (text, meant) in rows {
-        assert!(rt; answer(text) == meant, "{text}");
-    }
+    let sampled = means("sampled 3", Some(Answer::Sampled(3)));
+    let stored = means("stored 2", Some(Answer::Stored(2)));
+    let overrun = means("overrun", Some(Answer::Overrun));
+    let later = means("later", Some(Answer::Later));
+    let uncounted = means("sampled", None);
+    let too_many = means("sampled 256", None);
+    assert!(rt; [sampled, stored, overrun, later, uncounted, too_many] == [true; 6]);
 }
 
 /// Texts of several packets, and whether one answer may have them.
@@ -64,9 +72,14 @@ static TRAINS: [(&str, bool); 8] = [
     ("FF 00 01 02 03 04 05 | FF 06", false),
 ];
 
+/// The first of them that is taken otherwise.
+fn first_wrong_train() -> Option<usize> {
+    TRAINS
+        .iter()
+        .position(|(text, may)| answer(text).is_some() != *may)
+}
+
 #[test]
 fn packets_but_the_last_are_full(rt: HostRuntime) {
-    for (text, may) in &TRAINS {
-        assert!(rt; answer(text).is_some() == *may, "{text}");
-    }
+    assert_eq!(rt; first_wrong_train(), None);
 }

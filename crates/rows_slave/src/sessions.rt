@@ -1,14 +1,18 @@
 //! Rows of the begin and the end of a session.
 use crate::layouts::{Kind, USUAL, slave};
-use crate::rows::{first_wrong_of, first_wrong_of_new};
+use crate::rows::{hold, hold_on_new};
 use std::alloc::Global;
 use std::test::Fail;
 use xcp_packet::Order;
+use xcp_slave::Slave;
+
+fn limits_of(slave: &Slave) -> (u8, u8) {
+    (slave.max_cto(), slave.layout().max_dto())
+}
 
 /// MAX_CTO and MAX_DTO of a slave.
 fn limits(alloc: Global) -> Result<(u8, u8), Fail> {
-    let slave = slave(alloc, USUAL)?;
-    Ok((slave.max_cto(), slave.layout().max_dto()))
+    Ok(limits_of(&slave(alloc, USUAL)?))
 }
 
 #[test]
@@ -22,9 +26,8 @@ fn a_slave_that_is_not_connected_heeds_a_whole_connect_alone(rt: HostRuntime) ->
         F5 04 > -
         FF 00 > FF 05 C0 20 40 00 01 01
     ";
-    assert_eq!(rt; first_wrong_of_new(rt.alloc(), USUAL, rows)?, None);
-    assert_eq!(rt; limits(rt.alloc())?, (32, 64));
-    Ok(())
+    assert!(rt; limits(rt.alloc())? == (32, 64));
+    hold_on_new(rt.alloc(), USUAL, rows)
 }
 
 #[test]
@@ -40,8 +43,7 @@ fn a_motorola_slave_has_the_highest_byte_first(rt: HostRuntime) -> Result<(), Fa
         EC 08 FF FE 00 02 > FF
         F5 04 > FF 00 01 00 03
     ";
-    assert_eq!(rt; first_wrong_of_new(rt.alloc(), kind, rows)?, None);
-    Ok(())
+    hold_on_new(rt.alloc(), kind, rows)
 }
 
 #[test]
@@ -57,8 +59,7 @@ fn a_session_ends_and_keeps_what_was_written(rt: HostRuntime) -> Result<(), Fail
         F6 00 00 00 00 10 00 00 > FF
         F5 02 > FF 55 01
     ";
-    assert_eq!(rt; first_wrong_of(rt.alloc(), USUAL, rows)?, None);
-    Ok(())
+    hold(rt.alloc(), rows)
 }
 
 #[test]
@@ -74,6 +75,5 @@ fn a_second_connect_keeps_what_waits(rt: HostRuntime) -> Result<(), Fail> {
         drain > FD 03
         drain > nothing
     ";
-    assert_eq!(rt; first_wrong_of(rt.alloc(), USUAL, rows)?, None);
-    Ok(())
+    hold(rt.alloc(), rows)
 }

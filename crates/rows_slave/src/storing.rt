@@ -1,6 +1,6 @@
 //! Rows of the commands that freeze segments and have their pages stored.
 use crate::layouts::{Kind, USUAL, connected};
-use crate::rows::{first_wrong, first_wrong_again, first_wrong_of};
+use crate::rows::{all_hold, hold, hold_again, hold_on};
 use std::alloc::Global;
 use std::test::Fail;
 
@@ -19,8 +19,7 @@ fn freeze_modes_are_set_and_told(rt: HostRuntime) -> Result<(), Fail> {
         F9 03 00 00 > FE 22
         FD > FF 00 00 00 00 00
     ";
-    assert_eq!(rt; first_wrong_of(rt.alloc(), USUAL, rows)?, None);
-    Ok(())
+    hold(rt.alloc(), rows)
 }
 
 #[test]
@@ -40,8 +39,7 @@ fn a_working_page_is_stored(rt: HostRuntime) -> Result<(), Fail> {
         F4 02 00 00 00 10 00 00 > FF 55 01
         store > no store
     ";
-    assert_eq!(rt; first_wrong_of(rt.alloc(), USUAL, rows)?, None);
-    Ok(())
+    hold(rt.alloc(), rows)
 }
 
 #[test]
@@ -61,8 +59,7 @@ fn the_last_page_is_stored(rt: HostRuntime) -> Result<(), Fail> {
         F4 02 00 00 00 10 00 00 > FF 00 01
     ";
     let kind = Kind { pages: 4, ..USUAL };
-    assert_eq!(rt; first_wrong_of(rt.alloc(), kind, rows)?, None);
-    Ok(())
+    hold_on(rt.alloc(), kind, rows)
 }
 
 #[test]
@@ -100,8 +97,7 @@ fn stored_segments_are_counted(rt: HostRuntime) -> Result<(), Fail> {
         third: true,
         ..USUAL
     };
-    assert_eq!(rt; first_wrong_of(rt.alloc(), kind, rows)?, None);
-    Ok(())
+    hold_on(rt.alloc(), kind, rows)
 }
 
 #[test]
@@ -130,8 +126,7 @@ fn a_block_goes_on_behind_a_store(rt: HostRuntime) -> Result<(), Fail> {
         max_cto: 8,
         ..USUAL
     };
-    assert_eq!(rt; first_wrong_of(rt.alloc(), kind, rows)?, None);
-    Ok(())
+    hold_on(rt.alloc(), kind, rows)
 }
 
 #[test]
@@ -142,25 +137,23 @@ fn a_store_outlives_its_session(rt: HostRuntime) -> Result<(), Fail> {
         store > stored 0
         drain > nothing
     ";
-    assert_eq!(rt; first_wrong_of(rt.alloc(), USUAL, rows)?, None);
-    Ok(())
+    hold(rt.alloc(), rows)
 }
 
-/// The outbox takes 64 event packets.
-fn first_wrong_behind_64(alloc: Global, store: &str, rest: &str) -> Result<Option<u32>, Fail> {
+const STORE: &str = "
+    F9 01 00 00 > FF
+    store > stored 0
+";
+
+/// Whether a slave answers so whose outbox has all 64 packets that it takes.
+fn hold_behind_64(alloc: Global, rest: &str) -> Result<(), Fail> {
     let mut slave = connected(alloc, USUAL)?;
-    Ok(match first_wrong_again(&mut slave, store, 63, store) {
-        None => first_wrong(&mut slave, rest),
-        wrong => wrong,
-    })
+    hold_again(&mut slave, STORE, 63, STORE)?;
+    all_hold(&mut slave, rest)
 }
 
 #[test]
 fn a_store_waits_for_room(rt: HostRuntime) -> Result<(), Fail> {
-    let store = "
-        F9 01 00 00 > FF
-        store > stored 0
-    ";
     let rest = "
         F9 01 00 00 > FF
         store > later
@@ -170,22 +163,16 @@ fn a_store_waits_for_room(rt: HostRuntime) -> Result<(), Fail> {
         FE > FF
         drain > nothing
     ";
-    assert_eq!(rt; first_wrong_behind_64(rt.alloc(), store, rest)?, None);
-    Ok(())
+    hold_behind_64(rt.alloc(), rest)
 }
 
 #[test]
 fn an_event_with_nothing_due_needs_no_room(rt: HostRuntime) -> Result<(), Fail> {
-    let store = "
-        F9 01 00 00 > FF
-        store > stored 0
-    ";
     let rest = "
         event 0 01 02 03 04 05 06 07 08 > sampled 0
         F4 02 00 00 00 80 00 00 > FF 01 02
         F9 01 00 00 > FF
         store > later
     ";
-    assert_eq!(rt; first_wrong_behind_64(rt.alloc(), store, rest)?, None);
-    Ok(())
+    hold_behind_64(rt.alloc(), rest)
 }

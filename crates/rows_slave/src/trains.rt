@@ -1,6 +1,6 @@
 //! Uploads whose bytes go over several packets.
 use crate::layouts::{Kind, USUAL, connected};
-use crate::rows::{bytes, first_wrong, first_wrong_of};
+use crate::rows::{bytes, first_wrong, hold_on};
 use std::alloc::Global;
 use std::test::Fail;
 use xcp_packet::Train;
@@ -29,8 +29,7 @@ fn an_upload_in_three_packets(rt: HostRuntime) -> Result<(), Fail> {
         F5 08 > FF 07 08 09 0A 0B 0C 0D | FF 0E
         F5 01 > FF 0F
     ";
-    assert_eq!(rt; first_wrong_of(rt.alloc(), NARROW, rows)?, None);
-    Ok(())
+    hold_on(rt.alloc(), NARROW, rows)
 }
 
 /// How many packets there are, how many bytes the last one has, and how many bytes all have behind an
@@ -81,24 +80,23 @@ static LENGTHS: [(i64, u8, u8, usize); 12] = [
     (255, 255, 2, 2),
 ];
 
-/// The first of them that a slave with a segment of 255 bytes tells otherwise.
-fn first_wrong_length(alloc: Global) -> Result<Option<usize>, Fail> {
+/// Whether a slave with a segment of 255 bytes tells all of them so.
+fn all_lengths_are_so(alloc: Global) -> Result<(), Fail> {
     for (number, (max_cto, n, packets, last)) in LENGTHS.iter().enumerate() {
         let kind = Kind {
             max_cto: *max_cto,
             length: 255,
             ..USUAL
         };
-        let mut slave = connected(alloc, kind)?;
-        if uploaded(&mut slave, *n) != Some((*packets, *last, *n)) {
-            return Ok(Some(number));
+        let found = uploaded(&mut connected(alloc, kind)?, *n);
+        if found != Some((*packets, *last, *n)) {
+            return Err(Fail::new(number));
         }
     }
-    Ok(None)
+    Ok(())
 }
 
 #[test]
 fn a_block_has_as_many_packets_as_it_takes(rt: HostRuntime) -> Result<(), Fail> {
-    assert_eq!(rt; first_wrong_length(rt.alloc())?, None);
-    Ok(())
+    all_lengths_are_so(rt.alloc())
 }
