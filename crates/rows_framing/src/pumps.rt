@@ -1,11 +1,11 @@
 //! What waits in a station, pumped to an end.
 use crate::fakes::desk;
+use crate::holding::hold;
 use crate::shelf::{Shelf, are};
 use crate::stations::{Pending, Refusing};
 use arrayvec::ArrayVec;
 use std::alloc::Global;
 use std::sync::atomic::AtomicBool;
-use std::test::Fail;
 use xcp_framing::{Desk, ServeError, Station, StationError, Watched, pump, serve_by};
 use xcp_slave::Request;
 
@@ -32,7 +32,7 @@ fn shelf(alloc: Global, good: u32) -> Shelf {
 }
 
 /// A desk in which two events wait, each in one data packet.
-fn sampled(alloc: Global) -> Result<Desk, Fail> {
+fn sampled(alloc: Global) -> Option<Desk> {
     let mut desk = desk(alloc)?;
     let mut reader = Watched::new(ACQUISITION);
     let mut replies = shelf(alloc, 1000);
@@ -43,30 +43,32 @@ fn sampled(alloc: Global) -> Result<Desk, Fail> {
         signals[0] = first;
         let _ = desk.submit(Request::Event(0, signals));
     }
-    Ok(desk)
+    Some(desk)
+}
+
+/// Whether both events are put in order, and nothing waits then.
+fn are_put(alloc: Global) -> bool {
+    let Some(mut desk) = sampled(alloc) else {
+        return false;
+    };
+    let mut data = shelf(alloc, 1000);
+    let stop = AtomicBool::new(false);
+    let before = desk.pending();
+    let result = pump(&mut desk, &mut data, &stop, 10);
+    let good = before == 2 && result == Ok(2) && desk.pending() == 0;
+    good && are(&data.packets, &[&[0, 7], &[0, 9]])
 }
 
 #[test]
-fn events_are_put_in_order(rt: HostRuntime) -> Result<(), Fail> {
-    let mut desk = sampled(rt.alloc())?;
-    assert_eq!(rt; desk.pending(), 2);
-    let mut data = shelf(rt.alloc(), 1000);
-    let stop = AtomicBool::new(false);
-    assert_eq!(rt; pump(&mut desk, &mut data, &stop, 10), Ok(2));
-    assert!(rt; are(&data.packets, &[&[0, 7], &[0, 9]]));
-    assert_eq!(rt; desk.pending(), 0);
-    Ok(())
+fn events_are_put_in_order(rt: HostRuntime) {
+    assert!(rt; are_put(rt.alloc()));
 }
 
-/// Ten turns over a station that answers so many Drains with packets, and an end that hands one back:
-/// how it ended, how many were put, how many Drains there were, and how often it waited.
-fn pumped(
-    alloc: Global,
-    packets: u32,
-    blocks: bool,
-    good: u32,
-    stopped: bool,
-) -> (Result<u64, ServeError>, usize, usize, u32) {
+/// How a pump ended, how many packets were put, how many Drains there were, and how often it waited.
+type Came = (Result<u64, ServeError>, usize, usize, u32);
+
+/// Ten turns over a station that answers so many Drains with packets, and an end that hands one back.
+fn pumped(alloc: Global, packets: u32, blocks: bool, good: u32, stopped: bool) -> Came {
     let mut station = Pending {
         exchanges: Vec::new(alloc),
         packets,
@@ -84,30 +86,39 @@ fn pumped(
     )
 }
 
+static TURNS: [(u32, bool, u32, bool, Came); 9] = [
+    (0, false, 1000, false, (Ok(0), 0, 0, 10)),
+    (3, false, 1000, false, (Ok(3), 3, 3, 7)),
+    (12, false, 1000, false, (Ok(10), 10, 10, 0)),
+    (3, false, 1000, true, (Ok(0), 0, 0, 0)),
+    (3, false, 2, false, (Err(ServeError::Write), 2, 3, 0)),
+    (3, true, 1000, false, (Ok(9), 9, 3, 7)),
+    (3, true, 3, false, (Err(ServeError::Write), 3, 2, 0)),
+    (3, true, 4, false, (Err(ServeError::Write), 4, 2, 0)),
+    (3, true, 5, false, (Err(ServeError::Write), 5, 2, 0)),
+];
+
+fn first_wrong_turns(alloc: Global) -> Option<usize> {
+    for (number, (packets, blocks, good, stopped, wanted)) in TURNS.iter().enumerate() {
+        if pumped(alloc, *packets, *blocks, *good, *stopped) != *wanted {
+            return Some(number);
+        }
+    }
+    None
+}
+
 /// Where nothing waits nothing is drained, and the pump waits; what waits is put as far as the turns go, and a packet
 /// that is handed back ends the call, also in the middle of a block.
 #[test]
 fn turns(rt: HostRuntime) {
-    let rows = [
-        (0, false, 1000, false, (Ok(0), 0, 0, 10)),
-        (3, false, 1000, false, (Ok(3), 3, 3, 7)),
-        (12, false, 1000, false, (Ok(10), 10, 10, 0)),
-        (3, false, 1000, true, (Ok(0), 0, 0, 0)),
-        (3, false, 2, false, (Err(ServeError::Write), 2, 3, 0)),
-        (3, true, 1000, false, (Ok(9), 9, 3, 7)),
-        (3, true, 3, false, (Err(ServeError::Write), 3, 2, 0)),
-        (3, true, 4, false, (Err(ServeError::Write), 4, 2, 0)),
-        (3, true, 5, false, (Err(ServeError::Write), 5, 2, 0)),
-    ];
-    for (packets, blocks, good, stopped, wanted) in rows {
-        let came = pumped(rt.alloc(), packets, blocks, good, stopped);
-        assert_eq!(rt; came, wanted);
-    }
+    hold(&rt, first_wrong_turns(rt.alloc()));
 }
 
-/// How a station's refusal of a Drain ends the call.
-fn refused(alloc: Global, error: StationError) -> Result<Result<u64, ServeError>, Fail> {
-    let desk = sampled(alloc)?;
+/// Whether a station's refusal of a Drain ends the call so.
+fn is_refused(alloc: Global, error: StationError, end: ServeError) -> bool {
+    let Some(desk) = sampled(alloc) else {
+        return false;
+    };
     let mut station = Refusing {
         desk,
         takes: 1,
@@ -115,14 +126,17 @@ fn refused(alloc: Global, error: StationError) -> Result<Result<u64, ServeError>
     };
     let mut data = shelf(alloc, 1000);
     let stop = AtomicBool::new(false);
-    Ok(pump(&mut station, &mut data, &stop, 10))
+    pump(&mut station, &mut data, &stop, 10) == Err(end)
 }
 
 #[test]
-fn refusals(rt: HostRuntime) -> Result<(), Fail> {
-    let memory = refused(rt.alloc(), StationError::Memory)?;
-    assert_eq!(rt; memory, Err(ServeError::Memory));
-    let full = refused(rt.alloc(), StationError::JournalFull)?;
-    assert_eq!(rt; full, Err(ServeError::JournalFull));
-    Ok(())
+fn refusals(rt: HostRuntime) {
+    assert!(rt; is_refused(rt.alloc(), StationError::Memory, ServeError::Memory));
+    assert!(rt;
+        is_refused(
+            rt.alloc(),
+            StationError::JournalFull,
+            ServeError::JournalFull
+        )
+    );
 }

@@ -3,7 +3,6 @@ use crate::fakes::desk;
 use crate::shelf::Shelf;
 use std::alloc::Global;
 use std::io::{self, Read};
-use std::test::Fail;
 use xcp_framing::{Watched, serve, serve_by};
 use xcp_script::replay_on;
 
@@ -35,37 +34,36 @@ impl Read for Asked {
     }
 }
 
-fn of_replay(alloc: Global) -> Result<(usize, usize), Fail> {
+fn of_replay(alloc: Global) -> Option<(usize, usize)> {
     let mut desk = desk(alloc)?;
     let mut reader = Asked::new();
     let mut writer = Watched::new(Vec::new(alloc));
-    replay_on(alloc, &mut desk, &mut reader, &mut writer, 9)?;
-    Ok(reader.into_inner().each())
+    let result = replay_on(alloc, &mut desk, &mut reader, &mut writer, 9);
+    result.is_ok().then_some(reader.into_inner().each())
 }
 
-fn of_serve(alloc: Global) -> Result<(usize, usize), Fail> {
+fn of_serve(alloc: Global) -> Option<(usize, usize)> {
     let mut desk = desk(alloc)?;
     let mut reader = Asked::new();
     let mut writer = Watched::new(Vec::new(alloc));
-    serve(alloc, &mut reader, &mut writer, &mut desk, 32, 9)?;
-    Ok(reader.into_inner().each())
+    let result = serve(alloc, &mut reader, &mut writer, &mut desk, 32, 9);
+    result.is_ok().then_some(reader.into_inner().each())
 }
 
-fn of_serve_by(alloc: Global) -> Result<(usize, usize), Fail> {
+fn of_serve_by(alloc: Global) -> Option<(usize, usize)> {
     let mut desk = desk(alloc)?;
     let mut reader = Asked::new();
     let mut shelf = Shelf {
         packets: Vec::new(alloc),
         good: 9,
     };
-    serve_by(alloc, &mut reader, &mut shelf, &mut desk, 32, 9)?;
-    Ok(reader.into_inner().each())
+    let result = serve_by(alloc, &mut reader, &mut shelf, &mut desk, 32, 9);
+    result.is_ok().then_some(reader.into_inner().each())
 }
 
 #[test]
-fn readers_are_asked_for_so_many_bytes(rt: HostRuntime) -> Result<(), Fail> {
-    assert_eq!(rt; of_replay(rt.alloc())?, (16_384, 16_384));
-    assert_eq!(rt; of_serve(rt.alloc())?, (512, 512));
-    assert_eq!(rt; of_serve_by(rt.alloc())?, (512, 512));
-    Ok(())
+fn readers_are_asked_for_so_many_bytes(rt: HostRuntime) {
+    assert!(rt; of_replay(rt.alloc()) == Some((16_384, 16_384)));
+    assert!(rt; of_serve(rt.alloc()) == Some((512, 512)));
+    assert!(rt; of_serve_by(rt.alloc()) == Some((512, 512)));
 }
