@@ -1,10 +1,9 @@
 //! Scripts in two pieces, cut at each place: their lines are those of the whole.
-use crate::fakes::desk;
 use crate::holding::hold;
+use crate::over::replayed;
 use std::alloc::{AllocError, Global};
 use std::io::Read;
-use xcp_framing::Watched;
-use xcp_script::{ReplayError, replay_on};
+use xcp_script::ReplayError;
 
 /// How a script ends, and what is written of it.
 #[derive(Clone, Copy)]
@@ -15,13 +14,12 @@ struct Ends {
 
 /// Whether a script in these two pieces ends so.
 fn is_cut(alloc: Global, front: &[u8], rest: &[u8], ends: &Ends) -> bool {
-    let Some(mut desk) = desk(alloc) else {
-        return false;
-    };
-    let mut reader = Watched::new(front.chain(rest));
-    let mut writer = Watched::new(Vec::new(alloc));
-    let result = replay_on(alloc, &mut desk, &mut reader, &mut writer, 10);
-    result == ends.result && writer.into_inner().as_slice() == ends.written
+    match replayed(alloc, front.chain(rest), Vec::new(alloc), 10) {
+        Some((result, _, _, written)) => {
+            result == ends.result && written.as_slice() == ends.written
+        }
+        None => false,
+    }
 }
 
 /// The first place at which the script is cut and doesn't end so.

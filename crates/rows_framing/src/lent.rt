@@ -183,11 +183,19 @@ fn first_wrong(lender: &mut Desk, giver: &mut Desk) -> Option<usize> {
     None
 }
 
+/// The same of this desk and a new one.
+fn first_wrong_of(alloc: Global, lender: &mut Desk) -> Option<usize> {
+    match desk_of(alloc, 8) {
+        Some(mut giver) => first_wrong(lender, &mut giver),
+        None => Some(0),
+    }
+}
+
 /// The same of two new desks.
 fn first_wrong_of_new(alloc: Global) -> Option<usize> {
-    match (desk_of(alloc, 8), desk_of(alloc, 8)) {
-        (Some(mut lender), Some(mut giver)) => first_wrong(&mut lender, &mut giver),
-        _ => Some(0),
+    match desk_of(alloc, 8) {
+        Some(mut lender) => first_wrong_of(alloc, &mut lender),
+        None => Some(0),
     }
 }
 

@@ -15,6 +15,8 @@ mod ordered;
 #[cfg(test)]
 mod orders;
 #[cfg(test)]
+mod over;
+#[cfg(test)]
 mod pumps;
 #[cfg(test)]
 mod reads;

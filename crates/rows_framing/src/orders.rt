@@ -3,11 +3,12 @@
 use crate::fakes::{Full, desk};
 use crate::holding::hold;
 use crate::ordered::{Noting, Order, Patient, Piece, Seen, Telling};
+use crate::over;
 use crate::serves::synch_stream;
 use crate::stations::{Pending, Refusing};
 use std::alloc::{AllocError, Global};
 use xcp_framing::{ServeError, Served, Station, StationError, Watched, serve};
-use xcp_script::{ReplayError, replay_on};
+use xcp_script::ReplayError;
 
 /// Serves these pieces over a station, to a writer with so much room: how it ended, and the order of calls.
 fn served<S: Station + Drop>(
@@ -276,13 +277,11 @@ fn replayed(
     room: usize,
     full: Full,
 ) -> Option<(Result<u64, ReplayError>, usize, Seen)> {
-    let mut desk = desk(alloc)?;
     let order = Order::new();
     let order = &order;
-    let mut reader = Watched::new(Patient { pieces, order });
-    let mut writer = Watched::new(Telling { room, full, order });
-    let result = replay_on(alloc, &mut desk, &mut reader, &mut writer, 1000);
-    Some((result, desk.trace().len(), order.seen()))
+    let writer = Telling { room, full, order };
+    let (result, exchanges, _, _) = over::replayed(alloc, Patient { pieces, order }, writer, 1000)?;
+    Some((result, exchanges, order.seen()))
 }
 
 /// Three lines, a line a read.

@@ -37,26 +37,30 @@ fn sampled(alloc: Global) -> Option<Desk> {
     let mut reader = Watched::new(ACQUISITION);
     let mut replies = shelf(alloc, 1000);
     let _ = serve_by(alloc, &mut reader, &mut replies, &mut desk, 32, 1000);
-    for first in [7, 9] {
+    for first in &[7, 9] {
         let mut signals = ArrayVec::from([0; 64]);
         signals.truncate(8);
-        signals[0] = first;
+        signals[0] = *first;
         let _ = desk.submit(Request::Event(0, signals));
     }
     Some(desk)
 }
 
 /// Whether both events are put in order, and nothing waits then.
-fn are_put(alloc: Global) -> bool {
-    let Some(mut desk) = sampled(alloc) else {
-        return false;
-    };
+fn puts_both(alloc: Global, desk: &mut Desk) -> bool {
     let mut data = shelf(alloc, 1000);
     let stop = AtomicBool::new(false);
     let before = desk.pending();
-    let result = pump(&mut desk, &mut data, &stop, 10);
+    let result = pump(desk, &mut data, &stop, 10);
     let good = before == 2 && result == Ok(2) && desk.pending() == 0;
     good && are(&data.packets, &[&[0, 7], &[0, 9]])
+}
+
+fn are_put(alloc: Global) -> bool {
+    match sampled(alloc) {
+        Some(mut desk) => puts_both(alloc, &mut desk),
+        None => false,
+    }
 }
 
 #[test]
@@ -114,19 +118,25 @@ fn turns(rt: HostRuntime) {
     hold(&rt, first_wrong_turns(rt.alloc()));
 }
 
+/// How ten turns over this station end.
+fn ended<S: Station + Drop>(alloc: Global, station: S) -> Result<u64, ServeError> {
+    let mut station = station;
+    let mut data = shelf(alloc, 1000);
+    let stop = AtomicBool::new(false);
+    pump(&mut station, &mut data, &stop, 10)
+}
+
 /// Whether a station's refusal of a Drain ends the call so.
 fn is_refused(alloc: Global, error: StationError, end: ServeError) -> bool {
     let Some(desk) = sampled(alloc) else {
         return false;
     };
-    let mut station = Refusing {
+    let station = Refusing {
         desk,
         takes: 1,
         error,
     };
-    let mut data = shelf(alloc, 1000);
-    let stop = AtomicBool::new(false);
-    pump(&mut station, &mut data, &stop, 10) == Err(end)
+    ended(alloc, station) == Err(end)
 }
 
 #[test]

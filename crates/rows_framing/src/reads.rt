@@ -1,10 +1,8 @@
 //! How many bytes a reader is asked for at once.
 use crate::fakes::desk;
-use crate::shelf::Shelf;
+use crate::over::{put, replayed, served};
 use std::alloc::Global;
 use std::io::{self, Read};
-use xcp_framing::{Watched, serve, serve_by};
-use xcp_script::replay_on;
 
 /// A reader at its end, which notes how many bytes it was asked for.
 #[derive(Drop)]
@@ -14,15 +12,19 @@ struct Asked {
 }
 
 impl Asked {
-    fn new() -> Watched<Asked> {
-        Watched::new(Asked {
+    fn new() -> Asked {
+        Asked {
             least: usize::MAX,
             most: 0,
-        })
+        }
     }
 
-    fn each(&self) -> (usize, usize) {
-        (self.least, self.most)
+    /// The least and the most, where all went well.
+    fn each(&self, good: bool) -> Option<(usize, usize)> {
+        if good {
+            return Some((self.least, self.most));
+        }
+        None
     }
 }
 
@@ -35,30 +37,20 @@ impl Read for Asked {
 }
 
 fn of_replay(alloc: Global) -> Option<(usize, usize)> {
-    let mut desk = desk(alloc)?;
-    let mut reader = Asked::new();
-    let mut writer = Watched::new(Vec::new(alloc));
-    let result = replay_on(alloc, &mut desk, &mut reader, &mut writer, 9);
-    result.is_ok().then_some(reader.into_inner().each())
+    let (result, _, reader, _) = replayed(alloc, Asked::new(), Vec::new(alloc), 9)?;
+    reader.each(result.is_ok())
 }
 
 fn of_serve(alloc: Global) -> Option<(usize, usize)> {
-    let mut desk = desk(alloc)?;
-    let mut reader = Asked::new();
-    let mut writer = Watched::new(Vec::new(alloc));
-    let result = serve(alloc, &mut reader, &mut writer, &mut desk, 32, 9);
-    result.is_ok().then_some(reader.into_inner().each())
+    let desk = desk(alloc)?;
+    let (result, reader, _) = served(alloc, desk, Asked::new(), Vec::new(alloc), 32, 9);
+    reader.each(result.is_ok())
 }
 
 fn of_serve_by(alloc: Global) -> Option<(usize, usize)> {
-    let mut desk = desk(alloc)?;
-    let mut reader = Asked::new();
-    let mut shelf = Shelf {
-        packets: Vec::new(alloc),
-        good: 9,
-    };
-    let result = serve_by(alloc, &mut reader, &mut shelf, &mut desk, 32, 9);
-    result.is_ok().then_some(reader.into_inner().each())
+    let desk = desk(alloc)?;
+    let (result, reader, _) = put(alloc, desk, Asked::new(), 9, 32, 9);
+    reader.each(result.is_ok())
 }
 
 #[test]

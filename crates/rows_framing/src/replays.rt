@@ -1,33 +1,37 @@
 //! Scripts run through a desk, over streams that give and take little, or fail.
+ghost use Rattle.std.specs.Prelude.{◌≡◌, []};
+
 use crate::fakes::{Narrow, Pieces, desk};
 use crate::holding::hold;
+use crate::over::{replayed, replayed_on};
 use crate::replay_rows::{GOOD, ROWS, Row};
 use std::alloc::{AllocError, Global};
-use xcp_framing::{Desk, Station, Watched};
-use xcp_script::{ReplayError, each_text_has_its_lines, replay_on};
+use xcp_framing::{Desk, Station};
+use xcp_script::{ReplayError, each_text_has_its_lines};
 use xcp_slave::{Answer, Exchange, Request};
 
-/// Runs the row's script; none where there is no desk.
-fn run(alloc: Global, row: &Row) -> Option<(Result<u64, ReplayError>, Vec<u8>, Desk)> {
-    let mut desk = desk(alloc)?;
-    let mut reader = Watched::new(Pieces {
+/// The row's streams.
+fn streams<'a>(alloc: Global, row: &Row<'a>) -> (Pieces<'a>, Narrow) {
+    let reader = Pieces {
         text: row.script,
         most: row.most,
         good_reads: row.good_reads,
-    });
-    let mut writer = Watched::new(Narrow {
+    };
+    let writer = Narrow {
         bytes: Vec::new(alloc),
         room: row.room,
         full: row.full,
-    });
-    let result = replay_on(alloc, &mut desk, &mut reader, &mut writer, row.turns);
-    Some((result, writer.into_inner().bytes, desk))
+    };
+    (reader, writer)
 }
 
 /// Whether a script runs as its row says.
 fn holds(alloc: Global, row: &Row) -> bool {
-    match run(alloc, row) {
-        Some((result, written, _)) => result == row.result && written.as_slice() == row.written,
+    let (reader, writer) = streams(alloc, row);
+    match replayed(alloc, reader, writer, row.turns) {
+        Some((result, _, _, writer)) => {
+            result == row.result && writer.bytes.as_slice() == row.written
+        }
         None => false,
     }
 }
@@ -108,13 +112,21 @@ fn is_stored(desk: &mut Desk) -> bool {
     answered && desk.trace().len() == 4 && desk.trace().get(3) == Some(last)
 }
 
-/// The same of a desk behind the good row.
-fn stores(alloc: Global) -> bool {
-    let Some((result, _, mut desk)) = run(alloc, &GOOD) else {
-        return false;
-    };
+/// The same of a new desk, behind the good row.
+fn stores_behind(alloc: Global, desk: &mut Desk) -> bool
+    requires { desk.old.exchanges ≡ [] }
+{
+    let (reader, writer) = streams(alloc, &GOOD);
+    let (result, _, _, _) = replayed_on(alloc, desk, reader, writer, GOOD.turns);
     desk.audit();
-    result == Ok(3) && desk.max_cto() == 32 && is_stored(&mut desk)
+    result == Ok(3) && desk.max_cto() == 32 && is_stored(desk)
+}
+
+fn stores(alloc: Global) -> bool {
+    match desk(alloc) {
+        Some(mut desk) => stores_behind(alloc, &mut desk),
+        None => false,
+    }
 }
 
 #[test]

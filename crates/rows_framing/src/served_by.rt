@@ -1,6 +1,7 @@
 //! Streams whose answers are put at an end.
 use crate::fakes::{desk, desk_of};
 use crate::holding::hold;
+use crate::over::put;
 use crate::serve_rows::CONNECT;
 use crate::shelf::{Shelf, are};
 use crate::stations::{Pending, Refusing};
@@ -35,14 +36,9 @@ fn served(
     good: u32,
     turns: u32,
 ) -> Option<(Result<Served, ServeError>, Vec<Packet>)> {
-    let mut desk = desk_of(alloc, 8)?;
-    let mut reader = Watched::new(stream);
-    let mut shelf = Shelf {
-        packets: Vec::new(alloc),
-        good,
-    };
-    let result = serve_by(alloc, &mut reader, &mut shelf, &mut desk, 8, turns);
-    Some((result, shelf.packets))
+    let desk = desk_of(alloc, 8)?;
+    let (result, _, packets) = put(alloc, desk, stream, good, 8, turns);
+    Some((result, packets))
 }
 
 /// Whether a call ends so, and these packets were put.
@@ -115,17 +111,13 @@ fn is_refused(alloc: Global, error: StationError, end: ServeError) -> bool {
     let Some(desk) = desk(alloc) else {
         return false;
     };
-    let mut station = Refusing {
+    let station = Refusing {
         desk,
         takes: 0,
         error,
     };
-    let mut reader = Watched::new(CONNECT);
-    let mut shelf = Shelf {
-        packets: Vec::new(alloc),
-        good: 1000,
-    };
-    serve_by(alloc, &mut reader, &mut shelf, &mut station, 32, 1000) == Err(end)
+    let (result, _, _) = put(alloc, station, CONNECT, 1000, 32, 1000);
+    result == Err(end)
 }
 
 #[test]

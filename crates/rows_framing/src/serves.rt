@@ -3,17 +3,17 @@ ghost use Rattle.std.specs.Prelude.{◌≢◌, IfSome};
 
 use crate::fakes::{Narrow, Pieces, desk, desk_of};
 use crate::holding::hold;
+use crate::over::served;
 use crate::serve_rows::{BLOCK, CONNECT, CONNECTED, GOOD, ROWS, Row};
 use crate::stations::{Pending, Refusing};
 use std::alloc::{AllocError, Global};
 use std::io::Read;
-use xcp_framing::{ServeError, Served, StationError, Watched, a_desk_is_never_full, serve};
+use xcp_framing::{Desk, ServeError, Served, StationError, Watched, a_desk_is_never_full, serve};
 
-/// Serves the row's stream over a desk, which is never full; none where there is no desk.
-fn run(alloc: Global, row: &Row) -> Option<(Result<Served, ServeError>, Vec<u8>)>
-    ensures { IfSome result (λ served. served.0 ≢ Err ServeError.JournalFull) }
+/// Serves the row's stream over a desk, which is never full.
+fn run_on(alloc: Global, desk: &mut Desk, row: &Row) -> (Result<Served, ServeError>, Vec<u8>)
+    ensures { result.0 ≢ Err ServeError.JournalFull }
 {
-    let mut desk = desk_of(alloc, i64::from(row.max_cto))?;
     let mut reader = Watched::new(Pieces {
         text: row.stream,
         most: row.most,
@@ -28,11 +28,19 @@ fn run(alloc: Global, row: &Row) -> Option<(Result<Served, ServeError>, Vec<u8>)
         alloc,
         &mut reader,
         &mut writer,
-        &mut desk,
+        desk,
         row.max_cto,
         row.turns,
     );
-    Some((result, writer.into_inner().bytes))
+    (result, writer.into_inner().bytes)
+}
+
+/// The same over a new one; none where there is no desk.
+fn run(alloc: Global, row: &Row) -> Option<(Result<Served, ServeError>, Vec<u8>)>
+    ensures { IfSome result (λ served. served.0 ≢ Err ServeError.JournalFull) }
+{
+    let mut desk = desk_of(alloc, i64::from(row.max_cto))?;
+    Some(run_on(alloc, &mut desk, row))
 }
 
 /// Whether a stream is served as its row says.
@@ -59,20 +67,12 @@ fn streams(rt: HostRuntime) {
 
 /// Whether a row's stream in these two pieces is answered as in one.
 fn is_cut(alloc: Global, row: &Row, front: &[u8], rest: &[u8]) -> bool {
-    let Some(mut desk) = desk_of(alloc, i64::from(row.max_cto)) else {
+    let Some(desk) = desk_of(alloc, i64::from(row.max_cto)) else {
         return false;
     };
-    let mut reader = Watched::new(front.chain(rest));
-    let mut writer = Watched::new(Vec::new(alloc));
-    let result = serve(
-        alloc,
-        &mut reader,
-        &mut writer,
-        &mut desk,
-        row.max_cto,
-        1000,
-    );
-    result == row.result && writer.into_inner().as_slice() == row.written
+    let pieces = front.chain(rest);
+    let (result, _, written) = served(alloc, desk, pieces, Vec::new(alloc), row.max_cto, 1000);
+    result == row.result && written.as_slice() == row.written
 }
 
 /// The first place at which the stream is cut and answered otherwise.
@@ -166,11 +166,9 @@ fn refused(
     takes: u32,
 ) -> Option<(Result<Served, ServeError>, Vec<u8>)> {
     let desk = desk(alloc)?;
-    let mut station = Refusing { desk, takes, error };
-    let mut reader = Watched::new(CONNECT);
-    let mut writer = Watched::new(Vec::new(alloc));
-    let result = serve(alloc, &mut reader, &mut writer, &mut station, 32, 1000);
-    Some((result, writer.into_inner()))
+    let station = Refusing { desk, takes, error };
+    let (result, _, written) = served(alloc, station, CONNECT, Vec::new(alloc), 32, 1000);
+    Some((result, written))
 }
 
 fn first_wrong_refusal(alloc: Global) -> Option<usize> {
@@ -248,17 +246,15 @@ const LAST: &[u8] = &[2, 0, 0xFF, 0xFF, 0xFE, 0, 2, 0, 0, 0, 0xFE, 0];
 
 /// Whether the stream of CONNECT and 65,536 SYNCH is answered so.
 fn starts_anew(alloc: Global, stream: &[u8]) -> bool {
-    let Some(mut desk) = desk(alloc) else {
+    let Some(desk) = desk(alloc) else {
         return false;
     };
-    let mut reader = Watched::new(stream);
-    let mut writer = Watched::new(Vec::new(alloc));
-    let result = serve(alloc, &mut reader, &mut writer, &mut desk, 32, 1000);
+    let (result, _, written) = served(alloc, desk, stream, Vec::new(alloc), 32, 1000);
     let wanted = Served {
         frames: 65_537,
         sent: 65_537,
     };
-    result == Ok(wanted) && writer.into_inner().ends_with(LAST)
+    result == Ok(wanted) && written.ends_with(LAST)
 }
 
 /// CONNECT and 65,536 SYNCH: the last answer is the 65,537th packet.
