@@ -3,6 +3,8 @@
 #![tactic(auto)]
 
 #[cfg(test)]
+mod holding;
+#[cfg(test)]
 mod keeping;
 #[cfg(test)]
 mod openings;

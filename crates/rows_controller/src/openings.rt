@@ -1,31 +1,32 @@
 //! The controller that the tests are about, and what a tool asks of it first.
 use crate::rows::asks;
 use std::alloc::{AllocError, Global};
-use std::test::Fail;
 use xcp_controller::Controller;
 use xcp_memory::{EventPart, Layout, Parts, SegmentPart};
 use xcp_packet::Order;
 
 /// CONNECT, and page 1 of each segment for the tool and for the controller.
-const BEGIN: [&[u8]; 2] = [&[0xFF, 0], &[0xEB, 0x83, 0, 1]];
+static BEGIN: [&[u8]; 2] = [&[0xFF, 0], &[0xEB, 0x83, 0, 1]];
 
 /// What the segment has at the opening.
 pub const BYTES: [u8; 16] = [0, 1, 2, 3, 4, 5, 6, 7, 8, 9, 10, 11, 12, 13, 14, 15];
 
 fn segments(alloc: Global) -> Result<Vec<SegmentPart>, AllocError> {
+    let bytes = BYTES.to_vec(alloc)?;
     let mut segments = Vec::new(alloc);
     segments.push(SegmentPart {
         address: 0x1000,
-        bytes: BYTES.to_vec(alloc)?,
+        bytes,
         pages: 2,
     })?;
     Ok(segments)
 }
 
 fn events(alloc: Global) -> Result<Vec<EventPart>, AllocError> {
+    let name = b"10ms".to_vec(alloc)?;
     let mut events = Vec::new(alloc);
     events.push(EventPart {
-        name: b"10ms".to_vec(alloc)?,
+        name,
         cycle: 10,
         unit: 6,
         priority: 0,
@@ -34,41 +35,54 @@ fn events(alloc: Global) -> Result<Vec<EventPart>, AllocError> {
 }
 
 /// MAX_CTO 12, 16 bytes with two pages at 0x1000, 8 bytes of signals, one event channel.
-fn layout(alloc: Global) -> Result<Option<Layout>, AllocError> {
-    let layout = Layout::new(Parts {
-        id: b"ECU1".to_vec(alloc)?,
+fn parts(alloc: Global) -> Result<Parts, AllocError> {
+    let segments = segments(alloc)?;
+    let events = events(alloc)?;
+    let id = b"ECU1".to_vec(alloc)?;
+    Ok(Parts {
+        id,
         max_cto: 12,
         max_dto: 64,
         checksum: 3,
         order: Order::Intel,
-        segments: segments(alloc)?,
+        segments,
         signals_address: 0x8000,
         signals_length: 8,
-        events: events(alloc)?,
-    });
-    Ok(layout.ok())
+        events,
+    })
 }
 
 /// A controller with that layout, if it is one.
 pub(crate) fn opened(alloc: Global) -> Result<Option<Controller>, AllocError> {
-    match layout(alloc)? {
-        Some(layout) => Ok(Some(Controller::open(alloc, layout)?)),
-        None => Ok(None),
+    match Layout::new(parts(alloc)?) {
+        Ok(layout) => Ok(Some(Controller::open(alloc, layout)?)),
+        Err(_) => Ok(None),
     }
 }
 
-/// A controller with that layout, at its opening.
-pub(crate) fn controller(alloc: Global) -> Result<Controller, Fail> {
-    Ok(opened(alloc)?.ok_or("a layout")?)
+/// A controller with that layout, at its opening; none where memory is lacking.
+pub(crate) fn controller(alloc: Global) -> Option<Controller> {
+    match opened(alloc) {
+        Ok(controller) => controller,
+        Err(_) => None,
+    }
+}
+
+/// Whether a tool is connected then, and writes to the page that the controller has.
+fn is_begun(controller: &mut Controller) -> bool {
+    for command in &BEGIN {
+        if !asks(controller, command) {
+            return false;
+        }
+    }
+    true
 }
 
 /// The same, where a tool is connected and writes to the page that the controller has.
-pub(crate) fn in_use(alloc: Global) -> Result<Controller, Fail> {
+pub(crate) fn in_use(alloc: Global) -> Option<Controller> {
     let mut controller = controller(alloc)?;
-    for command in BEGIN {
-        if !asks(&mut controller, command) {
-            return Err("a refused command".into());
-        }
+    if is_begun(&mut controller) {
+        return Some(controller);
     }
-    Ok(controller)
+    None
 }

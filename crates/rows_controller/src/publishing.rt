@@ -1,10 +1,12 @@
 //! Which requests publish an image.
+use crate::holding::hold;
 use crate::openings::{BYTES, controller, in_use};
 use crate::rows::Ask::{Command, Drain, Event, FinishStore, Hangup};
 use crate::rows::Said::{BadSignals, NoChannel, NoStore, Nothing, Packet, Sampled, Silent, Stored};
 use crate::rows::{Row, Seen, first_wrong, held, take};
-use std::test::Fail;
-use xcp_bank::Taken;
+use std::alloc::Global;
+use xcp_bank::{Reader, Taken};
+use xcp_controller::Controller;
 
 // A session that begins: what isn't heeded, what asks, what is refused, and what is written where the
 // controller doesn't look publish nothing.
@@ -169,23 +171,35 @@ static PAGES: [Row; 26] = [
     (Hangup, Silent, None),
 ];
 
-// Beside the reader that looks behind each row stands one that keeps the opening's image.
-#[test]
-fn an_image_is_published_where_it_changes(rt: HostRuntime) -> Result<(), Fail> {
-    let mut controller = controller(rt.alloc())?;
-    let mut keeper = controller.take_reader().ok_or("a reader")?;
-    let mut reader = controller.take_reader().ok_or("another")?;
+// The first row of each table that is wrong, and whether all else is as it has to be: beside the reader that looks
+// behind each row stands one that keeps the opening's image.
+fn follow(
+    controller: &mut Controller,
+    keeper: &mut Reader,
+    reader: &mut Reader,
+) -> (bool, [Option<usize>; 3]) {
     let opening = Seen::first(&BYTES);
     let mut seen = opening;
-    assert!(rt; take(&mut keeper) == (Taken::Newer, opening));
-    assert!(rt; take(&mut reader) == (Taken::Newer, opening));
-    let before = first_wrong(&mut controller, &mut reader, &mut seen, &BEFORE);
-    let writes = first_wrong(&mut controller, &mut reader, &mut seen, &WRITES);
-    let pages = first_wrong(&mut controller, &mut reader, &mut seen, &PAGES);
-    assert_eq!(rt; (before, writes, pages), (None, None, None));
+    let kept = take(keeper) == (Taken::Newer, opening);
+    let first = take(reader) == (Taken::Newer, opening);
+    let before = first_wrong(controller, reader, &mut seen, &BEFORE);
+    let writes = first_wrong(controller, reader, &mut seen, &WRITES);
+    let pages = first_wrong(controller, reader, &mut seen, &PAGES);
     controller.audit();
-    assert!(rt; held(&mut keeper) == opening && seen.number == 10);
-    Ok(())
+    let still = held(keeper) == opening && seen.number == 10;
+    (kept && first && still, [before, writes, pages])
+}
+
+fn follow_new(alloc: Global) -> Option<(bool, [Option<usize>; 3])> {
+    let mut controller = controller(alloc)?;
+    let mut keeper = controller.take_reader()?;
+    let mut reader = controller.take_reader()?;
+    Some(follow(&mut controller, &mut keeper, &mut reader))
+}
+
+#[test]
+fn an_image_is_published_where_it_changes(rt: HostRuntime) {
+    assert_eq!(rt; follow_new(rt.alloc()), Some((true, [None, None, None])));
 }
 
 // Rows that are wrong in one thing each: what is told, a byte of it, that an image is published or none, a byte of
@@ -215,17 +229,33 @@ static WRONG: [[Row; 1]; 6] = [
     )],
 ];
 
-#[test]
-fn wrong_rows_are_found(rt: HostRuntime) -> Result<(), Fail> {
-    for rows in &WRONG {
-        let mut controller = in_use(rt.alloc())?;
-        let mut reader = controller.take_reader().ok_or("a reader")?;
-        let mut seen = Seen::first(&BYTES);
-        let _opening = take(&mut reader);
-        assert_eq!(rt;
-            first_wrong(&mut controller, &mut reader, &mut seen, rows),
-            Some(0)
-        );
+// Whether the first of these rows is found to be wrong.
+fn finds(controller: &mut Controller, reader: &mut Reader, rows: &[Row]) -> bool {
+    let mut seen = Seen::first(&BYTES);
+    let _opening = take(reader);
+    first_wrong(controller, reader, &mut seen, rows) == Some(0)
+}
+
+fn is_found(alloc: Global, rows: &[Row]) -> bool {
+    let Some(mut controller) = in_use(alloc) else {
+        return false;
+    };
+    match controller.take_reader() {
+        Some(mut reader) => finds(&mut controller, &mut reader, rows),
+        None => false,
     }
-    Ok(())
+}
+
+fn first_not_found(alloc: Global) -> Option<usize> {
+    for (number, rows) in WRONG.iter().enumerate() {
+        if !is_found(alloc, rows) {
+            return Some(number);
+        }
+    }
+    None
+}
+
+#[test]
+fn wrong_rows_are_found(rt: HostRuntime) {
+    hold(&rt, first_not_found(rt.alloc()));
 }

@@ -2,7 +2,7 @@
 use crate::openings::in_use;
 use crate::readers::{image, write};
 use crate::rows::take;
-use std::test::Fail;
+use std::alloc::Global;
 use std::thread::{Threads, join};
 use xcp_bank::{Reader, Taken};
 use xcp_controller::Controller;
@@ -47,18 +47,35 @@ fn follow_two<R: Threads + Sync>(rt: &R, one: Box<Reader>, two: Box<Reader>) -> 
     first && second
 }
 
-#[test]
-fn images_are_whole_beside_writes(rt: HostRuntime) -> Result<(), Fail> {
-    let mut controller = in_use(rt.alloc())?;
-    let one = controller.take_reader().ok_or("a reader")?;
-    let two = controller.take_reader().ok_or("another")?;
-    assert!(rt; write(&mut controller, 1));
-    let threads = &rt;
+fn follow_beside<R: Threads + Sync>(
+    rt: &R,
+    controller: Controller,
+    one: Box<Reader>,
+    two: Box<Reader>,
+) -> bool {
     let (wrote, followed) = join(
-        threads,
+        rt,
         move || -> bool { write_all(controller) },
-        move || -> bool { follow_two(threads, one, two) },
+        move || -> bool { follow_two(rt, one, two) },
     );
-    assert!(rt; wrote && followed);
-    Ok(())
+    wrote && followed
+}
+
+fn opened(alloc: Global) -> Option<(Controller, Box<Reader>, Box<Reader>)> {
+    let mut controller = in_use(alloc)?;
+    let one = controller.take_reader()?;
+    let two = controller.take_reader()?;
+    if write(&mut controller, 1) {
+        return Some((controller, one, two));
+    }
+    None
+}
+
+#[test]
+fn images_are_whole_beside_writes(rt: HostRuntime) {
+    let whole = match opened(rt.alloc()) {
+        Some((controller, one, two)) => follow_beside(&rt, controller, one, two),
+        None => false,
+    };
+    assert!(rt; whole);
 }

@@ -1,10 +1,9 @@
 //! Scripts in two pieces, cut at each place: their lines are those of the whole.
-use crate::fakes::desk;
+use crate::holding::hold;
+use crate::over::replayed;
 use std::alloc::{AllocError, Global};
 use std::io::Read;
-use std::test::Fail;
-use xcp_framing::Watched;
-use xcp_script::{ReplayError, replay_on};
+use xcp_script::ReplayError;
 
 /// How a script ends, and what is written of it.
 #[derive(Clone, Copy)]
@@ -13,24 +12,25 @@ struct Ends {
     written: &'static [u8],
 }
 
-/// Whether a script ends so where its reads end at the cut and at its end.
-fn is_cut(alloc: Global, script: &[u8], cut: usize, ends: Ends) -> Result<bool, Fail> {
-    let mut desk = desk(alloc)?;
-    let (front, rest) = script.split_at(cut.min(script.len()));
-    let mut reader = Watched::new(front.chain(rest));
-    let mut writer = Watched::new(Vec::new(alloc));
-    let result = replay_on(alloc, &mut desk, &mut reader, &mut writer, 10);
-    Ok(result == ends.result && writer.into_inner().as_slice() == ends.written)
+/// Whether a script in these two pieces ends so.
+fn is_cut(alloc: Global, front: &[u8], rest: &[u8], ends: &Ends) -> bool {
+    match replayed(alloc, front.chain(rest), Vec::new(alloc), 10) {
+        Some((result, _, _, written)) => {
+            result == ends.result && written.as_slice() == ends.written
+        }
+        None => false,
+    }
 }
 
 /// The first place at which the script is cut and doesn't end so.
-fn first_wrong(alloc: Global, script: &[u8], ends: Ends) -> Result<Option<usize>, Fail> {
+fn first_wrong(alloc: Global, script: &[u8], ends: &Ends) -> Option<usize> {
     for cut in 0..=script.len() {
-        if !is_cut(alloc, script, cut, ends)? {
-            return Ok(Some(cut));
+        let (front, rest) = script.split_at(cut);
+        if !is_cut(alloc, front, rest, ends) {
+            return Some(cut);
         }
     }
-    Ok(None)
+    None
 }
 
 /// Lines with a carriage return and without, empty ones, comments, and a last one that no line feed
@@ -66,15 +66,19 @@ static SCRIPTS: [(&[u8], Ends); 4] = [
     ),
 ];
 
-#[test]
-fn scripts_at_each_cut(rt: HostRuntime) -> Result<(), Fail> {
+/// The first script that doesn't end so at each cut.
+fn first_wrong_script(alloc: Global) -> Option<usize> {
     for (number, (script, ends)) in SCRIPTS.iter().enumerate() {
-        assert!(rt;
-            first_wrong(rt.alloc(), script, *ends)?.is_none(),
-            "{number}"
-        );
+        if first_wrong(alloc, script, ends).is_some() {
+            return Some(number);
+        }
     }
-    Ok(())
+    None
+}
+
+#[test]
+fn scripts_at_each_cut(rt: HostRuntime) {
+    hold(&rt, first_wrong_script(rt.alloc()));
 }
 
 /// CONNECT, a comment of so many bytes, what ends it, and CONNECT again.
@@ -106,14 +110,18 @@ static COMMENTS: [(usize, &[u8], Ends); 4] = [
     (1025, b"\r\n", FIRST),
 ];
 
-#[test]
-fn long_lines_at_each_cut(rt: HostRuntime) -> Result<(), Fail> {
+/// The first of these scripts that doesn't end so at each cut.
+fn first_wrong_comment(alloc: Global) -> Option<usize> {
     for (number, (length, end, ends)) in COMMENTS.iter().enumerate() {
-        let script = with_comment(rt.alloc(), *length, end)?;
-        assert!(rt;
-            first_wrong(rt.alloc(), &script, *ends)?.is_none(),
-            "{number}"
-        );
+        match with_comment(alloc, *length, end) {
+            Ok(script) if first_wrong(alloc, &script, ends).is_none() => {}
+            _ => return Some(number),
+        }
     }
-    Ok(())
+    None
+}
+
+#[test]
+fn long_lines_at_each_cut(rt: HostRuntime) {
+    hold(&rt, first_wrong_comment(rt.alloc()));
 }

@@ -1,10 +1,10 @@
 //! Requests and packets that are lent to a station, and its answers as values.
 use crate::fakes::desk_of;
+use crate::holding::hold;
 use crate::stations::Pending;
 use arrayvec::ArrayVec;
 use std::alloc::Global;
-use std::test::Fail;
-use xcp_framing::{LentCommand, Station, StationError, told_of};
+use xcp_framing::{Desk, LentCommand, Station, StationError, told_of};
 use xcp_packet::{Packet, Train, Width};
 use xcp_slave::{Answer, Request};
 
@@ -99,11 +99,18 @@ fn is_laid(gives: Gives) -> bool {
     told.with(packet) == answer(gives)
 }
 
+fn first_not_laid() -> Option<usize> {
+    for (number, gives) in ANSWERS.iter().enumerate() {
+        if !is_laid(*gives) {
+            return Some(number);
+        }
+    }
+    None
+}
+
 #[test]
 fn answers_are_laid_into_a_packet(rt: HostRuntime) {
-    for (number, gives) in ANSWERS.iter().enumerate() {
-        assert!(rt; is_laid(*gives), "{number}");
-    }
+    hold(&rt, first_not_laid());
 }
 
 /// A script, and what the small slave with MAX_CTO 8 answers to each of its requests.
@@ -147,27 +154,54 @@ fn lent<S: Station>(station: &mut S, asks: Asks) -> Result<Answer, StationError>
     Ok(told.with(packet))
 }
 
+/// Whether a request that is lent is answered so.
+fn is_lent(station: &mut Desk, asks: Asks, gives: Gives) -> bool {
+    lent(station, asks) == Ok(answer(gives))
+}
+
+/// Whether one that is given is.
+fn is_given(station: &mut Desk, asks: Asks, gives: Gives) -> bool {
+    station.submit(request(asks)) == Ok(answer(gives))
+}
+
+/// Whether two desks store the same exchange of this number.
+fn is_stored(lender: &Desk, giver: &Desk, number: usize) -> bool {
+    let stored = lender.trace().get(number);
+    stored.is_some() && stored == giver.trace().get(number)
+}
+
 /// The first request of the script that isn't answered so by both of two desks, one of which is lent
 /// its requests, or that these don't store alike.
-fn first_wrong(alloc: Global) -> Result<Option<usize>, Fail> {
-    let mut lender = desk_of(alloc, 8)?;
-    let mut giver = desk_of(alloc, 8)?;
+fn first_wrong(lender: &mut Desk, giver: &mut Desk) -> Option<usize> {
     for (number, (asks, gives)) in SCRIPT.iter().enumerate() {
-        let by_lender = lent(&mut lender, *asks);
-        let by_giver = giver.submit(request(*asks));
-        let answered = by_lender == Ok(answer(*gives)) && by_giver == Ok(answer(*gives));
-        let stored = lender.trace().get(number);
-        if !answered || stored.is_none() || stored != giver.trace().get(number) {
-            return Ok(Some(number));
+        let lent = is_lent(lender, *asks, *gives);
+        let given = is_given(giver, *asks, *gives);
+        if !lent || !given || !is_stored(lender, giver, number) {
+            return Some(number);
         }
     }
-    Ok(None)
+    None
+}
+
+/// The same of this desk and a new one.
+fn first_wrong_of(alloc: Global, lender: &mut Desk) -> Option<usize> {
+    match desk_of(alloc, 8) {
+        Some(mut giver) => first_wrong(lender, &mut giver),
+        None => Some(0),
+    }
+}
+
+/// The same of two new desks.
+fn first_wrong_of_new(alloc: Global) -> Option<usize> {
+    match desk_of(alloc, 8) {
+        Some(mut lender) => first_wrong_of(alloc, &mut lender),
+        None => Some(0),
+    }
 }
 
 #[test]
-fn a_desk_answers_what_is_lent_as_what_is_given(rt: HostRuntime) -> Result<(), Fail> {
-    assert_eq!(rt; first_wrong(rt.alloc())?, None);
-    Ok(())
+fn a_desk_answers_what_is_lent_as_what_is_given(rt: HostRuntime) {
+    hold(&rt, first_wrong_of_new(rt.alloc()));
 }
 
 /// Requests to a station that has one packet of one byte for Drains, and what it answers.
@@ -178,35 +212,44 @@ static DRAINED: [(Asks, Gives); 4] = [
     (Asks::Hangup, Gives::Silent),
 ];
 
-/// The first request that isn't answered so by `submit`, of a station that has `submit_into` alone of
-/// its own; and how many exchanges it has had.
-fn first_wrong_value(alloc: Global) -> (Option<usize>, usize) {
+/// The first request that isn't answered so by `submit`.
+fn first_wrong_value(station: &mut Pending) -> Option<usize> {
+    for (number, (asks, gives)) in DRAINED.iter().enumerate() {
+        if station.submit(request(*asks)) != Ok(answer(*gives)) {
+            return Some(number);
+        }
+    }
+    None
+}
+
+/// The same of a station that has `submit_into` alone of its own; and how many exchanges it has had.
+fn first_wrong_drained(alloc: Global) -> (Option<usize>, usize) {
     let mut station = Pending {
         exchanges: Vec::new(alloc),
         packets: 1,
         blocks: false,
         waits: 0,
     };
-    for (number, (asks, gives)) in DRAINED.iter().enumerate() {
-        if station.submit(request(*asks)) != Ok(answer(*gives)) {
-            return (Some(number), station.exchanges.len());
-        }
-    }
-    (None, station.exchanges.len())
+    let wrong = first_wrong_value(&mut station);
+    (wrong, station.exchanges.len())
 }
 
 /// `submit` of a station stands over its `submit_into`.
 #[test]
 fn a_station_that_is_lent_packets_gives_answers(rt: HostRuntime) {
-    assert!(rt; first_wrong_value(rt.alloc()) == (None, 4));
+    assert!(rt; first_wrong_drained(rt.alloc()) == (None, 4));
 }
 
-/// A lent command has the packet that was last put into it.
-#[test]
-fn a_command_is_filled_in_place(rt: HostRuntime) {
+/// Whether a lent command has the packet that was last put into it, and `fill` gives what its closure does.
+fn is_filled() -> bool {
     let mut command = LentCommand::new();
-    assert!(rt; *command.request() == request(Asks::Command(&[])));
+    let empty = *command.request() == request(Asks::Command(&[]));
     command.fill(|packet| *packet = bytes(&[0xFF, 0]));
     let length = command.fill(|packet| packet.len());
-    assert!(rt; length == 2 && command.into_request() == request(Asks::Command(&[0xFF, 0])));
+    empty && length == 2 && command.into_request() == request(Asks::Command(&[0xFF, 0]))
+}
+
+#[test]
+fn a_command_is_filled_in_place(rt: HostRuntime) {
+    assert!(rt; is_filled());
 }

@@ -7,11 +7,15 @@ mod cuts;
 #[cfg(test)]
 mod fakes;
 #[cfg(test)]
+mod holding;
+#[cfg(test)]
 mod lent;
 #[cfg(test)]
 mod ordered;
 #[cfg(test)]
 mod orders;
+#[cfg(test)]
+mod over;
 #[cfg(test)]
 mod pumps;
 #[cfg(test)]

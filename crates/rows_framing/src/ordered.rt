@@ -26,19 +26,13 @@ impl Order {
         }
     }
 
-    /// How many bytes were written.
-    pub(crate) fn written(&self) -> usize {
-        self.written.get()
-    }
-
-    /// How many writes took something.
-    pub(crate) fn writes(&self) -> usize {
-        self.writes.get()
-    }
-
-    /// Whether no call came too early, nor behind a write that failed.
-    pub(crate) fn is_kept(&self) -> bool {
-        !self.broken.get()
+    /// What was seen of it.
+    pub(crate) fn seen(&self) -> Seen {
+        Seen {
+            kept: !self.broken.get(),
+            written: self.written.get(),
+            writes: self.writes.get(),
+        }
     }
 
     /// A write took so many bytes.
@@ -53,6 +47,17 @@ impl Order {
             self.broken.set(true);
         }
     }
+}
+
+/// What was seen of the order of calls.
+#[derive(Clone, Copy)]
+pub struct Seen {
+    /// Whether no call came too early, nor behind a write that failed.
+    pub kept: bool,
+    /// How many bytes were written.
+    pub written: usize,
+    /// How many writes took something.
+    pub writes: usize,
 }
 
 /// The bytes of one read, and how many bytes are written before it.
@@ -70,7 +75,7 @@ impl Read for Patient<'_> {
     fn read(&mut self, buf: &mut [u8]) -> io::Result<usize> {
         self.order.note();
         if let [(before, piece), rest @ ..] = self.pieces {
-            if self.order.written() == *before {
+            if self.order.written.get() == *before {
                 self.pieces = rest;
                 let mut bytes = *piece;
                 return bytes.read(buf);

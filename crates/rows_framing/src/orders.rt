@@ -1,38 +1,39 @@
 //! The order of reads, submits and writes: each answer is written before the next read, and a write
 //! that fails is the last of all.
 use crate::fakes::{Full, desk};
-use crate::ordered::{Noting, Order, Patient, Piece, Telling};
+use crate::holding::hold;
+use crate::ordered::{Noting, Order, Patient, Piece, Seen, Telling};
+use crate::over;
 use crate::serves::synch_stream;
 use crate::stations::{Pending, Refusing};
-use std::alloc::Global;
-use std::test::Fail;
+use std::alloc::{AllocError, Global};
 use xcp_framing::{ServeError, Served, Station, StationError, Watched, serve};
-use xcp_script::{ReplayError, replay_on};
+use xcp_script::ReplayError;
 
-/// Serves these pieces over a station, to a writer with so much room.
+/// Serves these pieces over a station, to a writer with so much room: how it ended, and the order of calls.
 fn served<S: Station + Drop>(
     alloc: Global,
     station: S,
-    order: &Order,
     pieces: &[Piece<'_>],
     room: usize,
     full: Full,
-) -> Result<Served, ServeError> {
+) -> (Result<Served, ServeError>, Seen) {
+    let order = Order::new();
+    let order = &order;
     let mut station = Noting { station, order };
     let mut reader = Watched::new(Patient { pieces, order });
     let mut writer = Watched::new(Telling { room, full, order });
-    serve(alloc, &mut reader, &mut writer, &mut station, 32, 1000)
+    let result = serve(alloc, &mut reader, &mut writer, &mut station, 32, 1000);
+    (result, order.seen())
 }
 
 /// Whether a desk serves these pieces with this result, each call in its order.
-fn is_served(
-    alloc: Global,
-    pieces: &[Piece<'_>],
-    wanted: Result<Served, ServeError>,
-) -> Result<bool, Fail> {
-    let order = Order::new();
-    let result = served(alloc, desk(alloc)?, &order, pieces, 1000, Full::Fails);
-    Ok(result == wanted && order.is_kept())
+fn is_served(alloc: Global, pieces: &[Piece<'_>], wanted: Result<Served, ServeError>) -> bool {
+    let Some(desk) = desk(alloc) else {
+        return false;
+    };
+    let (result, seen) = served(alloc, desk, pieces, 1000, Full::Fails);
+    result == wanted && seen.kept
 }
 
 /// CONNECT and two SYNCH, a frame a read.
@@ -86,90 +87,105 @@ static STREAMS: [Stream; 7] = [
     ),
 ];
 
-/// Each command's answer is written before the next read, and behind a bad LEN there is none.
-#[test]
-fn answers_before_the_next_read(rt: HostRuntime) -> Result<(), Fail> {
+/// The first stream that isn't served so.
+fn first_not_served(alloc: Global) -> Option<usize> {
     for (number, (pieces, wanted)) in STREAMS.iter().enumerate() {
-        assert!(rt; is_served(rt.alloc(), pieces, *wanted)?, "{number}");
+        if !is_served(alloc, pieces, *wanted) {
+            return Some(number);
+        }
     }
-    Ok(())
+    None
 }
 
-/// 102 frames and the first byte of one more in a read of 512 bytes: all answers before the next.
+/// Each command's answer is written before the next read, and behind a bad LEN there is none.
 #[test]
-fn answers_of_a_whole_read(rt: HostRuntime) -> Result<(), Fail> {
-    let mut stream = synch_stream(rt.alloc(), 101)?;
+fn answers_before_the_next_read(rt: HostRuntime) {
+    hold(&rt, first_not_served(rt.alloc()));
+}
+
+/// CONNECT and 101 SYNCH, and the first byte of one more.
+fn whole_read(alloc: Global) -> Result<Vec<u8>, AllocError> {
+    let mut stream = synch_stream(alloc, 101)?;
     stream.push(1)?;
-    assert_eq!(rt; stream.len(), 512);
-    let pieces = [
-        (0, stream.as_slice()),
-        (618, &[0, 0, 0, 0xFC][..]),
-        (624, &[][..]),
-    ];
+    Ok(stream)
+}
+
+/// Whether this read is answered before the next one, with the rest of its last frame.
+fn is_answered(alloc: Global, read: &[u8]) -> bool {
+    let pieces = [(0, read), (618, &[0, 0, 0, 0xFC][..]), (624, &[][..])];
     let wanted = Ok(Served {
         frames: 103,
         sent: 103,
     });
-    assert!(rt; is_served(rt.alloc(), &pieces, wanted)?);
+    read.len() == 512 && is_served(alloc, &pieces, wanted)
+}
+
+/// 102 frames and the first byte of one more in a read of 512 bytes: all answers before the next.
+#[test]
+fn answers_of_a_whole_read(rt: HostRuntime) -> Result<(), AllocError> {
+    let read = whole_read(rt.alloc())?;
+    assert!(rt; is_answered(rt.alloc(), &read));
     Ok(())
 }
 
-/// A station with so many packets of one byte for Drains.
-fn pending(alloc: Global, packets: u32) -> Pending {
-    Pending {
+/// What is served over a station with so many packets of one byte for Drains.
+fn drained(
+    alloc: Global,
+    packets: u32,
+    pieces: &[Piece<'_>],
+    room: usize,
+) -> (Result<Served, ServeError>, Seen) {
+    let station = Pending {
         exchanges: Vec::new(alloc),
         packets,
         blocks: false,
         waits: 0,
-    }
+    };
+    served(alloc, station, pieces, room, Full::Fails)
 }
+
+/// Two SYNCH, a frame a read.
+const WAITING: &[Piece<'static>] = &[
+    (0, &[1, 0, 0, 0, 0xFC]),
+    (320, &[1, 0, 0, 0, 0xFC]),
+    (350, &[]),
+];
 
 /// 64 packets of 5 bytes in their frames behind the first of two commands, and 6 behind the second.
 #[test]
 fn packets_before_the_next_read(rt: HostRuntime) {
-    let order = Order::new();
-    let pieces = [
-        (0, &[1, 0, 0, 0, 0xFC][..]),
-        (320, &[1, 0, 0, 0, 0xFC][..]),
-        (350, &[][..]),
-    ];
-    let station = pending(rt.alloc(), 70);
-    let result = served(rt.alloc(), station, &order, &pieces, 1000, Full::Fails);
+    let (result, seen) = drained(rt.alloc(), 70, WAITING, 1000);
     let wanted = Ok(Served {
         frames: 2,
         sent: 70,
     });
-    assert!(rt; result == wanted && order.is_kept());
+    assert!(rt; result == wanted && seen.kept);
+}
+
+/// Whether the packets behind 102 commands in one read are written in 8 writes.
+fn is_gathered(alloc: Global, read: &[u8]) -> bool {
+    let pieces = [(0, read), (32_640, &[][..])];
+    let (result, seen) = drained(alloc, 6528, &pieces, 40_000);
+    let wanted = Ok(Served {
+        frames: 102,
+        sent: 6528,
+    });
+    result == wanted && seen.kept && seen.writes == 8
 }
 
 /// 64 packets of 5 bytes in their frames behind each of 102 commands in one read: 819 such frames
 /// find room in 4,096 bytes, so that the 6,528 are written in 8 writes.
 #[test]
-fn packets_of_a_read_are_gathered(rt: HostRuntime) -> Result<(), Fail> {
-    let order = Order::new();
-    let stream = synch_stream(rt.alloc(), 101)?;
-    let pieces = [(0, stream.as_slice()), (32_640, &[][..])];
-    let station = pending(rt.alloc(), 6528);
-    let result = served(rt.alloc(), station, &order, &pieces, 40_000, Full::Fails);
-    let wanted = Ok(Served {
-        frames: 102,
-        sent: 6528,
-    });
-    assert!(rt; result == wanted && order.is_kept() && order.writes() == 8);
+fn packets_of_a_read_are_gathered(rt: HostRuntime) -> Result<(), AllocError> {
+    let read = synch_stream(rt.alloc(), 101)?;
+    assert!(rt; is_gathered(rt.alloc(), &read));
     Ok(())
 }
 
-/// Whether the first write that fails is the last call of all.
-fn is_last<S: Station + Drop>(
-    alloc: Global,
-    station: S,
-    pieces: &[Piece<'_>],
-    room: usize,
-    full: Full,
-) -> bool {
-    let order = Order::new();
-    let result = served(alloc, station, &order, pieces, room, full);
-    result == Err(ServeError::Write) && order.is_kept() && order.written() == room
+/// Whether the first write that fails was the last call of all, and so many bytes were written before.
+fn is_last(came: (Result<Served, ServeError>, Seen), room: usize) -> bool {
+    let (result, seen) = came;
+    result == Err(ServeError::Write) && seen.kept && seen.written == room
 }
 
 /// CONNECT and two SYNCH in one read.
@@ -184,84 +200,88 @@ const AT_ONCE: &[Piece<'static>] = &[
 /// Two SYNCH in one read.
 const SYNCHS: &[Piece<'static>] = &[(0, &[1, 0, 0, 0, 0xFC, 1, 0, 0, 0, 0xFC]), (15, &[])];
 
-#[test]
-fn a_failed_write_is_the_last_call(rt: HostRuntime) -> Result<(), Fail> {
-    let rows = [
-        (FRAME_BY_FRAME, Full::Fails),
-        (FRAME_BY_FRAME, Full::TakesNothing),
-        (AT_ONCE, Full::Fails),
-        (AT_ONCE, Full::TakesNothing),
-    ];
-    for (pieces, full) in rows {
-        for room in 0..24 {
-            let desk = desk(rt.alloc())?;
-            assert!(rt; is_last(rt.alloc(), desk, pieces, room, full), "{room}");
+/// The first room of a writer at which a write that fails isn't the last call of a desk that serves these pieces.
+fn first_not_last(alloc: Global, pieces: &[Piece<'_>], rooms: usize, full: Full) -> Option<usize> {
+    for room in 0..rooms {
+        let Some(desk) = desk(alloc) else {
+            return Some(room);
+        };
+        if !is_last(served(alloc, desk, pieces, room, full), room) {
+            return Some(room);
         }
     }
-    Ok(())
+    None
+}
+
+#[test]
+fn a_failed_write_is_the_last_call(rt: HostRuntime) {
+    let alloc = rt.alloc();
+    hold(&rt, first_not_last(alloc, FRAME_BY_FRAME, 24, Full::Fails));
+    hold(
+        &rt,
+        first_not_last(alloc, FRAME_BY_FRAME, 24, Full::TakesNothing),
+    );
+    hold(&rt, first_not_last(alloc, AT_ONCE, 24, Full::Fails));
+    hold(&rt, first_not_last(alloc, AT_ONCE, 24, Full::TakesNothing));
+}
+
+/// The first room at which the same isn't so where three packets wait behind the first of two commands.
+fn first_behind(alloc: Global) -> Option<usize> {
+    for room in 0..15 {
+        if !is_last(drained(alloc, 3, SYNCHS, room), room) {
+            return Some(room);
+        }
+    }
+    None
 }
 
 /// Three packets wait behind the first of two commands: none is asked for once one isn't sent.
 #[test]
 fn a_failed_write_is_behind_the_last_drain(rt: HostRuntime) {
-    for room in 0..15 {
-        let station = pending(rt.alloc(), 3);
-        assert!(rt;
-            is_last(rt.alloc(), station, SYNCHS, room, Full::Fails),
-            "{room}"
-        );
-    }
+    hold(&rt, first_behind(rt.alloc()));
 }
 
 /// CONNECT, and a bad LEN behind it.
 const BAD_BEHIND: &[Piece<'static>] = &[(0, &[2, 0, 0, 0, 0xFF, 0, 33, 0])];
 
-/// A desk that refuses what comes behind CONNECT and its Drain.
-fn refusing(alloc: Global) -> Result<Refusing, Fail> {
-    Ok(Refusing {
-        desk: desk(alloc)?,
-        takes: 2,
-        error: StationError::JournalFull,
-    })
+/// The first room at which the same isn't so of a desk that refuses what comes behind CONNECT and its Drain.
+fn first_refused(alloc: Global) -> Option<usize> {
+    for room in 0..12 {
+        let Some(desk) = desk(alloc) else {
+            return Some(room);
+        };
+        let refusing = Refusing {
+            desk,
+            takes: 2,
+            error: StationError::JournalFull,
+        };
+        if !is_last(served(alloc, refusing, AT_ONCE, room, Full::Fails), room) {
+            return Some(room);
+        }
+    }
+    None
 }
 
 /// What answers the first packet is written before a fault behind it is told.
 #[test]
-fn a_failed_write_comes_before_a_fault(rt: HostRuntime) -> Result<(), Fail> {
-    for room in 0..12 {
-        let desk = desk(rt.alloc())?;
-        let bad = is_last(rt.alloc(), desk, BAD_BEHIND, room, Full::Fails);
-        let refusing = refusing(rt.alloc())?;
-        let refused = is_last(rt.alloc(), refusing, AT_ONCE, room, Full::Fails);
-        assert!(rt; bad && refused, "{room}");
-    }
-    Ok(())
+fn a_failed_write_comes_before_a_fault(rt: HostRuntime) {
+    hold(&rt, first_not_last(rt.alloc(), BAD_BEHIND, 12, Full::Fails));
+    hold(&rt, first_refused(rt.alloc()));
 }
 
-/// How a script in these pieces ends, and how many exchanges there were.
+/// How a script in these pieces ends, how many exchanges there were, and the order of calls; none where
+/// there is no desk.
 fn replayed(
     alloc: Global,
-    order: &Order,
     pieces: &[Piece<'_>],
     room: usize,
     full: Full,
-) -> Result<(Result<u64, ReplayError>, usize), Fail> {
-    let mut desk = desk(alloc)?;
-    let mut reader = Watched::new(Patient { pieces, order });
-    let mut writer = Watched::new(Telling { room, full, order });
-    let result = replay_on(alloc, &mut desk, &mut reader, &mut writer, 1000);
-    Ok((result, desk.trace().len()))
-}
-
-/// Whether a script in these pieces has this result, each call in its order.
-fn is_replayed(
-    alloc: Global,
-    pieces: &[Piece<'_>],
-    wanted: Result<u64, ReplayError>,
-) -> Result<bool, Fail> {
+) -> Option<(Result<u64, ReplayError>, usize, Seen)> {
     let order = Order::new();
-    let (result, _) = replayed(alloc, &order, pieces, 1000, Full::Fails)?;
-    Ok(result == wanted && order.is_kept())
+    let order = &order;
+    let writer = Telling { room, full, order };
+    let (result, exchanges, _, _) = over::replayed(alloc, Patient { pieces, order }, writer, 1000)?;
+    Some((result, exchanges, order.seen()))
 }
 
 /// Three lines, a line a read.
@@ -272,12 +292,12 @@ const LINE_BY_LINE: &[Piece<'static>] = &[
     (31, b""),
 ];
 
-/// A script in pieces, and how it ends.
-type Script = (&'static [Piece<'static>], Result<u64, ReplayError>);
+/// A script in pieces, how it ends, and in how many writes it is answered.
+type Script = (&'static [Piece<'static>], Result<u64, ReplayError>, usize);
 
 /// The three lines' answers have 17, 3 and 11 bytes.
 static SCRIPTS: [Script; 4] = [
-    (LINE_BY_LINE, Ok(3)),
+    (LINE_BY_LINE, Ok(3), 3),
     (
         &[
             (0, b"FF0"),
@@ -288,56 +308,82 @@ static SCRIPTS: [Script; 4] = [
             (20, b""),
         ],
         Ok(3),
+        3,
     ),
     (
         &[(0, b"FF00\nF600000000100000\n"), (20, b"F504\n"), (31, b"")],
         Ok(3),
+        2,
     ),
     (
         &[(0, b"FF00\n"), (17, b"F5 0\nFF00\n")],
         Err(ReplayError::Line(2)),
+        1,
     ),
 ];
+
+/// The first script that doesn't end so, each call in its order.
+fn first_not_replayed(alloc: Global) -> Option<usize> {
+    for (number, (pieces, wanted, _)) in SCRIPTS.iter().enumerate() {
+        let Some((result, _, seen)) = replayed(alloc, pieces, 1000, Full::Fails) else {
+            return Some(number);
+        };
+        if result != *wanted || !seen.kept {
+            return Some(number);
+        }
+    }
+    None
+}
 
 /// The answers of the lines that are whole are written before the next read, and behind a faulty
 /// line there is none.
 #[test]
-fn lines_are_answered_before_the_next_read(rt: HostRuntime) -> Result<(), Fail> {
-    for (number, (pieces, wanted)) in SCRIPTS.iter().enumerate() {
-        assert!(rt; is_replayed(rt.alloc(), pieces, *wanted)?, "{number}");
-    }
-    Ok(())
+fn lines_are_answered_before_the_next_read(rt: HostRuntime) {
+    hold(&rt, first_not_replayed(rt.alloc()));
 }
 
-/// Whether the first write that fails is the last call of all, behind so many exchanges.
-fn ends_a_script(alloc: Global, room: usize, full: Full, exchanges: usize) -> Result<bool, Fail> {
-    let order = Order::new();
-    let ended = replayed(alloc, &order, LINE_BY_LINE, room, full)?;
-    let wanted = (Err(ReplayError::Write), exchanges);
-    Ok(ended == wanted && order.is_kept() && order.written() == room)
-}
-
-/// Of the lines whose answers take these bytes the last one is the last that is submitted.
-#[test]
-fn a_failed_write_ends_a_script(rt: HostRuntime) -> Result<(), Fail> {
-    for (first, end, exchanges) in [(0, 17, 1), (17, 20, 2), (20, 31, 3)] {
-        for room in first..end {
-            let fails = ends_a_script(rt.alloc(), room, Full::Fails, exchanges)?;
-            assert!(rt; fails, "{room}");
-            let takes_nothing = ends_a_script(rt.alloc(), room, Full::TakesNothing, exchanges)?;
-            assert!(rt; takes_nothing, "{room}");
+/// The first script whose answers aren't written in so many writes.
+fn first_in_other_writes(alloc: Global) -> Option<usize> {
+    for (number, (pieces, _, writes)) in SCRIPTS.iter().enumerate() {
+        match replayed(alloc, pieces, 1000, Full::Fails) {
+            Some((_, _, seen)) if seen.writes == *writes => {}
+            _ => return Some(number),
         }
     }
-    Ok(())
+    None
 }
 
 /// The answers of all lines that a read made whole are written in one write.
 #[test]
-fn lines_of_a_read_are_answered_in_one_write(rt: HostRuntime) -> Result<(), Fail> {
-    for ((pieces, _), writes) in SCRIPTS.iter().zip([3, 3, 2, 1]) {
-        let order = Order::new();
-        let _ = replayed(rt.alloc(), &order, pieces, 1000, Full::Fails)?;
-        assert!(rt; order.writes() == writes, "{writes}");
+fn lines_of_a_read_are_answered_in_one_write(rt: HostRuntime) {
+    hold(&rt, first_in_other_writes(rt.alloc()));
+}
+
+/// Whether the first write that fails is the last call of all, behind so many exchanges.
+fn ends_a_script(alloc: Global, room: usize, full: Full, exchanges: usize) -> bool {
+    let Some((result, came, seen)) = replayed(alloc, LINE_BY_LINE, room, full) else {
+        return false;
+    };
+    result == Err(ReplayError::Write) && came == exchanges && seen.kept && seen.written == room
+}
+
+/// Of the lines whose answers take these bytes the last one is the last that is submitted.
+static ENDS: [(usize, usize, usize); 3] = [(0, 17, 1), (17, 20, 2), (20, 31, 3)];
+
+/// The first room at which a script isn't ended so.
+fn first_not_ended(alloc: Global, full: Full) -> Option<usize> {
+    for (first, end, exchanges) in &ENDS {
+        for room in *first..*end {
+            if !ends_a_script(alloc, room, full, *exchanges) {
+                return Some(room);
+            }
+        }
     }
-    Ok(())
+    None
+}
+
+#[test]
+fn a_failed_write_ends_a_script(rt: HostRuntime) {
+    hold(&rt, first_not_ended(rt.alloc(), Full::Fails));
+    hold(&rt, first_not_ended(rt.alloc(), Full::TakesNothing));
 }

@@ -1,11 +1,11 @@
 //! What waits in a station, pumped to an end.
 use crate::fakes::desk;
+use crate::holding::hold;
 use crate::shelf::{Shelf, are};
 use crate::stations::{Pending, Refusing};
 use arrayvec::ArrayVec;
 use std::alloc::Global;
 use std::sync::atomic::AtomicBool;
-use std::test::Fail;
 use xcp_framing::{Desk, ServeError, Station, StationError, Watched, pump, serve_by};
 use xcp_slave::Request;
 
@@ -32,41 +32,47 @@ fn shelf(alloc: Global, good: u32) -> Shelf {
 }
 
 /// A desk in which two events wait, each in one data packet.
-fn sampled(alloc: Global) -> Result<Desk, Fail> {
+fn sampled(alloc: Global) -> Option<Desk> {
     let mut desk = desk(alloc)?;
     let mut reader = Watched::new(ACQUISITION);
     let mut replies = shelf(alloc, 1000);
     let _ = serve_by(alloc, &mut reader, &mut replies, &mut desk, 32, 1000);
-    for first in [7, 9] {
+    for first in &[7, 9] {
         let mut signals = ArrayVec::from([0; 64]);
         signals.truncate(8);
-        signals[0] = first;
+        signals[0] = *first;
         let _ = desk.submit(Request::Event(0, signals));
     }
-    Ok(desk)
+    Some(desk)
+}
+
+/// Whether both events are put in order, and nothing waits then.
+fn puts_both(alloc: Global, desk: &mut Desk) -> bool {
+    let mut data = shelf(alloc, 1000);
+    let stop = AtomicBool::new(false);
+    let before = desk.pending();
+    let result = pump(desk, &mut data, &stop, 10);
+    let good = before == 2 && result == Ok(2) && desk.pending() == 0;
+    good && are(&data.packets, &[&[0, 7], &[0, 9]])
+}
+
+fn are_put(alloc: Global) -> bool {
+    match sampled(alloc) {
+        Some(mut desk) => puts_both(alloc, &mut desk),
+        None => false,
+    }
 }
 
 #[test]
-fn events_are_put_in_order(rt: HostRuntime) -> Result<(), Fail> {
-    let mut desk = sampled(rt.alloc())?;
-    assert_eq!(rt; desk.pending(), 2);
-    let mut data = shelf(rt.alloc(), 1000);
-    let stop = AtomicBool::new(false);
-    assert_eq!(rt; pump(&mut desk, &mut data, &stop, 10), Ok(2));
-    assert!(rt; are(&data.packets, &[&[0, 7], &[0, 9]]));
-    assert_eq!(rt; desk.pending(), 0);
-    Ok(())
+fn events_are_put_in_order(rt: HostRuntime) {
+    assert!(rt; are_put(rt.alloc()));
 }
 
-/// Ten turns over a station that answers so many Drains with packets, and an end that hands one back:
-/// how it ended, how many were put, how many Drains there were, and how often it waited.
-fn pumped(
-    alloc: Global,
-    packets: u32,
-    blocks: bool,
-    good: u32,
-    stopped: bool,
-) -> (Result<u64, ServeError>, usize, usize, u32) {
+/// How a pump ended, how many packets were put, how many Drains there were, and how often it waited.
+type Came = (Result<u64, ServeError>, usize, usize, u32);
+
+/// Ten turns over a station that answers so many Drains with packets, and an end that hands one back.
+fn pumped(alloc: Global, packets: u32, blocks: bool, good: u32, stopped: bool) -> Came {
     let mut station = Pending {
         exchanges: Vec::new(alloc),
         packets,
@@ -84,45 +90,63 @@ fn pumped(
     )
 }
 
+static TURNS: [(u32, bool, u32, bool, Came); 9] = [
+    (0, false, 1000, false, (Ok(0), 0, 0, 10)),
+    (3, false, 1000, false, (Ok(3), 3, 3, 7)),
+    (12, false, 1000, false, (Ok(10), 10, 10, 0)),
+    (3, false, 1000, true, (Ok(0), 0, 0, 0)),
+    (3, false, 2, false, (Err(ServeError::Write), 2, 3, 0)),
+    (3, true, 1000, false, (Ok(9), 9, 3, 7)),
+    (3, true, 3, false, (Err(ServeError::Write), 3, 2, 0)),
+    (3, true, 4, false, (Err(ServeError::Write), 4, 2, 0)),
+    (3, true, 5, false, (Err(ServeError::Write), 5, 2, 0)),
+];
+
+fn first_wrong_turns(alloc: Global) -> Option<usize> {
+    for (number, (packets, blocks, good, stopped, wanted)) in TURNS.iter().enumerate() {
+        if pumped(alloc, *packets, *blocks, *good, *stopped) != *wanted {
+            return Some(number);
+        }
+    }
+    None
+}
+
 /// Where nothing waits nothing is drained, and the pump waits; what waits is put as far as the turns go, and a packet
 /// that is handed back ends the call, also in the middle of a block.
 #[test]
 fn turns(rt: HostRuntime) {
-    let rows = [
-        (0, false, 1000, false, (Ok(0), 0, 0, 10)),
-        (3, false, 1000, false, (Ok(3), 3, 3, 7)),
-        (12, false, 1000, false, (Ok(10), 10, 10, 0)),
-        (3, false, 1000, true, (Ok(0), 0, 0, 0)),
-        (3, false, 2, false, (Err(ServeError::Write), 2, 3, 0)),
-        (3, true, 1000, false, (Ok(9), 9, 3, 7)),
-        (3, true, 3, false, (Err(ServeError::Write), 3, 2, 0)),
-        (3, true, 4, false, (Err(ServeError::Write), 4, 2, 0)),
-        (3, true, 5, false, (Err(ServeError::Write), 5, 2, 0)),
-    ];
-    for (packets, blocks, good, stopped, wanted) in rows {
-        let came = pumped(rt.alloc(), packets, blocks, good, stopped);
-        assert_eq!(rt; came, wanted);
-    }
+    hold(&rt, first_wrong_turns(rt.alloc()));
 }
 
-/// How a station's refusal of a Drain ends the call.
-fn refused(alloc: Global, error: StationError) -> Result<Result<u64, ServeError>, Fail> {
-    let desk = sampled(alloc)?;
-    let mut station = Refusing {
+/// How ten turns over this station end.
+fn ended<S: Station + Drop>(alloc: Global, station: S) -> Result<u64, ServeError> {
+    let mut station = station;
+    let mut data = shelf(alloc, 1000);
+    let stop = AtomicBool::new(false);
+    pump(&mut station, &mut data, &stop, 10)
+}
+
+/// Whether a station's refusal of a Drain ends the call so.
+fn is_refused(alloc: Global, error: StationError, end: ServeError) -> bool {
+    let Some(desk) = sampled(alloc) else {
+        return false;
+    };
+    let station = Refusing {
         desk,
         takes: 1,
         error,
     };
-    let mut data = shelf(alloc, 1000);
-    let stop = AtomicBool::new(false);
-    Ok(pump(&mut station, &mut data, &stop, 10))
+    ended(alloc, station) == Err(end)
 }
 
 #[test]
-fn refusals(rt: HostRuntime) -> Result<(), Fail> {
-    let memory = refused(rt.alloc(), StationError::Memory)?;
-    assert_eq!(rt; memory, Err(ServeError::Memory));
-    let full = refused(rt.alloc(), StationError::JournalFull)?;
-    assert_eq!(rt; full, Err(ServeError::JournalFull));
-    Ok(())
+fn refusals(rt: HostRuntime) {
+    assert!(rt; is_refused(rt.alloc(), StationError::Memory, ServeError::Memory));
+    assert!(rt;
+        is_refused(
+            rt.alloc(),
+            StationError::JournalFull,
+            ServeError::JournalFull
+        )
+    );
 }

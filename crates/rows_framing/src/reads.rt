@@ -1,11 +1,8 @@
 //! How many bytes a reader is asked for at once.
 use crate::fakes::desk;
-use crate::shelf::Shelf;
+use crate::over::{put, replayed, served};
 use std::alloc::Global;
 use std::io::{self, Read};
-use std::test::Fail;
-use xcp_framing::{Watched, serve, serve_by};
-use xcp_script::replay_on;
 
 /// A reader at its end, which notes how many bytes it was asked for.
 #[derive(Drop)]
@@ -15,15 +12,19 @@ struct Asked {
 }
 
 impl Asked {
-    fn new() -> Watched<Asked> {
-        Watched::new(Asked {
+    fn new() -> Asked {
+        Asked {
             least: usize::MAX,
             most: 0,
-        })
+        }
     }
 
-    fn each(&self) -> (usize, usize) {
-        (self.least, self.most)
+    /// The least and the most, where all went well.
+    fn each(&self, good: bool) -> Option<(usize, usize)> {
+        if good {
+            return Some((self.least, self.most));
+        }
+        None
     }
 }
 
@@ -35,37 +36,26 @@ impl Read for Asked {
     }
 }
 
-fn of_replay(alloc: Global) -> Result<(usize, usize), Fail> {
-    let mut desk = desk(alloc)?;
-    let mut reader = Asked::new();
-    let mut writer = Watched::new(Vec::new(alloc));
-    replay_on(alloc, &mut desk, &mut reader, &mut writer, 9)?;
-    Ok(reader.into_inner().each())
+fn of_replay(alloc: Global) -> Option<(usize, usize)> {
+    let (result, _, reader, _) = replayed(alloc, Asked::new(), Vec::new(alloc), 9)?;
+    reader.each(result.is_ok())
 }
 
-fn of_serve(alloc: Global) -> Result<(usize, usize), Fail> {
-    let mut desk = desk(alloc)?;
-    let mut reader = Asked::new();
-    let mut writer = Watched::new(Vec::new(alloc));
-    serve(alloc, &mut reader, &mut writer, &mut desk, 32, 9)?;
-    Ok(reader.into_inner().each())
+fn of_serve(alloc: Global) -> Option<(usize, usize)> {
+    let desk = desk(alloc)?;
+    let (result, reader, _) = served(alloc, desk, Asked::new(), Vec::new(alloc), 32, 9);
+    reader.each(result.is_ok())
 }
 
-fn of_serve_by(alloc: Global) -> Result<(usize, usize), Fail> {
-    let mut desk = desk(alloc)?;
-    let mut reader = Asked::new();
-    let mut shelf = Shelf {
-        packets: Vec::new(alloc),
-        good: 9,
-    };
-    serve_by(alloc, &mut reader, &mut shelf, &mut desk, 32, 9)?;
-    Ok(reader.into_inner().each())
+fn of_serve_by(alloc: Global) -> Option<(usize, usize)> {
+    let desk = desk(alloc)?;
+    let (result, reader, _) = put(alloc, desk, Asked::new(), 9, 32, 9);
+    reader.each(result.is_ok())
 }
 
 #[test]
-fn readers_are_asked_for_so_many_bytes(rt: HostRuntime) -> Result<(), Fail> {
-    assert_eq!(rt; of_replay(rt.alloc())?, (16_384, 16_384));
-    assert_eq!(rt; of_serve(rt.alloc())?, (512, 512));
-    assert_eq!(rt; of_serve_by(rt.alloc())?, (512, 512));
-    Ok(())
+fn readers_are_asked_for_so_many_bytes(rt: HostRuntime) {
+    assert!(rt; of_replay(rt.alloc()) == Some((16_384, 16_384)));
+    assert!(rt; of_serve(rt.alloc()) == Some((512, 512)));
+    assert!(rt; of_serve_by(rt.alloc()) == Some((512, 512)));
 }

@@ -1,40 +1,53 @@
 //! Scripts run through a desk, over streams that give and take little, or fail.
+ghost use Rattle.std.specs.Prelude.{◌≡◌, []};
+
 use crate::fakes::{Narrow, Pieces, desk};
+use crate::holding::hold;
+use crate::over::{replayed, replayed_on};
 use crate::replay_rows::{GOOD, ROWS, Row};
 use std::alloc::{AllocError, Global};
-use std::test::Fail;
-use xcp_framing::{Desk, Station, StationError, Watched};
-use xcp_script::{ReplayError, each_text_has_its_lines, replay_on};
+use xcp_framing::{Desk, Station};
+use xcp_script::{ReplayError, each_text_has_its_lines};
 use xcp_slave::{Answer, Exchange, Request};
 
-fn run(alloc: Global, row: &Row) -> Result<(Result<u64, ReplayError>, Vec<u8>, Desk), Fail> {
-    let mut desk = desk(alloc)?;
-    let mut reader = Watched::new(Pieces {
+/// The row's streams.
+fn streams<'a>(alloc: Global, row: &Row<'a>) -> (Pieces<'a>, Narrow) {
+    let reader = Pieces {
         text: row.script,
         most: row.most,
         good_reads: row.good_reads,
-    });
-    let mut writer = Watched::new(Narrow {
+    };
+    let writer = Narrow {
         bytes: Vec::new(alloc),
         room: row.room,
         full: row.full,
-    });
-    let result = replay_on(alloc, &mut desk, &mut reader, &mut writer, row.turns);
-    Ok((result, writer.into_inner().bytes, desk))
+    };
+    (reader, writer)
 }
 
 /// Whether a script runs as its row says.
-fn holds(alloc: Global, row: &Row) -> Result<bool, Fail> {
-    let (result, written, _) = run(alloc, row)?;
-    Ok(result == row.result && written.as_slice() == row.written)
+fn holds(alloc: Global, row: &Row) -> bool {
+    let (reader, writer) = streams(alloc, row);
+    match replayed(alloc, reader, writer, row.turns) {
+        Some((result, _, _, writer)) => {
+            result == row.result && writer.bytes.as_slice() == row.written
+        }
+        None => false,
+    }
+}
+
+fn first_wrong(alloc: Global) -> Option<usize> {
+    for (number, (_name, row)) in ROWS.iter().enumerate() {
+        if !holds(alloc, row) {
+            return Some(number);
+        }
+    }
+    None
 }
 
 #[test]
-fn scripts(rt: HostRuntime) -> Result<(), Fail> {
-    for (name, row) in &ROWS {
-        assert!(rt; holds(rt.alloc(), row)?, "{name}");
-    }
-    Ok(())
+fn scripts(rt: HostRuntime) {
+    hold(&rt, first_wrong(rt.alloc()));
 }
 
 /// A comment of so many bytes, and a line feed.
@@ -48,16 +61,9 @@ fn comment(alloc: Global, length: usize, end: &[u8]) -> Result<Vec<u8>, AllocErr
 }
 
 /// Whether a script of one long comment, which nothing answers, ends so.
-fn ends(
-    alloc: Global,
-    length: usize,
-    end: &[u8],
-    most: usize,
-    wanted: Result<u64, ReplayError>,
-) -> Result<bool, Fail> {
-    let script = comment(alloc, length, end)?;
+fn ends(alloc: Global, script: &[u8], most: usize, wanted: Result<u64, ReplayError>) -> bool {
     let row = Row {
-        script: &script,
+        script,
         most,
         result: wanted,
         written: b"",
@@ -78,27 +84,53 @@ static LONG: [(usize, &[u8], Result<u64, ReplayError>); 8] = [
     (40000, b"", Err(ReplayError::Line(1))),
 ];
 
-#[test]
-fn long_lines(rt: HostRuntime) -> Result<(), Fail> {
-    for (length, end, wanted) in &LONG {
-        assert!(rt; ends(rt.alloc(), *length, end, 100, *wanted)?, "{length}");
-        assert!(rt; ends(rt.alloc(), *length, end, 16384, *wanted)?, "{length}");
+/// The first of these scripts that doesn't end so, in short pieces or in long ones.
+fn first_wrong_line(alloc: Global) -> Option<usize> {
+    for (number, (length, end, wanted)) in LONG.iter().enumerate() {
+        let Ok(script) = comment(alloc, *length, end) else {
+            return Some(number);
+        };
+        if !ends(alloc, &script, 100, *wanted) || !ends(alloc, &script, 16384, *wanted) {
+            return Some(number);
+        }
     }
-    Ok(())
+    None
 }
 
 #[test]
-fn a_desk_stores_its_exchanges(rt: HostRuntime) -> Result<(), Fail> {
-    each_text_has_its_lines();
-    let (result, _, mut desk) = run(rt.alloc(), &GOOD)?;
-    desk.audit();
-    assert!(rt; result == Ok(3) && desk.max_cto() == 32);
-    let answer = desk.submit(Request::Hangup);
-    assert_eq!(rt; answer, Ok::<Answer, StationError>(Answer::Silent));
+fn long_lines(rt: HostRuntime) {
+    hold(&rt, first_wrong_line(rt.alloc()));
+}
+
+/// Whether Hangup is answered, and is the fourth exchange that the desk stores.
+fn is_stored(desk: &mut Desk) -> bool {
+    let answered = desk.submit(Request::Hangup) == Ok(Answer::Silent);
     let last = Exchange {
         request: Request::Hangup,
         answer: Answer::Silent,
     };
-    assert!(rt; desk.trace().len() == 4 && desk.trace().get(3) == Some(last));
-    Ok(())
+    answered && desk.trace().len() == 4 && desk.trace().get(3) == Some(last)
+}
+
+/// The same of a new desk, behind the good row.
+fn stores_behind(alloc: Global, desk: &mut Desk) -> bool
+    requires { desk.old.exchanges ≡ [] }
+{
+    let (reader, writer) = streams(alloc, &GOOD);
+    let (result, _, _, _) = replayed_on(alloc, desk, reader, writer, GOOD.turns);
+    desk.audit();
+    result == Ok(3) && desk.max_cto() == 32 && is_stored(desk)
+}
+
+fn stores(alloc: Global) -> bool {
+    match desk(alloc) {
+        Some(mut desk) => stores_behind(alloc, &mut desk),
+        None => false,
+    }
+}
+
+#[test]
+fn a_desk_stores_its_exchanges(rt: HostRuntime) {
+    each_text_has_its_lines();
+    assert!(rt; stores(rt.alloc()));
 }

@@ -1,11 +1,13 @@
 //! Streams whose answers are put at an end.
 use crate::fakes::{desk, desk_of};
+use crate::holding::hold;
+use crate::over::put;
 use crate::serve_rows::CONNECT;
 use crate::shelf::{Shelf, are};
 use crate::stations::{Pending, Refusing};
 use std::alloc::Global;
-use std::test::Fail;
 use xcp_framing::{ServeError, Served, StationError, Watched, serve_by};
+use xcp_packet::Packet;
 
 /// CONNECT, a command that is unknown, SYNCH, a second CONNECT, SET_MTA, an UPLOAD of 16 bytes, and SYNCH.
 const COMMANDS: &[u8] = &[
@@ -14,7 +16,7 @@ const COMMANDS: &[u8] = &[
 ];
 
 /// The packets of their answers, in order: with MAX_CTO 8 three of the UPLOAD.
-const ANSWERS: [&[u8]; 9] = [
+static ANSWERS: [&[u8]; 9] = [
     &[0xFF, 5, 0xC0, 8, 0x40, 0, 1, 1],
     &[0xFE, 0x20],
     &[0xFE, 0],
@@ -27,103 +29,129 @@ const ANSWERS: [&[u8]; 9] = [
 ];
 
 /// What is served of a stream where an end takes so many packets and hands the next one back, and
-/// what was put.
+/// what was put; none where there is no desk.
 fn served(
     alloc: Global,
     stream: &[u8],
     good: u32,
     turns: u32,
-) -> Result<(Result<Served, ServeError>, Vec<xcp_packet::Packet>), Fail> {
-    let mut desk = desk_of(alloc, 8)?;
-    let mut reader = Watched::new(stream);
-    let mut shelf = Shelf {
-        packets: Vec::new(alloc),
-        good,
-    };
-    let result = serve_by(alloc, &mut reader, &mut shelf, &mut desk, 8, turns);
-    Ok((result, shelf.packets))
+) -> Option<(Result<Served, ServeError>, Vec<Packet>)> {
+    let desk = desk_of(alloc, 8)?;
+    let (result, _, packets) = put(alloc, desk, stream, good, 8, turns);
+    Some((result, packets))
 }
 
-#[test]
-fn answers_are_put_in_order(rt: HostRuntime) -> Result<(), Fail> {
-    let (result, packets) = served(rt.alloc(), COMMANDS, 1000, 1000)?;
-    assert_eq!(rt; result, Ok(Served { frames: 7, sent: 9 }));
-    assert!(rt; are(&packets, &ANSWERS));
-    Ok(())
-}
-
-/// Whether a packet that is handed back ends the call, and those before it alone were put.
-fn ends_where_it_is_handed_back(alloc: Global, good: u8) -> Result<bool, Fail> {
-    let (result, packets) = served(alloc, COMMANDS, u32::from(good), 1000)?;
-    let before = &ANSWERS[..usize::from(good).min(9)];
-    Ok(result == Err(ServeError::Write) && are(&packets, before))
-}
-
-#[test]
-fn a_packet_that_is_handed_back_is_a_failed_write(rt: HostRuntime) -> Result<(), Fail> {
-    for good in 0..9 {
-        assert!(rt; ends_where_it_is_handed_back(rt.alloc(), good)?, "{good}");
+/// Whether a call ends so, and these packets were put.
+fn is_served(
+    came: &Option<(Result<Served, ServeError>, Vec<Packet>)>,
+    end: Result<Served, ServeError>,
+    wanted: &[&[u8]],
+) -> bool {
+    match came {
+        Some((result, packets)) => *result == end && are(packets, wanted),
+        None => false,
     }
-    Ok(())
 }
 
 #[test]
-fn other_ends(rt: HostRuntime) -> Result<(), Fail> {
-    let (spent, packets) = served(rt.alloc(), CONNECT, 1000, 1)?;
-    assert_eq!(rt; spent, Err(ServeError::TurnsSpent));
-    assert!(rt; are(&packets, &ANSWERS[..1]));
-    let (bad, _) = served(rt.alloc(), &[33, 0], 1000, 1000)?;
-    assert_eq!(rt; bad, Err(ServeError::BadLength(33)));
-    let (cut, _) = served(rt.alloc(), &[2, 0, 0], 1000, 1000)?;
-    assert_eq!(rt; cut, Err(ServeError::Truncated));
-    Ok(())
+fn answers_are_put_in_order(rt: HostRuntime) {
+    let came = served(rt.alloc(), COMMANDS, 1000, 1000);
+    assert!(rt; is_served(&came, Ok(Served { frames: 7, sent: 9 }), &ANSWERS));
 }
 
-/// How a station's refusal of CONNECT ends the call.
-fn refused(alloc: Global, error: StationError) -> Result<Result<Served, ServeError>, Fail> {
-    let desk = desk(alloc)?;
-    let mut station = Refusing {
+/// The number of packets that were put, at which the next one that is handed back doesn't end the call, or others
+/// were put.
+fn first_not_ended(alloc: Global) -> Option<usize> {
+    for good in 0..9u8 {
+        let came = served(alloc, COMMANDS, u32::from(good), 1000);
+        let good = usize::from(good);
+        if !is_served(&came, Err(ServeError::Write), &ANSWERS[..good]) {
+            return Some(good);
+        }
+    }
+    None
+}
+
+#[test]
+fn a_packet_that_is_handed_back_is_a_failed_write(rt: HostRuntime) {
+    hold(&rt, first_not_ended(rt.alloc()));
+}
+
+/// A stream, the turns, how it ends, and the packets that are put.
+type End = (&'static [u8], u32, ServeError, &'static [&'static [u8]]);
+
+static ENDS: [End; 3] = [
+    (
+        CONNECT,
+        1,
+        ServeError::TurnsSpent,
+        &[&[0xFF, 5, 0xC0, 8, 0x40, 0, 1, 1]],
+    ),
+    (&[33, 0], 1000, ServeError::BadLength(33), &[]),
+    (&[2, 0, 0], 1000, ServeError::Truncated, &[]),
+];
+
+fn first_other_end(alloc: Global) -> Option<usize> {
+    for (number, (stream, turns, end, packets)) in ENDS.iter().enumerate() {
+        let came = served(alloc, stream, 1000, *turns);
+        if !is_served(&came, Err(*end), packets) {
+            return Some(number);
+        }
+    }
+    None
+}
+
+#[test]
+fn other_ends(rt: HostRuntime) {
+    hold(&rt, first_other_end(rt.alloc()));
+}
+
+/// Whether a station's refusal of CONNECT ends the call so.
+fn is_refused(alloc: Global, error: StationError, end: ServeError) -> bool {
+    let Some(desk) = desk(alloc) else {
+        return false;
+    };
+    let station = Refusing {
         desk,
         takes: 0,
         error,
     };
-    let mut reader = Watched::new(CONNECT);
-    let mut shelf = Shelf {
-        packets: Vec::new(alloc),
-        good: 1000,
-    };
-    Ok(serve_by(alloc, &mut reader, &mut shelf, &mut station, 32, 1000))
+    let (result, _, _) = put(alloc, station, CONNECT, 1000, 32, 1000);
+    result == Err(end)
 }
 
 #[test]
-fn refusals(rt: HostRuntime) -> Result<(), Fail> {
-    assert_eq!(rt;
-        refused(rt.alloc(), StationError::Memory)?,
-        Err(ServeError::Memory)
+fn refusals(rt: HostRuntime) {
+    assert!(rt; is_refused(rt.alloc(), StationError::Memory, ServeError::Memory));
+    assert!(rt;
+        is_refused(
+            rt.alloc(),
+            StationError::JournalFull,
+            ServeError::JournalFull
+        )
     );
-    assert_eq!(rt;
-        refused(rt.alloc(), StationError::JournalFull)?,
-        Err(ServeError::JournalFull)
-    );
-    Ok(())
 }
 
-/// What waits stays where it is: a command alone is submitted.
-#[test]
-fn nothing_is_drained(rt: HostRuntime) {
+/// What is served of CONNECT by a station in which 5 packets wait, how many exchanges there are, and how many packets
+/// wait then.
+fn undrained(alloc: Global) -> (Result<Served, ServeError>, usize, u32) {
     let mut station = Pending {
-        exchanges: Vec::new(rt.alloc()),
+        exchanges: Vec::new(alloc),
         packets: 5,
         blocks: false,
         waits: 0,
     };
     let mut reader = Watched::new(CONNECT);
     let mut shelf = Shelf {
-        packets: Vec::new(rt.alloc()),
+        packets: Vec::new(alloc),
         good: 1000,
     };
-    let result = serve_by(rt.alloc(), &mut reader, &mut shelf, &mut station, 32, 1000);
-    assert_eq!(rt; result, Ok(Served { frames: 1, sent: 0 }));
-    assert_eq!(rt; station.exchanges.len(), 1);
-    assert_eq!(rt; station.packets, 5);
+    let result = serve_by(alloc, &mut reader, &mut shelf, &mut station, 32, 1000);
+    (result, station.exchanges.len(), station.packets)
+}
+
+/// What waits stays where it is: a command alone is submitted.
+#[test]
+fn nothing_is_drained(rt: HostRuntime) {
+    assert!(rt; undrained(rt.alloc()) == (Ok(Served { frames: 1, sent: 0 }), 1, 5));
 }

@@ -1,19 +1,19 @@
 //! Streams that are served.
-ghost use Rattle.std.specs.Prelude.{◌≢◌, IfOk};
+ghost use Rattle.std.specs.Prelude.{◌≢◌, IfSome};
 
 use crate::fakes::{Narrow, Pieces, desk, desk_of};
+use crate::holding::hold;
+use crate::over::served;
 use crate::serve_rows::{BLOCK, CONNECT, CONNECTED, GOOD, ROWS, Row};
 use crate::stations::{Pending, Refusing};
 use std::alloc::{AllocError, Global};
 use std::io::Read;
-use std::test::Fail;
-use xcp_framing::{ServeError, Served, StationError, Watched, a_desk_is_never_full, serve};
+use xcp_framing::{Desk, ServeError, Served, StationError, Watched, a_desk_is_never_full, serve};
 
 /// Serves the row's stream over a desk, which is never full.
-fn run(alloc: Global, row: &Row) -> Result<(Result<Served, ServeError>, Vec<u8>), Fail>
-    ensures { IfOk result (λ served. served.0 ≢ Err ServeError.JournalFull) }
+fn run_on(alloc: Global, desk: &mut Desk, row: &Row) -> (Result<Served, ServeError>, Vec<u8>)
+    ensures { result.0 ≢ Err ServeError.JournalFull }
 {
-    let mut desk = desk_of(alloc, i64::from(row.max_cto))?;
     let mut reader = Watched::new(Pieces {
         text: row.stream,
         most: row.most,
@@ -28,57 +28,73 @@ fn run(alloc: Global, row: &Row) -> Result<(Result<Served, ServeError>, Vec<u8>)
         alloc,
         &mut reader,
         &mut writer,
-        &mut desk,
+        desk,
         row.max_cto,
         row.turns,
     );
-    Ok((result, writer.into_inner().bytes))
+    (result, writer.into_inner().bytes)
+}
+
+/// The same over a new one; none where there is no desk.
+fn run(alloc: Global, row: &Row) -> Option<(Result<Served, ServeError>, Vec<u8>)>
+    ensures { IfSome result (λ served. served.0 ≢ Err ServeError.JournalFull) }
+{
+    let mut desk = desk_of(alloc, i64::from(row.max_cto))?;
+    Some(run_on(alloc, &mut desk, row))
 }
 
 /// Whether a stream is served as its row says.
-fn holds(alloc: Global, row: &Row) -> Result<bool, Fail> {
-    let (result, written) = run(alloc, row)?;
-    Ok(result == row.result && written.as_slice() == row.written)
+fn holds(alloc: Global, row: &Row) -> bool {
+    match run(alloc, row) {
+        Some((result, written)) => result == row.result && written.as_slice() == row.written,
+        None => false,
+    }
+}
+
+fn first_wrong(alloc: Global) -> Option<usize> {
+    for (number, (_name, row)) in ROWS.iter().enumerate() {
+        if !holds(alloc, row) {
+            return Some(number);
+        }
+    }
+    None
 }
 
 #[test]
-fn streams(rt: HostRuntime) -> Result<(), Fail> {
-    for (name, row) in &ROWS {
-        assert!(rt; holds(rt.alloc(), row)?, "{name}");
-    }
-    Ok(())
+fn streams(rt: HostRuntime) {
+    hold(&rt, first_wrong(rt.alloc()));
 }
 
-/// Whether a row's stream in two pieces, cut at this place, is answered as in one.
-fn is_cut(alloc: Global, row: &Row, cut: usize) -> Result<bool, Fail> {
-    let mut desk = desk_of(alloc, i64::from(row.max_cto))?;
-    let (front, rest) = row.stream.split_at(cut.min(row.stream.len()));
-    let mut reader = Watched::new(front.chain(rest));
-    let mut writer = Watched::new(Vec::new(alloc));
-    let result = serve(
-        alloc,
-        &mut reader,
-        &mut writer,
-        &mut desk,
-        row.max_cto,
-        1000,
-    );
-    Ok(result == row.result && writer.into_inner().as_slice() == row.written)
+/// Whether a row's stream in these two pieces is answered as in one.
+fn is_cut(alloc: Global, row: &Row, front: &[u8], rest: &[u8]) -> bool {
+    let Some(desk) = desk_of(alloc, i64::from(row.max_cto)) else {
+        return false;
+    };
+    let pieces = front.chain(rest);
+    let (result, _, written) = served(alloc, desk, pieces, Vec::new(alloc), row.max_cto, 1000);
+    result == row.result && written.as_slice() == row.written
+}
+
+/// The first place at which the stream is cut and answered otherwise.
+fn first_wrong_cut(alloc: Global, row: &Row) -> Option<usize> {
+    for cut in 0..=row.stream.len() {
+        let (front, rest) = row.stream.split_at(cut);
+        if !is_cut(alloc, row, front, rest) {
+            return Some(cut);
+        }
+    }
+    None
 }
 
 /// In two pieces, cut at each place.
 #[test]
-fn cuts(rt: HostRuntime) -> Result<(), Fail> {
-    for row in [GOOD, BLOCK] {
-        for cut in 0..=row.stream.len() {
-            assert!(rt; is_cut(rt.alloc(), &row, cut)?, "{cut}");
-        }
-    }
-    Ok(())
+fn cuts(rt: HostRuntime) {
+    hold(&rt, first_wrong_cut(rt.alloc(), &GOOD));
+    hold(&rt, first_wrong_cut(rt.alloc(), &BLOCK));
 }
 
 /// A reader that fails behind so many bytes.
-fn fails_to_read(alloc: Global, good: usize) -> Result<bool, Fail> {
+fn fails_to_read(alloc: Global, good: usize) -> bool {
     let written = if good < CONNECT.len() {
         &[][..]
     } else {
@@ -94,8 +110,17 @@ fn fails_to_read(alloc: Global, good: usize) -> Result<bool, Fail> {
     holds(alloc, &row)
 }
 
+fn first_read(alloc: Global) -> Option<usize> {
+    for good in 0..=CONNECT.len() {
+        if !fails_to_read(alloc, good) {
+            return Some(good);
+        }
+    }
+    None
+}
+
 /// A row's stream over a writer that fails behind so many bytes: these are written.
-fn fails_to_write(alloc: Global, row: &Row, room: usize) -> Result<bool, Fail> {
+fn fails_to_write(alloc: Global, row: &Row, room: usize) -> bool {
     let row = Row {
         room,
         result: Err(ServeError::Write),
@@ -105,50 +130,61 @@ fn fails_to_write(alloc: Global, row: &Row, room: usize) -> Result<bool, Fail> {
     holds(alloc, &row)
 }
 
-#[test]
-fn faults_in_mid_stream(rt: HostRuntime) -> Result<(), Fail> {
-    for good in 0..=CONNECT.len() {
-        assert!(rt; fails_to_read(rt.alloc(), good)?, "{good}");
-    }
-    for row in [GOOD, BLOCK] {
-        for room in 0..row.written.len() {
-            assert!(rt; fails_to_write(rt.alloc(), &row, room)?, "{room}");
+fn first_write(alloc: Global, row: &Row) -> Option<usize> {
+    for room in 0..row.written.len() {
+        if !fails_to_write(alloc, row, room) {
+            return Some(room);
         }
     }
-    Ok(())
+    None
 }
 
-/// Whether a station that refuses so behind so many requests ends the call, and what is written.
-fn is_refused(
+#[test]
+fn faults_in_mid_stream(rt: HostRuntime) {
+    hold(&rt, first_read(rt.alloc()));
+    hold(&rt, first_write(rt.alloc(), &GOOD));
+    hold(&rt, first_write(rt.alloc(), &BLOCK));
+}
+
+/// A station's refusal, behind so many requests, how it ends the call, and what is written.
+static REFUSALS: [(StationError, u32, ServeError, &[u8]); 4] = [
+    (StationError::Memory, 0, ServeError::Memory, &[]),
+    (StationError::JournalFull, 0, ServeError::JournalFull, &[]),
+    (StationError::Memory, 1, ServeError::Memory, CONNECTED),
+    (
+        StationError::JournalFull,
+        1,
+        ServeError::JournalFull,
+        CONNECTED,
+    ),
+];
+
+/// How a call ends whose station refuses so behind so many requests, and what is written.
+fn refused(
     alloc: Global,
     error: StationError,
     takes: u32,
-    end: ServeError,
-) -> Result<bool, Fail> {
+) -> Option<(Result<Served, ServeError>, Vec<u8>)> {
     let desk = desk(alloc)?;
-    let mut station = Refusing { desk, takes, error };
-    let mut reader = Watched::new(CONNECT);
-    let mut writer = Watched::new(Vec::new(alloc));
-    let result = serve(alloc, &mut reader, &mut writer, &mut station, 32, 1000);
-    let written = if takes == 0 { &[][..] } else { CONNECTED };
-    Ok(result == Err(end) && writer.into_inner().as_slice() == written)
+    let station = Refusing { desk, takes, error };
+    let (result, _, written) = served(alloc, station, CONNECT, Vec::new(alloc), 32, 1000);
+    Some((result, written))
+}
+
+fn first_wrong_refusal(alloc: Global) -> Option<usize> {
+    for (number, (error, takes, end, wanted)) in REFUSALS.iter().enumerate() {
+        match refused(alloc, *error, *takes) {
+            Some((result, written)) if result == Err(*end) && written.as_slice() == *wanted => {}
+            _ => return Some(number),
+        }
+    }
+    None
 }
 
 /// The station's refusal ends the call: before CONNECT, and before the Drain behind it.
 #[test]
-fn refusals(rt: HostRuntime) -> Result<(), Fail> {
-    for takes in 0..2 {
-        let memory = is_refused(rt.alloc(), StationError::Memory, takes, ServeError::Memory)?;
-        assert!(rt; memory, "{takes}");
-        let full = is_refused(
-            rt.alloc(),
-            StationError::JournalFull,
-            takes,
-            ServeError::JournalFull,
-        )?;
-        assert!(rt; full, "{takes}");
-    }
-    Ok(())
+fn refusals(rt: HostRuntime) {
+    hold(&rt, first_wrong_refusal(rt.alloc()));
 }
 
 /// What is served of two commands where so many Drains give packets, and how many exchanges it takes.
@@ -165,23 +201,35 @@ fn drained(alloc: Global, packets: u32, blocks: bool) -> (Result<Served, ServeEr
     (result, station.exchanges.len())
 }
 
+/// How many Drains give packets, whether these are blocks, how many exchanges there are, and how many packets are sent.
+static DRAINS: [(u32, bool, usize, u64); 7] = [
+    (0, false, 4, 0),
+    (63, false, 67, 63),
+    (64, false, 67, 64),
+    (70, false, 73, 70),
+    (200, false, 130, 128),
+    (2, true, 6, 6),
+    (70, true, 73, 210),
+];
+
+fn first_wrong_drain(alloc: Global) -> Option<usize> {
+    for (number, (packets, blocks, exchanges, sent)) in DRAINS.iter().enumerate() {
+        let (result, came) = drained(alloc, *packets, *blocks);
+        let wanted = Served {
+            frames: 2,
+            sent: *sent,
+        };
+        if result != Ok(wanted) || came != *exchanges {
+            return Some(number);
+        }
+    }
+    None
+}
+
 /// Behind a command stand 64 Drains at most: of 70 packets 64 go out behind the first of two.
 #[test]
-fn drains(rt: HostRuntime) -> Result<(), Fail> {
-    let rows = [
-        (0, false, 4, 0),
-        (63, false, 67, 63),
-        (64, false, 67, 64),
-        (70, false, 73, 70),
-        (200, false, 130, 128),
-        (2, true, 6, 6),
-        (70, true, 73, 210),
-    ];
-    for (packets, blocks, exchanges, sent) in rows {
-        let wanted = (Ok(Served { frames: 2, sent }), exchanges);
-        assert!(rt; drained(rt.alloc(), packets, blocks) == wanted, "{packets}");
-    }
-    Ok(())
+fn drains(rt: HostRuntime) {
+    hold(&rt, first_wrong_drain(rt.alloc()));
 }
 
 /// CONNECT and so many SYNCH, each in its frame.
@@ -193,22 +241,28 @@ pub(crate) fn synch_stream(alloc: Global, count: u32) -> Result<Vec<u8>, AllocEr
     Ok(stream)
 }
 
-/// CONNECT and 65,536 SYNCH: the last answer is the 65,537th packet.
-#[test]
-fn ctr_starts_anew(rt: HostRuntime) -> Result<(), Fail> {
-    a_desk_is_never_full();
-    let stream = synch_stream(rt.alloc(), 65_536)?;
-    let mut desk = desk(rt.alloc())?;
-    let mut reader = Watched::new(stream.as_slice());
-    let mut writer = Watched::new(Vec::new(rt.alloc()));
-    let result = serve(rt.alloc(), &mut reader, &mut writer, &mut desk, 32, 1000);
-    let served = Served {
+/// The end of the answers to CONNECT and 65,536 SYNCH.
+const LAST: &[u8] = &[2, 0, 0xFF, 0xFF, 0xFE, 0, 2, 0, 0, 0, 0xFE, 0];
+
+/// Whether the stream of CONNECT and 65,536 SYNCH is answered so.
+fn starts_anew(alloc: Global, stream: &[u8]) -> bool {
+    let Some(desk) = desk(alloc) else {
+        return false;
+    };
+    let (result, _, written) = served(alloc, desk, stream, Vec::new(alloc), 32, 1000);
+    let wanted = Served {
         frames: 65_537,
         sent: 65_537,
     };
-    assert_eq!(rt; result, Ok(served));
-    let last = [2, 0, 0xFF, 0xFF, 0xFE, 0, 2, 0, 0, 0, 0xFE, 0].as_slice();
-    assert!(rt; writer.into_inner().ends_with(last));
+    result == Ok(wanted) && written.ends_with(LAST)
+}
+
+/// CONNECT and 65,536 SYNCH: the last answer is the 65,537th packet.
+#[test]
+fn ctr_starts_anew(rt: HostRuntime) -> Result<(), AllocError> {
+    a_desk_is_never_full();
+    let stream = synch_stream(rt.alloc(), 65_536)?;
+    assert!(rt; starts_anew(rt.alloc(), &stream));
     Ok(())
 }
 
@@ -223,13 +277,21 @@ static ERRORS: [ServeError; 7] = [
     ServeError::JournalFull,
 ];
 
+fn first_wrong_number() -> Option<usize> {
+    for (error, number) in ERRORS.iter().zip(1..8) {
+        if error.number() != number {
+            return Some(usize::from(number));
+        }
+    }
+    None
+}
+
 #[test]
 fn numbers(rt: HostRuntime) {
-    for (error, number) in ERRORS.iter().zip(1..8) {
-        assert!(rt; error.number() == number, "{number}");
-    }
-    let refusals = [StationError::Memory, StationError::JournalFull];
-    for (refusal, number) in refusals.iter().zip(1..3) {
-        assert!(rt; refusal.number() == number, "{number}");
-    }
+    hold(&rt, first_wrong_number());
+    let refusals = [
+        StationError::Memory.number(),
+        StationError::JournalFull.number(),
+    ];
+    assert!(rt; refusals == [1, 2]);
 }

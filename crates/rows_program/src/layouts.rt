@@ -31,10 +31,8 @@ pub fn changed(alloc: Global, place: usize, line: &str) -> Result<String, AllocE
     Ok(text)
 }
 
-/// The document as it stands.
-pub fn document(alloc: Global) -> Result<String, AllocError> {
-    changed(alloc, LINES.len(), "")
-}
+/// No line's place, at which `changed` leaves the document as it stands.
+pub const WHOLE: usize = LINES.len();
 
 /// The document `data/engine.toml` of the program.
 pub const ENGINE: &str = r#"# The controller of a four-cylinder engine, as it left the factory.

@@ -1,43 +1,65 @@
 //! The reading of a layout file.
 use std::alloc::Global;
-use std::test::Fail;
 use xcp_program::{Fault, read_text, read_whole};
 
-#[test]
-fn a_file_has_at_most_65_536_bytes(rt: HostRuntime) -> Result<(), Fail> {
-    let bytes = vec![in rt.alloc(); 7u8; 65_537]?;
-    let most = read_whole(rt.alloc(), &bytes[..65_536]).map(|all| all.len());
-    assert_eq!(rt; most, Ok(65_536));
-    let more = read_whole(rt.alloc(), bytes.as_slice()).map(|all| all.len());
-    assert_eq!(rt; more, Err(Fault::Configuration(0)));
-    Ok(())
-}
-
-/// Whether a file of the first so many of these bytes is read whole.
-fn is_read(alloc: Global, bytes: &[u8], end: usize) -> bool {
-    let front = &bytes[..end.min(bytes.len())];
-    match read_whole(alloc, front) {
-        Ok(all) => front.len() == end && all.as_slice() == front,
-        Err(_) => false,
+/// A file of so many such bytes.
+fn file_of(alloc: Global, byte: u8, count: usize) -> Result<Vec<u8>, Fault> {
+    match vec![in alloc; byte; count] {
+        Ok(bytes) => Ok(bytes),
+        Err(_) => Err(Fault::Memory),
     }
 }
 
-#[test]
-fn files_of_each_size_are_read_whole(rt: HostRuntime) -> Result<(), Fail> {
-    let bytes = vec![in rt.alloc(); 7u8; 65_536]?;
-    let ends = [0, 1, 511, 4_096, 10_001, 32_768, 40_000, 65_535];
-    assert!(rt; ends.iter().all(|end| is_read(rt.alloc(), &bytes, *end)));
-    Ok(())
+/// How many bytes are read of a file of so many bytes 7.
+fn bytes_of(alloc: Global, count: usize) -> Result<usize, Fault> {
+    let bytes = file_of(alloc, 7, count)?;
+    let all = read_whole(alloc, bytes.as_slice())?;
+    Ok(all.len())
 }
 
 #[test]
-fn a_file_that_is_no_text(rt: HostRuntime) -> Result<(), Fail> {
-    let good = read_text(rt.alloc(), &b"id"[..]).map(|text| text.len());
-    assert_eq!(rt; good, Ok(2));
-    let bad = read_text(rt.alloc(), &b"id\xFF"[..]).map(|text| text.len());
-    assert_eq!(rt; bad, Err(Fault::Configuration(1)));
-    let long = vec![in rt.alloc(); 0xFFu8; 65_537]?;
-    let long = read_text(rt.alloc(), long.as_slice()).map(|text| text.len());
-    assert_eq!(rt; long, Err(Fault::Configuration(0)));
-    Ok(())
+fn a_file_has_at_most_65_536_bytes(rt: HostRuntime) {
+    assert!(rt; bytes_of(rt.alloc(), 65_536) == Ok(65_536));
+    assert!(rt; bytes_of(rt.alloc(), 65_537) == Err(Fault::Configuration(0)));
+}
+
+/// Whether a file of so many bytes is read whole.
+fn is_read(alloc: Global, end: usize) -> Result<bool, Fault> {
+    let bytes = file_of(alloc, 7, end)?;
+    let all = read_whole(alloc, bytes.as_slice())?;
+    Ok(all.len() == end && all == bytes)
+}
+
+/// The first size at which a file isn't read whole.
+fn first_unread(alloc: Global) -> Result<Option<usize>, Fault> {
+    for end in [0, 1, 511, 4_096, 10_001, 32_768, 40_000, 65_535] {
+        if !is_read(alloc, end)? {
+            return Ok(Some(end));
+        }
+    }
+    Ok(None)
+}
+
+#[test]
+fn files_of_each_size_are_read_whole(rt: HostRuntime) {
+    assert!(rt; first_unread(rt.alloc()) == Ok(None));
+}
+
+/// How long the text of a file of these bytes is.
+fn text_of(alloc: Global, bytes: &[u8]) -> Result<usize, Fault> {
+    let text = read_text(alloc, bytes)?;
+    Ok(text.len())
+}
+
+/// The same of a file of more bytes than it may have, which are no text.
+fn text_of_many(alloc: Global) -> Result<usize, Fault> {
+    let bytes = file_of(alloc, 0xFF, 65_537)?;
+    text_of(alloc, &bytes)
+}
+
+#[test]
+fn a_file_that_is_no_text(rt: HostRuntime) {
+    assert!(rt; text_of(rt.alloc(), b"id") == Ok(2));
+    assert!(rt; text_of(rt.alloc(), b"id\xFF") == Err(Fault::Configuration(1)));
+    assert!(rt; text_of_many(rt.alloc()) == Err(Fault::Configuration(0)));
 }

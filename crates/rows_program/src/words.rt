@@ -1,8 +1,9 @@
 //! The words of the command line, and what is told where they ask for nothing.
+use crate::holding::hold;
 use std::alloc::{AllocError, Global};
 use std::env::FillError;
+use std::fmt::Write;
 use std::rt::Env;
-use std::test::Fail;
 use xcp_program::{Options, Unasked, asked, options, read_words};
 
 /// The words that a program was started with, cut at each `|`.
@@ -41,77 +42,110 @@ impl Env for Started<'_> {
 
 /// What a program that was started with these words does: the file of a replay, the file of a server with its host, port,
 /// tools, tasks, cycles, chapter and period, or, behind `stay`, with its host, port, tools, tasks, period and patience (and behind
-/// either the file of its journal, if it is named, and `paced`, if it is), the file of a description with its host and port (and behind `check` if it is only checked), the file of an audit, its journal and whether lines are wanted, or the status, a blank
+/// either the file of its journal, if it is named, and `paced`, if it is), the file of a description with its host and port (behind `describe`, or `check` if it is only checked), the file of an audit, its journal and whether lines are wanted, or the status, a blank
 /// and what it tells.
 fn told(alloc: Global, words: &[u8]) -> Result<String, AllocError> {
     match asked(alloc, read_words(&(Started(words), alloc))) {
-        Ok(Options::Replay { config }) => Ok(config),
-        Ok(
-            Options::Serve {
-                config,
-                host,
-                port,
-                tools,
-                tasks,
-                cycles,
-                chapter,
-                period,
-                journal,
-                pace,
-            },
-        ) => {
-            let written = written(alloc, journal, pace)?;
-            format!(in alloc;
-                "{config} {host} {port} {tools} {tasks} {cycles} {chapter} {period}{written}"
-            )
-        }
-        Ok(
-            Options::Stay {
-                config,
-                host,
-                port,
-                tools,
-                tasks,
-                period,
-                patience,
-                journal,
-                pace,
-            },
-        ) => {
-            let written = written(alloc, journal, pace)?;
-            format!(in alloc;
-                "stay {config} {host} {port} {tools} {tasks} {period} {patience}{written}"
-            )
-        }
-        Ok(
-            Options::Describe {
-                config,
-                host,
-                port,
-                check,
-            },
-        ) => {
-            let front = if check { "check " } else { "" };
-            format!(in alloc; "{front}{config} {host} {port}")
-        }
-        Ok(
-            Options::Audit {
-                config,
-                file,
-                lines,
-            },
-        ) => format!(in alloc; "{config} {file} {lines}"),
+        Ok(does) => done(alloc, &does),
         Err(e) => format!(in alloc; "{} {e}", e.status()),
     }
 }
 
-/// A blank and the file of a journal, if it is named; and ` paced` behind, if the tasks go by their channels.
-fn written(alloc: Global, journal: Option<String>, pace: bool) -> Result<String, AllocError> {
-    let paced = if pace { " paced" } else { "" };
-    match journal {
-        None => String::from_str(alloc, paced),
-        Some(file) => format!(in alloc; " {file}{paced}"),
+fn done(alloc: Global, does: &Options) -> Result<String, AllocError> {
+    match does {
+        Options::Replay { config } => line(alloc, config, &[], &[], None, false),
+        Options::Serve {
+            config,
+            host,
+            port,
+            tools,
+            tasks,
+            cycles,
+            chapter,
+            period,
+            journal,
+            pace,
+        } => {
+            let [port, tools, tasks] = [u32::from(*port), u32::from(*tools), u32::from(*tasks)];
+            let numbers = [port, tools, tasks, *cycles, *chapter, *period];
+            line(alloc, config, &[host], &numbers, journal.as_deref(), *pace)
+        }
+        Options::Stay {
+            config,
+            host,
+            port,
+            tools,
+            tasks,
+            period,
+            patience,
+            journal,
+            pace,
+        } => {
+            let [port, tools, tasks] = [u32::from(*port), u32::from(*tools), u32::from(*tasks)];
+            let numbers = [port, tools, tasks, *period, *patience];
+            line(
+                alloc,
+                "stay",
+                &[config, host],
+                &numbers,
+                journal.as_deref(),
+                *pace,
+            )
+        }
+        Options::Describe {
+            config,
+            host,
+            port,
+            check,
+        } => {
+            let front = if *check { "check" } else { "describe" };
+            line(
+                alloc,
+                front,
+                &[config, host],
+                &[u32::from(*port)],
+                None,
+                false,
+            )
+        }
+        Options::Audit {
+            config,
+            file,
+            lines,
+        } => line(
+            alloc,
+            config,
+            &[file, if *lines { "true" } else { "false" }],
+            &[],
+            None,
+            false,
+        ),
     }
+}
+
+/// These words and numbers, the file of a journal, if it is named, and `paced`, if the tasks go by their channels, with a blank between them.
+fn line(
+    alloc: Global,
+    first: &str,
+    words: &[&str],
+    numbers: &[u32],
+    journal: Option<&str>,
+    pace: bool,
+) -> Result<String, AllocError> {
+    let mut line = first.to_string(alloc)?;
+    for word in words {
+        write!(line, " {word}")?;
+    }
+    for number in numbers {
+        write!(line, " {number}")?;
+    }
+    if let Some(file) = journal {
+        write!(line, " {file}")?;
+    }
+    if pace {
+        line.push_str(" paced")?;
+    }
+    Ok(line)
 }
 
 const PROGRAM_HELP: &str = "0 A calibration slave: XCP of ASAM MCD-1, major version 1
@@ -249,8 +283,31 @@ with one line there, and this status:
      as it was written (4), is of another layout (5), is no such file, is of another version or too long (6)
 ";
 
+/// Words, and what the program does with them, or how that begins.
+type Row = (&'static [u8], &'static str);
+
+/// The first row with whose words the program does something else.
+fn first_other(alloc: Global, rows: &[Row]) -> Result<Option<usize>, AllocError> {
+    for (number, (words, text)) in rows.iter().enumerate() {
+        if told(alloc, words)?.as_str() != *text {
+            return Ok(Some(number));
+        }
+    }
+    Ok(None)
+}
+
+/// The first row of whose words the program tells what doesn't begin so.
+fn first_other_beginning(alloc: Global, rows: &[Row]) -> Result<Option<usize>, AllocError> {
+    for (number, (words, text)) in rows.iter().enumerate() {
+        if !told(alloc, words)?.starts_with(*text) {
+            return Ok(Some(number));
+        }
+    }
+    Ok(None)
+}
+
 /// What the program does with words of `audit`.
-const AUDITS: [(&[u8], &str); 10] = [
+static AUDITS: [Row; 10] = [
     (b"xcpd|audit|--config|F|J", "F J false"),
     (b"xcpd|audit|J|--lines|--config=F", "F J true"),
     (
@@ -285,25 +342,24 @@ const AUDITS: [(&[u8], &str); 10] = [
 ];
 
 #[test]
-fn the_words_of_an_audit(rt: HostRuntime) -> Result<(), Fail> {
-    for (words, text) in AUDITS {
-        let found = told(rt.alloc(), words)?;
-        assert_eq!(rt; found.as_str(), text);
-    }
-    Ok(())
+fn the_words_of_an_audit(rt: HostRuntime) {
+    hold(&rt, first_other(rt.alloc(), &AUDITS));
 }
 
 /// What the program does with words of `describe` behind a configuration file F.
-const DESCRIPTIONS: [(&[u8], &str); 13] = [
-    (b"xcpd|describe|--config|F", "F 127.0.0.1 5555"),
-    (b"xcpd|describe|--config|F|--port|1024", "F 127.0.0.1 1024"),
+static DESCRIPTIONS: [Row; 13] = [
+    (b"xcpd|describe|--config|F", "describe F 127.0.0.1 5555"),
+    (
+        b"xcpd|describe|--config|F|--port|1024",
+        "describe F 127.0.0.1 1024",
+    ),
     (
         b"xcpd|describe|--host|ecu.example|--config|F",
-        "F ecu.example 5555",
+        "describe F ecu.example 5555",
     ),
     (
         b"xcpd|describe|--port=65535|--host=10.0.0.7|--config=F",
-        "F 10.0.0.7 65535",
+        "describe F 10.0.0.7 65535",
     ),
     (
         b"xcpd|describe|--config|F|--check",
@@ -341,16 +397,12 @@ const DESCRIPTIONS: [(&[u8], &str); 13] = [
 ];
 
 #[test]
-fn the_words_of_a_description(rt: HostRuntime) -> Result<(), Fail> {
-    for (words, text) in DESCRIPTIONS {
-        let found = told(rt.alloc(), words)?;
-        assert_eq!(rt; found.as_str(), text);
-    }
-    Ok(())
+fn the_words_of_a_description(rt: HostRuntime) {
+    hold(&rt, first_other(rt.alloc(), &DESCRIPTIONS));
 }
 
 /// What the program does with words of `serve` behind a configuration file F and a port.
-const SERVERS: [(&[u8], &str); 18] = [
+static SERVERS: [Row; 18] = [
     (
         b"xcpd|serve|--config|F|--port|5555",
         "F 127.0.0.1 5555 1 1 100 65536 0",
@@ -423,7 +475,7 @@ const SERVERS: [(&[u8], &str); 18] = [
 ];
 
 /// What it does with words of `serve` that have `--stay`.
-const STAYING: [(&[u8], &str); 12] = [
+static STAYING: [Row; 12] = [
     (
         b"xcpd|serve|--config|F|--port|5555|--stay",
         "stay F 127.0.0.1 5555 1 1 0 60",
@@ -475,7 +527,7 @@ const STAYING: [(&[u8], &str); 12] = [
 ];
 
 /// What it tells of words of `serve` that are wrong.
-const WRONG_SERVERS: [(&[u8], &str); 30] = [
+static WRONG_SERVERS: [Row; 30] = [
     (
         b"xcpd|serve",
         "1 error: the following required arguments were not provided:\n  --config <FILE>\n  --port <PORT>\n",
@@ -599,107 +651,99 @@ const WRONG_SERVERS: [(&[u8], &str); 30] = [
 ];
 
 #[test]
-fn the_words_of_a_server(rt: HostRuntime) -> Result<(), Fail> {
-    for (words, text) in SERVERS {
-        let found = told(rt.alloc(), words)?;
-        assert_eq!(rt; found.as_str(), text);
-    }
-    for (words, text) in WRONG_SERVERS {
-        let found = told(rt.alloc(), words)?;
-        assert!(rt; found.as_str().starts_with(text), "{found}");
-    }
-    Ok(())
+fn the_words_of_a_server(rt: HostRuntime) {
+    hold(&rt, first_other(rt.alloc(), &SERVERS));
+    hold(&rt, first_other_beginning(rt.alloc(), &WRONG_SERVERS));
 }
 
 #[test]
-fn the_words_of_a_server_that_stays(rt: HostRuntime) -> Result<(), Fail> {
-    for (words, text) in STAYING {
-        let found = told(rt.alloc(), words)?;
-        assert_eq!(rt; found.as_str(), text);
-    }
-    Ok(())
+fn the_words_of_a_server_that_stays(rt: HostRuntime) {
+    hold(&rt, first_other(rt.alloc(), &STAYING));
 }
 
-/// The number of the fault of words that are given as texts.
-fn number_of(alloc: Global, words: &[&str]) -> Result<Option<u8>, AllocError> {
+/// The number of the fault of words of `serve` that want so many tools, or 0 where there is none.
+fn number_of(alloc: Global, tools: &str) -> Result<u8, AllocError> {
     let mut given = Vec::new(alloc);
-    for word in words {
-        given.push(String::from_str(alloc, word)?)?;
+    for word in [
+        "xcpd", "serve", "--config", "F", "--port", "5555", "--tools", tools,
+    ] {
+        given.push(word.to_string(alloc)?)?;
     }
-    Ok(options(alloc, given.as_slice()).err().map(|e| e.number()))
+    match options(alloc, &given) {
+        Ok(_) => Ok(0),
+        Err(e) => Ok(e.number()),
+    }
+}
+
+/// How many tools are wanted, and the number of the fault.
+static TOOLS: [(&str, u8); 4] = [("2", 0), ("3", 3), ("4", 3), ("5", 2)];
+
+fn first_other_number(alloc: Global) -> Result<Option<usize>, AllocError> {
+    for (row, (tools, number)) in TOOLS.iter().enumerate() {
+        if number_of(alloc, tools)? != *number {
+            return Ok(Some(row));
+        }
+    }
+    Ok(None)
 }
 
 #[test]
-fn the_faults_of_words_have_numbers(rt: HostRuntime) -> Result<(), Fail> {
-    let file = [
-        "xcpd", "serve", "--config", "F", "--port", "5555", "--tools",
-    ];
-    let rows = [("2", None), ("3", Some(3)), ("4", Some(3)), ("5", Some(2))];
-    for (tools, number) in rows {
-        let [a, b, c, d, e, f, g] = file;
-        let found = number_of(rt.alloc(), &[a, b, c, d, e, f, g, tools])?;
-        assert_eq!(rt; found, number);
-    }
-    Ok(())
+fn the_faults_of_words_have_numbers(rt: HostRuntime) {
+    hold(&rt, first_other_number(rt.alloc()));
+}
+
+/// What the program does with words of `replay`, and without a subcommand.
+static REPLAYS: [Row; 7] = [
+    (b"xcpd|replay|--config|L.toml", "L.toml"),
+    (b"xcpd|replay|--config=a b.toml", "a b.toml"),
+    (b"xcpd|--help", PROGRAM_HELP),
+    (b"xcpd|replay|--help", REPLAY_HELP),
+    (b"xcpd|--version", "0 xcpd 0.1.0\n"),
+    (
+        b"xcpd|replay|--config|Steuerger\xE4t.toml",
+        "1 xcpd: a word is no UTF-8\n",
+    ),
+    (b"\xFF|--help", "1 xcpd: a word is no UTF-8\n"),
+];
+
+#[test]
+fn the_words_of_the_command_line(rt: HostRuntime) {
+    hold(&rt, first_other(rt.alloc(), &REPLAYS));
+}
+
+/// What it tells of such words that are wrong.
+static WRONG_REPLAYS: [Row; 7] = [
+    (b"", "1 error: 'xcpd' requires a subcommand"),
+    (b"xcpd", "1 error: 'xcpd' requires a subcommand"),
+    (
+        b"xcpd|replay",
+        "1 error: the following required arguments were not provided",
+    ),
+    (
+        b"xcpd|replay|--config",
+        "1 error: a value is required for '--config <FILE>'",
+    ),
+    (
+        b"xcpd|replay|--config|a|--config|b",
+        "1 error: the argument '--config <FILE>' cannot",
+    ),
+    (
+        b"xcpd|replay|--config|a|b",
+        "1 error: unexpected argument 'b' found",
+    ),
+    (b"xcpd|server", "1 error: unrecognized subcommand 'server'"),
+];
+
+#[test]
+fn the_faults_of_words(rt: HostRuntime) {
+    hold(&rt, first_other_beginning(rt.alloc(), &WRONG_REPLAYS));
+}
+
+fn told_of_memory(alloc: Global) -> Result<String, AllocError> {
+    format!(in alloc; "{} {}", Unasked::Memory.status(), Unasked::Memory)
 }
 
 #[test]
-fn the_words_of_the_command_line(rt: HostRuntime) -> Result<(), Fail> {
-    let rows = [
-        (&b"xcpd|replay|--config|L.toml"[..], "L.toml"),
-        (&b"xcpd|replay|--config=a b.toml"[..], "a b.toml"),
-        (&b"xcpd|--help"[..], PROGRAM_HELP),
-        (&b"xcpd|replay|--help"[..], REPLAY_HELP),
-        (&b"xcpd|--version"[..], "0 xcpd 0.1.0\n"),
-        (
-            &b"xcpd|replay|--config|Steuerger\xE4t.toml"[..],
-            "1 xcpd: a word is no UTF-8\n",
-        ),
-        (&b"\xFF|--help"[..], "1 xcpd: a word is no UTF-8\n"),
-    ];
-    for (words, text) in rows {
-        let found = told(rt.alloc(), words)?;
-        assert_eq!(rt; found.as_str(), text);
-    }
-    Ok(())
-}
-
-#[test]
-fn the_faults_of_words(rt: HostRuntime) -> Result<(), Fail> {
-    let rows = [
-        (&b""[..], "1 error: 'xcpd' requires a subcommand"),
-        (&b"xcpd"[..], "1 error: 'xcpd' requires a subcommand"),
-        (
-            &b"xcpd|replay"[..],
-            "1 error: the following required arguments were not provided",
-        ),
-        (
-            &b"xcpd|replay|--config"[..],
-            "1 error: a value is required for '--config <FILE>'",
-        ),
-        (
-            &b"xcpd|replay|--config|a|--config|b"[..],
-            "1 error: the argument '--config <FILE>' cannot",
-        ),
-        (
-            &b"xcpd|replay|--config|a|b"[..],
-            "1 error: unexpected argument 'b' found",
-        ),
-        (
-            &b"xcpd|server"[..],
-            "1 error: unrecognized subcommand 'server'",
-        ),
-    ];
-    for (words, text) in rows {
-        let found = told(rt.alloc(), words)?;
-        assert!(rt; found.as_str().starts_with(text), "{found}");
-    }
-    Ok(())
-}
-
-#[test]
-fn want_of_memory_is_told(rt: HostRuntime) -> Result<(), Fail> {
-    let found = format!(in rt.alloc(); "{} {}", Unasked::Memory.status(), Unasked::Memory)?;
-    assert_eq!(rt; found.as_str(), "4 xcpd: memory\n");
-    Ok(())
+fn want_of_memory_is_told(rt: HostRuntime) {
+    assert!(rt; told_of_memory(rt.alloc()).is_ok_and(|told| told.as_str() == "4 xcpd: memory\n"));
 }
