@@ -1,6 +1,6 @@
 //! The calls that take memory, each by a word.
 use crate::outcome::Outcome;
-use crate::{controllers, cores, cuts, layouts, openings, scripts, served, submits};
+use crate::{controllers, cores, layouts, openings, scripts, served};
 use std::alloc::Global;
 use std::sync::Wait;
 
@@ -11,74 +11,62 @@ pub enum Call {
     CoreNew,
     CoreRun,
     UnnamedNew,
-    LockedNew,
-    Submit,
-    Cut,
+    /// One that an opening of a slave is made for.
+    Opened(Opened),
     ControllerOpen,
     ServeDesk,
-    ServeTool,
     ReplayOn,
     Replay,
 }
 
-pub const ALL: [Call; 12] = [
-    Call::ReadLayout,
-    Call::CoreNew,
-    Call::CoreRun,
-    Call::UnnamedNew,
-    Call::LockedNew,
-    Call::Submit,
-    Call::Cut,
-    Call::ControllerOpen,
-    Call::ServeDesk,
-    Call::ServeTool,
-    Call::ReplayOn,
-    Call::Replay,
+/// `Locked::new`, or what is done with a slave under its lock.
+#[derive(Clone, Copy)]
+pub enum Opened {
+    New,
+    Submit,
+    Cut,
+    ServeTool,
+}
+
+/// Each with its word.
+pub const ALL: [(&str, Call); 12] = [
+    ("read_layout", Call::ReadLayout),
+    ("Core::new", Call::CoreNew),
+    ("run", Call::CoreRun),
+    ("Unnamed::new", Call::UnnamedNew),
+    ("Locked::new", Call::Opened(Opened::New)),
+    ("Locked::submit", Call::Opened(Opened::Submit)),
+    ("Locked::cut", Call::Opened(Opened::Cut)),
+    ("Controller::open", Call::ControllerOpen),
+    ("serve-desk", Call::ServeDesk),
+    ("serve-tool", Call::Opened(Opened::ServeTool)),
+    ("replay_on", Call::ReplayOn),
+    ("replay", Call::Replay),
 ];
 
 impl Call {
-    pub fn word(&self) -> &'static str {
-        match self {
-            Call::ReadLayout => "read_layout",
-            Call::CoreNew => "Core::new",
-            Call::CoreRun => "run",
-            Call::UnnamedNew => "Unnamed::new",
-            Call::LockedNew => "Locked::new",
-            Call::Submit => "Locked::submit",
-            Call::Cut => "Locked::cut",
-            Call::ControllerOpen => "Controller::open",
-            Call::ServeDesk => "serve-desk",
-            Call::ServeTool => "serve-tool",
-            Call::ReplayOn => "replay_on",
-            Call::Replay => "replay",
-        }
-    }
-
     /// The call of this word, if it is one's.
     pub fn of(word: &str) -> Option<Call> {
-        for call in ALL {
-            if call.word() == word {
+        for (name, call) in ALL {
+            if name == word {
                 return Some(call);
             }
         }
         None
     }
 
-    /// Makes what it works on, and then the call. The error is an outcome too: that of what comes before.
-    pub fn make<R: Wait>(&self, rt: &R, alloc: Global) -> Result<Outcome, Outcome> {
+    /// Makes what it works on, and then the call.
+    pub fn make<R: Wait>(&self, rt: &R, alloc: Global) -> Outcome {
         match self {
-            Call::ReadLayout => Ok(layouts::read(alloc)),
-            Call::CoreNew => Ok(cores::open(alloc)),
+            Call::ReadLayout => layouts::read(alloc),
+            Call::CoreNew => cores::open(alloc),
             Call::CoreRun => cores::run_events(alloc),
             Call::UnnamedNew => openings::make(alloc),
-            Call::LockedNew => openings::open(alloc),
-            Call::Submit => submits::submit_rows(alloc),
-            Call::Cut => cuts::cut_twice(alloc),
+            Call::Opened(opened) => openings::open(rt, alloc, *opened),
             Call::ControllerOpen => controllers::open(alloc),
             Call::ServeDesk => served::serve_desk(alloc),
-            Call::ServeTool => served::serve_tool(rt, alloc),
             Call::ReplayOn => scripts::replay_desk(alloc),
-            Call::Replay => Ok(scripts::replay_config(alloc)),
+            Call::Replay => scripts::replay_config(alloc),
         }
     }
 }

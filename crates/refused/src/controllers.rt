@@ -8,10 +8,13 @@ use xcp_controller::Controller;
 const READERS: u8 = 6;
 
 /// `Controller::open`.
-pub fn open(alloc: Global) -> Result<Outcome, Outcome> {
-    match Controller::open(alloc, layout(alloc)?) {
-        Ok(mut controller) => Ok(compare(&mut controller)),
-        Err(_) => Ok(Outcome::Memory),
+pub fn open(alloc: Global) -> Outcome {
+    let Some(layout) = layout(alloc) else {
+        return Outcome::Before;
+    };
+    match Controller::open(alloc, layout) {
+        Ok(mut controller) => compare(&mut controller),
+        Err(_) => Outcome::Memory,
     }
 }
 

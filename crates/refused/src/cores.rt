@@ -54,19 +54,26 @@ pub fn open(alloc: Global) -> Outcome {
 }
 
 /// `run`. Where it is refused, the events from that one on come as they would have.
-pub fn run_events(alloc: Global) -> Result<Outcome, Outcome> {
-    let mut core = Core::new(alloc, &FIRST)?;
-    match run(alloc, &mut core, &EVENTS) {
-        Ok(seen) if seen.as_slice() == SEEN.as_slice() => Ok(Outcome::Ample),
-        Ok(_) => Ok(Outcome::Wrong("other answers come")),
-        Err(RunError::Memory) => Ok(go_on(alloc, &mut core, 0)),
-        Err(
-            RunError::Refused {
-                index,
-                error: StepError::Memory,
-            },
-        ) => Ok(go_on(alloc, &mut core, index)),
-        Err(_) => Ok(Outcome::Wrong("an event is refused")),
+pub fn run_events(alloc: Global) -> Outcome {
+    match Core::new(alloc, &FIRST) {
+        Ok(mut core) => run_all(alloc, &mut core),
+        Err(_) => Outcome::Before,
+    }
+}
+
+fn run_all(alloc: Global, core: &mut Core) -> Outcome {
+    let refused = match run(alloc, core, &EVENTS) {
+        Ok(seen) if seen.as_slice() == SEEN.as_slice() => return Outcome::Ample,
+        Ok(_) => return Outcome::Wrong("other answers come"),
+        Err(error) => error,
+    };
+    match refused {
+        RunError::Memory => go_on(alloc, core, 0),
+        RunError::Refused {
+            index,
+            error: StepError::Memory,
+        } => go_on(alloc, core, index),
+        _ => Outcome::Wrong("an event is refused"),
     }
 }
 

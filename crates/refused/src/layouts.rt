@@ -3,6 +3,7 @@ use crate::outcome::Outcome;
 use std::alloc::Global;
 use xcp_config::{ConfigError, read_layout};
 use xcp_memory::Layout;
+use xcp_slave::Slave;
 
 /// The text of `crates/xcpd/data/L.toml`.
 pub const CONFIG: &str = "id = \"ECU1\"
@@ -35,9 +36,14 @@ pub fn opening_image() -> [u8; 2040] {
     image
 }
 
-/// That layout, for another call.
-pub fn layout(alloc: Global) -> Result<Layout, Outcome> {
-    Ok(read_layout(alloc, CONFIG)?)
+/// That layout, for another call: none where memory is refused.
+pub fn layout(alloc: Global) -> Option<Layout> {
+    read_layout(alloc, CONFIG).ok()
+}
+
+/// A slave of it, at its opening: none where memory is refused.
+pub fn slave(alloc: Global) -> Option<Slave> {
+    Slave::new(alloc, layout(alloc)?).ok()
 }
 
 /// `read_layout`.

@@ -30,19 +30,13 @@ fn word_of(rt: &HostRuntime) -> io::Result<Option<String>> {
     Ok(words.next())
 }
 
-fn come<R: Wait + AllocGlobal>(rt: &R, call: Call) -> Outcome {
-    match call.make(rt, rt.alloc()) {
-        Ok(outcome) | Err(outcome) => outcome,
-    }
-}
-
 // Tells what comes of a call, and gives the status.
 fn tell<R: Wait + AllocGlobal + Print>(rt: &R, word: &str) -> io::Result<u8> {
     let Some(call) = Call::of(word) else {
         println!(rt; "there is no call {word}")?;
         return Ok(2);
     };
-    let outcome = come(rt, call);
+    let outcome = call.make(rt, rt.alloc());
     println!(rt; "{outcome}")?;
     Ok(outcome.status())
 }
@@ -50,9 +44,9 @@ fn tell<R: Wait + AllocGlobal + Print>(rt: &R, word: &str) -> io::Result<u8> {
 // The same of all calls, each with its word.
 fn tell_all<R: Wait + AllocGlobal + Print>(rt: &R) -> io::Result<u8> {
     let mut status = 0;
-    for call in ALL {
-        let outcome = come(rt, call);
-        println!(rt; "{}: {outcome}", call.word())?;
+    for (word, call) in ALL {
+        let outcome = call.make(rt, rt.alloc());
+        println!(rt; "{word}: {outcome}")?;
         status = outcome.status().max(status);
     }
     Ok(status)

@@ -1,7 +1,5 @@
 //! What comes of a call of which an allocation may be refused.
-use std::alloc::AllocError;
 use std::fmt;
-use xcp_config::ConfigError;
 
 #[derive(Clone, Copy)]
 pub enum Outcome {
@@ -23,19 +21,17 @@ impl Outcome {
             _ => 0,
         }
     }
-}
 
-impl From<AllocError> for Outcome {
-    fn from(_error: AllocError) -> Outcome {
-        Outcome::Before
+    /// Whether a call came as it should, with ample memory or without.
+    pub fn is_good(&self) -> bool {
+        matches!(self, Outcome::Ample | Outcome::Memory)
     }
-}
 
-impl From<ConfigError> for Outcome {
-    fn from(error: ConfigError) -> Outcome {
-        match error {
-            ConfigError::Memory => Outcome::Before,
-            _ => Outcome::Wrong("the text gives no layout"),
+    /// What comes of a call and of one behind it.
+    pub fn then(self, next: Outcome) -> Outcome {
+        match (self, next) {
+            (Outcome::Wrong(_), _) | (_, Outcome::Ample) => self,
+            _ => next,
         }
     }
 }

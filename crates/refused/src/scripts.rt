@@ -27,17 +27,23 @@ nothing
 ";
 
 /// `replay_on`.
-pub fn replay_desk(alloc: Global) -> Result<Outcome, Outcome> {
-    let mut desk = Desk::new(alloc, Slave::new(alloc, layout(alloc)?)?);
+pub fn replay_desk(alloc: Global) -> Outcome {
+    let Some(layout) = layout(alloc) else {
+        return Outcome::Before;
+    };
+    let Ok(slave) = Slave::new(alloc, layout) else {
+        return Outcome::Before;
+    };
+    let mut desk = Desk::new(alloc, slave);
     let mut reader = Watched::new(SCRIPT);
     let mut writer = Watched::new(Sheet::new());
     let end = replay_on(alloc, &mut desk, &mut reader, &mut writer, TURNS);
     let sheet = writer.into_inner();
-    Ok(match end {
+    match end {
         Ok(requests) => whole(requests, &sheet),
         Err(ReplayError::Memory) => front(&sheet),
         Err(_) => Outcome::Wrong("the script ends otherwise"),
-    })
+    }
 }
 
 /// `replay`.

@@ -1,14 +1,11 @@
 //! Serving frames: over a desk, and over a caller of a slave that lies under a lock.
-ghost use Rattle.std.specs.Prelude.{◌≡◌};
-
 use crate::layouts::{MAX_CTO, layout};
 use crate::outcome::Outcome;
 use crate::sheet::Sheet;
 use std::alloc::Global;
-use std::marker::Brand;
 use std::sync::{Mutex, Wait};
 use xcp_framing::{Desk, ServeError, Served, Station, Watched, serve};
-use xcp_locked::{Caller, Locked, Name, Opening, Tool, Unnamed};
+use xcp_locked::{Caller, Locked, Name, Opening, Tool};
 use xcp_slave::Slave;
 
 const TURNS: u32 = 100;
@@ -48,35 +45,28 @@ fn outcome(end: Result<Served, ServeError>, sheet: &Sheet, exchanges: usize) -> 
 }
 
 /// `serve` over a desk.
-pub fn serve_desk(alloc: Global) -> Result<Outcome, Outcome> {
-    let mut desk = Desk::new(alloc, Slave::new(alloc, layout(alloc)?)?);
+pub fn serve_desk(alloc: Global) -> Outcome {
+    let Some(layout) = layout(alloc) else {
+        return Outcome::Before;
+    };
+    let Ok(slave) = Slave::new(alloc, layout) else {
+        return Outcome::Before;
+    };
+    let mut desk = Desk::new(alloc, slave);
     let (end, sheet) = serve_frames(alloc, &mut desk);
-    Ok(outcome(end, &sheet, desk.trace().len()))
+    outcome(end, &sheet, desk.trace().len())
 }
 
-/// `serve` over a tool.
-pub fn serve_tool<R: Wait>(rt: &R, alloc: Global) -> Result<Outcome, Outcome> {
-    let unnamed = Unnamed::new(alloc, layout(alloc)?, 1)?;
-    serve_named::<Brand, R>(rt, alloc, unnamed)
-}
-
-fn serve_named<N: Name, R: Wait>(
-    rt: &R,
-    alloc: Global,
-    unnamed: Unnamed,
-) -> Result<Outcome, Outcome>
-    requires { (unnamed.name ≡ N.name) × (unnamed.callers ≡ N.parts)
-        × (unnamed.layout ≡ N.layout) × (unnamed.bank ≡ N.bank) }
-{
+/// `serve` over a tool, which is the last caller of an opening.
+pub fn serve_opening<N: Name, R: Wait>(rt: &R, alloc: Global, opening: Opening<N>) -> Outcome {
     let Opening {
         locked,
         mut callers,
         ..
-    } = Locked::<N>::new(alloc, unnamed)?;
-    let lock = Mutex::new(locked);
+    } = opening;
     match callers.pop() {
-        Some(caller) => Ok(serve_caller(rt, alloc, &lock, caller)),
-        None => Err(Outcome::Wrong("there is no caller")),
+        Some(caller) => serve_caller(rt, alloc, &Mutex::new(locked), caller),
+        None => Outcome::Wrong("there is no caller"),
     }
 }
 

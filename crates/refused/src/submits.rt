@@ -1,12 +1,9 @@
 //! Submits under the lock, of each kind of request, beside a plain slave that is asked the same.
-ghost use Rattle.std.specs.Prelude.{◌≡◌};
-
-use crate::layouts::{MAX_CTO, layout};
+use crate::layouts::{MAX_CTO, slave};
 use crate::outcome::Outcome;
-use crate::standing::{ROUNDS, Standing};
+use crate::standing::standing;
 use std::alloc::Global;
-use std::marker::Brand;
-use xcp_locked::{Caller, Locked, LockedError, Name, Opening, Receipt, Unnamed};
+use xcp_locked::{Caller, Locked, LockedError, Name, Receipt};
 use xcp_script::{Line, parse_line};
 use xcp_slave::{Request, Slave};
 
@@ -32,91 +29,94 @@ const ROWS: [&str; 16] = [
     "hangup",
 ];
 
+// How often each caller calls.
+const ROUNDS: u32 = 6;
+
 // The most packets that wait at one time.
 const MOST_PENDING: u8 = 2;
 
+/// The request that a row says.
+pub fn request(row: &str) -> Option<Request> {
+    match parse_line(MAX_CTO, row.as_bytes()) {
+        Line::Ask(request) => Some(request),
+        _ => None,
+    }
+}
+
 /// `Locked::submit`, row by row and round by round.
-pub fn submit_rows(alloc: Global) -> Result<Outcome, Outcome> {
-    let unnamed = Unnamed::new(alloc, layout(alloc)?, 16)?;
-    let plain = Slave::new(alloc, layout(alloc)?)?;
-    submit_named::<Brand>(alloc, unnamed, plain)
+pub fn submit_rows<N: Name>(
+    alloc: Global,
+    locked: &mut Locked<N>,
+    callers: &mut [Caller<N>],
+) -> Outcome {
+    match slave(alloc) {
+        Some(mut plain) => submit_rounds(locked, &mut plain, callers),
+        None => Outcome::Before,
+    }
 }
 
-// A slave under its lock, and a plain one.
-#[derive(Drop)]
-struct Beside<N: Name> {
-    locked: Locked<N>,
-    plain: Slave,
-}
-
-fn submit_named<N: Name>(alloc: Global, unnamed: Unnamed, plain: Slave) -> Result<Outcome, Outcome>
-    requires { (unnamed.name ≡ N.name) × (unnamed.callers ≡ N.parts)
-        × (unnamed.layout ≡ N.layout) × (unnamed.bank ≡ N.bank) }
-{
-    let Opening {
-        locked,
-        mut callers,
-        ..
-    } = Locked::<N>::new(alloc, unnamed)?;
-    let mut beside = Beside { locked, plain };
+fn submit_rounds<N: Name>(
+    locked: &mut Locked<N>,
+    plain: &mut Slave,
+    callers: &mut [Caller<N>],
+) -> Outcome {
     let mut outcome = Outcome::Ample;
     let mut most_pending = 0;
     for _ in 0..ROUNDS {
         for (row, caller) in ROWS.iter().zip(callers.iter_mut()) {
-            if beside.submit_row(caller, row)? {
-                outcome = Outcome::Memory;
-            }
-            if beside.locked.pending() > most_pending {
-                most_pending = beside.locked.pending();
-            }
+            outcome = outcome.then(submit_row(locked, plain, caller, row));
+            most_pending = locked.pending().max(most_pending);
         }
     }
-    if most_pending != MOST_PENDING {
-        return Err(Outcome::Wrong("other packets wait than the rows ask for"));
+    if outcome.is_good() && most_pending != MOST_PENDING {
+        return Outcome::Wrong("other packets wait than the rows ask for");
     }
-    Ok(outcome)
+    outcome
 }
 
-impl<N: Name> Beside<N> {
-    // Submits a row, and whether it was refused before. A refused call leaves all as it was, and then
-    // comes as it would have.
-    fn submit_row(&mut self, caller: &mut Caller<N>, row: &str) -> Result<bool, Outcome> {
-        let Line::Ask(request) = parse_line(MAX_CTO, row.as_bytes()) else {
-            return Err(Outcome::Wrong("a row is no request"));
-        };
-        let before = Standing::of(&self.locked, caller);
-        let refused = match self.locked.submit(caller, request.copy()) {
-            Ok(receipt) => {
-                self.compare(&request, receipt)?;
-                return Ok(false);
+// Submits a row. A refused call leaves all as it was, and then comes as it would have.
+fn submit_row<N: Name>(
+    locked: &mut Locked<N>,
+    plain: &mut Slave,
+    caller: &mut Caller<N>,
+    row: &str,
+) -> Outcome {
+    let Some(request) = request(row) else {
+        return Outcome::Wrong("a row is no request");
+    };
+    let before = standing(locked, caller);
+    let mut outcome = Outcome::Ample;
+    for _ in 0..2 {
+        match locked.submit(caller, request.copy()) {
+            Ok(receipt) => return outcome.then(compare(locked, plain, &request, &receipt)),
+            Err(error) if error == LockedError::Memory && standing(locked, caller) == before => {
+                outcome = Outcome::Memory;
             }
-            Err(error) => error,
-        };
-        if refused != LockedError::Memory || Standing::of(&self.locked, caller) != before {
-            return Err(Outcome::Wrong("a refused call changes something"));
+            Err(_) => return Outcome::Wrong("a refused call changes something"),
         }
-        match self.locked.submit(caller, request.copy()) {
-            Ok(receipt) => self.compare(&request, receipt)?,
-            Err(_) => return Err(Outcome::Wrong("a call is refused twice")),
-        }
-        Ok(true)
     }
+    Outcome::Wrong("a call is refused twice")
+}
 
-    // Whether this came as from a plain slave.
-    fn compare(&mut self, request: &Request, receipt: Receipt) -> Result<(), Outcome> {
-        let mut image = [0; 2040];
-        let mut wanted = [1; 2040];
-        let answer = self.plain.submit(request);
-        self.plain.image(&mut wanted);
-        let calls = self.locked.image(&mut image);
-        let alike = receipt.answer == answer
-            && receipt.at.wrapping_add(1) == calls
-            && self.locked.pending() == self.plain.pending()
-            && image == wanted;
-        if alike {
-            Ok(())
-        } else {
-            Err(Outcome::Wrong("a call comes otherwise than from a plain slave"))
-        }
+// Whether this came as from a plain slave.
+fn compare<N: Name>(
+    locked: &Locked<N>,
+    plain: &mut Slave,
+    request: &Request,
+    receipt: &Receipt,
+) -> Outcome {
+    let mut image = [0; 2040];
+    let mut wanted = [1; 2040];
+    let is_answered = receipt.answer == plain.submit(request);
+    plain.image(&mut wanted);
+    let calls = locked.image(&mut image);
+    if is_answered
+        && receipt.at.wrapping_add(1) == calls
+        && locked.pending() == plain.pending()
+        && image == wanted
+    {
+        Outcome::Ample
+    } else {
+        Outcome::Wrong("a call comes otherwise than from a plain slave")
     }
 }

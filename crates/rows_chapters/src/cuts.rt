@@ -7,7 +7,7 @@ use std::alloc::Global;
 use std::marker::Brand;
 use std::slice;
 use std::test::Fail;
-use xcp_locked::{Caller, Chapter, Discord, Locked, Mismatch, Name, Opening, Unnamed};
+use xcp_locked::{Caller, Chapter, Discord, Locked, Mismatch, Name, Unnamed};
 
 // What settling says of each caller's receipts of a chapter, and then of the open one.
 type Settlings = [Result<(), Mismatch>; 4];
@@ -74,23 +74,21 @@ fn came<N: Name>(
     Some((lengths, ends, settlings, all))
 }
 
-fn cut_named<N: Name>(alloc: Global, unnamed: Unnamed, place: usize) -> Result<Option<Came>, Fail>
+fn cut_named<N: Name>(alloc: Global, unnamed: Unnamed, place: usize) -> Option<Came>
     requires name { (unnamed.name ≡ N.name) × (unnamed.callers ≡ N.parts)
         × (unnamed.layout ≡ N.layout) × (unnamed.bank ≡ N.bank) }
     requires callers { unnamed.callers ≡ 2 }
 {
-    let Opening {
-        mut locked,
-        mut callers,
-        ..
-    } = Locked::<N>::new(alloc, unnamed)?;
-    Ok(came(alloc, &mut locked, &mut callers, place))
+    match Locked::<N>::new(alloc, unnamed) {
+        Ok(mut opening) => came(alloc, &mut opening.locked, &mut opening.callers, place),
+        Err(_) => None,
+    }
 }
 
 // What comes of the ten calls, where the chapter is cut off behind so many of them.
 fn cut(alloc: Global, place: usize) -> Result<Option<Came>, Fail> {
     let unnamed = unnamed(alloc, 2)?;
-    cut_named::<Brand>(alloc, unnamed, place)
+    Ok(cut_named::<Brand>(alloc, unnamed, place))
 }
 
 // CONNECT, the first call, changes the slave, and no later one brings its opening back.

@@ -6,7 +6,7 @@ use fixtures::unnamed;
 use std::alloc::Global;
 use std::marker::Brand;
 use std::test::Fail;
-use xcp_locked::{Caller, Chapter, Discord, Locked, Name, Opening, Unnamed, check_joined};
+use xcp_locked::{Caller, Chapter, Discord, Locked, Name, Unnamed, check_joined};
 
 // Chapters, each at its place: none where it is taken.
 type Seats<N> = [Option<Chapter<N>>; 4];
@@ -56,27 +56,21 @@ fn came<N: Name>(
     Some((joined, settled(locked, &chapters, callers)?))
 }
 
-fn join_named<N: Name>(
-    alloc: Global,
-    unnamed: Unnamed,
-    order: &[usize],
-) -> Result<Option<Came>, Fail>
+fn join_named<N: Name>(alloc: Global, unnamed: Unnamed, order: &[usize]) -> Option<Came>
     requires name { (unnamed.name ≡ N.name) × (unnamed.callers ≡ N.parts)
         × (unnamed.layout ≡ N.layout) × (unnamed.bank ≡ N.bank) }
     requires callers { unnamed.callers ≡ 2 }
 {
-    let Opening {
-        mut locked,
-        mut callers,
-        ..
-    } = Locked::<N>::new(alloc, unnamed)?;
-    Ok(came(alloc, &mut locked, &mut callers, order))
+    match Locked::<N>::new(alloc, unnamed) {
+        Ok(mut opening) => came(alloc, &mut opening.locked, &mut opening.callers, order),
+        Err(_) => None,
+    }
 }
 
 // What comes of four chapters, where these stand in this order.
 fn join(alloc: Global, order: &[usize]) -> Result<Option<Came>, Fail> {
     let unnamed = unnamed(alloc, 2)?;
-    join_named::<Brand>(alloc, unnamed, order)
+    Ok(join_named::<Brand>(alloc, unnamed, order))
 }
 
 #[test]

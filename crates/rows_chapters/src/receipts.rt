@@ -7,7 +7,7 @@ use std::alloc::Global;
 use std::marker::Brand;
 use std::slice;
 use std::test::Fail;
-use xcp_locked::{Caller, Discord, Locked, Mismatch, Name, Opening, Unnamed, Unsettled};
+use xcp_locked::{Caller, Discord, Locked, Mismatch, Name, Unnamed, Unsettled};
 
 // Calls of caller 1: three of chapter 0, and two of the open one.
 const FIRST: [Call; 3] = [(1, Asked::Drain), (1, Asked::Store), (1, Asked::Event)];
@@ -40,28 +40,21 @@ fn came<N: Name>(
     Some((first, open, all))
 }
 
-fn alter_named<N: Name>(
-    alloc: Global,
-    unnamed: Unnamed,
-    at: usize,
-    number: u64,
-) -> Result<Option<Came>, Fail>
+fn alter_named<N: Name>(alloc: Global, unnamed: Unnamed, at: usize, number: u64) -> Option<Came>
     requires name { (unnamed.name ≡ N.name) × (unnamed.callers ≡ N.parts)
         × (unnamed.layout ≡ N.layout) × (unnamed.bank ≡ N.bank) }
     requires callers { unnamed.callers ≡ 2 }
 {
-    let Opening {
-        mut locked,
-        mut callers,
-        ..
-    } = Locked::<N>::new(alloc, unnamed)?;
-    Ok(came(alloc, &mut locked, &mut callers, at, number))
+    match Locked::<N>::new(alloc, unnamed) {
+        Ok(mut opening) => came(alloc, &mut opening.locked, &mut opening.callers, at, number),
+        Err(_) => None,
+    }
 }
 
 // What comes of these calls, where the receipt at an index gets this chapter's number.
 fn alter(alloc: Global, at: usize, number: u64) -> Result<Option<Came>, Fail> {
     let unnamed = unnamed(alloc, 2)?;
-    alter_named::<Brand>(alloc, unnamed, at, number)
+    Ok(alter_named::<Brand>(alloc, unnamed, at, number))
 }
 
 // Which receipt gets which number, and where the chapter's and the open one's differ first then.

@@ -88,7 +88,6 @@ fn cuts<N: Name>(alloc: Global, locked: &mut Locked<N>, said: &str) -> Option<bo
     Some((chapter.number(), chapter.len()) == wanted)
 }
 
-// Whether the reader's image begins with these bytes, and all behind them is 0.
 // What a reader holds, whole, if it holds something.
 fn held<N: Name>(reader: &mut Reader<N>) -> Option<[u8; 2040]> {
     if !reader.holds() {
@@ -99,6 +98,7 @@ fn held<N: Name>(reader: &mut Reader<N>) -> Option<[u8; 2040]> {
     Some(image)
 }
 
+// Whether the reader's image begins with these bytes, and all behind them is 0.
 fn reads<N: Name>(reader: &mut Reader<N>, said: &str) -> Option<bool> {
     let wanted: ArrayVec<u8, 32> = bytes(said)?;
     let image = held(reader)?;
@@ -183,21 +183,24 @@ fn holds<N: Name>(
     follows_or_goes(locked, seat, deed, said)
 }
 
-fn first_wrong_of<N: Name>(
-    alloc: Global,
-    unnamed: Unnamed,
-    rows: &[Row],
-) -> Result<Option<usize>, Fail>
+fn first_wrong_of<N: Name>(alloc: Global, unnamed: Unnamed, rows: &[Row]) -> Option<usize>
     requires { (unnamed.name ≡ N.name) × (unnamed.callers ≡ N.parts)
         × (unnamed.layout ≡ N.layout) × (unnamed.bank ≡ N.bank) }
 {
+    match Locked::<N>::new(alloc, unnamed) {
+        Ok(opening) => first_wrong_behind(alloc, opening, rows),
+        Err(_) => Some(0),
+    }
+}
+
+fn first_wrong_behind<N: Name>(alloc: Global, opening: Opening<N>, rows: &[Row]) -> Option<usize> {
     let Opening {
         mut locked,
         mut callers,
         readers,
-    } = Locked::<N>::new(alloc, unnamed)?;
+    } = opening;
     let mut seats = seats(readers);
-    Ok(first_wrong_here(alloc, &mut locked, &mut callers, &mut seats, rows))
+    first_wrong_here(alloc, &mut locked, &mut callers, &mut seats, rows)
 }
 
 // The same of this slave, whose first caller asks.
@@ -228,5 +231,5 @@ pub fn first_wrong(alloc: Global, text: &'static str) -> Result<Option<usize>, F
         rows.push((question.trim(), said.trim()))?;
     }
     let unnamed = unnamed(alloc, 1)?;
-    first_wrong_of::<Brand>(alloc, unnamed, &rows)
+    Ok(first_wrong_of::<Brand>(alloc, unnamed, &rows))
 }

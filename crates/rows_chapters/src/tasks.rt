@@ -7,9 +7,7 @@ use std::marker::Brand;
 use std::sync::{Mutex, Wait};
 use std::test::Fail;
 use std::thread::Threads;
-use xcp_locked::{
-    Caller, Chapter, Locked, Name, Opening, Reader, TaskError, Unnamed, Worker, run_tasks,
-};
+use xcp_locked::{Chapter, Locked, Name, Opening, Ran, TaskError, Unnamed, run_tasks};
 
 // How many calls each of these chapters has.
 fn lengths<N: Name>(alloc: Global, chapters: &[Chapter<N>]) -> Result<Vec<u64>, Fail> {
@@ -34,15 +32,36 @@ fn run_named<N: Name + Send + Sync, R: Threads + Wait + Sync>(
     requires { (unnamed.name ≡ N.name) × (unnamed.callers ≡ N.parts)
         × (unnamed.layout ≡ N.layout) × (unnamed.bank ≡ N.bank) }
 {
+    match Locked::<N>::new(alloc, unnamed) {
+        Ok(opening) => run_opening(rt, alloc, opening, cycles, chapter),
+        Err(_) => Err("an opening".into()),
+    }
+}
+
+fn run_opening<N: Name + Send + Sync, R: Threads + Wait + Sync>(
+    rt: &R,
+    alloc: Global,
+    opening: Opening<N>,
+    cycles: u32,
+    chapter: u32,
+) -> Result<Came, Fail> {
     let Opening {
         locked,
         callers,
         readers,
-    } = Locked::<N>::new(alloc, unnamed)?;
+    } = opening;
     let workers = workers(alloc, callers, readers)?;
     let lock = Mutex::new(locked);
-    let ran = run_tasks(rt, alloc, &lock, workers, cycles, chapter, &Open)?;
-    let locked = lock.into_inner();
+    let ran = run_tasks(rt, alloc, &lock, workers, cycles, chapter, &Open);
+    came(alloc, &lock.into_inner(), ran)
+}
+
+fn came<N: Name>(
+    alloc: Global,
+    locked: &Locked<N>,
+    ran: Result<Ran<N>, TaskError>,
+) -> Result<Came, Fail> {
+    let ran = ran?;
     let mut cut = Vec::new(alloc);
     for worker in ran.workers.iter() {
         cut.push(lengths(alloc, &worker.chapters)?)?;

@@ -5,7 +5,7 @@ use fixtures::{asks, narrow, put_answer};
 use std::alloc::Global;
 use std::marker::Brand;
 use std::test::Fail;
-use xcp_locked::{Caller, Locked, Mismatch, Name, Opening, Unnamed};
+use xcp_locked::{Caller, Locked, Mismatch, Name, Unnamed};
 use xcp_packet::{Train, Width};
 use xcp_slave::Answer;
 
@@ -36,8 +36,9 @@ type Settlings = [Result<(), Mismatch>; 6];
 fn settlings<N: Name>(
     alloc: Global,
     locked: &mut Locked<N>,
-    caller: &mut Caller<N>,
+    callers: &mut [Caller<N>],
 ) -> Option<Settlings> {
+    let caller = callers.first_mut()?;
     for command in COMMANDS {
         if !asks(locked, caller, command) {
             return None;
@@ -51,23 +52,20 @@ fn settlings<N: Name>(
     Some(settlings)
 }
 
-fn altered<N: Name>(alloc: Global, unnamed: Unnamed) -> Result<Option<Settlings>, Fail>
+fn altered<N: Name>(alloc: Global, unnamed: Unnamed) -> Option<Settlings>
     requires { (unnamed.name ≡ N.name) × (unnamed.callers ≡ N.parts)
         × (unnamed.layout ≡ N.layout) × (unnamed.bank ≡ N.bank) }
 {
-    let Opening {
-        mut locked,
-        mut callers,
-        ..
-    } = Locked::<N>::new(alloc, unnamed)?;
-    let caller = callers.first_mut().ok_or("a caller")?;
-    Ok(settlings(alloc, &mut locked, caller))
+    match Locked::<N>::new(alloc, unnamed) {
+        Ok(mut opening) => settlings(alloc, &mut opening.locked, &mut opening.callers),
+        Err(_) => None,
+    }
 }
 
 #[test]
 fn a_receipt_has_all_packets(rt: HostRuntime) -> Result<(), Fail> {
-    let unnamed = narrow(rt.alloc(), &BYTES, 1)?;
-    let came = altered::<Brand>(rt.alloc(), unnamed)?;
+    let unnamed = narrow(rt.alloc(), 1)?;
+    let came = altered::<Brand>(rt.alloc(), unnamed);
     let differs = Err(Mismatch { at: 2 });
     let wanted = [Ok(()), Ok(()), differs, differs, differs, differs];
     assert!(rt; came == Some(wanted));

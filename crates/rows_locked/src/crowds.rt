@@ -179,21 +179,54 @@ fn meet<N: Name + Send + Sync, R: Threads + Wait + Sync>(
     requires { (unnamed.name ≡ N.name) × (unnamed.callers ≡ N.parts)
         × (unnamed.layout ≡ N.layout) × (unnamed.bank ≡ N.bank) }
 {
+    match Locked::<N>::new(alloc, unnamed) {
+        Ok(opening) => meet_opening(rt, alloc, opening),
+        Err(_) => Err("an opening".into()),
+    }
+}
+
+fn meet_opening<N: Name + Send + Sync, R: Threads + Wait + Sync>(
+    rt: &R,
+    alloc: Global,
+    opening: Opening<N>,
+) -> Result<Came, Fail> {
     let Opening {
         mut locked,
         mut callers,
         readers,
-    } = Locked::<N>::new(alloc, unnamed)?;
-    let first = callers.get_mut(0).ok_or("a caller")?;
-    let connected = asks(&mut locked, first, &[0xFF, 0]);
+    } = opening;
+    let connected = connects(&mut locked, &mut callers);
     let lock = Mutex::new(locked);
     let done = AtomicU32::new(0);
-    let tools = tools(alloc, &lock, callers, &done)?;
-    let watchers = watchers(alloc, readers, &done)?;
-    let (tools, mut looked) = run_both(rt, alloc, tools, watchers)?;
-    let mut locked = lock.lock(rt);
-    let wrote = connected && all_wrote(&mut locked, &tools);
-    let whole = all_end_alike(&mut locked, &mut looked);
+    let tools = tools(alloc, &lock, callers, &done);
+    let watchers = watchers(alloc, readers, &done);
+    let met = run_all(rt, alloc, tools, watchers);
+    came(&mut lock.lock(rt), met, connected)
+}
+
+fn connects<N: Name>(locked: &mut Locked<N>, callers: &mut [Caller<N>]) -> bool {
+    match callers.first_mut() {
+        Some(first) => asks(locked, first, &[0xFF, 0]),
+        None => false,
+    }
+}
+
+// What comes of the tools and of the readers.
+type Met<N> = Result<(Vec<(Caller<N>, bool)>, Vec<(Reader<N>, bool)>), AllocError>;
+
+fn run_all<'l, 'd, N: Name + Send + Sync, R: Threads + Wait + Sync>(
+    rt: &R,
+    alloc: Global,
+    tools: Result<Vec<Writes<'l, 'd, N>>, AllocError>,
+    watchers: Result<Vec<Looks<'d, N>>, AllocError>,
+) -> Met<N> {
+    run_both(rt, alloc, tools?, watchers?)
+}
+
+fn came<N: Name>(locked: &mut Locked<N>, met: Met<N>, connected: bool) -> Result<Came, Fail> {
+    let (tools, mut looked) = met?;
+    let wrote = connected && all_wrote(locked, &tools);
+    let whole = all_end_alike(locked, &mut looked);
     Ok((wrote, whole, locked.len()))
 }
 

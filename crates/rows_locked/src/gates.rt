@@ -1,16 +1,17 @@
 // Tasks that wait for one another: one after another they would spend their gate.
-ghost use Rattle.std.specs.Prelude.{◌≡◌};
+ghost use Rattle.std.specs.Prelude.{◌≡◌, ◌≤◌};
 
 use fixtures::{Spent, seen, unnamed, workers};
 use std::alloc::Global;
 use std::marker::Brand;
-use std::process::Abort;
 use std::sync::atomic::{AtomicBool, Ordering};
 use std::sync::{Mutex, Wait};
 use std::test::Fail;
 use std::thread::Threads;
 use std::time::Clock;
-use xcp_locked::{Gate, Locked, Name, Opening, Settled, TaskError, Unnamed, Worker, run_tasks};
+use xcp_locked::{
+    Gate, Locked, Name, Opening, Ran, Settled, TaskError, Unnamed, Worker, run_tasks,
+};
 
 // Holds one task before its cycle until another one is behind its own.
 #[derive(Drop)]
@@ -37,72 +38,46 @@ impl<C: Clock> Gate for Held<'_, C> {
     }
 }
 
-// The fault of two tasks of one cycle of which one is held, and how many calls they made.
-fn run_held<N: Name + Send + Sync, R: Threads + Wait + Clock + Sync>(
-    rt: &R,
-    alloc: Global,
-    unnamed: Unnamed,
-    task: u8,
-) -> Result<(Option<TaskError>, u64), Fail>
-    requires { (unnamed.name ≡ N.name) × (unnamed.callers ≡ N.parts)
-        × (unnamed.layout ≡ N.layout) × (unnamed.bank ≡ N.bank) }
-{
-    let Opening {
-        locked,
-        callers,
-        readers,
-    } = Locked::<N>::new(alloc, unnamed)?;
-    let workers = workers(alloc, callers, readers)?;
-    let lock = Mutex::new(locked);
-    let gate = Held {
-        clock: rt,
-        held: task,
-        done: AtomicBool::new(false),
-    };
-    let ran = run_tasks(rt, alloc, &lock, workers, 1, 65_536, &gate)?;
-    let locked = lock.into_inner();
-    Ok((ran.fault, locked.len()))
-}
-
-#[test]
-fn workers_run_at_one_time(rt: HostRuntime) -> Result<(), Fail> {
-    let first = unnamed(rt.alloc(), 2)?;
-    let first = run_held::<Brand, _>(&rt, rt.alloc(), first, 0)?;
-    let second = unnamed(rt.alloc(), 2)?;
-    let second = run_held::<Brand, _>(&rt, rt.alloc(), second, 1)?;
-    assert!(rt; first == (None, 3) && second == (None, 3));
-    Ok(())
-}
-
 // The tasks' fault, how many workers came back and settle, and how many calls there were.
 type Ended = (Option<TaskError>, usize, u64);
 
-// Three tasks of six cycles, of which one is ended before or after cycle 3.
-fn run_spent<N: Name + Send + Sync, R: Threads + Wait + Abort + Sync>(
+fn run_named<N: Name + Send + Sync, G: Gate + Sync, R: Threads + Wait + Sync>(
     rt: &R,
     alloc: Global,
     unnamed: Unnamed,
-    task: u8,
-    is_before: bool,
+    cycles: u32,
+    gate: &G,
 ) -> Result<Ended, Fail>
     requires { (unnamed.name ≡ N.name) × (unnamed.callers ≡ N.parts)
         × (unnamed.layout ≡ N.layout) × (unnamed.bank ≡ N.bank) }
 {
+    match Locked::<N>::new(alloc, unnamed) {
+        Ok(opening) => run_opening(rt, alloc, opening, cycles, gate),
+        Err(_) => Err("an opening".into()),
+    }
+}
+
+fn run_opening<N: Name + Send + Sync, G: Gate + Sync, R: Threads + Wait + Sync>(
+    rt: &R,
+    alloc: Global,
+    opening: Opening<N>,
+    cycles: u32,
+    gate: &G,
+) -> Result<Ended, Fail> {
     let Opening {
         locked,
         callers,
         readers,
-    } = Locked::<N>::new(alloc, unnamed)?;
+    } = opening;
     let workers = workers(alloc, callers, readers)?;
     let lock = Mutex::new(locked);
-    let gate = Spent {
-        task,
-        cycle: 3,
-        is_before,
-    };
-    let mut ran = run_tasks(rt, alloc, &lock, workers, 6, 65_536, &gate)?;
-    let mut locked = lock.into_inner();
-    let back = settling(&mut locked, &mut ran.workers);
+    let ran = run_tasks(rt, alloc, &lock, workers, cycles, 65_536, gate);
+    ended(&mut lock.into_inner(), ran)
+}
+
+fn ended<N: Name>(locked: &mut Locked<N>, ran: Result<Ran<N>, TaskError>) -> Result<Ended, Fail> {
+    let mut ran = ran?;
+    let back = settling(locked, &mut ran.workers);
     Ok((ran.fault, back, locked.len()))
 }
 
@@ -124,18 +99,50 @@ fn settling<N: Name>(locked: &mut Locked<N>, workers: &mut [Worker<N>]) -> usize
     count
 }
 
+// What comes of a task for each caller, of so many cycles.
+fn run<G: Gate + Sync, R: Threads + Wait + Sync>(
+    rt: &R,
+    alloc: Global,
+    callers: u8,
+    cycles: u32,
+    gate: &G,
+) -> Result<Ended, Fail>
+    requires { (1 ≤ callers) × (callers ≤ 16) }
+{
+    let unnamed = unnamed(alloc, callers)?;
+    run_named::<Brand, G, R>(rt, alloc, unnamed, cycles, gate)
+}
+
+// Two tasks of one cycle, of which one is held.
+#[test]
+fn workers_run_at_one_time(rt: HostRuntime) -> Result<(), Fail> {
+    for held in 0..2 {
+        let gate = Held {
+            clock: &rt,
+            held,
+            done: AtomicBool::new(false),
+        };
+        let ended = run(&rt, rt.alloc(), 2, 1, &gate)?;
+        assert!(rt; ended == (None, 2, 3), "{held} is held");
+    }
+    Ok(())
+}
+
 // Tasks 0, 1 and 2 of six cycles make 12, 6 and 6 calls; the one that is ended makes those of four, or of three where it ends
 // before the fourth.
 #[test]
 fn spent_gate_ends_one_task(rt: HostRuntime) -> Result<(), Fail> {
-    let first = unnamed(rt.alloc(), 3)?;
-    let first = run_spent::<Brand, _>(&rt, rt.alloc(), first, 1, false)?;
-    let second = unnamed(rt.alloc(), 3)?;
-    let second = run_spent::<Brand, _>(&rt, rt.alloc(), second, 0, false)?;
-    let third = unnamed(rt.alloc(), 3)?;
-    let third = run_spent::<Brand, _>(&rt, rt.alloc(), third, 1, true)?;
-    assert!(rt; first == (Some(TaskError::GateSpent(1)), 3, 22));
-    assert!(rt; second == (Some(TaskError::GateSpent(0)), 3, 20));
-    assert!(rt; third == (Some(TaskError::GateSpent(1)), 3, 21));
+    for (task, is_before, calls) in [(1, false, 22), (0, false, 20), (1, true, 21)] {
+        let gate = Spent {
+            task,
+            cycle: 3,
+            is_before,
+        };
+        let ended = run(&rt, rt.alloc(), 3, 6, &gate)?;
+        assert!(rt;
+            ended == (Some(TaskError::GateSpent(task)), 3, calls),
+            "{calls} calls"
+        );
+    }
     Ok(())
 }

@@ -59,16 +59,33 @@ fn takes_under_guard<N: Name, R: Wait>(
     requires { (unnamed.name ≡ N.name) × (unnamed.callers ≡ N.parts)
         × (unnamed.layout ≡ N.layout) × (unnamed.bank ≡ N.bank) }
 {
+    match Locked::<N>::new(alloc, unnamed) {
+        Ok(opening) => guard_opening(rt, alloc, opening),
+        Err(_) => Err("an opening".into()),
+    }
+}
+
+fn guard_opening<N: Name, R: Wait>(
+    rt: &R,
+    alloc: Global,
+    opening: Opening<N>,
+) -> Result<bool, Fail> {
     let Opening {
         locked,
         callers,
         readers,
-    } = Locked::<N>::new(alloc, unnamed)?;
+    } = opening;
     let mut workers = workers(alloc, callers, readers)?;
-    let worker = workers.first_mut().ok_or("a worker")?;
     let lock = Mutex::new(locked);
     let mut guard = lock.lock(rt);
-    Ok(takes(&mut guard, worker))
+    Ok(first_takes(&mut guard, &mut workers))
+}
+
+fn first_takes<N: Name>(locked: &mut Locked<N>, workers: &mut [Worker<N>]) -> bool {
+    match workers.first_mut() {
+        Some(worker) => takes(locked, worker),
+        None => false,
+    }
 }
 
 #[test]
@@ -152,18 +169,37 @@ fn run_three<N: Name + Send + Sync, R: Threads + Wait + Sync>(
     requires { (unnamed.name ≡ N.name) × (unnamed.callers ≡ N.parts)
         × (unnamed.layout ≡ N.layout) × (unnamed.bank ≡ N.bank) }
 {
+    match Locked::<N>::new(alloc, unnamed) {
+        Ok(opening) => run_opening(rt, alloc, opening),
+        Err(_) => Err("an opening".into()),
+    }
+}
+
+fn run_opening<N: Name + Send + Sync, R: Threads + Wait + Sync>(
+    rt: &R,
+    alloc: Global,
+    opening: Opening<N>,
+) -> Result<Came, Fail> {
     let Opening {
         mut locked,
         callers,
         readers,
-    } = Locked::<N>::new(alloc, unnamed)?;
+    } = opening;
     let (mut tool, workers) = tool_and_workers(alloc, callers, readers)?;
     let ready = asks(&mut locked, &mut tool, &CONNECT) && asks(&mut locked, &mut tool, &WORK);
     let lock = Mutex::new(locked);
-    let mut ran = run_beside(rt, alloc, &lock, tool, workers)?;
+    let ran = run_beside(rt, alloc, &lock, tool, workers);
+    came(&mut lock.into_inner(), ran, ready)
+}
+
+fn came<N: Name>(
+    locked: &mut Locked<N>,
+    ran: Result<Ran<N>, Fail>,
+    ready: bool,
+) -> Result<Came, Fail> {
+    let mut ran = ran?;
     let good = ready && ran.fault.is_none() && hold_their_last(&mut ran.workers);
-    let mut locked = lock.into_inner();
-    let (last, number) = first_settled(&mut locked, &mut ran.workers).unwrap_or(([0xEE; 2040], 0));
+    let (last, number) = first_settled(locked, &mut ran.workers).unwrap_or(([0xEE; 2040], 0));
     Ok((good, last, number, locked.len()))
 }
 
