@@ -35,7 +35,7 @@ fn ended<R: Threads + Wait + Clock + Sync>(
     alloc: Global,
     sent: &'static [u8],
     tasks: Tasks,
-    period: u32,
+    periods: [u64; 6],
 ) -> Result<Ending<&'static [u8], Vec<u8>, Written>, Fail> {
     let (tasks, cycles, chapter) = tasks;
     let tasks = tasks.min(6);
@@ -44,7 +44,7 @@ fn ended<R: Threads + Wait + Clock + Sync>(
     let ends = Vec::from_array(alloc, [(Watched::new(sent), Watched::new(writer))])?;
     let written: Written = Recording::new(alloc, Vec::new(alloc), [7; 32])?;
     let ending = serve_ends(
-        rt, alloc, unnamed, ends, tasks, cycles, chapter, period, written,
+        rt, alloc, unnamed, ends, tasks, cycles, chapter, periods, written,
     )
     .ok()
     .ok_or("an end")?;
@@ -57,9 +57,9 @@ fn served<R: Threads + Wait + Clock + Sync>(
     alloc: Global,
     sent: &'static [u8],
     tasks: Tasks,
-    period: u32,
+    periods: [u64; 6],
 ) -> Result<Report, Fail> {
-    let ending = ended(rt, alloc, sent, tasks, period)?;
+    let ending = ended(rt, alloc, sent, tasks, periods)?;
     let report = ending.told.ok().ok_or("a report")?;
     if ending.scribe.calls() != report.calls {
         return Err("all calls written down".into());
@@ -78,12 +78,13 @@ fn a_server_tells_its_calls(rt: HostRuntime) -> Result<(), Fail> {
         (&[], (1, 2, 1), 3, 5, None),
     ];
     for (sent, tasks, chapters, calls, fault) in rows {
-        let found = served(&rt, rt.alloc(), sent, tasks, 0)?;
+        let found = served(&rt, rt.alloc(), sent, tasks, [0; 6])?;
         assert_eq!(rt;
             found,
             Report {
                 chapters,
                 calls,
+                lost: 0,
                 fault
             }
         );
@@ -101,7 +102,7 @@ fn is_connect(entry: &Entry) -> bool {
 // The tool's CONNECT, and the last Hangup, which the first caller submits too.
 #[test]
 fn a_journal_is_given_back(rt: HostRuntime) -> Result<(), Fail> {
-    let journal = ended(&rt, rt.alloc(), CONNECT, (0, 1, 65_536), 0)?.journal;
+    let journal = ended(&rt, rt.alloc(), CONNECT, (0, 1, 65_536), [0; 6])?.journal;
     let first = journal.get(0).ok_or("a first call")?;
     let last = journal.get(1).ok_or("a last call")?;
     assert!(rt; is_connect(&first) && last.exchange.request == Request::Hangup);
@@ -131,7 +132,7 @@ fn one_fails<R: Threads + Wait + Clock + Sync>(
     ends.push((Watched::new(given(2)), Watched::new(Hole { room: 1_000 })))?;
     ends.push((Watched::new(given(good_reads)), Watched::new(Hole { room })))?;
     let written: Option<Written> = None;
-    let ending = serve_ends(rt, alloc, unnamed, ends, 0, 1, 65_536, 0, written)
+    let ending = serve_ends(rt, alloc, unnamed, ends, 0, 1, 65_536, [0; 6], written)
         .ok()
         .ok_or("an end")?;
     Ok(ending.told.ok().ok_or("a report")?)
@@ -147,6 +148,7 @@ fn one_connection_of_two_fails(rt: HostRuntime) -> Result<(), Fail> {
         Report {
             chapters: 1,
             calls: 3,
+            lost: 0,
             fault: Some(Fault::Stream(1))
         }
     );
@@ -155,6 +157,7 @@ fn one_connection_of_two_fails(rt: HostRuntime) -> Result<(), Fail> {
         Report {
             chapters: 1,
             calls: 3,
+            lost: 0,
             fault: Some(Fault::Stream(2))
         }
     );
@@ -167,7 +170,7 @@ fn short<R: Threads + Wait + Clock + Sync>(rt: &R, alloc: Global) -> Option<Resu
     let end = (Watched::new(CONNECT), Watched::new(Hole { room: 1_000 }));
     let ends = Vec::from_array(alloc, [end]).ok()?;
     let written: Option<Written> = None;
-    let ending = serve_ends(rt, alloc, unnamed, ends, 1, 100, 65_536, 0, written).ok()?;
+    let ending = serve_ends(rt, alloc, unnamed, ends, 1, 100, 65_536, [0; 6], written).ok()?;
     Some(ending.told)
 }
 
@@ -187,17 +190,19 @@ fn want_of_memory_is_a_servers_fault(rt: HostRuntime) {
     assert!(rt; good);
 }
 
-// The last of three cycles begins two periods after the server, at the earliest.
+// Of task 1, which alone has a period, the last of three cycles begins two periods after the server, at the earliest.
 #[test]
 fn cycles_begin_by_the_period(rt: HostRuntime) -> Result<(), Fail> {
     let begin = Instant::now(&rt)?;
-    let found = served(&rt, rt.alloc(), CONNECT, (2, 3, 65_536), 20)?;
+    let periods = [0, 20_000_000, 0, 0, 0, 0];
+    let found = served(&rt, rt.alloc(), CONNECT, (2, 3, 65_536), periods)?;
     let passed = begin.elapsed(&rt)?;
     assert_eq!(rt;
         found,
         Report {
             chapters: 1,
             calls: 11,
+            lost: 0,
             fault: None
         }
     );

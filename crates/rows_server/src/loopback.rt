@@ -39,7 +39,7 @@ fn serve_one<R: Threads + Wait + Clock + Sync>(
     let unnamed = small(alloc, 4)?;
     let ends = accept_tools(alloc, listener, 1).ok()?;
     let written: Option<Recording<Vec<u8>>> = None;
-    serve_ends(rt, alloc, unnamed, ends, 2, 2, 65_536, 0, written)
+    serve_ends(rt, alloc, unnamed, ends, 2, 2, 65_536, [0; 6], written)
         .ok()?
         .told
         .ok()
@@ -65,6 +65,7 @@ fn a_tool_connects_over_tcp(rt: HostRuntime) -> Result<(), Fail> {
         Some(Report {
             chapters: 1,
             calls: 8,
+            lost: 0,
             fault: None
         })
     );

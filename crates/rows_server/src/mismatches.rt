@@ -112,6 +112,7 @@ fn an_altered_receipt_is_told(rt: HostRuntime) -> Result<(), Fail> {
         Report {
             chapters: 1,
             calls: 9,
+            lost: 0,
             fault: None
         }
     );
@@ -130,6 +131,7 @@ fn exchanged_chapters_are_told(rt: HostRuntime) -> Result<(), Fail> {
     let report = Report {
         chapters: 3,
         calls: 13,
+        lost: 0,
         fault: None,
     };
     assert_eq!(rt; (good, fault), (Some(report), Fault::MismatchedChapter(0)));

@@ -86,7 +86,7 @@ pub fn serve<R: Threads + Wait + Clock + Sync>(
     let plan = Plan {
         tools: 1,
         tasks: 0,
-        period: 0,
+        periods: [0; 6],
         patience: Duration::from_secs(patience),
     };
     let quiet = Quiet { rt, port };
@@ -127,6 +127,7 @@ fn tools_come_and_go(rt: HostRuntime) -> Result<(), Fail> {
     let wanted = Report {
         chapters: 1,
         calls: 6,
+        lost: 0,
     };
     assert_eq!(rt; came(&rt, &rt, rt.alloc(), 3, 1)?, (3, Some(wanted)));
     Ok(())
@@ -137,6 +138,7 @@ fn a_chapter_is_cut_by_the_call_that_fills_it(rt: HostRuntime) -> Result<(), Fai
     let wanted = Report {
         chapters: 2,
         calls: 16_386,
+        lost: 0,
     };
     assert_eq!(rt; came(&rt, &rt, rt.alloc(), 1, 16_385)?, (1, Some(wanted)));
     Ok(())
