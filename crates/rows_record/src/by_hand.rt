@@ -1,12 +1,11 @@
 //! A file that is written by hand, byte by byte, with digests by another program.
 
 use crate::slaves::slave;
-use crate::streams::{Narrow, Pieces, append};
-use std::alloc::Global;
-use std::test::Fail;
+use crate::streams::{LAYOUT, Pieces, append, recorder};
+use std::alloc::{AllocError, Global};
 use xcp_framing::Watched;
-use xcp_packet::{Packet, Train};
-use xcp_record::{Recorder, Silent, audit};
+use xcp_packet::Train;
+use xcp_record::{Silent, audit};
 use xcp_slave::{Answer, Request};
 use xcp_trace::Journal;
 
@@ -33,36 +32,66 @@ fn taken<const N: usize>(bytes: &[u8]) -> arrayvec::ArrayVec<u8, N> {
     taken
 }
 
+/// What each of three callers asks in chapter 0.
+fn request(caller: u8) -> Request {
+    match caller {
+        0 => Request::Command(taken(&[0xFF, 0])),
+        1 => Request::Event(0, taken(&[1, 4])),
+        _ => Request::Hangup,
+    }
+}
+
+/// What it is answered.
+fn answer(caller: u8) -> Answer {
+    match caller {
+        0 => Answer::Packets(Train::one(taken(&[0xFF, 0x05, 0xC0, 8, 64, 0, 1, 1]))),
+        1 => Answer::Sampled(0),
+        _ => Answer::Silent,
+    }
+}
+
 /// The three calls of chapter 0.
-fn calls(alloc: Global) -> Result<Journal, Fail> {
-    let told: Packet = taken(&[0xFF, 0x05, 0xC0, 8, 64, 0, 1, 1]);
+fn calls(alloc: Global) -> Result<Journal, AllocError> {
     let mut journal = Journal::new(alloc);
-    journal.reserve()?;
-    journal.push(
-        0,
-        &Request::Command(taken(&[0xFF, 0])),
-        &Answer::Packets(Train::one(told)),
-    );
-    journal.reserve()?;
-    journal.push(1, &Request::Event(0, taken(&[1, 4])), &Answer::Sampled(0));
-    journal.reserve()?;
-    journal.push(2, &Request::Hangup, &Answer::Silent);
+    for caller in 0..3 {
+        journal.reserve()?;
+        journal.push(caller, &request(caller), &answer(caller));
+    }
     Ok(journal)
 }
 
-#[test]
-fn a_file_is_as_by_hand(rt: HostRuntime) -> Result<(), Fail> {
-    let alloc = rt.alloc();
-    let narrow = Narrow {
-        bytes: Vec::new(alloc),
-        room: 10_000,
+/// What is written of a chapter of these calls and of one without.
+fn written_of(alloc: Global, calls: &Journal) -> Option<Vec<u8>> {
+    let mut recorder = recorder(alloc, 10_000)?;
+    let first = append(&mut recorder, 0, calls);
+    let second = append(&mut recorder, 1, &Journal::new(alloc));
+    if first.is_ok() && second.is_ok() {
+        return Some(recorder.into_stream().bytes);
+    }
+    None
+}
+
+fn written(alloc: Global) -> Option<Vec<u8>> {
+    match calls(alloc) {
+        Ok(calls) => written_of(alloc, &calls),
+        Err(_) => None,
+    }
+}
+
+/// Whether an audit settles three calls.
+fn is_settled(alloc: Global, bytes: &[u8]) -> bool {
+    let Some(slave) = slave(alloc) else {
+        return false;
     };
-    let mut recorder = Recorder::new(alloc, narrow, &[7; 32])?;
-    append(&mut recorder, 0, &calls(alloc)?)?;
-    append(&mut recorder, 1, &Journal::new(alloc))?;
-    let bytes = recorder.into_stream().bytes;
-    let mut reader = Watched::new(Pieces { text: &bytes });
-    let said = audit(alloc, slave(alloc)?, &[7; 32], &mut reader, &mut Silent);
-    assert!(rt; bytes.as_slice() == FILE.as_slice() && said == Ok(3));
-    Ok(())
+    let mut reader = Watched::new(Pieces { text: bytes });
+    audit(alloc, slave, &LAYOUT, &mut reader, &mut Silent) == Ok(3)
+}
+
+#[test]
+fn a_file_is_as_by_hand(rt: HostRuntime) {
+    let good = match written(rt.alloc()) {
+        Some(bytes) => bytes.as_slice() == FILE.as_slice() && is_settled(rt.alloc(), &bytes),
+        None => false,
+    };
+    assert!(rt; good);
 }

@@ -1,60 +1,47 @@
 //! Files that are written, altered and audited.
 
 use crate::hearing::{Counting, counted};
-use crate::slaves::{journal, slave};
-use crate::streams::{Narrow, Pieces, append};
+use crate::slaves::{chapters, journal_of, slave};
+use crate::streams::{LAYOUT, Pieces, append, recorder};
 use std::alloc::{AllocError, Global};
-use std::test::Fail;
 use xcp_framing::Watched;
-use xcp_record::{AuditFault, RecordFault, Recorder, audit};
+use xcp_record::{AuditFault, RecordFault, audit};
 use xcp_trace::Journal;
-
-/// The SHA-256 of the layout's file.
-const LAYOUT: [u8; 32] = [7; 32];
 
 /// The bytes of a file's head.
 const HEAD: usize = 38;
 
-/// What a writer of so much room holds of these chapters, how many calls the recorder says, and what it
-/// said of the last chapter that was appended.
-fn written(
-    alloc: Global,
-    chapters: &[Journal],
-    room: usize,
-) -> Result<(Vec<u8>, u64, Result<(), RecordFault>), Fail> {
-    let narrow = Narrow {
-        bytes: Vec::new(alloc),
-        room,
-    };
-    let mut recorder = Recorder::new(alloc, narrow, &LAYOUT)?;
-    let mut said = Ok(());
-    for number in 0..chapters.len() {
-        said = append(&mut recorder, number as u64, &chapters[number]);
-    }
+/// What a writer holds, how many calls the recorder says, and what it said of the last chapter that was appended.
+type Written = (Vec<u8>, u64, Result<(), RecordFault>);
+
+/// What is written of two chapters by a writer of so much room.
+fn written(alloc: Global, first: &Journal, second: &Journal, room: usize) -> Option<Written> {
+    let mut recorder = recorder(alloc, room)?;
+    let _ = append(&mut recorder, 0, first);
+    let said = append(&mut recorder, 1, second);
     let calls = recorder.calls();
-    Ok((recorder.into_stream().bytes, calls, said))
+    Some((recorder.into_stream().bytes, calls, said))
 }
 
-/// Two chapters of a slave, of 7 and 9 calls.
-fn chapters(alloc: Global) -> Result<Vec<Journal>, Fail> {
-    let mut slave = slave(alloc)?;
-    let first = journal(alloc, &mut slave, 0, 7)?;
-    let second = journal(alloc, &mut slave, 7, 9)?;
-    Ok(Vec::from_array(alloc, [first, second])?)
+/// The same of the chapters of a slave, of 7 and 9 calls.
+fn written_of_one(alloc: Global, room: usize) -> Option<Written> {
+    let (first, second) = chapters(alloc)?;
+    written(alloc, &first, &second, room)
 }
 
-/// What an audit says of the bytes. The witness has to be told so many calls.
-fn audited(alloc: Global, bytes: &[u8]) -> Result<Result<u64, AuditFault>, Fail> {
+/// What an audit says of the bytes; none where the witness isn't told so many calls.
+fn audited(alloc: Global, bytes: &[u8]) -> Option<Result<u64, AuditFault>> {
+    let slave = slave(alloc)?;
     let mut reader = Watched::new(Pieces { text: bytes });
     let mut witness = Counting {
         calls: 0,
         in_order: true,
     };
-    let said = audit(alloc, slave(alloc)?, &LAYOUT, &mut reader, &mut witness);
-    if witness != counted(&said) {
-        return Err(Fail::new("the witness was told other calls"));
+    let said = audit(alloc, slave, &LAYOUT, &mut reader, &mut witness);
+    if witness == counted(&said) {
+        return Some(said);
     }
-    Ok(said)
+    None
 }
 
 /// The place at which a file's second chapter begins: the first one has 16 bytes, its calls and 32 bytes.
@@ -152,69 +139,87 @@ static CHANGES: [(Change, Result<u64, AuditFault>); 18] = [
     (Change::FirstDropped, Err(AuditFault::Altered(0))),
 ];
 
+/// Whether this is said of a file once it is changed.
+fn is_told(alloc: Global, bytes: &[u8], done: Change, wanted: Result<u64, AuditFault>) -> bool {
+    match changed(alloc, bytes, done) {
+        Ok(bytes) => audited(alloc, &bytes) == Some(wanted),
+        Err(_) => false,
+    }
+}
+
 /// The first change of which something else is said.
-fn first_wrong(alloc: Global) -> Result<Option<usize>, Fail> {
-    for row in 0..CHANGES.len() {
-        let (done, wanted) = CHANGES[row];
-        let (bytes, _, _) = written(alloc, &chapters(alloc)?, 10_000)?;
-        let bytes = changed(alloc, &bytes, done)?;
-        if audited(alloc, &bytes)? != wanted {
-            return Ok(Some(row));
+fn first_wrong(alloc: Global, bytes: &[u8]) -> Option<usize> {
+    for (row, (done, wanted)) in CHANGES.iter().enumerate() {
+        if !is_told(alloc, bytes, *done, *wanted) {
+            return Some(row);
         }
     }
-    Ok(None)
+    None
 }
 
 #[test]
-fn changed_files_are_told(rt: HostRuntime) -> Result<(), Fail> {
-    let wrong = first_wrong(rt.alloc())?;
-    assert_eq!(rt; wrong, None);
-    Ok(())
-}
-
-/// Whether a full writer, with so much room behind where the second chapter begins, leaves the first one
-/// alone, and an audit of what is there says so.
-fn is_stopped(alloc: Global, room: usize, wanted: Result<u64, AuditFault>) -> Result<bool, Fail> {
-    let whole = written(alloc, &chapters(alloc)?, 10_000)?.0;
-    let (bytes, calls, said) = written(
-        alloc,
-        &chapters(alloc)?,
-        second_at(&whole).saturating_add(room),
-    )?;
-    Ok(said == Err(RecordFault::Write) && calls == 7 && audited(alloc, &bytes)? == wanted)
-}
-
-#[test]
-fn a_full_disk_stops_the_recorder(rt: HostRuntime) -> Result<(), Fail> {
-    let alloc = rt.alloc();
-    let good = is_stopped(alloc, 0, Ok(7))? && is_stopped(alloc, 20, Err(AuditFault::Cut(7)))?;
-    assert!(rt; good);
-    Ok(())
-}
-
-#[test]
-fn a_call_of_another_slave_differs(rt: HostRuntime) -> Result<(), Fail> {
-    let alloc = rt.alloc();
-    let first = journal(alloc, &mut slave(alloc)?, 0, 7)?;
-    let other = journal(alloc, &mut slave(alloc)?, 7, 9)?;
-    let chapters = Vec::from_array(alloc, [first, other])?;
-    let (bytes, _, _) = written(alloc, &chapters, 10_000)?;
-    let said = audited(alloc, &bytes)?;
-    assert!(rt; said == Err(AuditFault::Mismatch(7)));
-    Ok(())
-}
-
-#[test]
-fn chapters_come_in_order(rt: HostRuntime) -> Result<(), Fail> {
-    let alloc = rt.alloc();
-    let calls = journal(alloc, &mut slave(alloc)?, 0, 7)?;
-    let narrow = Narrow {
-        bytes: Vec::new(alloc),
-        room: 10_000,
+fn changed_files_are_told(rt: HostRuntime) {
+    let wrong = match written_of_one(rt.alloc(), 10_000) {
+        Some((bytes, _, _)) => first_wrong(rt.alloc(), &bytes),
+        None => Some(0),
     };
-    let mut recorder = Recorder::new(alloc, narrow, &LAYOUT)?;
+    assert_eq!(rt; wrong, None);
+}
+
+/// Whether a full writer of so much room leaves the first chapter alone, and an audit of what is there says so.
+fn is_stopped(alloc: Global, room: usize, wanted: Result<u64, AuditFault>) -> bool {
+    match written_of_one(alloc, room) {
+        Some((bytes, calls, said)) => {
+            said == Err(RecordFault::Write) && calls == 7 && audited(alloc, &bytes) == Some(wanted)
+        }
+        None => false,
+    }
+}
+
+/// The place at which the second chapter begins.
+fn second_begins(alloc: Global) -> Option<usize> {
+    let (whole, _, _) = written_of_one(alloc, 10_000)?;
+    Some(second_at(&whole))
+}
+
+/// Whether a disk that is full there, and one that is full 20 bytes behind it, stop the recorder.
+fn are_stopped(alloc: Global) -> bool {
+    let Some(second) = second_begins(alloc) else {
+        return false;
+    };
+    is_stopped(alloc, second, Ok(7))
+        && is_stopped(alloc, second.saturating_add(20), Err(AuditFault::Cut(7)))
+}
+
+#[test]
+fn a_full_disk_stops_the_recorder(rt: HostRuntime) {
+    assert!(rt; are_stopped(rt.alloc()));
+}
+
+/// What an audit says of a file whose second chapter is another slave's.
+fn audited_of_two(alloc: Global) -> Option<Result<u64, AuditFault>> {
+    let first = journal_of(alloc, 0, 7)?;
+    let other = journal_of(alloc, 7, 9)?;
+    let (bytes, _, _) = written(alloc, &first, &other, 10_000)?;
+    audited(alloc, &bytes)
+}
+
+#[test]
+fn a_call_of_another_slave_differs(rt: HostRuntime) {
+    assert!(rt; audited_of_two(rt.alloc()) == Some(Err(AuditFault::Mismatch(7))));
+}
+
+/// What a recorder says of a chapter that comes too early, and of the right one behind it.
+fn disordered(alloc: Global) -> Option<[Result<(), RecordFault>; 2]> {
+    let calls = journal_of(alloc, 0, 7)?;
+    let mut recorder = recorder(alloc, 10_000)?;
     let early = append(&mut recorder, 1, &calls);
     let late = append(&mut recorder, 0, &calls);
-    assert!(rt; early == Err(RecordFault::Number) && late == Err(RecordFault::Stopped));
-    Ok(())
+    Some([early, late])
+}
+
+#[test]
+fn chapters_come_in_order(rt: HostRuntime) {
+    let wanted = [Err(RecordFault::Number), Err(RecordFault::Stopped)];
+    assert!(rt; disordered(rt.alloc()) == Some(wanted));
 }

@@ -4,7 +4,7 @@ use xcp_record::{AuditFault, Witness};
 use xcp_trace::Entry;
 
 /// How many calls it was told, and whether their callers are 0, 1, 2, and again, as those of the files are.
-#[derive(Clone, Copy, Debug, PartialEq, Eq)]
+#[derive(Clone, Copy, PartialEq, Eq)]
 pub(crate) struct Counting {
     pub calls: u64,
     pub in_order: bool,

@@ -1,16 +1,12 @@
 //! Chapters that are given to a scribe.
 
-use crate::slaves::{journal, slave};
-use crate::streams::{Narrow, Pieces};
+use crate::slaves::{chapters, slave};
+use crate::streams::{LAYOUT, Narrow, Pieces};
 use std::alloc::Global;
-use std::test::Fail;
 use xcp_framing::Watched;
 use xcp_record::{AuditFault, RecordFault, Silent, audit};
 use xcp_scribe::{Recording, Scribe};
 use xcp_trace::Journal;
-
-/// The SHA-256 of the layout's file.
-const LAYOUT: [u8; 32] = [7; 32];
 
 /// A recording to a stream that takes so many bytes.
 fn recording(alloc: Global, room: usize) -> Result<Recording<Narrow>, RecordFault> {
@@ -28,54 +24,66 @@ fn give<S: Scribe>(scribe: &mut S, calls: &Journal) {
     }
 }
 
-/// Chapters of 7 and 9 calls, and one without.
-fn give_three<S: Scribe>(alloc: Global, scribe: &mut S) -> Result<(), Fail> {
-    let mut slave = slave(alloc)?;
-    let first = journal(alloc, &mut slave, 0, 7)?;
-    let second = journal(alloc, &mut slave, 7, 9)?;
+/// Gives it chapters of 7 and 9 calls, and one without: whether there was memory.
+fn give_three<S: Scribe>(alloc: Global, scribe: &mut S) -> bool {
+    let Some((first, second)) = chapters(alloc) else {
+        return false;
+    };
     give(scribe, &first);
     give(scribe, &second);
     give(scribe, &Journal::new(alloc));
-    Ok(())
+    true
 }
 
 /// How many calls stand in the file, why it is written no more, what an audit says of it, and its length.
-fn found(
-    alloc: Global,
-    recording: Recording<Narrow>,
-) -> Result<(u64, Option<RecordFault>, Result<u64, AuditFault>, usize), Fail> {
+type Found = (u64, Option<RecordFault>, Result<u64, AuditFault>, usize);
+
+fn found(alloc: Global, recording: Recording<Narrow>) -> Option<Found> {
+    let slave = slave(alloc)?;
     let calls = recording.calls();
     let fault = recording.fault();
     let bytes = recording.into_stream().bytes;
     let mut reader = Watched::new(Pieces { text: &bytes });
-    let said = audit(alloc, slave(alloc)?, &LAYOUT, &mut reader, &mut Silent);
-    Ok((calls, fault, said, bytes.len()))
+    let said = audit(alloc, slave, &LAYOUT, &mut reader, &mut Silent);
+    Some((calls, fault, said, bytes.len()))
+}
+
+/// What is found of three chapters that a scribe is given which is a recording.
+fn found_of_some(alloc: Global) -> Option<Found> {
+    let mut scribe = recording(alloc, 10_000).ok();
+    if give_three(alloc, &mut scribe) {
+        return found(alloc, scribe?);
+    }
+    None
 }
 
 #[test]
-fn a_recording_is_settled_by_an_audit(rt: HostRuntime) -> Result<(), Fail> {
-    let alloc = rt.alloc();
-    let mut scribe = Some(recording(alloc, 10_000)?);
-    give_three(alloc, &mut scribe)?;
-    let (calls, fault, said, _length) = found(alloc, scribe.ok_or("a recording")?)?;
-    assert_eq!(rt; (calls, fault, said), (16, None, Ok(16)));
-    Ok(())
+fn a_recording_is_settled_by_an_audit(rt: HostRuntime) {
+    let settled = match found_of_some(rt.alloc()) {
+        Some((calls, fault, said, _length)) => (calls, fault, said) == (16, None, Ok(16)),
+        None => false,
+    };
+    assert!(rt; settled);
+}
+
+/// What is found of three chapters on a disk of so much room.
+fn found_of(alloc: Global, room: usize) -> Option<Found> {
+    let mut scribe = recording(alloc, room).ok()?;
+    if give_three(alloc, &mut scribe) {
+        return found(alloc, scribe);
+    }
+    None
 }
 
 #[test]
-fn a_full_disk_ends_a_recording_inside_a_chapter(rt: HostRuntime) -> Result<(), Fail> {
-    let alloc = rt.alloc();
-    let mut scribe = recording(alloc, 300)?;
-    give_three(alloc, &mut scribe)?;
-    let found = found(alloc, scribe)?;
+fn a_full_disk_ends_a_recording_inside_a_chapter(rt: HostRuntime) {
     let wanted = (
         7,
         Some(RecordFault::Write),
         Err(AuditFault::Cut(7)),
         300usize,
     );
-    assert_eq!(rt; found, wanted);
-    Ok(())
+    assert!(rt; found_of(rt.alloc(), 300) == Some(wanted));
 }
 
 #[test]
@@ -84,9 +92,8 @@ fn a_disk_without_room_has_no_recording(rt: HostRuntime) {
 }
 
 #[test]
-fn no_recording_is_a_scribe_too(rt: HostRuntime) -> Result<(), Fail> {
+fn no_recording_is_a_scribe_too(rt: HostRuntime) {
     let mut scribe: Option<Recording<Narrow>> = None;
-    give_three(rt.alloc(), &mut scribe)?;
-    assert!(rt; scribe.is_none());
-    Ok(())
+    let given = give_three(rt.alloc(), &mut scribe);
+    assert!(rt; given && scribe.is_none());
 }

@@ -2,37 +2,56 @@
 
 use arrayvec::ArrayVec;
 use std::alloc::{AllocError, Global};
-use std::test::Fail;
 use xcp_memory::{EventPart, Layout, Parts, SegmentPart};
 use xcp_packet::Order;
 use xcp_slave::{Request, Slave};
 use xcp_trace::Journal;
 
-/// MAX_CTO 8, one segment at 0x1000 with 16 bytes, and one event channel with a signal of 2 bytes at 0x8000.
-pub(crate) fn slave(alloc: Global) -> Result<Slave, Fail> {
-    let segment = SegmentPart {
+fn segments(alloc: Global) -> Result<Vec<SegmentPart>, AllocError> {
+    let bytes = [0, 1, 2, 3, 4, 5, 6, 7, 8, 9, 10, 11, 12, 13, 14, 15].to_vec(alloc)?;
+    let mut segments = Vec::new(alloc);
+    segments.push(SegmentPart {
         address: 0x1000,
-        bytes: [0, 1, 2, 3, 4, 5, 6, 7, 8, 9, 10, 11, 12, 13, 14, 15].to_vec(alloc)?,
+        bytes,
         pages: 2,
-    };
-    let event = EventPart {
-        name: b"10ms".to_vec(alloc)?,
+    })?;
+    Ok(segments)
+}
+
+fn events(alloc: Global) -> Result<Vec<EventPart>, AllocError> {
+    let name = b"10ms".to_vec(alloc)?;
+    let mut events = Vec::new(alloc);
+    events.push(EventPart {
+        name,
         cycle: 10,
         unit: 6,
         priority: 0,
-    };
-    let layout = Layout::new(Parts {
-        id: b"ECU1".to_vec(alloc)?,
+    })?;
+    Ok(events)
+}
+
+/// MAX_CTO 8, one segment at 0x1000 with 16 bytes, and one event channel with a signal of 2 bytes at 0x8000.
+fn parts(alloc: Global) -> Result<Parts, AllocError> {
+    let segments = segments(alloc)?;
+    let events = events(alloc)?;
+    let id = b"ECU1".to_vec(alloc)?;
+    Ok(Parts {
+        id,
         max_cto: 8,
         max_dto: 64,
         checksum: 3,
         order: Order::Intel,
-        segments: Vec::from_array(alloc, [segment])?,
+        segments,
         signals_address: 0x8000,
         signals_length: 2,
-        events: Vec::from_array(alloc, [event])?,
-    })?;
-    Ok(Slave::new(alloc, layout)?)
+        events,
+    })
+}
+
+/// A slave of this layout; none where memory is lacking.
+pub(crate) fn slave(alloc: Global) -> Option<Slave> {
+    let layout = Layout::new(parts(alloc).ok()?).ok()?;
+    Slave::new(alloc, layout).ok()
 }
 
 /// These bytes, in place.
@@ -54,20 +73,42 @@ fn request(number: u8) -> Request {
     }
 }
 
+/// Appends the call of this number.
+fn push_call(journal: &mut Journal, slave: &mut Slave, number: u8) -> Result<(), AllocError> {
+    journal.reserve()?;
+    let request = request(number);
+    let answer = slave.submit(&request);
+    journal.push(number % 3, &request, &answer);
+    Ok(())
+}
+
 /// The journal of so many calls of the slave, from the one of this number on.
-pub(crate) fn journal(
-    alloc: Global,
-    slave: &mut Slave,
-    first: u8,
-    count: u8,
-) -> Result<Journal, AllocError> {
+fn journal(alloc: Global, slave: &mut Slave, first: u8, count: u8) -> Result<Journal, AllocError> {
     let mut journal = Journal::new(alloc);
     for i in 0..count {
-        let number = first.wrapping_add(i);
-        let request = request(number);
-        let answer = slave.submit(&request);
-        journal.reserve()?;
-        journal.push(number % 3, &request, &answer);
+        push_call(&mut journal, slave, first.wrapping_add(i))?;
     }
     Ok(journal)
+}
+
+/// The journal of so many calls of a slave of its own.
+pub(crate) fn journal_of(alloc: Global, first: u8, count: u8) -> Option<Journal> {
+    match slave(alloc) {
+        Some(mut slave) => journal(alloc, &mut slave, first, count).ok(),
+        None => None,
+    }
+}
+
+fn chapters_of(alloc: Global, slave: &mut Slave) -> Option<(Journal, Journal)> {
+    let first = journal(alloc, slave, 0, 7).ok()?;
+    let second = journal(alloc, slave, 7, 9).ok()?;
+    Some((first, second))
+}
+
+/// Two chapters of a slave, of 7 and 9 calls.
+pub(crate) fn chapters(alloc: Global) -> Option<(Journal, Journal)> {
+    match slave(alloc) {
+        Some(mut slave) => chapters_of(alloc, &mut slave),
+        None => None,
+    }
 }

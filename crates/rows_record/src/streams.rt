@@ -1,5 +1,6 @@
 //! A writer that takes so many bytes, and a reader that gives few at a time.
 
+use std::alloc::Global;
 use std::io::{self, Read, Write};
 use xcp_record::{RecordFault, Recorder};
 use xcp_trace::Journal;
@@ -38,6 +39,18 @@ impl Read for Pieces<'_> {
         let count = buf.len().min(5);
         self.text.read(&mut buf[..count])
     }
+}
+
+/// The SHA-256 of the layout's file.
+pub(crate) const LAYOUT: [u8; 32] = [7; 32];
+
+/// A recorder to a writer of so much room; none where there isn't as much as a head wants.
+pub(crate) fn recorder(alloc: Global, room: usize) -> Option<Recorder<Narrow>> {
+    let narrow = Narrow {
+        bytes: Vec::new(alloc),
+        room,
+    };
+    Recorder::new(alloc, narrow, &LAYOUT).ok()
 }
 
 /// Appends a chapter of these calls, which are at most as many as a chapter may have.
