@@ -95,9 +95,11 @@ class Server:
     def stop(self):
         """Stops it in order, and gives the numbers of chapters and of calls."""
         self.process.stdin.write("stop\n")
-        lines = [self.line(30) for _ in range(3)]
+        lines = []
+        while (line := self.line(30)) is not None:
+            lines.append(line)
         status = self.process.wait(30)
-        told = re.fullmatch(r"chapters (\d+)\ncalls (\d+)\nsettled", "\n".join(map(str, lines)))
+        told = re.fullmatch(r"chapters (\d+)\ncalls (\d+)(?:\nlost \d+)?\nsettled", "\n".join(lines))
         if not told or status != 0 or self.log.strange:
             raise Fault(f"after `stop` it prints {lines} and says {self.log.strange}, status {status}")
         return int(told[1]), int(told[2])

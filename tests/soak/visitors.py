@@ -60,15 +60,17 @@ class Visitor:
         self.visits[way.name] += 1
 
     def crowd(self, way):
-        """More tools than there are seats: each is answered in its turn."""
+        """More tools than there are seats: each is answered in its turn. While they may have all seats, nobody else waits for a seat with
+        the MTA in hand, which they need to go on."""
         if not self.soak.crowding.acquire(blocking=False):
             return
         try:
-            tools = [Tool(self) for _ in range(SEATS)]
-            for tool in tools:
-                way.leave(self, self.come(tool))
-                self.soak.expect_end(tool, way.ends)
-                self.visits[way.name] += 1
+            with self.soak.mta:
+                tools = [Tool(self) for _ in range(SEATS)]
+                for tool in tools:
+                    way.leave(self, self.come(tool))
+                    self.soak.expect_end(tool, way.ends)
+                    self.visits[way.name] += 1
         finally:
             self.soak.crowding.release()
 
