@@ -3,7 +3,6 @@
 use arrayvec::ArrayVec;
 use sha2::{Digest, Sha256};
 use std::alloc::{AllocError, Global};
-use std::test::Fail;
 use xcp_program::layout_of;
 use xcp_record::Recorder;
 use xcp_slave::{Request, Slave};
@@ -55,10 +54,10 @@ fn request(number: usize) -> Request {
 pub(crate) const REQUESTS: usize = 12;
 
 /// The callers of the requests.
-const CALLERS: [u8; REQUESTS] = [0, 0, 0, 0, 9, 10, 99, 1, 100, 0, 255, 2];
+static CALLERS: [u8; REQUESTS] = [0, 0, 0, 0, 9, 10, 99, 1, 100, 0, 255, 2];
 
 /// The lines of the calls.
-pub(crate) const LINES: [&str; REQUESTS] = [
+pub(crate) static LINES: [&str; REQUESTS] = [
     "0\tFF00\tFF05C00840000101\n",
     "0\tF600000000100000\tFF\n",
     "0\tF510\tFF00010203040506 FF0708090A0B0C0D FF0E0F\n",
@@ -73,12 +72,24 @@ pub(crate) const LINES: [&str; REQUESTS] = [
     "2\thangup\t-\n",
 ];
 
-/// The slave of the layout file.
-fn slave(alloc: Global) -> Result<Slave, Fail> {
-    let Ok(layout) = layout_of(alloc, CONFIG) else {
-        return Err(Fail::new("the layout file is faulty"));
-    };
-    Ok(Slave::new(alloc, layout)?)
+/// The slave of the layout file; none where memory is lacking.
+fn new_slave(alloc: Global) -> Option<Slave> {
+    let layout = layout_of(alloc, CONFIG).ok()?;
+    Slave::new(alloc, layout).ok()
+}
+
+/// Appends the call of this number.
+fn push_call(
+    journal: &mut Journal,
+    slave: &mut Slave,
+    number: usize,
+    caller: u8,
+) -> Result<(), AllocError> {
+    journal.reserve()?;
+    let request = request(number);
+    let answer = slave.submit(&request);
+    journal.push(caller, &request, &answer);
+    Ok(())
 }
 
 /// The calls of the requests of these numbers, from the first to before the second.
@@ -90,37 +101,48 @@ fn journal(
 ) -> Result<Journal, AllocError> {
     let mut journal = Journal::new(alloc);
     for number in first..end.min(REQUESTS) {
-        let request = request(number);
-        let answer = slave.submit(&request);
-        journal.reserve()?;
-        journal.push(CALLERS[number], &request, &answer);
+        push_call(&mut journal, slave, number, CALLERS[number])?;
     }
     Ok(journal)
 }
 
-/// The file of a journal of two chapters, of 5 and 7 calls; or with a second chapter by a slave of its own, to which nobody is
-/// connected.
-pub(crate) fn file(alloc: Global, whole: bool) -> Result<Vec<u8>, Fail> {
-    let digest = Sha256::digest(CONFIG.as_bytes());
-    let mut recorder = Recorder::new(alloc, Vec::new(alloc), &digest)?;
-    let mut first = slave(alloc)?;
-    let mut second = slave(alloc)?;
-    let calls = journal(alloc, &mut first, 0, 5)?;
-    append(&mut recorder, 0, &calls)?;
-    let calls = journal(
-        alloc,
-        if whole { &mut first } else { &mut second },
-        5,
-        REQUESTS,
-    )?;
-    append(&mut recorder, 1, &calls)?;
-    Ok(recorder.into_stream())
+/// The second chapter, of 7 calls, of the same slave, or by a slave of its own, to which nobody is connected.
+fn second(alloc: Global, slave: &mut Slave, whole: bool) -> Option<Journal> {
+    if whole {
+        return journal(alloc, slave, 5, REQUESTS).ok();
+    }
+    match new_slave(alloc) {
+        Some(mut other) => journal(alloc, &mut other, 5, REQUESTS).ok(),
+        None => None,
+    }
 }
 
-/// Appends a chapter of these calls.
-fn append(recorder: &mut Recorder<Vec<u8>>, number: u64, calls: &Journal) -> Result<(), Fail> {
-    if calls.len() > 65_536 {
-        return Err(Fail::new("too many calls"));
+/// The file of two chapters.
+fn written(alloc: Global, first: &Journal, second: &Journal) -> Option<Vec<u8>> {
+    let digest = Sha256::digest(CONFIG.as_bytes());
+    let mut recorder = Recorder::new(alloc, Vec::new(alloc), &digest).ok()?;
+    if append(&mut recorder, 0, first) && append(&mut recorder, 1, second) {
+        return Some(recorder.into_stream());
     }
-    Ok(recorder.append(number, calls.entries())?)
+    None
+}
+
+fn file_of(alloc: Global, slave: &mut Slave, whole: bool) -> Option<Vec<u8>> {
+    let first = journal(alloc, slave, 0, 5).ok()?;
+    let second = second(alloc, slave, whole)?;
+    written(alloc, &first, &second)
+}
+
+/// The file of a journal of two chapters, of 5 and 7 calls; or with a second chapter by a slave of its own, to which nobody is
+/// connected.
+pub(crate) fn file(alloc: Global, whole: bool) -> Option<Vec<u8>> {
+    match new_slave(alloc) {
+        Some(mut slave) => file_of(alloc, &mut slave, whole),
+        None => None,
+    }
+}
+
+/// Appends a chapter of these calls: whether it is written.
+fn append(recorder: &mut Recorder<Vec<u8>>, number: u64, calls: &Journal) -> bool {
+    calls.len() <= 65_536 && recorder.append(number, calls.entries()).is_ok()
 }

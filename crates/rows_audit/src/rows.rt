@@ -3,7 +3,7 @@
 use crate::files::{CONFIG, LINES, REQUESTS, file};
 use crate::streams::{Failing, Full};
 use std::alloc::{AllocError, Global};
-use std::test::Fail;
+use std::fmt::Write;
 use xcp_audit::{Printer, Trouble, print_audit};
 use xcp_framing::Watched;
 use xcp_program::{Fault, layout_of};
@@ -11,19 +11,17 @@ use xcp_program::{Fault, layout_of};
 /// Room for all that is printed, and bytes of all that is read.
 const ENOUGH: usize = 10_000;
 
-/// What is printed of a journal's file by the layout file, where so many of its bytes can be read and so many be printed: the
-/// text, a blank, and the fault.
-fn printed(
+/// What is said of an audit of a journal's file by the layout file, where so many of its bytes can be read and so many be
+/// printed, and what is printed; none where another trouble is kept than is said.
+fn audited(
     alloc: Global,
     config: &str,
     file: &[u8],
     lines: bool,
     good: usize,
     room: usize,
-) -> Result<String, Fail> {
-    let Ok(layout) = layout_of(alloc, config) else {
-        return Err(Fail::new("the layout file is faulty"));
-    };
+) -> Option<(Result<(), Fault>, Vec<u8>)> {
+    let layout = layout_of(alloc, config).ok()?;
     let mut reader = Watched::new(Failing { text: file, good });
     let full = Full {
         bytes: Vec::new(alloc),
@@ -31,14 +29,36 @@ fn printed(
     };
     let mut printer = Printer::new(alloc, full);
     let said = print_audit(alloc, config, layout, &mut reader, &mut printer, lines);
-    let trouble = printer.trouble();
-    if trouble.is_some() && (trouble, said) != (Some(Trouble::Write), Err(Fault::Stream(2))) {
-        return Err(Fail::new("trouble comes first"));
+    match (printer.trouble(), said) {
+        (None, _) | (Some(Trouble::Write), Err(Fault::Stream(2))) => {
+            Some((said, printer.into_stream().bytes))
+        }
+        _ => None,
     }
-    let text = String::from_utf8(printer.into_stream().bytes)?;
-    match said {
-        Ok(()) => Ok(text),
-        Err(fault) => Ok(format!(in alloc; "{text} {fault}")?),
+}
+
+/// What is printed: the text, a blank, and the fault.
+fn printed(
+    alloc: Global,
+    config: &str,
+    file: &[u8],
+    lines: bool,
+    good: usize,
+    room: usize,
+) -> Option<String> {
+    let (said, bytes) = audited(alloc, config, file, lines, good, room)?;
+    let mut text = String::from_utf8(bytes).ok()?;
+    if let Err(fault) = said {
+        write!(text, " {fault}").ok()?;
+    }
+    Some(text)
+}
+
+/// Whether this is printed where all of the file can be read, and all be printed.
+fn is_printed(alloc: Global, config: &str, file: &[u8], lines: bool, wanted: &str) -> bool {
+    match printed(alloc, config, file, lines, ENOUGH, ENOUGH) {
+        Some(text) => text.as_str() == wanted,
+        None => false,
     }
 }
 
@@ -52,28 +72,35 @@ fn with_lines(alloc: Global, count: usize, end: &str) -> Result<String, AllocErr
     Ok(text)
 }
 
-#[test]
-fn a_settled_file(rt: HostRuntime) -> Result<(), Fail> {
-    let alloc = rt.alloc();
-    let bytes = file(alloc, true)?;
-    let silent = printed(alloc, CONFIG, &bytes, false, ENOUGH, ENOUGH)?;
-    assert_eq!(rt; silent.as_str(), "calls 12\nsettled\n");
-    let told = printed(alloc, CONFIG, &bytes, true, ENOUGH, ENOUGH)?;
-    let wanted = with_lines(alloc, REQUESTS, "calls 12\nsettled\n")?;
-    assert_eq!(rt; told.as_str(), wanted.as_str());
-    Ok(())
+/// Whether so many lines of the calls and then this text are printed of a file, and without lines that text.
+fn are_printed(alloc: Global, file: &[u8], count: usize, end: &str, silent: &str) -> bool {
+    match with_lines(alloc, count, end) {
+        Ok(told) => {
+            is_printed(alloc, CONFIG, file, true, &told)
+                && is_printed(alloc, CONFIG, file, false, silent)
+        }
+        Err(_) => false,
+    }
 }
 
 #[test]
-fn a_call_that_differs(rt: HostRuntime) -> Result<(), Fail> {
-    let alloc = rt.alloc();
-    let bytes = file(alloc, false)?;
-    let silent = printed(alloc, CONFIG, &bytes, false, ENOUGH, ENOUGH)?;
-    assert_eq!(rt; silent.as_str(), " mismatch call 9");
-    let told = printed(alloc, CONFIG, &bytes, true, ENOUGH, ENOUGH)?;
-    let wanted = with_lines(alloc, 9, "0\tF9010000\t-\n mismatch call 9")?;
-    assert_eq!(rt; told.as_str(), wanted.as_str());
-    Ok(())
+fn a_settled_file(rt: HostRuntime) {
+    let end = "calls 12\nsettled\n";
+    let good = match file(rt.alloc(), true) {
+        Some(bytes) => are_printed(rt.alloc(), &bytes, REQUESTS, end, end),
+        None => false,
+    };
+    assert!(rt; good);
+}
+
+#[test]
+fn a_call_that_differs(rt: HostRuntime) {
+    let end = "0\tF9010000\t-\n mismatch call 9";
+    let good = match file(rt.alloc(), false) {
+        Some(bytes) => are_printed(rt.alloc(), &bytes, 9, end, " mismatch call 9"),
+        None => false,
+    };
+    assert!(rt; good);
 }
 
 /// What is said of a file once the byte at this place is altered, and it is cut at that one; places of both are counted from its
@@ -89,50 +116,103 @@ static CHANGES: [(usize, usize, &str); 8] = [
     (0, ENOUGH, " journal 6"),
 ];
 
-#[test]
-fn changed_files(rt: HostRuntime) -> Result<(), Fail> {
-    let alloc = rt.alloc();
-    for (altered, cut, wanted) in CHANGES {
-        let mut bytes = file(alloc, true)?;
-        let size = bytes.len();
-        if altered > 0 && size > 0 {
-            let place = size.saturating_sub(altered);
-            if place < bytes.len() {
-                bytes[place] ^= 1;
-            }
+/// The file once it is altered and cut so.
+fn changed(alloc: Global, file: &[u8], altered: usize, cut: usize) -> Result<Vec<u8>, AllocError> {
+    let mut bytes = file.to_vec(alloc)?;
+    let place = file.len().saturating_sub(altered);
+    if altered > 0 && place < bytes.len() {
+        bytes[place] ^= 1;
+    }
+    bytes.truncate(file.len().saturating_sub(cut));
+    Ok(bytes)
+}
+
+/// The first change of which something else is said.
+fn first_wrong(alloc: Global, file: &[u8]) -> Option<usize> {
+    for (number, (altered, cut, wanted)) in CHANGES.iter().enumerate() {
+        match changed(alloc, file, *altered, *cut) {
+            Ok(bytes) if is_printed(alloc, CONFIG, &bytes, false, wanted) => {}
+            _ => return Some(number),
         }
-        bytes.truncate(size.saturating_sub(cut));
-        let found = printed(alloc, CONFIG, &bytes, false, ENOUGH, ENOUGH)?;
-        assert_eq!(rt; found.as_str(), wanted);
     }
-    Ok(())
+    None
 }
 
 #[test]
-fn a_file_of_another_layout(rt: HostRuntime) -> Result<(), Fail> {
-    let alloc = rt.alloc();
-    let bytes = file(alloc, true)?;
-    let config = format!(in alloc; "{CONFIG}\n")?;
-    let found = printed(alloc, config.as_str(), &bytes, true, ENOUGH, ENOUGH)?;
-    assert_eq!(rt; found.as_str(), " journal 5");
-    Ok(())
+fn changed_files(rt: HostRuntime) {
+    let wrong = match file(rt.alloc(), true) {
+        Some(bytes) => first_wrong(rt.alloc(), &bytes),
+        None => Some(0),
+    };
+    assert_eq!(rt; wrong, None);
+}
+
+/// Whether a file is another layout's where the layout file has one line feed more.
+fn is_of_another(alloc: Global, file: &[u8]) -> bool {
+    match format!(in alloc; "{CONFIG}\n") {
+        Ok(config) => is_printed(alloc, &config, file, true, " journal 5"),
+        Err(_) => false,
+    }
 }
 
 #[test]
-fn streams_that_fail(rt: HostRuntime) -> Result<(), Fail> {
-    let alloc = rt.alloc();
-    let bytes = file(alloc, true)?;
-    for good in [0, 37, 60, 289] {
-        let found = printed(alloc, CONFIG, &bytes, false, good, ENOUGH)?;
-        assert_eq!(rt; found.as_str(), " journal 1");
+fn a_file_of_another_layout(rt: HostRuntime) {
+    let good = match file(rt.alloc(), true) {
+        Some(bytes) => is_of_another(rt.alloc(), &bytes),
+        None => false,
+    };
+    assert!(rt; good);
+}
+
+/// After how many bytes a reader fails.
+static GOOD: [usize; 4] = [0, 37, 60, 289];
+
+/// Whether that is told of each such reader.
+fn are_misread(alloc: Global, file: &[u8]) -> bool {
+    for good in &GOOD {
+        match printed(alloc, CONFIG, file, false, *good, ENOUGH) {
+            Some(text) if text.as_str() == " journal 1" => {}
+            _ => return false,
+        }
     }
-    let whole = with_lines(alloc, REQUESTS, "calls 12\nsettled\n")?;
-    for room in [0, 1, 23, 24, 100, 200] {
-        let found = printed(alloc, CONFIG, &bytes, true, ENOUGH, room)?;
-        let front = found.as_str().split_once(" stream 2");
-        let written = front.map(|parts| parts.0.len());
-        assert_eq!(rt; written, Some(room));
-        assert!(rt; front.is_some_and(|parts| whole.as_str().starts_with(parts.0)));
+    true
+}
+
+/// After how many bytes a writer is full.
+static ROOMS: [usize; 6] = [0, 1, 23, 24, 100, 200];
+
+/// Whether a text is the first so many bytes of another, with the fault behind them.
+fn is_front(text: &str, room: usize, whole: &str) -> bool {
+    match text.split_once(" stream 2") {
+        Some((front, _)) => front.len() == room && whole.starts_with(front),
+        None => false,
     }
-    Ok(())
+}
+
+/// Whether that is told of each such writer, behind what it took.
+fn are_full(alloc: Global, file: &[u8], whole: &str) -> bool {
+    for room in &ROOMS {
+        match printed(alloc, CONFIG, file, true, ENOUGH, *room) {
+            Some(text) if is_front(&text, *room, whole) => {}
+            _ => return false,
+        }
+    }
+    true
+}
+
+/// Whether both are told of the journal's file.
+fn are_told(alloc: Global, file: &[u8]) -> bool {
+    match with_lines(alloc, REQUESTS, "calls 12\nsettled\n") {
+        Ok(whole) => are_misread(alloc, file) && are_full(alloc, file, &whole),
+        Err(_) => false,
+    }
+}
+
+#[test]
+fn streams_that_fail(rt: HostRuntime) {
+    let good = match file(rt.alloc(), true) {
+        Some(bytes) => are_told(rt.alloc(), &bytes),
+        None => false,
+    };
+    assert!(rt; good);
 }

@@ -2,7 +2,6 @@
 use crate::holding::hold;
 use crate::openings::in_use;
 use crate::rows::{Ask, asks, request};
-use std::alloc::Global;
 use xcp_controller::{Controller, is_reading, keeps_image};
 use xcp_packet::Packet;
 
@@ -60,14 +59,15 @@ fn counts(controller: &mut Controller) -> [u8; 4] {
 }
 
 // Whether an event packet waits behind a store.
-fn is_counted(alloc: Global) -> bool {
-    let Some(mut controller) = in_use(alloc) else {
-        return false;
-    };
-    asks(&mut controller, &[0xF9, 1, 0, 0]) && counts(&mut controller) == [0, 1, 0, 12]
+fn is_counted(controller: &mut Controller) -> bool {
+    asks(controller, &[0xF9, 1, 0, 0]) && counts(controller) == [0, 1, 0, 12]
 }
 
 #[test]
 fn packets_are_counted(rt: HostRuntime) {
-    assert!(rt; is_counted(rt.alloc()));
+    let counted = match in_use(rt.alloc()) {
+        Some(mut controller) => is_counted(&mut controller),
+        None => false,
+    };
+    assert!(rt; counted);
 }

@@ -190,11 +190,17 @@ fn follow(
     (kept && first && still, [before, writes, pages])
 }
 
-fn follow_new(alloc: Global) -> Option<(bool, [Option<usize>; 3])> {
-    let mut controller = controller(alloc)?;
+fn follow_with(controller: &mut Controller) -> Option<(bool, [Option<usize>; 3])> {
     let mut keeper = controller.take_reader()?;
     let mut reader = controller.take_reader()?;
-    Some(follow(&mut controller, &mut keeper, &mut reader))
+    Some(follow(controller, &mut keeper, &mut reader))
+}
+
+fn follow_new(alloc: Global) -> Option<(bool, [Option<usize>; 3])> {
+    match controller(alloc) {
+        Some(mut controller) => follow_with(&mut controller),
+        None => None,
+    }
 }
 
 #[test]
@@ -230,18 +236,18 @@ static WRONG: [[Row; 1]; 6] = [
 ];
 
 // Whether the first of these rows is found to be wrong.
-fn finds(controller: &mut Controller, reader: &mut Reader, rows: &[Row]) -> bool {
+fn finds(controller: &mut Controller, rows: &[Row]) -> bool {
+    let Some(mut reader) = controller.take_reader() else {
+        return false;
+    };
     let mut seen = Seen::first(&BYTES);
-    let _opening = take(reader);
-    first_wrong(controller, reader, &mut seen, rows) == Some(0)
+    let _opening = take(&mut reader);
+    first_wrong(controller, &mut reader, &mut seen, rows) == Some(0)
 }
 
 fn is_found(alloc: Global, rows: &[Row]) -> bool {
-    let Some(mut controller) = in_use(alloc) else {
-        return false;
-    };
-    match controller.take_reader() {
-        Some(mut reader) => finds(&mut controller, &mut reader, rows),
+    match in_use(alloc) {
+        Some(mut controller) => finds(&mut controller, rows),
         None => false,
     }
 }

@@ -53,11 +53,8 @@ fn first_wrong_task(controller: &mut Controller) -> Option<usize> {
 }
 
 // Whether there is no reader behind six such tasks.
-fn has_six(alloc: Global) -> bool {
-    let Some(mut controller) = in_use(alloc) else {
-        return false;
-    };
-    let wrong = first_wrong_task(&mut controller);
+fn has_six(controller: &mut Controller) -> bool {
+    let wrong = first_wrong_task(controller);
     let more = controller.take_reader().is_some() || controller.take_reader().is_some();
     wrong.is_none() && !more
 }
@@ -66,7 +63,11 @@ fn has_six(alloc: Global) -> bool {
 // nobody holds an image then.
 #[test]
 fn a_reader_is_closed_and_another_opened(rt: HostRuntime) {
-    assert!(rt; has_six(rt.alloc()));
+    let six = match in_use(rt.alloc()) {
+        Some(mut controller) => has_six(&mut controller),
+        None => false,
+    };
+    assert!(rt; six);
 }
 
 /// A reader that holds the image of this write.
@@ -113,12 +114,9 @@ fn hold_six(controller: &mut Controller, readers: &mut Vec<Box<Reader>>) -> bool
     written && wrong.is_none() && controller.held() == 0
 }
 
-fn six_hold(alloc: Global) -> bool {
-    let Some(mut controller) = in_use(alloc) else {
-        return false;
-    };
-    match six_holders(alloc, &mut controller) {
-        Some(mut readers) => hold_six(&mut controller, &mut readers),
+fn six_hold(alloc: Global, controller: &mut Controller) -> bool {
+    match six_holders(alloc, controller) {
+        Some(mut readers) => hold_six(controller, &mut readers),
         None => false,
     }
 }
@@ -126,7 +124,11 @@ fn six_hold(alloc: Global) -> bool {
 // Each keeps its image, whole, and its buffer comes back when it leaves.
 #[test]
 fn six_readers_hold_six_images(rt: HostRuntime) {
-    assert!(rt; six_hold(rt.alloc()));
+    let six = match in_use(rt.alloc()) {
+        Some(mut controller) => six_hold(rt.alloc(), &mut controller),
+        None => false,
+    };
+    assert!(rt; six);
 }
 
 // Whether a reader takes the opening's image, and takes it again where it is asked once more.
@@ -151,13 +153,17 @@ fn a_reader_outlives_its_controller(rt: HostRuntime) {
     assert!(rt; took);
 }
 
-// Whether this is a controller with a reader that takes the opening's image.
-fn is_opened(came: Option<Controller>) -> bool {
-    let Some(mut controller) = came else {
-        return false;
-    };
+// Whether a reader takes the opening's image.
+fn takes_first(controller: &mut Controller) -> bool {
     match controller.take_reader() {
         Some(mut reader) => take(&mut reader) == (Taken::Newer, Seen::first(&BYTES)),
+        None => false,
+    }
+}
+
+fn is_opened(came: Option<Controller>) -> bool {
+    match came {
+        Some(mut controller) => takes_first(&mut controller),
         None => false,
     }
 }

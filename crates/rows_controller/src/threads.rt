@@ -2,7 +2,6 @@
 use crate::openings::in_use;
 use crate::readers::{image, write};
 use crate::rows::take;
-use std::alloc::Global;
 use std::thread::{Threads, join};
 use xcp_bank::{Reader, Taken};
 use xcp_controller::Controller;
@@ -12,13 +11,18 @@ const WRITES: u32 = 2000;
 const TURNS: u32 = 2000;
 
 // Writes the number that the image has then, modulo 256: from 2 on.
-fn write_all(mut controller: Controller) -> bool {
+fn write_on(controller: &mut Controller) -> bool {
     for number in 2..WRITES {
-        if !write(&mut controller, (number % 256) as u8) {
+        if !write(controller, (number % 256) as u8) {
             return false;
         }
     }
     true
+}
+
+fn write_all(controller: Controller) -> bool {
+    let mut controller = controller;
+    write_on(&mut controller)
 }
 
 // Whether every image that this reader took was whole, and newer exactly where it says so.
@@ -61,20 +65,28 @@ fn follow_beside<R: Threads + Sync>(
     wrote && followed
 }
 
-fn opened(alloc: Global) -> Option<(Controller, Box<Reader>, Box<Reader>)> {
-    let mut controller = in_use(alloc)?;
+// Two readers, behind which the first image is written.
+fn two_readers(controller: &mut Controller) -> Option<(Box<Reader>, Box<Reader>)> {
     let one = controller.take_reader()?;
     let two = controller.take_reader()?;
-    if write(&mut controller, 1) {
-        return Some((controller, one, two));
+    if write(controller, 1) {
+        return Some((one, two));
     }
     None
 }
 
+fn run<R: Threads + Sync>(rt: &R, controller: Controller) -> bool {
+    let mut controller = controller;
+    match two_readers(&mut controller) {
+        Some((one, two)) => follow_beside(rt, controller, one, two),
+        None => false,
+    }
+}
+
 #[test]
 fn images_are_whole_beside_writes(rt: HostRuntime) {
-    let whole = match opened(rt.alloc()) {
-        Some((controller, one, two)) => follow_beside(&rt, controller, one, two),
+    let whole = match in_use(rt.alloc()) {
+        Some(controller) => run(&rt, controller),
         None => false,
     };
     assert!(rt; whole);

@@ -1,31 +1,46 @@
 //! What descriptions say.
+use crate::holding::hold;
 use crate::layouts::{MOTOROLA, NAMED, SMALL};
 use crate::reading::{is_balanced, words_of};
-use std::alloc::Global;
-use std::test::Fail;
+use std::alloc::{AllocError, Global};
 use xcp_describe::describe;
 use xcp_framing::Watched;
 
 /// The words of a description.
-fn described(alloc: Global, config: &str, host: &str, port: u16) -> Result<String, Fail> {
+fn described(alloc: Global, config: &str, host: &str, port: u16) -> Result<String, AllocError> {
     let mut writer = Watched::new(Vec::new(alloc));
-    let ended = describe(alloc, config, host, port, &mut writer);
-    let written = writer.into_inner();
-    match ended {
-        Ok(()) => Ok(words_of(alloc, written.as_slice())?),
-        Err(fault) => Ok(format!(in alloc; "{fault}")?),
+    match describe(alloc, config, host, port, &mut writer) {
+        Ok(()) => words_of(alloc, writer.into_inner().as_slice()),
+        Err(fault) => format!(in alloc; "{fault}"),
     }
 }
 
-/// The first of these that doesn't stand in a text.
-fn first_missing<'a>(text: &str, rows: &[&'a str]) -> Option<&'a str> {
-    for row in rows {
-        if !text.contains(*row) {
-            return Some(*row);
+/// The first of these that stands in a text, or the first that doesn't.
+fn first_that(text: &str, rows: &[&str], stands: bool) -> Option<usize> {
+    for (number, row) in rows.iter().enumerate() {
+        if text.contains(*row) == stands {
+            return Some(number);
         }
     }
     None
 }
+
+/// The first of these that doesn't stand in a description.
+fn first_missing(
+    alloc: Global,
+    config: &str,
+    host: &str,
+    port: u16,
+    rows: &[&str],
+) -> Option<usize> {
+    match described(alloc, config, host, port) {
+        Ok(words) => first_that(&words, rows, false),
+        Err(_) => Some(rows.len()),
+    }
+}
+
+/// Where tools reach the slave, if nothing else is said.
+const HOST: &str = "127.0.0.1";
 
 static SMALL_ROWS: [&str; 14] = [
     "ASAP2_VERSION 1 60 /begin PROJECT xcpd \"ECU1\" /begin MODULE slave \"ECU1\" /begin A2ML ",
@@ -67,32 +82,49 @@ static ABSENT: [&str; 6] = [
     "/begin PGM ",
 ];
 
-#[test]
-fn a_small_slave(rt: HostRuntime) -> Result<(), Fail> {
-    let words = described(rt.alloc(), SMALL, "127.0.0.1", 5555)?;
-    assert_eq!(rt; first_missing(words.as_str(), &SMALL_ROWS), None);
-    for row in ABSENT {
-        assert!(rt; !words.as_str().contains(row), "{row}");
+/// The first of these that stands in the description of the small slave.
+fn first_present(alloc: Global) -> Option<usize> {
+    match described(alloc, SMALL, HOST, 5555) {
+        Ok(words) => first_that(&words, &ABSENT, true),
+        Err(_) => Some(ABSENT.len()),
     }
-    Ok(())
 }
 
 #[test]
-fn a_motorola_slave(rt: HostRuntime) -> Result<(), Fail> {
-    let words = described(rt.alloc(), MOTOROLA, "ecu.example", 1024)?;
-    assert_eq!(rt; first_missing(words.as_str(), &MOTOROLA_ROWS), None);
-    Ok(())
+fn a_small_slave(rt: HostRuntime) {
+    hold(
+        &rt,
+        first_missing(rt.alloc(), SMALL, HOST, 5555, &SMALL_ROWS),
+    );
+    hold(&rt, first_present(rt.alloc()));
 }
 
 #[test]
-fn each_block_is_closed(rt: HostRuntime) -> Result<(), Fail> {
-    for config in [SMALL, MOTOROLA] {
-        let words = described(rt.alloc(), config, "127.0.0.1", 5555)?;
-        assert!(rt; is_balanced(rt.alloc(), words.as_str())?);
-        let fewer = words.as_str().replacen(rt.alloc(), "/end PAG ", "", 1)?;
-        assert!(rt; !is_balanced(rt.alloc(), fewer.as_str())?);
-    }
-    Ok(())
+fn a_motorola_slave(rt: HostRuntime) {
+    let missing = first_missing(rt.alloc(), MOTOROLA, "ecu.example", 1024, &MOTOROLA_ROWS);
+    hold(&rt, missing);
+}
+
+/// Whether each block of a description is closed.
+fn is_closed(alloc: Global, config: &str) -> Result<bool, AllocError> {
+    let words = described(alloc, config, HOST, 5555)?;
+    is_balanced(alloc, &words)
+}
+
+/// Whether it is so where one end of a block is taken away.
+fn is_closed_without(alloc: Global, config: &str) -> Result<bool, AllocError> {
+    let words = described(alloc, config, HOST, 5555)?;
+    let fewer = words.as_str().replacen(alloc, "/end PAG ", "", 1)?;
+    is_balanced(alloc, &fewer)
+}
+
+#[test]
+fn each_block_is_closed(rt: HostRuntime) {
+    let alloc = rt.alloc();
+    assert!(rt; is_closed(alloc, SMALL) == Ok(true));
+    assert!(rt; is_closed(alloc, MOTOROLA) == Ok(true));
+    assert!(rt; is_closed_without(alloc, SMALL) == Ok(false));
+    assert!(rt; is_closed_without(alloc, MOTOROLA) == Ok(false));
 }
 
 static NAMED_ROWS: [&str; 8] = [
@@ -106,13 +138,19 @@ static NAMED_ROWS: [&str; 8] = [
     "/begin MEASUREMENT byte7 \"\" SBYTE byte7_conversion 0 0 -254.0 256.0 ECU_ADDRESS 0x00002007 /end MEASUREMENT /end MODULE /end PROJECT ",
 ];
 
+fn is_named(alloc: Global) -> bool {
+    match format!(in alloc; "{SMALL}{NAMED}") {
+        Ok(config) => {
+            first_missing(alloc, &config, HOST, 5555, &NAMED_ROWS).is_none()
+                && is_closed(alloc, &config) == Ok(true)
+        }
+        Err(_) => false,
+    }
+}
+
 #[test]
-fn parameters_and_measurements(rt: HostRuntime) -> Result<(), Fail> {
-    let config = format!(in rt.alloc(); "{SMALL}{NAMED}")?;
-    let words = described(rt.alloc(), config.as_str(), "127.0.0.1", 5555)?;
-    assert_eq!(rt; first_missing(words.as_str(), &NAMED_ROWS), None, "{words}");
-    assert!(rt; is_balanced(rt.alloc(), words.as_str())?);
-    Ok(())
+fn parameters_and_measurements(rt: HostRuntime) {
+    assert!(rt; is_named(rt.alloc()));
 }
 
 /// What stands behind `SMALL`, and how it is refused.
@@ -177,12 +215,23 @@ static REFUSED: [(&str, &str); 16] = [
     ),
 ];
 
-#[test]
-fn entries_are_refused(rt: HostRuntime) -> Result<(), Fail> {
-    for (rows, refusal) in REFUSED {
-        let config = format!(in rt.alloc(); "{SMALL}{rows}\n")?;
-        let found = described(rt.alloc(), config.as_str(), "127.0.0.1", 5555)?;
-        assert!(rt; found.as_str().starts_with(refusal), "{rows}: {found}");
+/// Whether a description with these entries is refused so.
+fn is_refused(alloc: Global, rows: &str, refusal: &str) -> Result<bool, AllocError> {
+    let config = format!(in alloc; "{SMALL}{rows}\n")?;
+    let found = described(alloc, &config, HOST, 5555)?;
+    Ok(found.as_str().starts_with(refusal))
+}
+
+fn first_not_refused(alloc: Global) -> Option<usize> {
+    for (number, (rows, refusal)) in REFUSED.iter().enumerate() {
+        if is_refused(alloc, rows, refusal) != Ok(true) {
+            return Some(number);
+        }
     }
-    Ok(())
+    None
+}
+
+#[test]
+fn entries_are_refused(rt: HostRuntime) {
+    hold(&rt, first_not_refused(rt.alloc()));
 }
