@@ -1,6 +1,6 @@
 //! Frames that come in pieces.
-use std::alloc::{AllocError, Global};
-use std::test::Fail;
+use crate::holding::hold;
+use std::alloc::Global;
 use xcp_framing::{Cut, Framer, Got};
 use xcp_packet::Packet;
 
@@ -64,7 +64,7 @@ fn first_wrong(rows: &[Row]) -> Option<usize> {
 
 #[test]
 fn pieces(rt: HostRuntime) {
-    assert_eq!(rt; first_wrong(&PIECES), None);
+    hold(&rt, first_wrong(&PIECES));
 }
 
 /// A stream that begins so, in two pieces: the second byte decides.
@@ -76,52 +76,65 @@ fn is_bad(first: u8, second: u8, length: u16) -> bool {
 }
 
 #[test]
-fn a_len_above_max_cto_is_bad_as_soon_as_it_is_there(rt: HostRuntime) -> Result<(), Fail> {
-    for (length, first, second) in [(33, 33, 0), (256, 0, 1), (65_535, 0xFF, 0xFF)] {
-        assert!(rt; is_bad(first, second, length), "{length}");
-    }
-    Ok(())
+fn a_len_above_max_cto_is_bad_as_soon_as_it_is_there(rt: HostRuntime) {
+    assert!(rt; is_bad(33, 0, 33));
+    assert!(rt; is_bad(0, 1, 256));
+    assert!(rt; is_bad(0xFF, 0xFF, 65_535));
 }
 
-/// Whether a piece is fed to both framers alike, one of which is lent the packet; and how many of its
-/// bytes are used.
+/// Feeds a piece to both framers, one of which is lent the packet: how many of its bytes are used, where they are fed
+/// alike.
 fn fed_alike(
     framer: &mut Framer,
     lent: &mut Framer,
     piece: &[u8],
     packets: &mut Vec<u8>,
-) -> Result<Option<usize>, AllocError> {
+) -> Option<usize> {
     let mut packet = Packet::new();
     let _ = packet.try_extend_from_slice(&[7; 255]);
     let Cut { used, brought } = lent.feed_into(piece, &mut packet);
     let got = brought.with(packet);
-    if let Got::Packet(packet) = &got {
-        packets.extend_from_slice(packet)?;
-        packets.push(b'|')?;
+    if !is_pushed(&got, packets) {
+        return None;
     }
     let fed = framer.feed(piece);
     if fed.used == used && fed.got == got && framer.inside() == lent.inside() {
-        return Ok(Some(used));
+        return Some(used);
     }
-    Ok(None)
+    None
 }
 
-/// The packets of these pieces, with a bar behind each; `None` where two framers aren't fed alike.
+/// Appends what was got, if it is a packet, and a bar: whether there was memory.
+fn is_pushed(got: &Got, packets: &mut Vec<u8>) -> bool {
+    match got {
+        Got::Packet(packet) => {
+            packets.extend_from_slice(packet).is_ok() && packets.push(b'|').is_ok()
+        }
+        _ => true,
+    }
+}
+
+/// Appends a piece's packets, with a bar behind each: whether two framers are fed alike.
 /// Each feed uses a byte, or there is nothing more to use.
-fn packets_of(alloc: Global, pieces: [&[u8]; 2]) -> Result<Option<Vec<u8>>, AllocError> {
+fn are_fed(framer: &mut Framer, lent: &mut Framer, piece: &[u8], packets: &mut Vec<u8>) -> bool {
+    let mut left = piece;
+    for _ in 0..=piece.len() {
+        match fed_alike(framer, lent, left, packets) {
+            Some(used) => left = &left[used.min(left.len())..],
+            None => return false,
+        }
+    }
+    true
+}
+
+/// Whether these are the packets of two pieces.
+fn are_packets(alloc: Global, front: &[u8], rest: &[u8], wanted: &[u8]) -> bool {
     let mut packets = Vec::new(alloc);
     let mut framer = Framer::new(32);
     let mut lent = Framer::new(32);
-    for piece in pieces {
-        let mut left = piece;
-        for _ in 0..=piece.len() {
-            let Some(used) = fed_alike(&mut framer, &mut lent, left, &mut packets)? else {
-                return Ok(None);
-            };
-            left = &left[used.min(left.len())..];
-        }
-    }
-    Ok(Some(packets))
+    are_fed(&mut framer, &mut lent, front, &mut packets)
+        && are_fed(&mut framer, &mut lent, rest, &mut packets)
+        && packets.as_slice() == wanted
 }
 
 /// Streams, and their packets with a bar behind each: the worked one, one with frames of LEN 0 and a
@@ -144,28 +157,25 @@ static STREAMS: [(&[u8], &[u8]); 3] = [
 ];
 
 /// The first place at which the stream is cut and its packets aren't found, or not both ways.
-fn first_wrong_cut(
-    alloc: Global,
-    stream: &[u8],
-    wanted: &[u8],
-) -> Result<Option<usize>, AllocError> {
+fn first_wrong_cut(alloc: Global, stream: &[u8], wanted: &[u8]) -> Option<usize> {
     for cut in 0..=stream.len() {
-        let found = match packets_of(alloc, [&stream[..cut], &stream[cut..]])? {
-            Some(packets) => packets.as_slice() == wanted,
-            None => false,
-        };
-        if !found {
-            return Ok(Some(cut));
+        if !are_packets(alloc, &stream[..cut], &stream[cut..], wanted) {
+            return Some(cut);
         }
     }
-    Ok(None)
+    None
+}
+
+fn first_wrong_stream(alloc: Global) -> Option<usize> {
+    for (number, (stream, wanted)) in STREAMS.iter().enumerate() {
+        if first_wrong_cut(alloc, stream, wanted).is_some() {
+            return Some(number);
+        }
+    }
+    None
 }
 
 #[test]
-fn packets_that_are_lent_at_each_cut(rt: HostRuntime) -> Result<(), Fail> {
-    for (number, (stream, wanted)) in STREAMS.iter().enumerate() {
-        let wrong = first_wrong_cut(rt.alloc(), stream, wanted)?;
-        assert!(rt; wrong.is_none(), "{number}");
-    }
-    Ok(())
+fn packets_that_are_lent_at_each_cut(rt: HostRuntime) {
+    hold(&rt, first_wrong_stream(rt.alloc()));
 }

@@ -1,6 +1,6 @@
 //! Frames, and the frames of whole streams.
+use crate::holding::hold;
 use std::alloc::{AllocError, Global};
-use std::test::Fail;
 use xcp_framing::{
     any_cutting_gives_the_same_frames, each_stream_has_its_frames, frame, plain_frames,
     the_wire_gives_its_packets_back,
@@ -13,16 +13,15 @@ fn packet(bytes: &[u8]) -> Packet {
     packet
 }
 
+/// Whether the frame of these bytes with such a CTR is this.
+fn is_framed(counter: u16, bytes: &[u8], wanted: &[u8]) -> bool {
+    frame(counter, &packet(bytes)).as_slice() == wanted
+}
+
 #[test]
 fn a_frame_has_its_words_low_byte_first(rt: HostRuntime) {
-    assert_eq!(rt;
-        frame(0x0201, &packet(&[0xFF, 0xAA, 0xBB])).as_slice(),
-        [3, 0, 1, 2, 0xFF, 0xAA, 0xBB].as_slice()
-    );
-    assert_eq!(rt;
-        frame(0, &Packet::new()).as_slice(),
-        [0, 0, 0, 0].as_slice()
-    );
+    assert!(rt; is_framed(0x0201, &[0xFF, 0xAA, 0xBB], &[3, 0, 1, 2, 0xFF, 0xAA, 0xBB]));
+    assert!(rt; is_framed(0, &[], &[0, 0, 0, 0]));
 }
 
 /// A stream, its packets one behind another, how many they are, and the place where its rest begins.
@@ -50,24 +49,29 @@ fn joined(alloc: Global, packets: &[Packet]) -> Result<Vec<u8>, AllocError> {
     Ok(joined)
 }
 
+/// Whether a stream has these packets and this rest.
+fn has_frames(alloc: Global, row: &Row) -> Result<bool, AllocError> {
+    let (stream, bytes, count, rest) = row;
+    let (packets, at) = plain_frames(alloc, 32, stream)?;
+    let joined = joined(alloc, &packets)?;
+    Ok(joined.as_slice() == *bytes && packets.len() == *count && at == *rest)
+}
+
 /// The first stream whose frames aren't those that are found.
-fn first_wrong(alloc: Global) -> Result<Option<usize>, AllocError> {
-    for (number, (stream, bytes, count, rest)) in STREAMS.iter().enumerate() {
-        let (packets, at) = plain_frames(alloc, 32, stream)?;
-        let joined = joined(alloc, packets.as_slice())?;
-        if joined.as_slice() != *bytes || packets.len() != *count || at != *rest {
-            return Ok(Some(number));
+fn first_wrong(alloc: Global) -> Option<usize> {
+    for (number, row) in STREAMS.iter().enumerate() {
+        if has_frames(alloc, row) != Ok(true) {
+            return Some(number);
         }
     }
-    Ok(None)
+    None
 }
 
 /// The definition itself, by the program whose contract it is.
 #[test]
-fn frames_of_streams(rt: HostRuntime) -> Result<(), Fail> {
+fn frames_of_streams(rt: HostRuntime) {
     any_cutting_gives_the_same_frames();
     each_stream_has_its_frames();
     the_wire_gives_its_packets_back();
-    assert_eq!(rt; first_wrong(rt.alloc())?, None);
-    Ok(())
+    hold(&rt, first_wrong(rt.alloc()));
 }

@@ -7,6 +7,8 @@ mod feeds;
 #[cfg(test)]
 mod frames;
 #[cfg(test)]
+mod holding;
+#[cfg(test)]
 mod lines;
 #[cfg(test)]
 mod texts;

@@ -1,7 +1,7 @@
 //! What lines say, and the lines of a text.
+use crate::holding::hold;
 use arrayvec::ArrayVec;
 use std::alloc::{AllocError, Global};
-use std::test::Fail;
 use xcp_script::{LINE_BYTES, Line, parse_line, plain_lines};
 use xcp_slave::Request;
 
@@ -84,18 +84,32 @@ static FAULTY: [&[u8]; 25] = [
     b"event 0x1 00",
 ];
 
+fn first_wrong_asking() -> Option<usize> {
+    for (number, (line, says)) in ASKING.iter().enumerate() {
+        if !is_said(line, *says) {
+            return Some(number);
+        }
+    }
+    None
+}
+
 #[test]
 fn lines_that_ask(rt: HostRuntime) {
-    for (line, says) in &ASKING {
-        assert!(rt; is_said(line, *says), "{line:?}");
+    hold(&rt, first_wrong_asking());
+}
+
+fn first_not_faulty() -> Option<usize> {
+    for (number, line) in FAULTY.iter().enumerate() {
+        if !is_said(line, Says::Faulty) {
+            return Some(number);
+        }
     }
+    None
 }
 
 #[test]
 fn lines_that_are_faulty(rt: HostRuntime) {
-    for line in &FAULTY {
-        assert!(rt; is_said(line, Says::Faulty), "{line:?}");
-    }
+    hold(&rt, first_not_faulty());
 }
 
 /// A line that begins so, and then has the same byte up to its length.
@@ -107,27 +121,32 @@ fn long_line(alloc: Global, start: &[u8], byte: u8, length: usize) -> Result<Vec
     Ok(line)
 }
 
-/// Each line is its start, then so many digits 0.
-static LONG: [(&[u8], usize, Says); 8] = [
-    (b"#", LINE_BYTES, Says::Skip),
-    (b"#", LINE_BYTES + 1, Says::Faulty),
-    (b"", 2, Says::Command(&[0; 1])),
-    (b"", 64, Says::Command(&[0; 32])),
-    (b"", 66, Says::Faulty),
-    (b"", LINE_BYTES, Says::Faulty),
-    (b"event 3 ", 8 + 128, Says::Event(3, &[0; 64])),
-    (b"event 3 ", 8 + 130, Says::Faulty),
+/// Each line is its start, then so many bytes like this one.
+static LONG: [(&[u8], u8, usize, Says); 9] = [
+    (b"#", b'0', LINE_BYTES, Says::Skip),
+    (b"#", b'0', LINE_BYTES + 1, Says::Faulty),
+    (b"", b'0', 2, Says::Command(&[0; 1])),
+    (b"", b'0', 64, Says::Command(&[0; 32])),
+    (b"", b'0', 66, Says::Faulty),
+    (b"", b'0', LINE_BYTES, Says::Faulty),
+    (b"event 3 ", b'0', 8 + 128, Says::Event(3, &[0; 64])),
+    (b"event 3 ", b'0', 8 + 130, Says::Faulty),
+    (b"F5 04", b' ', LINE_BYTES, Says::Command(&[0xF5, 4])),
 ];
 
-#[test]
-fn lines_at_a_limit(rt: HostRuntime) -> Result<(), Fail> {
-    for (start, length, says) in &LONG {
-        let line = long_line(rt.alloc(), start, b'0', *length)?;
-        assert!(rt; is_said(&line, *says), "{length}");
+fn first_wrong_long(alloc: Global) -> Option<usize> {
+    for (number, (start, byte, length, says)) in LONG.iter().enumerate() {
+        match long_line(alloc, start, *byte, *length) {
+            Ok(line) if is_said(&line, *says) => {}
+            _ => return Some(number),
+        }
     }
-    let spaced = long_line(rt.alloc(), b"F5 04", b' ', LINE_BYTES)?;
-    assert!(rt; is_said(&spaced, Says::Command(&[0xF5, 4])));
-    Ok(())
+    None
+}
+
+#[test]
+fn lines_at_a_limit(rt: HostRuntime) {
+    hold(&rt, first_wrong_long(rt.alloc()));
 }
 
 /// The lines of a text, with a bar behind each.
@@ -152,17 +171,17 @@ static TEXTS: [(&[u8], &[u8]); 8] = [
 ];
 
 /// The first text whose lines aren't those that are found.
-fn first_wrong_text(alloc: Global) -> Result<Option<usize>, AllocError> {
+fn first_wrong_text(alloc: Global) -> Option<usize> {
     for (number, (text, wanted)) in TEXTS.iter().enumerate() {
-        if barred_lines(alloc, text)?.as_slice() != *wanted {
-            return Ok(Some(number));
+        match barred_lines(alloc, text) {
+            Ok(barred) if barred.as_slice() == *wanted => {}
+            _ => return Some(number),
         }
     }
-    Ok(None)
+    None
 }
 
 #[test]
-fn lines_of_a_text(rt: HostRuntime) -> Result<(), Fail> {
-    assert_eq!(rt; first_wrong_text(rt.alloc())?, None);
-    Ok(())
+fn lines_of_a_text(rt: HostRuntime) {
+    hold(&rt, first_wrong_text(rt.alloc()));
 }

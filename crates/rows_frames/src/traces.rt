@@ -1,8 +1,8 @@
 //! What is stored of exchanges is read again: each request and each answer once, and strings of
 //! each length of a length.
+use crate::holding::hold;
 use arrayvec::ArrayVec;
 use std::alloc::{AllocError, Global};
-use std::test::Fail;
 use xcp_packet::{Packet, Train, Width};
 use xcp_slave::{Answer, Exchange, Request};
 use xcp_trace::{Entry, Journal, Tape, Trace, what_is_written_is_read_again};
@@ -14,108 +14,166 @@ fn bytes<const N: usize>(bytes: &[u8]) -> ArrayVec<u8, N> {
     taken
 }
 
-/// Each answer, and the requests in turn; the longest packets, and the least and the greatest numbers.
-fn exchanges() -> [(Request, Answer); 13] {
-    [
-        (
-            Request::Command(bytes(&[0xF5; 255])),
-            Answer::Packets(Train::one(bytes(&[0xFF; 255]))),
-        ),
-        (
-            Request::Command(bytes(&[0xF5, 255])),
-            Answer::Packets(Train::cut(&[0xAB; 255], Width::new(7))),
-        ),
-        (Request::Command(bytes(&[0xFD, 0])), Answer::Silent),
-        (Request::Event(0xABCD, bytes(&[9; 64])), Answer::Sampled(64)),
-        (Request::Event(0, bytes(&[7])), Answer::Sampled(0)),
-        (Request::Event(65_535, bytes(&[])), Answer::BadSignals),
-        (Request::Event(256, bytes(&[1, 2])), Answer::NoChannel),
-        (Request::Event(255, bytes(&[1, 2])), Answer::Overrun),
-        (
-            Request::Drain,
-            Answer::Packets(Train::one(bytes(&[0, 1, 2]))),
-        ),
-        (Request::Drain, Answer::Nothing),
-        (Request::FinishStore, Answer::Stored(4)),
-        (Request::FinishStore, Answer::NoStore),
-        (Request::Hangup, Answer::Later),
-    ]
+/// How many exchanges there are: each answer, and the requests in turn; the longest packets, and the least and the
+/// greatest numbers.
+const EXCHANGES: u8 = 13;
+
+/// The request of this number.
+fn request(number: u8) -> Request {
+    match number {
+        0 => Request::Command(bytes(&[0xF5; 255])),
+        1 => Request::Command(bytes(&[0xF5, 255])),
+        2 => Request::Command(bytes(&[0xFD, 0])),
+        3 => Request::Event(0xABCD, bytes(&[9; 64])),
+        4 => Request::Event(0, bytes(&[7])),
+        5 => Request::Event(65_535, bytes(&[])),
+        6 => Request::Event(256, bytes(&[1, 2])),
+        7 => Request::Event(255, bytes(&[1, 2])),
+        8 | 9 => Request::Drain,
+        10 | 11 => Request::FinishStore,
+        _ => Request::Hangup,
+    }
 }
 
-/// Whether a trace gives back what was stored on it, one by one and each by its index.
-fn is_traced(alloc: Global) -> Result<bool, AllocError> {
+/// Its answer.
+fn answer(number: u8) -> Answer {
+    match number {
+        0 => Answer::Packets(Train::one(bytes(&[0xFF; 255]))),
+        1 => Answer::Packets(Train::cut(&[0xAB; 255], Width::new(7))),
+        2 => Answer::Silent,
+        3 => Answer::Sampled(64),
+        4 => Answer::Sampled(0),
+        5 => Answer::BadSignals,
+        6 => Answer::NoChannel,
+        7 => Answer::Overrun,
+        8 => Answer::Packets(Train::one(bytes(&[0, 1, 2]))),
+        9 => Answer::Nothing,
+        10 => Answer::Stored(4),
+        11 => Answer::NoStore,
+        _ => Answer::Later,
+    }
+}
+
+/// Whether this is the exchange of this number.
+fn is_wanted(found: Option<Exchange>, number: u8) -> bool {
+    match found {
+        Some(found) => found.request == request(number) && found.answer == answer(number),
+        None => false,
+    }
+}
+
+fn traced(alloc: Global) -> Result<Trace, AllocError> {
     let mut trace = Trace::new(alloc);
-    for (request, answer) in &exchanges() {
+    for number in 0..EXCHANGES {
         trace.reserve()?;
-        trace.push(request, answer);
+        trace.push(&request(number), &answer(number));
     }
+    Ok(trace)
+}
+
+/// The first exchange that a trace doesn't give back, in turn or by its number, or how many there are
+/// where these aren't all.
+fn first_not_traced(trace: &Trace) -> Option<usize> {
     let mut left = trace.exchanges();
-    let mut same = trace.len() == 13 && trace.get(13).is_none();
-    for (index, (request, answer)) in exchanges().into_iter().enumerate() {
-        let wanted = Some(Exchange { request, answer });
-        same = same && left.next() == wanted && trace.get(index) == wanted;
+    for number in 0..EXCHANGES {
+        let index = usize::from(number);
+        if !is_wanted(left.next(), number) || !is_wanted(trace.get(index), number) {
+            return Some(index);
+        }
     }
-    Ok(same && left.next().is_none())
+    let ends = left.next().is_none() && trace.get(13).is_none() && trace.len() == 13;
+    if ends { None } else { Some(trace.len()) }
 }
 
 #[test]
-fn a_trace_gives_back_its_exchanges(rt: HostRuntime) -> Result<(), Fail> {
+fn a_trace_gives_back_its_exchanges(rt: HostRuntime) -> Result<(), AllocError> {
     what_is_written_is_read_again();
-    assert!(rt; is_traced(rt.alloc())?);
+    hold(&rt, first_not_traced(&traced(rt.alloc())?));
     Ok(())
 }
 
-/// Whether a journal gives back what was stored in it, with the callers.
-fn is_entered(alloc: Global) -> Result<bool, AllocError> {
+fn entered(alloc: Global) -> Result<Journal, AllocError> {
     let mut journal = Journal::new(alloc);
-    for (index, (request, answer)) in exchanges().iter().enumerate() {
+    for number in 0..EXCHANGES {
         journal.reserve()?;
-        journal.push(243 + index as u8, request, answer);
+        journal.push(243 + number, &request(number), &answer(number));
     }
+    Ok(journal)
+}
+
+/// Whether this is the entry of this number, with its caller.
+fn is_entered(found: Option<Entry>, number: u8) -> bool {
+    match found {
+        Some(found) => found.caller == number.wrapping_add(243)
+            && is_wanted(Some(found.exchange), number),
+        None => false,
+    }
+}
+
+/// The first entry that a journal doesn't give back, or how many there are where these aren't all.
+fn first_not_entered(journal: &Journal) -> Option<usize> {
     let mut left = journal.entries();
-    let mut same = journal.len() == 13 && journal.get(13).is_none();
-    for (index, (request, answer)) in exchanges().into_iter().enumerate() {
-        let wanted = Some(Entry {
-            caller: 243 + index as u8,
-            exchange: Exchange { request, answer },
-        });
-        same = same && left.next() == wanted && journal.get(index) == wanted;
+    for number in 0..EXCHANGES {
+        let index = usize::from(number);
+        if !is_entered(left.next(), number) || !is_entered(journal.get(index), number) {
+            return Some(index);
+        }
     }
-    Ok(same && left.next().is_none())
+    let ends = left.next().is_none() && journal.get(13).is_none() && journal.len() == 13;
+    if ends { None } else { Some(journal.len()) }
 }
 
 #[test]
-fn a_journal_gives_back_its_entries(rt: HostRuntime) -> Result<(), Fail> {
-    assert!(rt; is_entered(rt.alloc())?);
+fn a_journal_gives_back_its_entries(rt: HostRuntime) -> Result<(), AllocError> {
+    hold(&rt, first_not_entered(&entered(rt.alloc())?));
     Ok(())
 }
 
-/// Whether a tape gives back a string of so many bytes in four parts, between two others.
-fn is_taped(alloc: Global, length: u16) -> Result<bool, AllocError> {
-    let length = length as usize;
-    let string = vec![in alloc; 0xA5; length]?;
-    let (front, back) = string.split_at(length / 2);
+/// A tape of a string in four parts, between two others.
+fn taped(alloc: Global, string: &[u8]) -> Result<Tape, AllocError> {
+    let (front, back) = string.split_at(string.len() / 2);
     let mut tape = Tape::new(alloc);
     tape.reserve(2)?;
     tape.push(b"a", b"", b"", b"b");
-    tape.reserve(length)?;
-    tape.push(b"", front, back, b"");
+    if string.len() < 65_536 {
+        tape.reserve(string.len())?;
+        tape.push(b"", front, back, b"");
+    }
     tape.reserve(0)?;
     tape.push(b"", b"", b"", b"");
+    Ok(tape)
+}
+
+/// Whether the tape gives this string back.
+fn gives_back(tape: &Tape, string: &[u8]) -> bool {
     let mut left = tape.strings();
     let _ = left.next();
-    Ok(
-        tape.len() == 3
-            && left.next() == Some(&string[..])
-            && left.next() == Some(&b""[..])
-            && tape.get(1) == Some(&string[..]),
-    )
+    tape.len() == 3
+        && left.next() == Some(string)
+        && left.next() == Some(&b""[..])
+        && tape.get(1) == Some(string)
+}
+
+/// Whether a tape gives back a string of so many bytes.
+fn is_taped(alloc: Global, length: usize) -> Result<bool, AllocError> {
+    let string = vec![in alloc; 0xA5; length]?;
+    let tape = taped(alloc, &string)?;
+    Ok(gives_back(&tape, &string))
+}
+
+static LENGTHS: [u16; 6] = [0, 1, 255, 256, 257, 65_535];
+
+fn first_not_taped(alloc: Global) -> Option<usize> {
+    for length in &LENGTHS {
+        let length = usize::from(*length);
+        if is_taped(alloc, length) != Ok(true) {
+            return Some(length);
+        }
+    }
+    None
 }
 
 #[test]
-fn a_tape_gives_back_its_strings(rt: HostRuntime) -> Result<(), Fail> {
-    for length in [0, 1, 255, 256, 257, 65_535] {
-        assert!(rt; is_taped(rt.alloc(), length)?, "{length}");
-    }
-    Ok(())
+fn a_tape_gives_back_its_strings(rt: HostRuntime) {
+    hold(&rt, first_not_taped(rt.alloc()));
 }

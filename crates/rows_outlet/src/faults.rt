@@ -3,8 +3,7 @@ use crate::packets::{DATA, REPLY, numbered};
 use std::alloc::{AllocError, Global};
 use std::io::{self, Write};
 use std::sync::Wait;
-use std::test::Fail;
-use std::thread::join;
+use std::thread::{Threads, join};
 use xcp_framing::Watched;
 use xcp_outlet::{DataEnd, ReplyEnd, SendEnd, SendError, outlet};
 use xcp_packet::Packet;
@@ -76,38 +75,76 @@ const SHORT: &[u8] = &[
     3, 0, 0, 0, 0xFF, 0, 0, 3, 0, 1, 0, 0, 0, 0, 3, 0, 2, 0, 0xFF, 0, 1,
 ];
 
-#[test]
-fn a_write_fails_at_each_byte(rt: HostRuntime) -> Result<(), Fail> {
-    let alloc = rt.alloc();
+// Whether the three short packets are sent so by a sender that may write so many bytes.
+fn is_cut_off<R: Wait>(rt: &R, alloc: Global, sender: SendEnd, room: usize) -> bool {
+    let (count, text) = sent(rt, alloc, sender, room);
+    let wanted = if room < 21 {
+        Err(SendError::Write(0))
+    } else {
+        Ok(3)
+    };
+    count == wanted && text.as_slice() == &SHORT[..room.min(21)]
+}
+
+fn first_not_cut_off<R: Wait>(rt: &R, alloc: Global) -> Option<usize> {
     for room in 0..22 {
-        let (count, text) = sent(&rt, alloc, short_sender(&rt, alloc)?, room);
-        let wanted = if room < 21 {
-            Err(SendError::Write(0))
-        } else {
-            Ok(3)
-        };
-        assert_eq!(&rt; count, wanted);
-        assert!(&rt; text.as_slice() == &SHORT[..room]);
+        match short_sender(rt, alloc) {
+            Ok(sender) => {
+                if !is_cut_off(rt, alloc, sender, room) {
+                    return Some(room);
+                }
+            }
+            Err(_) => return Some(room),
+        }
     }
-    Ok(())
+    None
 }
 
 #[test]
-fn packets_before_a_failed_write_are_counted(rt: HostRuntime) -> Result<(), Fail> {
-    let alloc = rt.alloc();
-    let rows = [
-        (0, Err(SendError::Write(0))),
-        (1812, Err(SendError::Write(0))),
-        (1813, Err(SendError::Write(7))),
-        (2071, Err(SendError::Write(7))),
-        (2072, Ok(8)),
-    ];
-    for (room, wanted) in rows {
-        let (count, text) = sent(&rt, alloc, long_sender(&rt, alloc)?, room);
-        assert_eq!(&rt; count, wanted);
-        assert_eq!(&rt; text.len(), room);
+fn a_write_fails_at_each_byte(rt: HostRuntime) {
+    let wrong = first_not_cut_off(&rt, rt.alloc());
+    assert!(&rt; wrong.is_none(), "{wrong:?}");
+}
+
+// Whether a sender tells this that may write so many bytes, and wrote so many.
+fn tells<R: Wait>(
+    rt: &R,
+    alloc: Global,
+    sender: SendEnd,
+    room: usize,
+    wanted: Result<u64, SendError>,
+    written: usize,
+) -> bool {
+    let (count, text) = sent(rt, alloc, sender, room);
+    count == wanted && text.len() == written
+}
+
+// How many bytes may be written of eight long packets, and what is told.
+static ROOMS: [(usize, Result<u64, SendError>); 5] = [
+    (0, Err(SendError::Write(0))),
+    (1812, Err(SendError::Write(0))),
+    (1813, Err(SendError::Write(7))),
+    (2071, Err(SendError::Write(7))),
+    (2072, Ok(8)),
+];
+
+fn are_counted<R: Wait>(rt: &R, alloc: Global) -> bool {
+    for (room, wanted) in &ROOMS {
+        match long_sender(rt, alloc) {
+            Ok(sender) => {
+                if !tells(rt, alloc, sender, *room, *wanted, *room) {
+                    return false;
+                }
+            }
+            Err(_) => return false,
+        }
     }
-    Ok(())
+    true
+}
+
+#[test]
+fn packets_before_a_failed_write_are_counted(rt: HostRuntime) {
+    assert!(&rt; are_counted(&rt, rt.alloc()));
 }
 
 // Puts more packets than the channel has room for, and both marks: whether none came back.
@@ -122,63 +159,89 @@ fn put_many<R: Wait>(rt: &R, replies: ReplyEnd, data: DataEnd) -> bool {
     put
 }
 
-#[test]
-fn packets_are_taken_behind_a_failed_write(rt: HostRuntime) -> Result<(), Fail> {
-    let alloc = rt.alloc();
-    let (replies, data, sender) = outlet(alloc)?;
-    let threads = &rt;
-    let (put, (count, text)) = join(
-        threads,
-        move || -> bool { put_many(threads, replies, data) },
-        move || -> (Result<u64, SendError>, Vec<u8>) { sent(threads, alloc, sender, 3) },
+// Whether all packets are taken, and the sender that may write three bytes tells it.
+fn take_behind<R: Threads + Wait + Sync>(
+    rt: &R,
+    alloc: Global,
+    replies: ReplyEnd,
+    data: DataEnd,
+    sender: SendEnd,
+) -> bool {
+    let (put, told) = join(
+        rt,
+        move || -> bool { put_many(rt, replies, data) },
+        move || -> bool { tells(rt, alloc, sender, 3, Err(SendError::Write(0)), 3) },
     );
-    assert!(&rt; put);
-    assert_eq!(&rt; count, Err(SendError::Write(0)));
-    assert_eq!(&rt; text.len(), 3);
-    Ok(())
+    put && told
 }
 
 #[test]
-fn an_end_without_its_mark_is_a_cut(rt: HostRuntime) -> Result<(), Fail> {
-    let alloc = rt.alloc();
+fn packets_are_taken_behind_a_failed_write(rt: HostRuntime) {
+    let taken = match outlet(rt.alloc()) {
+        Ok((replies, data, sender)) => take_behind(&rt, rt.alloc(), replies, data, sender),
+        Err(_) => false,
+    };
+    assert!(&rt; taken);
+}
+
+// A sender of a packet of each end, and of the data end's mark.
+fn unmarked_sender<R: Wait>(rt: &R, alloc: Global) -> Result<SendEnd, AllocError> {
     let (mut replies, mut data, sender) = outlet(alloc)?;
-    let _ = replies.put_reply(&rt, numbered(REPLY, 0));
-    let _ = data.put_data(&rt, numbered(DATA, 0));
-    let _ = data.finish(&rt);
-    drop(replies);
-    let (count, text) = sent(&rt, alloc, sender, 100);
-    assert_eq!(&rt; count, Err(SendError::Cut(2)));
-    assert_eq!(&rt; text.len(), 14);
-    Ok(())
+    let _ = replies.put_reply(rt, numbered(REPLY, 0));
+    let _ = data.put_data(rt, numbered(DATA, 0));
+    let _ = data.finish(rt);
+    Ok(sender)
 }
 
 #[test]
-fn a_failed_write_is_told_before_a_cut(rt: HostRuntime) -> Result<(), Fail> {
-    let alloc = rt.alloc();
-    let (mut replies, data, sender) = outlet(alloc)?;
-    let _ = replies.put_reply(&rt, numbered(REPLY, 0));
-    drop(replies);
-    drop(data);
-    let (count, _text) = sent(&rt, alloc, sender, 3);
-    assert_eq!(&rt; count, Err(SendError::Write(0)));
-    Ok(())
+fn an_end_without_its_mark_is_a_cut(rt: HostRuntime) {
+    let cut = match unmarked_sender(&rt, rt.alloc()) {
+        Ok(sender) => tells(&rt, rt.alloc(), sender, 100, Err(SendError::Cut(2)), 14),
+        Err(_) => false,
+    };
+    assert!(&rt; cut);
+}
+
+// A sender of a packet without any mark.
+fn dropped_sender<R: Wait>(rt: &R, alloc: Global) -> Result<SendEnd, AllocError> {
+    let (mut replies, _data, sender) = outlet(alloc)?;
+    let _ = replies.put_reply(rt, numbered(REPLY, 0));
+    Ok(sender)
 }
 
 #[test]
-fn packets_come_back_where_nothing_takes_them(rt: HostRuntime) -> Result<(), Fail> {
-    let (mut replies, mut data, sender) = outlet(rt.alloc())?;
-    drop(sender);
-    let reply = numbered(REPLY, 7);
-    let sample = numbered(DATA, 8);
-    assert!(&rt; replies.put_reply(&rt, numbered(REPLY, 7)) == Err(reply));
-    assert!(&rt; data.put_data(&rt, numbered(DATA, 8)) == Err(sample));
-    Ok(())
+fn a_failed_write_is_told_before_a_cut(rt: HostRuntime) {
+    let told = match dropped_sender(&rt, rt.alloc()) {
+        Ok(sender) => tells(&rt, rt.alloc(), sender, 3, Err(SendError::Write(0)), 3),
+        Err(_) => false,
+    };
+    assert!(&rt; told);
+}
+
+// Whether both ends have their packets back.
+fn come_back<R: Wait>(rt: &R, replies: &mut ReplyEnd, data: &mut DataEnd) -> bool {
+    let reply = replies.put_reply(rt, numbered(REPLY, 7));
+    let sample = data.put_data(rt, numbered(DATA, 8));
+    reply == Err(numbered(REPLY, 7)) && sample == Err(numbered(DATA, 8))
+}
+
+// The ends of an outlet without a sender.
+fn unsent(alloc: Global) -> Result<(ReplyEnd, DataEnd), AllocError> {
+    let (replies, data, _sender) = outlet(alloc)?;
+    Ok((replies, data))
+}
+
+#[test]
+fn packets_come_back_where_nothing_takes_them(rt: HostRuntime) {
+    let came = match unsent(rt.alloc()) {
+        Ok((mut replies, mut data)) => come_back(&rt, &mut replies, &mut data),
+        Err(_) => false,
+    };
+    assert!(&rt; came);
 }
 
 #[test]
 fn faults_have_numbers(rt: HostRuntime) {
-    assert_eq!(rt;
-        [SendError::Write(7).number(), SendError::Cut(7).number()],
-        [1, 2]
-    );
+    let numbers = [SendError::Write(7).number(), SendError::Cut(7).number()];
+    assert!(rt; numbers == [1, 2]);
 }

@@ -16,7 +16,7 @@ pub fn numbered(end: u8, number: u16) -> Packet {
 }
 
 /// How many frames were seen, and how many packets of each end.
-#[derive(Clone, Copy, Debug, PartialEq, Eq, Drop)]
+#[derive(Clone, Copy, PartialEq, Eq, Drop)]
 pub struct Seen {
     pub frames: u16,
     pub replies: u16,

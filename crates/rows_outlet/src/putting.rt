@@ -1,10 +1,11 @@
 // Ends that are lent to a loop which knows no runtime, and ends of threads that never began.
+ghost use Rattle.std.specs.Prelude.{◌≡◌};
+
 use crate::packets::{DATA, REPLY, numbered};
-use std::alloc::Global;
+use std::alloc::{AllocError, Global};
 use std::sync::Wait;
-use std::test::Fail;
 use xcp_framing::{End, Watched};
-use xcp_outlet::{PutData, PutReplies, SendEnd, SendError, outlet};
+use xcp_outlet::{DataEnd, PutData, PutReplies, ReplyEnd, SendEnd, SendError, outlet};
 use xcp_packet::Packet;
 
 // Puts two packets by the trait alone: whether neither came back.
@@ -29,55 +30,99 @@ const TWO_OF_EACH: &[u8] = &[
     3, 0, 0, 0, 0xFF, 0, 0, 3, 0, 1, 0, 0xFF, 0, 1, 3, 0, 2, 0, 0, 0, 0, 3, 0, 3, 0, 0, 0, 1,
 ];
 
-#[test]
-fn lent_ends_put_as_their_own(rt: HostRuntime) -> Result<(), Fail> {
-    let alloc = rt.alloc();
-    let (replies, data, sender) = outlet(alloc)?;
-    let mut replies = PutReplies::new(&rt, replies);
-    let mut data = PutData::new(&rt, data);
-    assert!(&rt; put_two(&mut replies, REPLY));
-    assert!(&rt; put_two(&mut data, DATA));
-    let _ = replies.into_end().finish(&rt);
-    let _ = data.into_end().finish(&rt);
-    let (count, text) = sent(&rt, alloc, sender);
-    assert_eq!(&rt; count, Ok(4));
-    assert!(&rt; text.as_slice() == TWO_OF_EACH);
-    Ok(())
+// Puts two packets of each end by the trait alone, and both marks: whether none came back.
+fn put_all<R: Wait>(rt: &R, replies: ReplyEnd, data: DataEnd) -> bool {
+    let mut replies = PutReplies::new(rt, replies);
+    let mut data = PutData::new(rt, data);
+    let put = put_two(&mut replies, REPLY) && put_two(&mut data, DATA);
+    let _ = replies.into_end().finish(rt);
+    let _ = data.into_end().finish(rt);
+    put
+}
+
+// Whether the sender tells so many packets, and wrote this.
+fn is_sent<R: Wait>(
+    rt: &R,
+    alloc: Global,
+    sender: SendEnd,
+    wanted: Result<u64, SendError>,
+    bytes: &[u8],
+) -> bool {
+    let (count, text) = sent(rt, alloc, sender);
+    count == wanted && text.as_slice() == bytes
 }
 
 #[test]
-fn lent_ends_hand_back_where_nothing_takes(rt: HostRuntime) -> Result<(), Fail> {
-    let (replies, data, sender) = outlet(rt.alloc())?;
-    assert_eq!(&rt; sender.give_up().count, Err(SendError::Cut(0)));
-    let mut replies = PutReplies::new(&rt, replies);
-    let mut data = PutData::new(&rt, data);
-    assert!(&rt; back_of(&mut replies, numbered(REPLY, 7)) == Some(numbered(REPLY, 7)));
-    assert!(&rt; back_of(&mut data, numbered(DATA, 8)) == Some(numbered(DATA, 8)));
-    Ok(())
+fn lent_ends_put_as_their_own(rt: HostRuntime) {
+    let good = match outlet(rt.alloc()) {
+        Ok((replies, data, sender)) => {
+            put_all(&rt, replies, data) && is_sent(&rt, rt.alloc(), sender, Ok(4), TWO_OF_EACH)
+        }
+        Err(_) => false,
+    };
+    assert!(&rt; good);
+}
+
+// Whether both ends hand their packets back, by the trait alone.
+fn hand_back<R: Wait>(rt: &R, replies: ReplyEnd, data: DataEnd) -> bool {
+    let mut replies = PutReplies::new(rt, replies);
+    let mut data = PutData::new(rt, data);
+    let reply = back_of(&mut replies, numbered(REPLY, 7));
+    let sample = back_of(&mut data, numbered(DATA, 8));
+    reply == Some(numbered(REPLY, 7)) && sample == Some(numbered(DATA, 8))
 }
 
 #[test]
-fn ends_that_never_began_meet(rt: HostRuntime) -> Result<(), Fail> {
-    let (replies, data, sender) = outlet(rt.alloc())?;
-    let replies = replies.give_up();
-    let data = data.give_up();
+fn lent_ends_hand_back_where_nothing_takes(rt: HostRuntime) {
+    let good = match outlet(rt.alloc()) {
+        Ok((replies, data, sender)) => {
+            sender.give_up().count == Err(SendError::Cut(0)) && hand_back(&rt, replies, data)
+        }
+        Err(_) => false,
+    };
+    assert!(&rt; good);
+}
+
+// What a sender tells that never began, once it has met both ends.
+fn met(replies: ReplyEnd, samples: DataEnd, sender: SendEnd) -> Result<u64, SendError>
+    requires { (sender.outlet ≡ replies.outlet) × (sender.outlet ≡ samples.outlet) }
+{
     let mut sent = sender.give_up();
-    sent.took.meet(replies);
-    sent.took.meet(data);
-    assert_eq!(&rt; sent.count, Err(SendError::Cut(0)));
-    Ok(())
+    sent.took.meet(replies.give_up());
+    sent.took.meet(samples.give_up());
+    sent.count
 }
 
 #[test]
-fn an_end_that_gave_up_is_a_cut(rt: HostRuntime) -> Result<(), Fail> {
-    let alloc = rt.alloc();
+fn ends_that_never_began_meet(rt: HostRuntime) {
+    let told = match outlet(rt.alloc()) {
+        Ok((replies, data, sender)) => met(replies, data, sender),
+        Err(_) => Ok(0),
+    };
+    assert!(&rt; told == Err(SendError::Cut(0)));
+}
+
+// A sender of a packet of each end, of which one puts its mark, and the other gives up.
+fn half_sender<R: Wait>(rt: &R, alloc: Global) -> Result<SendEnd, AllocError> {
     let (mut replies, mut data, sender) = outlet(alloc)?;
-    let _ = replies.put_reply(&rt, numbered(REPLY, 0));
-    let _ = data.put_data(&rt, numbered(DATA, 0));
-    drop(replies.finish(&rt));
+    let _ = replies.put_reply(rt, numbered(REPLY, 0));
+    let _ = data.put_data(rt, numbered(DATA, 0));
+    drop(replies.finish(rt));
     drop(data.give_up());
-    let (count, text) = sent(&rt, alloc, sender);
-    assert_eq!(&rt; count, Err(SendError::Cut(2)));
-    assert_eq!(&rt; text.len(), 14);
-    Ok(())
+    Ok(sender)
+}
+
+// Whether the sender of the two packets tells a cut behind them.
+fn is_cut<R: Wait>(rt: &R, alloc: Global, sender: SendEnd) -> bool {
+    let (count, text) = sent(rt, alloc, sender);
+    count == Err(SendError::Cut(2)) && text.len() == 14
+}
+
+#[test]
+fn an_end_that_gave_up_is_a_cut(rt: HostRuntime) {
+    let good = match half_sender(&rt, rt.alloc()) {
+        Ok(sender) => is_cut(&rt, rt.alloc(), sender),
+        Err(_) => false,
+    };
+    assert!(&rt; good);
 }

@@ -3,9 +3,8 @@ use crate::packets::{DATA, REPLY, numbered};
 use std::io::{self, Write};
 use std::sync::Wait;
 use std::sync::atomic::{AtomicU64, Ordering};
-use std::test::Fail;
 use std::thread;
-use std::thread::join;
+use std::thread::{Threads, join};
 use std::time::{Clock, Duration};
 use xcp_framing::Watched;
 use xcp_outlet::{DataEnd, ReplyEnd, SendEnd, SendError, outlet};
@@ -68,18 +67,28 @@ fn send_telling<R: Wait>(rt: &R, sender: SendEnd, written: &AtomicU64) -> Result
     sender.run_sender(rt, &mut writer).count
 }
 
-#[test]
-fn a_packet_in_hand_is_written_before_the_next_wait(rt: HostRuntime) -> Result<(), Fail> {
-    let (replies, data, sender) = outlet(rt.alloc())?;
+// Whether all three came, by a sender in a thread of its own that counts them.
+fn come_by_turns<R: Threads + Wait + Clock + Sync>(
+    rt: &R,
+    replies: ReplyEnd,
+    data: DataEnd,
+    sender: SendEnd,
+) -> bool {
     let written = AtomicU64::new(0);
     let bytes = &written;
-    let threads = &rt;
     let (came, count) = join(
-        threads,
-        move || -> bool { put_by_turns(threads, replies, data, bytes) },
-        move || -> Result<u64, SendError> { send_telling(threads, sender, bytes) },
+        rt,
+        move || -> bool { put_by_turns(rt, replies, data, bytes) },
+        move || -> Result<u64, SendError> { send_telling(rt, sender, bytes) },
     );
+    came && count == Ok(3)
+}
+
+#[test]
+fn a_packet_in_hand_is_written_before_the_next_wait(rt: HostRuntime) {
+    let came = match outlet(rt.alloc()) {
+        Ok((replies, data, sender)) => come_by_turns(&rt, replies, data, sender),
+        Err(_) => false,
+    };
     assert!(&rt; came);
-    assert_eq!(&rt; count, Ok(3));
-    Ok(())
 }
