@@ -3,7 +3,7 @@ use crate::holding::hold;
 use crate::openings::in_use;
 use crate::rows::{Ask, asks, request};
 use xcp_controller::{Controller, is_reading, keeps_image};
-use xcp_packet::Packet;
+use xcp_slave::Asked;
 
 // The codes of DOWNLOAD, DOWNLOAD_NEXT, DOWNLOAD_MAX, SHORT_DOWNLOAD, MODIFY_BITS, SET_CAL_PAGE and COPY_CAL_PAGE.
 static WRITES: [u8; 7] = [0xF0, 0xEF, 0xEE, 0xED, 0xEC, 0xEB, 0xE4];
@@ -36,7 +36,7 @@ static REQUESTS: [(Ask, bool); 8] = [
 
 fn first_not_kept() -> Option<usize> {
     for (number, (ask, keeps)) in REQUESTS.iter().enumerate() {
-        if keeps_image(&request(ask)) != *keeps {
+        if keeps_image(request(ask).asked()) != *keeps {
             return Some(number);
         }
     }
@@ -50,11 +50,10 @@ fn requests_keep_the_image(rt: HostRuntime) {
 
 // How many packets wait before a store, behind it, and behind a Drain, and MAX_CTO.
 fn counts(controller: &mut Controller) -> [u8; 4] {
-    let mut packet = Packet::new();
     let none = controller.pending();
-    let _stored = controller.submit_into(&request(&Ask::FinishStore), &mut packet);
+    let _stored = controller.answer(Asked::FinishStore);
     let one = controller.pending();
-    let _drained = controller.submit_into(&request(&Ask::Drain), &mut packet);
+    let _drained = controller.answer(Asked::Drain);
     [none, one, controller.pending(), controller.max_cto()]
 }
 

@@ -5,7 +5,7 @@ use arrayvec::ArrayVec;
 use xcp_bank::{IMAGE_BYTES, Reader, Taken};
 use xcp_controller::Controller;
 use xcp_packet::Packet;
-use xcp_slave::{Request, Told};
+use xcp_slave::{Asked, Request, Told};
 
 /// What is asked.
 #[derive(Clone, Copy)]
@@ -141,18 +141,20 @@ pub fn request(ask: &Ask) -> Request {
     }
 }
 
-/// Whether this is answered so. The packet that is lent is full of other bytes.
+/// Whether this is answered so.
 fn answers(controller: &mut Controller, ask: &Ask, said: &Said) -> bool {
-    let mut lent = packet(&[0xEE; 255]);
-    let told = controller.submit_into(&request(ask), &mut lent);
-    told == said.told() && said.is_in(&lent)
+    let request = request(ask);
+    let told = controller.answer(request.asked());
+    told == said.told() && said.is_in(controller.packet())
 }
 
 /// Whether the controller answers a command with FF alone.
 pub fn asks(controller: &mut Controller, command: &[u8]) -> bool {
-    let mut lent = Packet::new();
-    let told = controller.submit_into(&Request::Command(packet(command)), &mut lent);
-    told == Told::Packet && lent.first() == Some(&0xFF)
+    if command.len() > 255 {
+        return false;
+    }
+    let told = controller.answer(Asked::Command(command));
+    told == Told::Packet && controller.packet().first() == Some(&0xFF)
 }
 
 /// The first row, counted from 0, that isn't answered as it says, or behind which the reader takes another

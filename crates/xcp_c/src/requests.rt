@@ -1,29 +1,34 @@
 //! What a C program calls of a slave, under its lock.
 ghost use Rattle.std.specs.Prelude.{◌≡◌, ◌<◌, ◌⊎◌, IsTrue, None, false, length};
+ghost use Rattle.xcp_slave.specs.AskedRequest.{IsShort, request_asked};
 ghost use Rattle.xcp_slave.specs.declared.Request.TheVariants as requests;
 ghost use Rattle.xcp_c.specs.Requests.{Commanded, Fired, Submitted};
 
 use crate::answer::XcpAnswer;
 use crate::slave_handle::SlaveHandle;
-use arrayvec::ArrayVec;
 use std::alloc::Global;
 use std::mem;
-use xcp_packet::Packet;
-use xcp_slave::Request;
+use xcp_slave::Asked;
+
+/// The most bytes of a command packet.
+const PACKET_BYTES: usize = 255;
+
+/// The most bytes of signals.
+const SIGNAL_BYTES: usize = 64;
 
 /// Executes a request with the slave behind a handle. False where the handle owns none: then nothing
 /// happens.
-fn submit(alloc: Global, slave: &mut SlaveHandle, request: &Request, answer: &mut XcpAnswer) -> bool
-    ensures done { IsTrue result → Submitted request.now slave.old.value answer.new slave.new.value }
+fn submit(alloc: Global, slave: &mut SlaveHandle, asked: Asked<'_>, answer: &mut XcpAnswer) -> bool
+    requires { IsShort asked }
+    ensures done { IsTrue result → Submitted (request_asked asked.entry) slave.old.value answer.new slave.new.value }
     ensures closed { result ≡ false → (slave.old.value ≡ None) × (slave.new ≡ slave.old) }
 {
     if !slave.is_open() {
         return false;
     }
     let mut controller = mem::replace(slave, SlaveHandle::closed(alloc)).into_box();
-    let mut packet = Packet::new();
-    let told = controller.submit_into(request, &mut packet);
-    answer.tell(told, &packet);
+    let told = controller.answer(asked);
+    answer.tell(told, controller.packet());
     *slave = SlaveHandle::of(controller);
     true
 }
@@ -41,13 +46,10 @@ pub extern "C" fn xcp_command(
     ensures refused { result ≡ false → ((slave.old.value ≡ None) ⊎ (255 < length bytes.now))
         × (slave.new ≡ slave.old) }
 {
-    let mut request = Request::Command(Packet::new());
-    if let Request::Command(packet) = &mut request {
-        if packet.try_extend_from_slice(bytes).is_err() {
-            return false;
-        }
+    if bytes.len() > PACKET_BYTES {
+        return false;
     }
-    submit(alloc, slave, &request, answer)
+    submit(alloc, slave, Asked::Command(bytes), answer)
 }
 
 /// An event channel fires with these signals. False where the handle owns no slave, or where they are
@@ -64,13 +66,10 @@ pub extern "C" fn xcp_event(
     ensures refused { result ≡ false → ((slave.old.value ≡ None) ⊎ (64 < length bytes.now))
         × (slave.new ≡ slave.old) }
 {
-    let mut request = Request::Event(channel, ArrayVec::new());
-    if let Request::Event(_, signals) = &mut request {
-        if signals.try_extend_from_slice(bytes).is_err() {
-            return false;
-        }
+    if bytes.len() > SIGNAL_BYTES {
+        return false;
     }
-    submit(alloc, slave, &request, answer)
+    submit(alloc, slave, Asked::Event(channel, bytes), answer)
 }
 
 /// Takes the first packet that waits to be sent. False where the handle owns no slave.
@@ -79,7 +78,7 @@ pub extern "C" fn xcp_drain(alloc: Global, slave: &mut SlaveHandle, answer: &mut
     ensures done { IsTrue result → Submitted requests.Drain slave.old.value answer.new slave.new.value }
     ensures closed { result ≡ false → (slave.old.value ≡ None) × (slave.new ≡ slave.old) }
 {
-    submit(alloc, slave, &Request::Drain, answer)
+    submit(alloc, slave, Asked::Drain, answer)
 }
 
 /// The controller has stored what was asked for. False where the handle owns no slave.
@@ -92,7 +91,7 @@ pub extern "C" fn xcp_finish_store(
     ensures done { IsTrue result → Submitted requests.FinishStore slave.old.value answer.new slave.new.value }
     ensures closed { result ≡ false → (slave.old.value ≡ None) × (slave.new ≡ slave.old) }
 {
-    submit(alloc, slave, &Request::FinishStore, answer)
+    submit(alloc, slave, Asked::FinishStore, answer)
 }
 
 /// The tool's connection is gone. False where the handle owns no slave.
@@ -101,5 +100,5 @@ pub extern "C" fn xcp_hangup(alloc: Global, slave: &mut SlaveHandle, answer: &mu
     ensures done { IsTrue result → Submitted requests.Hangup slave.old.value answer.new slave.new.value }
     ensures closed { result ≡ false → (slave.old.value ≡ None) × (slave.new ≡ slave.old) }
 {
-    submit(alloc, slave, &Request::Hangup, answer)
+    submit(alloc, slave, Asked::Hangup, answer)
 }

@@ -1,5 +1,6 @@
 -- A slave and its bank's writer, as contracts see them.
 use Rattle.std.specs.Prelude.{◌≡◌, ◌≢◌, ◌⊎◌, ℕ, List, [], ◌∷◌, ◌++◌}
+use Rattle.arrayvec.specs.ArrayVec.{ArrayVec}
 use Rattle.xcp_bank.specs.BankEnds.{ReaderEnd, WriterEnd}
 use Rattle.xcp_memory.specs.EcuImage.{ecu_image}
 use Rattle.xcp_slave.specs.SlaveValue.{SlaveValue}
@@ -9,6 +10,8 @@ pub record ControllerValue : Type 0 where
   pub writer : WriterEnd
   -- the readers that nobody has taken yet
   pub spare : List ReaderEnd
+  -- the packet that is lent to the slave
+  pub lent : ArrayVec ℕ
 
 -- the controller's image of a slave
 abbrev pub image_of : SlaveValue → List ℕ

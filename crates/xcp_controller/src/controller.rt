@@ -2,6 +2,7 @@
 ghost use Rattle.std.specs.Prelude.{◌≡◌, ◌≤◌, [], ◌∷◌, ◌++◌, IfOk, IfSome, None, length};
 ghost use Rattle.xcp_bank.specs.BankEnds.{new_writer, six_readers, HeldDoes};
 ghost use Rattle.xcp_slave.specs.AnswerInBytes.{answer_in};
+ghost use Rattle.xcp_slave.specs.AskedRequest.{IsShort, request_asked};
 ghost use Rattle.xcp_slave.specs.SlaveValue.{SlaveValue, layout_of, opening};
 ghost use Rattle.xcp_slave.specs.Step.{Answers};
 ghost use Rattle.xcp_slave.specs.declared.answer.Answer.{Answer};
@@ -15,7 +16,7 @@ use std::marker::Model;
 use xcp_bank::{Bank, IMAGE_BYTES, Reader, Writer};
 use xcp_memory::Layout;
 use xcp_packet::Packet;
-use xcp_slave::{Request, Slave, Told};
+use xcp_slave::{Asked, Slave, Told};
 
 /// A slave and its bank's writer. The image published last is that of the slave.
 ///
@@ -27,6 +28,8 @@ pub struct Controller {
     // The image published last, so that it needn't be read again.
     last: [u8; IMAGE_BYTES],
     spare: Vec<Box<Reader>>,
+    // The packet that is lent to the slave. It stays here, since a new one would be cleared for each request.
+    lent: Packet,
 }
 
 impl Model for Controller {
@@ -35,7 +38,7 @@ impl Model for Controller {
 
     ghost Value = { ControllerValue };
 
-    ghost view = { λ c. record { slave = c.slave; writer = c.writer; spare = map (λ b. b.value) c.spare.items } };
+    ghost view = { λ c. record { slave = c.slave; writer = c.writer; spare = map (λ b. b.value) c.spare.items; lent = c.lent } };
 
     ghost invariant = { λ c. (c.last ≡ image_of c.slave) × IsPublished c.slave c.writer };
 }
@@ -60,6 +63,7 @@ impl Controller {
             writer,
             last,
             spare,
+            lent: Packet::new(),
         })
     }
 
@@ -68,16 +72,17 @@ impl Controller {
     pub fn take_reader(&mut self) -> Option<Box<Reader>>
         ensures some { IfSome result (λ r. self.old.spare ≡ self.new.spare ++ r.value ∷ []) }
         ensures none { result ≡ None → (self.old.spare ≡ []) × (self.new.spare ≡ []) }
-        ensures same { (self.new.slave ≡ self.old.slave) × (self.new.writer ≡ self.old.writer) }
+        ensures same { (self.new.slave ≡ self.old.slave) × (self.new.writer ≡ self.old.writer) × (self.new.lent ≡ self.old.lent) }
     {
         self.spare.pop()
     }
 
-    /// Executes one request that is lent, and publishes the image that the slave has then, if it is
-    /// another one. It takes no memory and always answers. What is told of the packet that is lent is
-    /// told as `Slave::submit_into` tells it.
-    pub fn submit_into(&mut self, request: &Request, packet: &mut Packet) -> Told
-        ensures answers { Answers self.old.slave request.now (answer_in result packet.new) self.new.slave }
+    /// Executes one request whose bytes are lent, and publishes the image that the slave has then, if it is
+    /// another one. It takes no memory and always answers. What is told of a packet is told of that of `packet`, as
+    /// `Slave::answer` tells it.
+    pub fn answer(&mut self, asked: Asked<'_>) -> Told
+        requires { IsShort asked }
+        ensures answers { Answers self.old.slave (request_asked asked.entry) (answer_in result self.new.lent) self.new.slave }
         ensures published { Publishes self.old self.new }
         ensures spare { self.new.spare ≡ self.old.spare }
     {
@@ -85,11 +90,19 @@ impl Controller {
             slave,
             writer,
             last,
+            lent,
             ..
         } = self;
-        let told = slave.submit_into(request, packet);
-        publish(writer, last, slave, request);
+        let told = slave.answer(asked, lent);
+        publish(writer, last, slave, asked);
         told
+    }
+
+    /// The packet of the last answer, or the data bytes of its block; behind any other answer it may have any bytes.
+    pub fn packet(&self) -> &Packet
+        ensures { result.now ≡ self.now.lent }
+    {
+        &self.lent
     }
 
     /// MAX_CTO: the greatest length of a command or of a packet that answers one, 8 to 255 bytes.
@@ -113,7 +126,7 @@ impl Controller {
         ensures does { HeldDoes result self.old.writer self.new.writer }
         ensures bank { self.new.writer.bank ≡ self.old.writer.bank }
         ensures publications { self.new.writer.publications ≡ self.old.writer.publications }
-        ensures same { (self.new.slave ≡ self.old.slave) × (self.new.spare ≡ self.old.spare) }
+        ensures same { (self.new.slave ≡ self.old.slave) × (self.new.spare ≡ self.old.spare) × (self.new.lent ≡ self.old.lent) }
     {
         self.writer.held()
     }
@@ -128,12 +141,12 @@ impl Controller {
 
 /// Publishes the image that the slave has after this request, if it isn't the one published last. A
 /// request that never changes the image costs nothing.
-fn publish(writer: &mut Writer, last: &mut [u8; IMAGE_BYTES], slave: &Slave, request: &Request)
+fn publish(writer: &mut Writer, last: &mut [u8; IMAGE_BYTES], slave: &Slave, asked: Asked<'_>)
     requires { (before : SlaveValue) × (answer : Answer)
-        × Answers before request.now answer slave.now × (last.old ≡ image_of before) }
+        × Answers before (request_asked asked) answer slave.now × (last.old ≡ image_of before) }
     ensures { Offers (image_of slave.now) last.old last.new writer.old writer.new }
 {
-    if keeps_image(request) {
+    if keeps_image(asked) {
         return;
     }
     let mut image = [0; IMAGE_BYTES];

@@ -1,9 +1,10 @@
 //! Requests after which the controller's image is the same.
 ghost use Rattle.std.specs.Prelude.{◌≡◌, ◌≢◌, slice_index, true};
+ghost use Rattle.xcp_slave.specs.AskedRequest.{request_asked};
 ghost use Rattle.xcp_slave.specs.MemoryEffects.{IsNoWrite};
 ghost use Rattle.xcp_controller.specs.KeptImages.{KeepsImage};
 
-use xcp_slave::Request;
+use xcp_slave::Asked;
 
 /// The code of COPY_CAL_PAGE.
 const COPY_CAL_PAGE: u8 = 0xE4;
@@ -16,13 +17,13 @@ const DOWNLOAD: u8 = 0xF0;
 
 /// Whether this is a request after which the controller's image is the same, whichever slave it is.
 /// False says nothing: the image may be the same.
-pub fn keeps_image(request: &Request) -> bool
-    ensures { result ≡ true → KeepsImage request.now }
+pub fn keeps_image(asked: Asked<'_>) -> bool
+    ensures { result ≡ true → KeepsImage (request_asked asked.entry) }
 {
-    match request {
-        Request::Command(packet) => is_reading(packet.as_slice()),
-        Request::Event(_, _) | Request::Drain | Request::Hangup => true,
-        Request::FinishStore => false,
+    match asked {
+        Asked::Command(packet) => is_reading(packet),
+        Asked::Event(_, _) | Asked::Drain | Asked::Hangup => true,
+        Asked::FinishStore => false,
     }
 }
 

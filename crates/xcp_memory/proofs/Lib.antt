@@ -18,3 +18,4 @@ pub mod PageCopyLemmas
 pub mod SegmentModeLemmas
 pub mod FreezeLemmas
 pub mod ChecksumLaws
+pub mod ReferenceLemmas

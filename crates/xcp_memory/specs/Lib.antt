@@ -10,6 +10,7 @@ pub mod FirstRefusal
 pub mod PageSwitch
 pub mod PageCopy
 pub mod Freeze
+pub mod ReferencePage
 pub mod Checksum
 pub mod EcuImage
 pub mod AccessLaws

@@ -1,6 +1,7 @@
 //! A layout: what a controller shows to a tool.
 ghost use Rattle.std.specs.Prelude.{◌≡◌, ◌≢◌, MatchBool, ◌+◌, ◌<◌, ◌≤◌, ◌↔◌, length, All, Some, None, Ok, Err, IfOk, IfErr, IfSome, IsTrue, slice_index_or as get_or};
 ghost use Rattle.xcp_memory.specs.Pages.{no_segment};
+ghost use Rattle.xcp_memory.specs.ReferencePage.{with_reference};
 ghost use Rattle.xcp_memory.specs.Layout.{IsLayout, IsPrintable, signals_extent, no_event};
 ghost use Rattle.xcp_memory.specs.declared.key.LayoutFault.{LayoutFault};
 ghost use Rattle.xcp_memory.specs.LayoutParts.{layout_of, number, kind_numbered};
@@ -228,6 +229,15 @@ impl Layout {
         ensures most { length result.now ≤ 2040 }
     {
         self.segments[segment].bytes()
+    }
+
+    /// Makes these the bytes of a segment's reference page, which its other pages begin with.
+    pub fn set_reference(&mut self, segment: usize, bytes: &[u8])
+        requires segment { segment < length self.old.segments }
+        requires size { length bytes.now ≡ length (get_or self.old.segments segment no_segment).bytes }
+        ensures { self.new ≡ with_reference segment bytes.now self.old }
+    {
+        self.segments[segment].set_bytes(bytes);
     }
 
     /// How many pages a segment has: the reference page, which is page 0, and working pages.

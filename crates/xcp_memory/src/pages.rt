@@ -7,6 +7,7 @@ mod access;
 mod copying;
 mod freezing;
 mod imaging;
+mod referring;
 mod summing;
 mod switching;
 

@@ -63,6 +63,14 @@ impl Segment {
         self.pages
     }
 
+    /// Makes these the bytes of the reference page.
+    pub(crate) fn set_bytes(&mut self, bytes: &[u8])
+        requires { length bytes.now ≡ length self.old.bytes }
+        ensures { self.new ≡ record self.old { bytes = bytes.now } }
+    {
+        self.bytes.copy_from_slice(bytes);
+    }
+
     /// An equal segment.
     pub(crate) fn copy(&self) -> Result<Segment, AllocError>
         ensures { IfOk result (λ s. s ≡ self.now) }

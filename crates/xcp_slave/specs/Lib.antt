@@ -7,6 +7,7 @@ pub mod Run
 pub mod RefusingAnswers
 pub mod RefusalCodes
 pub mod AnswerInBytes
+pub mod AskedRequest
 pub mod SlaveInvariant
 pub mod AcceptedCommands
 pub mod MemoryEffects

@@ -1,12 +1,13 @@
 //! The XCP slave: one request, one answer, by one step relation.
 //!
-//! A [`Slave`] is driven by [`Slave::submit_into`] alone, or by [`Slave::submit`], which stands over
+//! A [`Slave`] is driven by [`Slave::answer`] alone, or by [`Slave::submit_into`] and [`Slave::submit`], which stand over
 //! it. `specs/Step.antt` says what each request does to it; `specs/Rows.antt` has the row of each
 //! command.
 #![tactic(auto)]
 
 mod accepting;
 mod answer;
+mod asked;
 mod beside;
 mod blocks;
 mod exchange;
@@ -27,6 +28,7 @@ pub use accepting::{
     an_upload_is_cut_into_packets, transfers_move_the_mta,
 };
 pub use answer::Answer;
+pub use asked::Asked;
 pub use beside::{requests_beside_change_their_own, sessions_begin_and_end};
 pub use blocks::a_block_is_written_at_its_end;
 pub use exchange::Exchange;

@@ -1,6 +1,8 @@
 //! What a slave is asked.
 ghost use Rattle.std.specs.Prelude.{◌≡◌};
+ghost use Rattle.xcp_slave.specs.AskedRequest.{IsShort, request_asked};
 
+use crate::Asked;
 use crate::packet::copied;
 use arrayvec::ArrayVec;
 use xcp_packet::Packet;
@@ -22,6 +24,20 @@ pub enum Request {
 }
 
 impl Request {
+    /// The same request, with its bytes lent.
+    pub fn asked(&self) -> Asked<'_>
+        ensures request { request_asked result ≡ self.now }
+        ensures short { IsShort result }
+    {
+        match self {
+            Request::Command(packet) => Asked::Command(packet),
+            Request::Event(channel, signals) => Asked::Event(*channel, signals),
+            Request::Drain => Asked::Drain,
+            Request::FinishStore => Asked::FinishStore,
+            Request::Hangup => Asked::Hangup,
+        }
+    }
+
     /// An equal request. It takes no memory and always succeeds.
     pub fn copy(&self) -> Request
         ensures { result ≡ self.now }

@@ -1,6 +1,8 @@
 //! The slave: its value, and one answer for each request.
-ghost use Rattle.std.specs.Prelude.{◌≡◌, ◌≢◌, MatchBool, ◌≤◌, ◌<◌, Err, IfOk, IsTrue, Some, drop, length};
+ghost use Rattle.std.specs.Prelude.{◌≡◌, ◌≢◌, MatchBool, ◌≤◌, ◌<◌, Err, IfOk, IsTrue, Some, drop, length, slice_index_or as get_or};
 ghost use Rattle.xcp_memory.specs.EcuImage.{ecu_image};
+ghost use Rattle.xcp_memory.specs.Pages.{no_segment, segment_at};
+ghost use Rattle.xcp_memory.specs.ReferencePage.{reference_page};
 ghost use Rattle.xcp_packet.specs.ReplyPacket.{Fits};
 ghost use Rattle.xcp_packet.specs.ReplyInBytes.{IsPlain, reply_packets, sent_packets};
 ghost use Rattle.xcp_packet.specs.ByteOrder.{byte_at};
@@ -8,6 +10,7 @@ ghost use Rattle.xcp_packet.specs.private.DecodeByCode.{coded, readings};
 ghost use Rattle.xcp_slave.specs.private.ExecuteByCode.{TellsCoded, found_at, heeded};
 ghost use Rattle.xcp_slave.specs.Step.{Answers, AnswersPacket};
 ghost use Rattle.xcp_slave.specs.AnswerInBytes.{answer_in};
+ghost use Rattle.xcp_slave.specs.AskedRequest.{IsShort, request_asked};
 ghost use Rattle.xcp_slave.specs.SlaveValue.{ended, layout_of, noblock, opening};
 ghost use Rattle.xcp_transfer.specs.Laws.{IsLawful};
 ghost use Rattle.xcp_transfer.specs.TransferValue.{response_room};
@@ -21,7 +24,7 @@ mod paging;
 mod session;
 
 use crate::outbox::Outbox;
-use crate::{Answer, Request, Told};
+use crate::{Answer, Asked, Request, Told};
 use std::alloc::{AllocError, Global};
 use std::marker::Model;
 use xcp_daq::Daq;
@@ -310,6 +313,15 @@ impl Slave {
         self.transfer.pages().ecu_image(out);
     }
 
+    /// The bytes of a segment's reference page (page 0): those of the layout, until a store of the segment.
+    pub fn reference(&self, segment: usize) -> &[u8]
+        requires { segment < length (layout_of self.now).segments }
+        ensures value { result.now ≡ reference_page (segment_at self.now.transfer.pages segment) }
+        ensures size { length result.now ≡ length (get_or (layout_of self.now).segments segment no_segment).bytes }
+    {
+        self.transfer.pages().reference(segment)
+    }
+
     /// Executes one request. It takes no memory and always answers.
     pub fn submit(&mut self, request: &Request) -> Answer
         ensures { Answers self.old request.now result self.new }
@@ -325,12 +337,20 @@ impl Slave {
     pub fn submit_into(&mut self, request: &Request, packet: &mut Packet) -> Told
         ensures { Answers self.old request.now (answer_in result packet.new) self.new }
     {
-        match request {
-            Request::Command(bytes) => self.answer_packet(bytes, packet),
-            Request::Event(channel, signals) => self.fire(*channel, signals),
-            Request::Drain => self.drain(packet),
-            Request::FinishStore => self.finish_store(),
-            Request::Hangup => {
+        self.answer(request.asked(), packet)
+    }
+
+    /// Executes one request whose bytes are lent, as `submit_into` does.
+    pub fn answer(&mut self, asked: Asked<'_>, packet: &mut Packet) -> Told
+        requires { IsShort asked }
+        ensures { Answers self.old (request_asked asked.entry) (answer_in result packet.new) self.new }
+    {
+        match asked {
+            Asked::Command(bytes) => self.answer_packet(bytes, packet),
+            Asked::Event(channel, signals) => self.fire(channel, signals),
+            Asked::Drain => self.drain(packet),
+            Asked::FinishStore => self.finish_store(),
+            Asked::Hangup => {
                 self.end_session();
                 Told::Silent
             }

@@ -1,0 +1,18 @@
+//! The reference pages, as they are read.
+ghost use Rattle.std.specs.Prelude.{◌≡◌, ◌<◌, length, slice_index_or as get_or};
+ghost use Rattle.xcp_memory.specs.Pages.{no_segment, segment_at};
+ghost use Rattle.xcp_memory.specs.ReferencePage.{reference_page};
+
+use super::Pages;
+
+impl Pages {
+    /// The bytes of a segment's reference page, which is page 0: as many as its layout gives it.
+    pub fn reference(&self, segment: usize) -> &[u8]
+        requires { segment < length self.now.layout.segments }
+        ensures value { result.now ≡ reference_page (segment_at self.now segment) }
+        ensures size { length result.now ≡ length (get_or self.now.layout.segments segment no_segment).bytes }
+    {
+        self.audit();
+        self.segments[segment].at(0)
+    }
+}

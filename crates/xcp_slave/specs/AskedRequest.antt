@@ -1,0 +1,20 @@
+-- What is asked where its bytes are lent, as a request.
+use Rattle.std.specs.Prelude.{◌≤◌, ⊤, length}
+use Rattle.xcp_slave.specs.declared.asked.Asked.{Asked}
+use Rattle.xcp_slave.specs.declared.asked.Asked.TheVariants as asks
+use Rattle.xcp_slave.specs.declared.request.Request.{Request}
+use Rattle.xcp_slave.specs.declared.request.Request.TheVariants as requests
+
+-- the request of these bytes
+abbrev pub request_asked : Asked → Request
+request_asked (asks.Command bytes) = requests.Command (record { items = bytes.now })
+request_asked (asks.Event channel signals) = requests.Event channel (record { items = signals.now })
+request_asked asks.Drain = requests.Drain
+request_asked asks.FinishStore = requests.FinishStore
+request_asked asks.Hangup = requests.Hangup
+
+-- a command packet has at most 255 bytes, and an event at most 64 of signals
+abbrev pub IsShort : Asked → Type 0
+IsShort (asks.Command bytes) = length bytes.now ≤ 255
+IsShort (asks.Event channel signals) = length signals.now ≤ 64
+IsShort _ = ⊤

@@ -1,0 +1,16 @@
+//! What a slave is asked, where its bytes are lent.
+
+/// A request whose bytes stand elsewhere, as in the buffer that they were read into.
+#[derive(Clone, Copy, Debug, PartialEq, Eq)]
+pub enum Asked<'a> {
+    /// A command packet (CTO) as it came, of at most 255 bytes.
+    Command(&'a [u8]),
+    /// An event channel fires: its number, and the signals that the controller measured, at most 64 bytes.
+    Event(u16, &'a [u8]),
+    /// The transport takes the first data or event packet that is ready to be sent.
+    Drain,
+    /// The controller has stored what SET_REQUEST asked for.
+    FinishStore,
+    /// The tool's connection is gone: the session ends.
+    Hangup,
+}
