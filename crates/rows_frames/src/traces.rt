@@ -5,7 +5,7 @@ use arrayvec::ArrayVec;
 use std::alloc::{AllocError, Global};
 use xcp_packet::{Packet, Train, Width};
 use xcp_slave::{Answer, Exchange, Request};
-use xcp_trace::{Entry, Journal, Tape, Trace, what_is_written_is_read_again};
+use xcp_trace::{Entry, Journal, LentEntry, Tape, Trace, what_is_written_is_read_again};
 
 /// These bytes, in place.
 fn bytes<const N: usize>(bytes: &[u8]) -> ArrayVec<u8, N> {
@@ -127,6 +127,70 @@ fn first_not_entered(journal: &Journal) -> Option<usize> {
 fn a_journal_gives_back_its_entries(rt: HostRuntime) -> Result<(), AllocError> {
     hold(&rt, first_not_entered(&entered(rt.alloc())?));
     Ok(())
+}
+
+/// The first entry that the bytes of a journal's entries don't give back, or how many there are where
+/// these aren't all.
+fn first_not_in_bytes(journal: &Journal) -> Option<usize> {
+    let entries = journal.entries();
+    let mut left = entries.bytes();
+    for number in 0..EXCHANGES {
+        let Some((lent, others)) = LentEntry::first(left) else {
+            return Some(usize::from(number));
+        };
+        if lent.caller() != number.wrapping_add(243) || !is_wanted(Some(lent.exchange()), number) {
+            return Some(usize::from(number));
+        }
+        left = others;
+    }
+    let ends = left.is_empty() && entries.len() == 13;
+    if ends { None } else { Some(entries.len()) }
+}
+
+#[test]
+fn the_bytes_of_entries_give_them_back(rt: HostRuntime) -> Result<(), AllocError> {
+    hold(&rt, first_not_in_bytes(&entered(rt.alloc())?));
+    Ok(())
+}
+
+/// Bytes, and how many of them stand behind the entry with which they begin, if they begin with one: a
+/// length of two bytes, the caller, the request's tag, its channel, the answer's tag, its number, and the
+/// length of the request's bytes.
+static BYTES: [(&[u8], Option<usize>); 11] = [
+    (&[], None),
+    (&[7], None),
+    (&[7, 0, 2, 2, 0, 0, 0, 0, 0], Some(0)),
+    (&[7, 0, 2, 2, 0, 0, 0, 0, 0, 0xFF, 0xFE], Some(2)),
+    (&[8, 0, 2, 2, 0, 0, 0, 0, 0], None),
+    (&[7, 1, 2, 2, 0, 0, 0, 0, 0], None),
+    (&[6, 0, 2, 2, 0, 0, 0, 0], None),
+    (&[7, 0, 2, 0, 0, 0, 0, 0, 1], None),
+    (&[8, 0, 2, 0, 0, 0, 0, 0, 1, 0xFF], Some(0)),
+    (&[7, 0, 2, 2, 0, 0, 10, 6, 0], None),
+    (&[7, 0, 2, 2, 0, 0, 10, 7, 0], Some(0)),
+];
+
+/// How many bytes stand behind the entry with which these begin.
+fn behind_the_first(bytes: &[u8]) -> Option<usize> {
+    match LentEntry::first(bytes) {
+        Some((_, others)) => Some(others.len()),
+        None => None,
+    }
+}
+
+/// The first row of which something else stands behind.
+fn first_not_checked() -> Option<usize> {
+    for (row, (bytes, wanted)) in BYTES.iter().enumerate() {
+        if behind_the_first(bytes) != *wanted {
+            return Some(row);
+        }
+    }
+    None
+}
+
+#[test]
+fn bytes_from_elsewhere_are_checked(rt: HostRuntime) {
+    hold(&rt, first_not_checked());
 }
 
 /// A tape of a string in four parts, between two others.

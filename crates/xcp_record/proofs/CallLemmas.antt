@@ -1,11 +1,10 @@
 -- Calls that are read one by one.
-use Rattle.std.proofs.Common.{◌≡◌, ◌≤◌, ◌<◌, ℕ, ◌+◌, ◌*◌, List, [], ◌∷◌, ◌++◌, length, map, refl, sym, ap, ◌∙◌, arith, append_assoc, append-nil, length-append}
-use Rattle.std.proofs.lemmas.List.{map-append}
+use Rattle.std.proofs.Common.{◌≡◌, ◌≤◌, ◌<◌, ℕ, ◌+◌, ◌*◌, List, [], ◌∷◌, ◌++◌, length, refl, sym, ap, ◌∙◌, arith, append_assoc, append-nil, length-append}
 use Rattle.xcp_trace.specs.declared.Entry.{Entry}
-use Rattle.xcp_trace.specs.EntrySpelling.{entry_in}
+use Rattle.xcp_trace.specs.EntryBytes.{BeginWithEntry}
+use Rattle.xcp_trace.specs.EntrySpelling.{IsEntryString, entry_in}
 use Rattle.xcp_trace.specs.Tape.{framed, spelt}
-use Rattle.xcp_record.specs.CallStrings.{IsCallString}
-use Rattle.xcp_record.specs.private.Calls.{PutsCall, Spells, Walks}
+use Rattle.xcp_record.specs.private.Calls.{Spells, Walks}
 use Rattle.xcp_record.proofs.TapeLemmas.{all_more, framed_same, framed_some, spelt_more}
 
 -- of bytes that are strings the first one stands at their head
@@ -17,18 +16,9 @@ first_is bytes more s (t ∷ later) spells h =
 
 -- bytes that are strings, and more than none, have a first one
 pub some_first : (bytes : List ℕ) (strings : List (List ℕ)) → Spells bytes strings → 0 < length bytes
-    → ((s more : List ℕ) → IsCallString s → (bytes ≡ framed s ++ more → ⊥)) → ⊥
+    → ((call : Entry) (more : List ℕ) → BeginWithEntry bytes call more → ⊥) → ⊥
 some_first bytes [] spells some none = let e = ap length spells.whole in absurd (omega (arith, e, some))
-some_first bytes (t ∷ later) spells some none = none t (spelt later) spells.each.0 (sym spells.whole)
-
--- no bytes are no strings
-pub none_left : (bytes : List ℕ) (strings : List (List ℕ)) → Spells bytes strings → bytes ≡ [] → strings ≡ []
-none_left bytes [] spells h = refl
-none_left bytes (t ∷ later) spells h = absurd (framed_some t (spelt later) (spells.whole ∙ h))
-
--- a first string, and those behind it
-pub spells_first : (bytes more s : List ℕ) (later : List (List ℕ)) → IsCallString s → bytes ≡ framed s ++ more → Spells more later → Spells bytes (s ∷ later)
-spells_first bytes more s later is h spells = record { whole = ap (λ b. framed s ++ b) spells.whole ∙ sym h; each = (is, spells.each) }
+some_first bytes (t ∷ later) spells some none = none (entry_in t) (spelt later) (record { string = t; is = spells.each.0; joined = sym spells.whole; spells = refl })
 
 -- the strings of bytes begin with those that were passed over, and go on with those of what is left
 pub goes_on : (bytes left : List ℕ) (done strings : List (List ℕ)) → Spells bytes strings → bytes ≡ spelt done ++ left → (later : List (List ℕ)) × (strings ≡ done ++ later) × Spells left later
@@ -43,13 +33,14 @@ abbrev pub walks_none : (bytes : List ℕ) → Walks bytes bytes 0
 walks_none bytes = record { done = []; each = tt; joined = refl; number = refl }
 
 -- one more string is passed over
-abbrev pub walks_more : (bytes left more s : List ℕ) (n : ℕ) → Walks bytes left n → left ≡ framed s ++ more → IsCallString s → Walks bytes more (n + 1)
-walks_more bytes left more s n w h is = record {
-  done = w.done ++ s ∷ [];
-  each = all_more IsCallString w.done s w.each is;
-  joined = w.joined ∙ ap (λ b. spelt w.done ++ b) h ∙ sym (append_assoc (spelt w.done) (framed s) more) ∙ ap (λ b. b ++ more) (sym (spelt_more w.done s));
-  number = length-append w.done (s ∷ []) ∙ ap (λ k. k + 1) w.number;
-}
+abbrev pub walks_more : (bytes left more : List ℕ) (n : ℕ) (call : Entry) → Walks bytes left n → (next : BeginWithEntry left call more) → Walks bytes more (n + 1)
+walks_more bytes left more n call w next =
+    let s = next.string in record {
+      done = w.done ++ s ∷ [];
+      each = all_more IsEntryString w.done s w.each next.is;
+      joined = w.joined ∙ ap (λ b. spelt w.done ++ b) next.joined ∙ sym (append_assoc (spelt w.done) (framed s) more) ∙ ap (λ b. b ++ more) (sym (spelt_more w.done s));
+      number = length-append w.done (s ∷ []) ∙ ap (λ k. k + 1) w.number;
+    }
 
 -- each string takes two bytes
 pub at_least : (strings : List (List ℕ)) → 2 * length strings ≤ length (spelt strings)
@@ -69,22 +60,6 @@ pub walks_all : (bytes left : List ℕ) (n : ℕ) (w : Walks bytes left n) → l
 walks_all bytes left n w none = record { whole = sym (w.joined ∙ ap (λ b. spelt w.done ++ b) none ∙ append-nil (spelt w.done)); each = w.each }
 
 -- where no string of a call stands at the head of what is left, the bytes are no calls
-pub walks_on : (bytes left : List ℕ) (n : ℕ) → Walks bytes left n → 0 < length left → ((s more : List ℕ) → IsCallString s → (left ≡ framed s ++ more → ⊥))
+pub walks_on : (bytes left : List ℕ) (n : ℕ) → Walks bytes left n → 0 < length left → ((call : Entry) (more : List ℕ) → BeginWithEntry left call more → ⊥)
     → (strings : List (List ℕ)) → Spells bytes strings → ⊥
 walks_on bytes left n w some none strings spells = let later = goes_on bytes left w.done strings spells w.joined in some_first left later.0 later.2 some none
-
--- one more call is spelled
-pub spells_more : (old new : List ℕ) (strings : List (List ℕ)) (call : Entry) → Spells old strings → (put : PutsCall old new call) → Spells new (strings ++ put.string ∷ [])
-spells_more old new strings call spells put = record {
-  whole = spelt_more strings put.string ∙ ap (λ b. b ++ framed put.string) spells.whole ∙ sym put.grown;
-  each = all_more IsCallString strings put.string spells.each put.is;
-}
-
--- and one less is left to be
-pub shifts : (strings : List (List ℕ)) (s : List ℕ) (call : Entry) (left rest all : List Entry) → entry_in s ≡ call → left ≡ call ∷ rest → map entry_in strings ++ left ≡ all → map entry_in (strings ++ s ∷ []) ++ rest ≡ all
-shifts strings s call left rest all spells next was =
-    ap (λ es. es ++ rest) (map-append entry_in strings (s ∷ []))
-    ∙ append_assoc (map entry_in strings) (entry_in s ∷ []) rest
-    ∙ ap (λ e. map entry_in strings ++ e ∷ rest) spells
-    ∙ ap (λ es. map entry_in strings ++ es) (sym next)
-    ∙ was

@@ -7,7 +7,7 @@ use Rattle.std.specs.Int.{w32, from_le_bytes}
 use Rattle.std.proofs.lemmas.Nat.{from_le_bytes-to_le_bytes_4}
 use Rattle.sha2.specs.Sha256.{digest_bytes, sha256}
 use Rattle.xcp_trace.specs.Tape.{framed, spelt}
-use Rattle.xcp_record.specs.CallStrings.{IsCallString}
+use Rattle.xcp_trace.specs.EntrySpelling.{IsEntryString}
 use Rattle.xcp_framing.specs.Prefix.{IsFront}
 use Rattle.xcp_record.specs.FileFormat.{chapter_bytes, chapter_head, chapter_in, head, magic, most_call, most_calls, size_in}
 use Rattle.xcp_record.specs.JournalFile.{EndsInside, IsChapter, IsNoChapter}
@@ -45,11 +45,11 @@ unfolding chapter_head size_in
 size_front n c s more h = from_le_bytes-to_le_bytes_4 s h
 
 -- a call takes at most 519 bytes
-pub entry_short : (s : List ℕ) → IsCallString s → length (framed s) ≤ most_call
+pub entry_short : (s : List ℕ) → IsEntryString s → length (framed s) ≤ most_call
 entry_short s e = let head = e.caller in let most = e.exchange.told in let asked = e.exchange.asked in let n = length-drop 1 s in omega (arith, head, most, asked, n)
 
 -- calls take at most 519 bytes each
-pub spelt_short : (ss : List (List ℕ)) → AllByRecursion IsCallString ss → length (spelt ss) ≤ most_call * length ss
+pub spelt_short : (ss : List (List ℕ)) → AllByRecursion IsEntryString ss → length (spelt ss) ≤ most_call * length ss
 spelt_short [] all = omega arith
 spelt_short (s ∷ ss) all =
     let one = entry_short s all.0 in
@@ -127,11 +127,6 @@ other_head before number first calls digest spelled is_first is_size is_digest s
 pub head_of : (bytes : List ℕ) → length bytes ≡ 38 → take 6 bytes ≡ magic → (layout : List ℕ) × (length layout ≡ 32) × (bytes ≡ head layout)
 unfolding head
 head_of bytes is h = (drop 6 bytes, (let n = length-drop 6 bytes in omega (arith, n, is)), sym (take-append-drop 6 bytes) ∙ ap (λ b. b ++ drop 6 bytes) h)
-
--- and name this layout
-pub head_names : (bytes layout : List ℕ) → take 6 bytes ≡ magic → drop 6 bytes ≡ layout → bytes ≡ head layout
-unfolding head
-head_names bytes layout h is = sym (take-append-drop 6 bytes) ∙ ap (λ b. b ++ drop 6 bytes) h ∙ ap (λ b. magic ++ b) is
 
 pub head_begins : (layout : List ℕ) (more : List ℕ) → take 6 (head layout ++ more) ≡ magic
 unfolding head

@@ -2,7 +2,6 @@ mod TapeLemmas
 mod FormatLemmas
 mod FileLemmas
 mod CallLemmas
-mod SpellingLemmas
 mod ReadBackLemmas
 mod ExactLemmas
 mod RecordLemmas

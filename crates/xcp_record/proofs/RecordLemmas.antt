@@ -1,5 +1,5 @@
 -- What a recorder has written once one more chapter was, or wasn't.
-use Rattle.std.proofs.Common.{◌≡◌, ℕ, ◌+◌, List, [], ◌∷◌, ◌++◌, length, refl, sym, ap, ◌∙◌, subst, arith, length-append}
+use Rattle.std.proofs.Common.{◌≡◌, ◌≤◌, ℕ, ◌+◌, ◌*◌, List, [], ◌∷◌, ◌++◌, length, refl, sym, ap, ◌∙◌, subst, arith, length-append}
 use Rattle.std.specs.Prelude.{Option, Result, Ok, Err, OnErr}
 use Rattle.std.specs.Io.KnownBytes.{Appends}
 use Rattle.std.proofs.KnownBytes.{Appends-nil, Appends-trans}
@@ -7,13 +7,15 @@ use Rattle.std.proofs.lemmas.List.{length-map}
 use Rattle.sha2.specs.declared.Sha256.{Sha256}
 use Rattle.sha2.specs.Sha256.{sha256}
 use Rattle.xcp_trace.specs.declared.Entry.{Entry}
+use Rattle.xcp_trace.specs.EntryBytes.{SpellEntries}
 use Rattle.xcp_trace.specs.EntrySpelling.{entry_in}
 use Rattle.xcp_framing.specs.Prefix.{AppendsFront}
-use Rattle.xcp_record.specs.FileFormat.{chapter_head, chapter_in}
+use Rattle.xcp_record.specs.FileFormat.{chapter_head, chapter_in, most_call, most_calls}
 use Rattle.xcp_record.specs.JournalFile.{IsFile, calls_of}
 use Rattle.xcp_record.specs.Recording.{Records, StopsInside}
-use Rattle.xcp_record.specs.private.Calls.{IsSealed, SpellsAll}
+use Rattle.xcp_record.specs.private.Calls.{IsSealed}
 use Rattle.xcp_record.proofs.FileLemmas.{calls_more, file_more}
+use Rattle.xcp_record.proofs.FormatLemmas.{spelt_short}
 
 -- nothing of the next chapter is written
 pub stops_here : (layout : List ℕ) (start now : Option (List ℕ)) (hasher : Sha256) (count calls : ℕ) (chapters : List (List Entry)) → Records layout start now hasher count calls chapters → StopsInside layout start now chapters
@@ -26,41 +28,53 @@ stops_here layout start now hasher count calls chapters r = record {
   front = record { written = []; grown = Appends-nil now; front = record { rest = chapter_in r.bytes (length chapters) []; joined = refl } };
 }
 
+-- there are as many strings as calls
+number_is : (calls : List ℕ) (entries : List Entry) (all : SpellEntries calls entries) → length all.strings ≡ length entries
+number_is calls entries all = sym (length-map all.strings entry_in) ∙ ap length all.spells
+
+-- their bytes are no more than a chapter may have
+pub calls_short : (calls : List ℕ) (entries : List Entry) → SpellEntries calls entries → length entries ≤ most_calls → length calls ≤ most_call * most_calls
+calls_short calls entries all few =
+    let short = spelt_short all.strings all.each in
+    let number = number_is calls entries all in
+    let whole = ap length all.whole in
+    omega (arith, short, number, whole, few)
+
 -- the chapter is that of its calls
-chapter_is : (number count : ℕ) (before calls chapter : List ℕ) (hasher : Sha256) (entries : List Entry) → IsSealed number count before calls chapter hasher → (all : SpellsAll calls entries count) → chapter ≡ chapter_in before number all.strings
-chapter_is number count before calls chapter hasher entries sealed all =
+chapter_is : (number count : ℕ) (before calls chapter : List ℕ) (hasher : Sha256) (entries : List Entry) → IsSealed number count before calls chapter hasher → (all : SpellEntries calls entries) → count ≡ length entries
+    → chapter ≡ chapter_in before number all.strings
+chapter_is number count before calls chapter hasher entries sealed all counted =
     sealed.bytes
-    ∙ ap (λ n. (chapter_head number n (length calls) ++ calls) ++ sha256 (before ++ (chapter_head number n (length calls) ++ calls))) (sym all.number)
-    ∙ ap (λ b. (chapter_head number (length all.strings) (length b) ++ b) ++ sha256 (before ++ (chapter_head number (length all.strings) (length b) ++ b))) (sym all.spells.whole)
+    ∙ ap (λ n. (chapter_head number n (length calls) ++ calls) ++ sha256 (before ++ (chapter_head number n (length calls) ++ calls))) (counted ∙ sym (number_is calls entries all))
+    ∙ ap (λ b. (chapter_head number (length all.strings) (length b) ++ b) ++ sha256 (before ++ (chapter_head number (length all.strings) (length b) ++ b))) (sym all.whole)
 
--- a front of it is
-pub stops_inside : (layout : List ℕ) (start old now : Option (List ℕ)) (hasher next : Sha256) (number count calls : ℕ) (spelled chapter : List ℕ) (chapters : List (List Entry)) (entries : List Entry)
-    → (r : Records layout start old hasher number calls chapters) → IsSealed number count r.bytes spelled chapter next → SpellsAll spelled entries count
-    → AppendsFront old now chapter → StopsInside layout start now chapters
-stops_inside layout start old now hasher next number count calls spelled chapter chapters entries r sealed all front = record {
-  bytes = r.bytes;
-  file = r.file;
-  between = old;
-  grown = r.grown;
-  strings = all.strings;
-  front = subst (AppendsFront old now) (chapter_is number count r.bytes spelled chapter next entries sealed all ∙ ap (λ k. chapter_in r.bytes k all.strings) r.counted) front;
-}
+module _ (layout : List ℕ) (start old now : Option (List ℕ)) (hasher next : Sha256) (number count calls : ℕ) (spelled chapter : List ℕ) (chapters : List (List Entry)) (entries : List Entry)
+    (r : Records layout start old hasher number calls chapters) (sealed : IsSealed number count r.bytes spelled chapter next) (all : SpellEntries spelled entries) (counted : count ≡ length entries) where
+  next_is : chapter ≡ chapter_in r.bytes (length chapters) all.strings
+  next_is = chapter_is number count r.bytes spelled chapter next entries sealed all counted ∙ ap (λ k. chapter_in r.bytes k all.strings) r.counted
 
--- all of it is
-pub records_more : (layout : List ℕ) (start old now : Option (List ℕ)) (hasher next : Sha256) (number count calls : ℕ) (spelled chapter : List ℕ) (chapters : List (List Entry)) (entries : List Entry)
-    → (r : Records layout start old hasher number calls chapters) → IsSealed number count r.bytes spelled chapter next → SpellsAll spelled entries count
-    → Appends old now chapter → Records layout start now next (number + 1) (calls + count) (chapters ++ entries ∷ [])
-records_more layout start old now hasher next number count calls spelled chapter chapters entries r sealed all grown = record {
-  bytes = r.bytes ++ chapter;
-  file = subst (λ es. IsFile layout (r.bytes ++ chapter) (chapters ++ es ∷ [])) all.all
-      (file_more layout r.bytes chapter chapters all.strings r.file (record { each = all.spells.each; few = (let f = all.few in let n = all.number in omega (arith, f, n)) })
-      (chapter_is number count r.bytes spelled chapter next entries sealed all ∙ ap (λ k. chapter_in r.bytes k all.strings) r.counted));
-  grown = Appends-trans start old now r.bytes chapter r.grown grown;
-  held = sealed.held;
-  counted = (let a = r.counted in let b = length-append chapters (entries ∷ []) in omega (arith, a, b));
-  called = (let a = r.called in let b = ap length (calls_more chapters entries) in let c = length-append (calls_of chapters) entries in
-      let d = ap length all.all in let e = length-map all.strings entry_in in let f = all.number in omega (arith, a, b, c, d, e, f));
-}
+  -- a front of it is
+  pub stops_inside : AppendsFront old now chapter → StopsInside layout start now chapters
+  stops_inside front = record {
+    bytes = r.bytes;
+    file = r.file;
+    between = old;
+    grown = r.grown;
+    strings = all.strings;
+    front = subst (AppendsFront old now) next_is front;
+  }
+
+  -- all of it is
+  pub records_more : length entries ≤ most_calls → Appends old now chapter → Records layout start now next (number + 1) (calls + count) (chapters ++ entries ∷ [])
+  records_more few grown = record {
+    bytes = r.bytes ++ chapter;
+    file = subst (λ es. IsFile layout (r.bytes ++ chapter) (chapters ++ es ∷ [])) all.spells
+        (file_more layout r.bytes chapter chapters all.strings r.file (record { each = all.each; few = (let n = number_is spelled entries all in omega (arith, few, n)) }) next_is);
+    grown = Appends-trans start old now r.bytes chapter r.grown grown;
+    held = sealed.held;
+    counted = (let a = r.counted in let b = length-append chapters (entries ∷ []) in omega (arith, a, b));
+    called = (let a = r.called in let b = ap length (calls_more chapters entries) in let c = length-append (calls_of chapters) entries in omega (arith, a, b, c, counted));
+  }
 
 -- of an error
 pub on_err : {A E : Type 0} (r : Result A E) (P : Type 0) → P → OnErr r P

@@ -3,14 +3,13 @@ use Rattle.std.specs.Prelude.{◌≡◌, ◌≤◌, ◌<◌, ◌⊎◌, ◌+◌,
 use Rattle.std.specs.List.{AllByRecursion, flat_map}
 use Rattle.xcp_slave.specs.declared.Exchange.{Exchange}
 use Rattle.xcp_trace.specs.declared.Entry.{Entry}
-use Rattle.xcp_trace.specs.EntrySpelling.{entry_in}
-use Rattle.xcp_record.specs.CallStrings.{IsCallString}
+use Rattle.xcp_trace.specs.EntrySpelling.{IsEntryString, entry_in}
 use Rattle.xcp_framing.specs.Prefix.{IsFront}
 use Rattle.xcp_record.specs.FileFormat.{chapter_in, file_of, most_calls, size_in}
 
 -- the strings of a chapter: each spells a call
 pub record IsChapter (strings : List (List ℕ)) : Type 0 where
-  pub each : AllByRecursion IsCallString strings
+  pub each : AllByRecursion IsEntryString strings
   pub few : length strings ≤ most_calls
 
 -- The bytes are a whole file of this layout, and these are its chapters' calls.

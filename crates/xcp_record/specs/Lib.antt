@@ -1,4 +1,3 @@
-pub mod CallStrings
 pub mod FileFormat
 pub mod JournalFile
 pub mod Audit

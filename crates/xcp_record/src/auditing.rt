@@ -19,14 +19,13 @@ use crate::chapter::{ChapterFault, Parts};
 use crate::fault::AuditFault;
 use crate::filling::fill;
 use crate::head::{HEAD_BYTES, MAGIC, same};
-use crate::spelling::{first_call, read_call};
 use crate::witness::Witness;
 use sha2::{Digest, Sha256};
 use std::alloc::Global;
 use std::io::Read;
 use xcp_framing::Watched;
 use xcp_slave::{Slave, each_request_has_one_answer};
-use xcp_trace::Entry;
+use xcp_trace::{Entry, LentEntry};
 
 /// The most chapters of a journal.
 const MOST_CHAPTERS: u64 = 4_294_967_296;
@@ -204,10 +203,10 @@ fn check_calls<T: Witness>(
     let mut left = bytes;
     let mut place = before;
     while !left.is_empty() {
-        let Some((string, more)) = first_call(left) else {
+        let Some((lent, more)) = LentEntry::first(left) else {
             unreachable!()
         };
-        let call = read_call(string);
+        let call = owned(&lent);
         witness.told(&call);
         if !answers(slave, &call) {
             return Err(place);
@@ -216,6 +215,16 @@ fn check_calls<T: Witness>(
         place += 1;
     }
     Ok(())
+}
+
+/// The call that stands there.
+fn owned(call: &LentEntry<'_>) -> Entry
+    ensures { result ≡ call.now }
+{
+    Entry {
+        caller: call.caller(),
+        exchange: call.exchange(),
+    }
 }
 
 /// Whether the slave answers the call's request as the call says. The request is executed.

@@ -8,11 +8,11 @@ ghost use Rattle.xcp_record.specs.private.ReadChapter.{Checks, ReadsParts};
 
 use crate::filling::{ReadFailed, fill};
 use crate::head::{CHAPTER_HEAD_BYTES, chapter_head, digest_of, same};
-use crate::spelling::first_call;
 use sha2::{Digest, Sha256};
 use std::alloc::{AllocError, Global};
 use std::io::Read;
 use xcp_framing::Watched;
+use xcp_trace::LentEntry;
 
 /// The most calls of a chapter.
 pub(crate) const MOST_CALLS: usize = 65_536;
@@ -157,7 +157,7 @@ fn count_calls(bytes: &[u8]) -> Option<usize>
     let mut left = bytes;
     let mut count = 0;
     while !left.is_empty() {
-        let Some((_, more)) = first_call(left) else {
+        let Some((_, more)) = LentEntry::first(left) else {
             return None;
         };
         left = more;

@@ -13,7 +13,6 @@ mod filling;
 mod head;
 mod law;
 mod recorder;
-mod spelling;
 mod witness;
 
 pub use auditing::audit;

@@ -4,11 +4,10 @@ ghost use Rattle.sha2.specs.Hashers.{Holds256};
 ghost use Rattle.xcp_trace.specs.declared.journal.Entry.{Entry};
 ghost use Rattle.xcp_record.specs.FileFormat.{last_chapter, most_call, most_calls};
 ghost use Rattle.xcp_record.specs.Recording.{Records, StopsInside};
-ghost use Rattle.xcp_record.specs.private.Calls.{IsSealed, SpellsAll};
+ghost use Rattle.xcp_record.specs.private.Calls.{IsSealed};
 
 use crate::fault::RecordFault;
 use crate::head::{MAGIC, chapter_head, digest_of};
-use crate::spelling::put_call;
 use sha2::{Digest, Sha256};
 use std::alloc::{AllocError, Global};
 use std::io::Write;
@@ -26,7 +25,6 @@ pub struct Recorder<W> {
     chapters: u64,
     calls: u64,
     stopped: bool,
-    spelled: Vec<u8>,
     chapter: Vec<u8>,
     ghost few: { calls ≤ chapters * 65536 },
     ghost last: { chapters ≤ 4294967296 },
@@ -55,7 +53,6 @@ impl<W: Write> Recorder<W> {
             chapters: 0,
             calls: 0,
             stopped: false,
-            spelled: Vec::new(alloc),
             chapter,
         })
     }
@@ -121,13 +118,13 @@ impl<W: Write> Recorder<W> {
         if number > LAST_CHAPTER {
             return Err(RecordFault::Number);
         }
-        let count = spell_calls(&mut self.spelled, entries)?;
+        let count = entries.len();
         seal(
             &mut self.hasher,
             &mut self.chapter,
             number,
             count,
-            &self.spelled,
+            entries.bytes(),
         )?;
         self.writer.write_all(&self.chapter)?;
         self.calls += count as u64;
@@ -159,18 +156,4 @@ fn seal(
     hasher.update(&digest);
     chapter.extend_from_slice(&digest)?;
     Ok(())
-}
-
-/// Puts the strings of calls in place of the bytes, and answers how many calls there are.
-fn spell_calls(bytes: &mut Vec<u8>, mut entries: Entries<'_>) -> Result<usize, AllocError>
-    requires { length entries ≤ most_calls }
-    ensures { IfOk result (λ count. SpellsAll bytes.new.items entries.entry count) }
-{
-    bytes.clear();
-    let mut count = 0;
-    while let Some(entry) = entries.next() {
-        put_call(bytes, &entry)?;
-        count += 1;
-    }
-    Ok(count)
 }

@@ -8,10 +8,8 @@ use Rattle.std.proofs.lemmas.List.{length-append, map-append}
 use Rattle.xcp_slave.specs.declared.Request.{Request}
 use Rattle.xcp_slave.specs.declared.Request.TheVariants as requests
 use Rattle.xcp_slave.specs.declared.Exchange.{Exchange}
-use Rattle.xcp_trace.specs.declared.journal.Entry.{Entry}
 use Rattle.xcp_trace.specs.EntrySpelling.{entry_in}
-use Rattle.xcp_trace.specs.ExchangeSpelling.{answer_of, exchange_in, request_bytes, request_channel, request_of, request_tag, spelling}
-use Rattle.xcp_trace.specs.private.ExchangeSpelling.{IsSpelling}
+use Rattle.xcp_trace.specs.ExchangeSpelling.{IsExchangeString, answer_of, exchange_in, request_bytes, request_channel, request_of, request_tag, spelling}
 
 request_again : (r : Request) → request_of (request_tag r) (request_channel r) (request_bytes r) ≡ r
 request_again (requests.Command packet) = refl
@@ -43,7 +41,7 @@ string_is r tag channel kind count pair asked told is_tag is_channel is_asked lo
 
 -- a spelling has its parts in their places
 pub fits : (r : Request) (kind count : ℕ) (told : List ℕ) → length (request_bytes r) ≤ 255 → (request_tag r ≡ 1 → length (request_bytes r) ≤ 64)
-    → length told ≤ 255 → (9 < kind → (7 ≤ count) × (count ≤ 254)) → IsSpelling (spelling r kind count told)
+    → length told ≤ 255 → (9 < kind → (7 ≤ count) × (count ≤ 254)) → IsExchangeString (spelling r kind count told)
 fits r kind count told asked signals short width =
     let e = length-append (request_bytes r) told in
     record { whole = omega (arith, e); asked = asked; signals = signals; told = omega (arith, e, short); width = width }

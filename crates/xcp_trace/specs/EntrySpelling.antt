@@ -1,9 +1,14 @@
 -- What entry a string spells: the caller's number, and then the spelling of the exchange.
-use Rattle.std.specs.Prelude.{ℕ, ◌+◌, List, drop, slice_index}
+use Rattle.std.specs.Prelude.{◌≤◌, ℕ, ◌+◌, List, length, drop, slice_index}
 use Rattle.xcp_trace.specs.declared.journal.Entry.{Entry}
-use Rattle.xcp_trace.specs.ExchangeSpelling.{exchange_in, room_for_any}
+use Rattle.xcp_trace.specs.ExchangeSpelling.{IsExchangeString, exchange_in, room_for_any}
 
--- the entry that a string spells
+-- the string has a caller's number, and behind it an exchange's string
+pub record IsEntryString (string : List ℕ) : Type 0 where
+  pub caller : 1 ≤ length string
+  pub exchange : IsExchangeString (drop 1 string)
+
+-- the entry that such a string spells
 abbrev pub entry_in : List ℕ → Entry
 entry_in string = record { caller = slice_index string 0; exchange = exchange_in (drop 1 string) }
 

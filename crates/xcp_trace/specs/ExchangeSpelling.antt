@@ -1,6 +1,6 @@
 -- What exchange a string spells: a head of six bytes, then the bytes of the request and those of the answer. The head is the
 -- request's tag, its channel (the low byte first), the answer's tag, its number, and the length of the request's bytes.
-use Rattle.std.specs.Prelude.{ℕ, ◌+◌, ◌*◌, ◌/◌, ◌%◌, List, [], ◌∷◌, ◌++◌, length, take, drop, slice_index, ◌==◌, if◌then◌else◌}
+use Rattle.std.specs.Prelude.{◌≡◌, ◌≤◌, ◌<◌, ℕ, ◌+◌, ◌*◌, ◌/◌, ◌%◌, List, [], ◌∷◌, ◌++◌, length, take, drop, slice_index, ◌==◌, if◌then◌else◌}
 use Rattle.xcp_packet.specs.PacketTrains.{block_packets}
 use Rattle.xcp_slave.specs.declared.Request.{Request}
 use Rattle.xcp_slave.specs.declared.Request.TheVariants as requests
@@ -48,7 +48,16 @@ answer_of tag n bytes =
     if tag == 8 then answers.NoStore else (
     if tag == 9 then answers.Later else answers.Packets (block_packets n bytes))))))))))
 
--- the exchange that a string spells
+-- The string has a head of six bytes, and behind it bytes for a request and an answer: at most 255 each, of an event at most 64. A block
+-- has a width.
+pub record IsExchangeString (string : List ℕ) : Type 0 where
+  pub whole : 6 + slice_index string 5 ≤ length string
+  pub asked : slice_index string 5 ≤ 255
+  pub signals : slice_index string 0 ≡ 1 → slice_index string 5 ≤ 64
+  pub told : length string ≤ 6 + slice_index string 5 + 255
+  pub width : 9 < slice_index string 3 → (7 ≤ slice_index string 4) × (slice_index string 4 ≤ 254)
+
+-- the exchange that such a string spells
 abbrev pub exchange_in : List ℕ → Exchange
 exchange_in string = record {
   request = request_of (slice_index string 0) (slice_index string 1 + slice_index string 2 * 256) (take (slice_index string 5) (drop 6 string));

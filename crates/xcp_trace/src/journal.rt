@@ -1,8 +1,8 @@
 //! Exchanges with the callers that asked.
 ghost use Rattle.std.specs.Prelude.{◌≡◌, ◌≤◌, ◌++◌, ◌∷◌, [], length, IfOk, OnOk, OnErr, MatchOption, slice_get};
 ghost use Rattle.xcp_slave.specs.AnswerInBytes.{answer_in};
-ghost use Rattle.xcp_trace.specs.EntrySpelling.{entry_in, room_for_any_entry};
-ghost use Rattle.xcp_trace.specs.private.EntrySpelling.{IsEntry};
+ghost use Rattle.xcp_trace.specs.EntryBytes.{SpellEntries};
+ghost use Rattle.xcp_trace.specs.EntrySpelling.{IsEntryString, entry_in, room_for_any_entry};
 
 use crate::spelling::{EXCHANGE_BYTES, read_exchange, spell, spell_told};
 use crate::{LentEntry, Strings, Tape};
@@ -12,7 +12,7 @@ use xcp_packet::Packet;
 use xcp_slave::{Answer, Exchange, Request, Told};
 
 /// The bytes before an exchange's string: the caller's number.
-const CALLER_BYTES: usize = 1;
+pub(crate) const CALLER_BYTES: usize = 1;
 
 /// An exchange, and the number of the caller that asked.
 #[derive(Debug, PartialEq, Eq, Drop)]
@@ -30,14 +30,13 @@ pub struct Journal {
 impl Model for Journal {
     ghost use Rattle.std.specs.Prelude.{map};
     ghost use Rattle.std.specs.List.{AllByRecursion};
-    ghost use Rattle.xcp_trace.specs.EntrySpelling.{JournalValue, entry_in};
-    ghost use Rattle.xcp_trace.specs.private.EntrySpelling.{IsEntry};
+    ghost use Rattle.xcp_trace.specs.EntrySpelling.{IsEntryString, JournalValue, entry_in};
 
     ghost Value = { JournalValue };
 
     ghost view = { λ j. record { entries = map entry_in j.tape.strings; room = j.tape.room } };
 
-    ghost invariant = { λ j. AllByRecursion IsEntry j.tape.strings };
+    ghost invariant = { λ j. AllByRecursion IsEntryString j.tape.strings };
 }
 
 impl Journal {
@@ -127,17 +126,30 @@ impl<'a> Model for Entries<'a> {
     ghost use Rattle.std.specs.Prelude.{List, map};
     ghost use Rattle.std.specs.List.{AllByRecursion};
     ghost use Rattle.xcp_trace.specs.declared.journal.Entry.{Entry};
-    ghost use Rattle.xcp_trace.specs.EntrySpelling.{entry_in};
-    ghost use Rattle.xcp_trace.specs.private.EntrySpelling.{IsEntry};
+    ghost use Rattle.xcp_trace.specs.EntrySpelling.{IsEntryString, entry_in};
 
     ghost Value = { List Entry };
 
     ghost view = { λ e. map entry_in e.strings };
 
-    ghost invariant = { λ e. AllByRecursion IsEntry e.strings };
+    ghost invariant = { λ e. AllByRecursion IsEntryString e.strings };
 }
 
 impl<'a> Entries<'a> {
+    /// How many entries there are.
+    pub fn len(&self) -> usize
+        ensures { result ≡ length self.now }
+    {
+        self.strings.len()
+    }
+
+    /// The bytes that spell the entries, as they stand on the tape.
+    pub fn bytes(&self) -> &'a [u8]
+        ensures { SpellEntries result.now self.now }
+    {
+        self.strings.bytes()
+    }
+
     /// The next entry, if there is one.
     pub fn next(&mut self) -> Option<Entry>
         ensures { MatchOption result ((self.old ≡ []) × (self.new ≡ []))
@@ -145,6 +157,15 @@ impl<'a> Entries<'a> {
     {
         let string = self.strings.next()?;
         Some(read_entry(string))
+    }
+
+    /// The same entries, to be read once more.
+    pub fn again(&self) -> Entries<'a>
+        ensures { result ≡ self.now }
+    {
+        Entries {
+            strings: self.strings.again(),
+        }
     }
 
     /// The next entry, if there is one, where it stands.
@@ -159,7 +180,7 @@ impl<'a> Entries<'a> {
 
 /// The entry that a string spells.
 fn read_entry(string: &[u8]) -> Entry
-    requires { IsEntry string.now }
+    requires { IsEntryString string.now }
     ensures { result ≡ entry_in string.now }
 {
     let (caller, exchange) = string.split_at(CALLER_BYTES);

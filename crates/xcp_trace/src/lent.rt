@@ -1,9 +1,10 @@
-//! Entries and exchanges where they stand on their tape.
-ghost use Rattle.std.specs.Prelude.{◌≡◌, ◌≢◌, MatchBool, true};
-ghost use Rattle.xcp_trace.specs.ExchangeSpelling.{exchange_in};
-ghost use Rattle.xcp_trace.specs.private.EntrySpelling.{IsEntry};
-ghost use Rattle.xcp_trace.specs.private.ExchangeSpelling.{IsSpelling};
+//! Entries and exchanges where they stand, on their tape or in other bytes.
+ghost use Rattle.std.specs.Prelude.{◌≡◌, ◌≢◌, ℕ, List, IfSome, IfNone, MatchBool, true};
+ghost use Rattle.xcp_trace.specs.EntryBytes.{BeginWithEntry};
+ghost use Rattle.xcp_trace.specs.EntrySpelling.{IsEntryString};
+ghost use Rattle.xcp_trace.specs.ExchangeSpelling.{IsExchangeString, exchange_in};
 
+use crate::checking::first_string;
 use crate::spelling::read_exchange;
 use std::marker::Model;
 use xcp_slave::{Exchange, Request};
@@ -16,22 +17,33 @@ pub struct LentEntry<'a> {
 
 impl<'a> Model for LentEntry<'a> {
     ghost use Rattle.xcp_trace.specs.declared.journal.Entry.{Entry};
-    ghost use Rattle.xcp_trace.specs.EntrySpelling.{entry_in};
-    ghost use Rattle.xcp_trace.specs.private.EntrySpelling.{IsEntry};
+    ghost use Rattle.xcp_trace.specs.EntrySpelling.{IsEntryString, entry_in};
 
     ghost Value = { Entry };
 
     ghost view = { λ e. entry_in e.string.now };
 
-    ghost invariant = { λ e. IsEntry e.string.now };
+    ghost invariant = { λ e. IsEntryString e.string.now };
 }
 
 impl<'a> LentEntry<'a> {
+    ghost use Rattle.xcp_trace.specs.declared.journal.Entry.{Entry};
     ghost use Rattle.xcp_trace.specs.EntrySpelling.{entry_in};
+
+    /// The entry with which bytes begin, wherever they come from, and the bytes behind it; none where they
+    /// don't begin with a string that spells one.
+    pub fn first(bytes: &'a [u8]) -> Option<(LentEntry<'a>, &'a [u8])>
+        ensures some { IfSome result (λ r. BeginWithEntry bytes.now r.0 r.1.now) }
+        ensures none { IfNone result ((entry : Entry) (others : List ℕ)
+            → BeginWithEntry bytes.now entry others → ⊥) }
+    {
+        let (string, others) = first_string(bytes)?;
+        Some((LentEntry::new(string), others))
+    }
 
     /// The entry that a string spells.
     pub(crate) fn new(string: &'a [u8]) -> LentEntry<'a>
-        requires { IsEntry string.now }
+        requires { IsEntryString string.now }
         ensures { result ≡ entry_in string.now }
     {
         LentEntry { string }
@@ -60,20 +72,19 @@ pub struct LentExchange<'a> {
 
 impl<'a> Model for LentExchange<'a> {
     ghost use Rattle.xcp_slave.specs.declared.Exchange.{Exchange};
-    ghost use Rattle.xcp_trace.specs.ExchangeSpelling.{exchange_in};
-    ghost use Rattle.xcp_trace.specs.private.ExchangeSpelling.{IsSpelling};
+    ghost use Rattle.xcp_trace.specs.ExchangeSpelling.{IsExchangeString, exchange_in};
 
     ghost Value = { Exchange };
 
     ghost view = { λ e. exchange_in e.string.now };
 
-    ghost invariant = { λ e. IsSpelling e.string.now };
+    ghost invariant = { λ e. IsExchangeString e.string.now };
 }
 
 impl<'a> LentExchange<'a> {
     /// The exchange that a string spells.
     pub(crate) fn new(string: &'a [u8]) -> LentExchange<'a>
-        requires { IsSpelling string.now }
+        requires { IsExchangeString string.now }
         ensures { result ≡ exchange_in string.now }
     {
         LentExchange { string }

@@ -3,9 +3,11 @@
 //! A [`Tape`] holds byte strings one behind another. A [`Trace`] is a tape whose strings spell
 //! exchanges; a [`Journal`] is one whose strings spell exchanges and who asked. What they hold is
 //! read off the bytes alone: `specs/Tape.antt` says which strings bytes hold, `specs/ExchangeSpelling.antt`
-//! which exchange a string spells, `specs/EntrySpelling.antt` which entry.
+//! which exchange a string spells, `specs/EntrySpelling.antt` which entry, and `specs/EntryBytes.antt` which entries
+//! bytes spell.
 #![tactic(auto)]
 
+mod checking;
 mod journal;
 mod law;
 mod lent;

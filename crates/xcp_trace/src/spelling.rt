@@ -2,8 +2,7 @@
 ghost use Rattle.std.specs.Prelude.{◌≡◌, ◌≤◌, ◌<◌, ◌++◌, length};
 ghost use Rattle.xcp_slave.specs.declared.Answer.{Answer};
 ghost use Rattle.xcp_slave.specs.AnswerInBytes.{answer_in};
-ghost use Rattle.xcp_trace.specs.ExchangeSpelling.{answer_of, exchange_in, request_bytes, request_channel, request_of, request_tag};
-ghost use Rattle.xcp_trace.specs.private.ExchangeSpelling.{IsSpelling};
+ghost use Rattle.xcp_trace.specs.ExchangeSpelling.{IsExchangeString, answer_of, exchange_in, request_bytes, request_channel, request_of, request_tag};
 
 use arrayvec::ArrayVec;
 use xcp_packet::{Packet, Train, Width};
@@ -34,7 +33,7 @@ pub(crate) struct Spelled<'a> {
 pub(crate) fn spell<'a>(request: &'a Request, answer: &'a Answer) -> Spelled<'a>
     ensures string { exchange_in (result.head ++ result.asked.now ++ result.told.now)
         ≡ record { request = request.now; answer = answer.now } }
-    ensures fits { IsSpelling (result.head ++ result.asked.now ++ result.told.now) }
+    ensures fits { IsExchangeString (result.head ++ result.asked.now ++ result.told.now) }
     ensures asked { length result.asked.now ≤ PACKET_BYTES }
     ensures told { length result.told.now ≤ PACKET_BYTES }
 {
@@ -46,7 +45,7 @@ pub(crate) fn spell<'a>(request: &'a Request, answer: &'a Answer) -> Spelled<'a>
 pub(crate) fn spell_told<'a>(request: &'a Request, told: &Told, packet: &'a Packet) -> Spelled<'a>
     ensures string { exchange_in (result.head ++ result.asked.now ++ result.told.now)
         ≡ record { request = request.now; answer = answer_in told.now packet.now } }
-    ensures fits { IsSpelling (result.head ++ result.asked.now ++ result.told.now) }
+    ensures fits { IsExchangeString (result.head ++ result.asked.now ++ result.told.now) }
     ensures asked { length result.asked.now ≤ PACKET_BYTES }
     ensures told { length result.told.now ≤ PACKET_BYTES }
 {
@@ -60,7 +59,7 @@ fn spell_parts<'a>(request: &'a Request, kind: u8, count: u8, told: &'a [u8]) ->
     requires width { 9 < kind → (7 ≤ count) × (count ≤ 254) }
     ensures string { exchange_in (result.head ++ result.asked.now ++ result.told.now)
         ≡ record { request = request.now; answer = answer_of kind count told.now } }
-    ensures fits { IsSpelling (result.head ++ result.asked.now ++ result.told.now) }
+    ensures fits { IsExchangeString (result.head ++ result.asked.now ++ result.told.now) }
     ensures asked { length result.asked.now ≤ PACKET_BYTES }
     ensures told { length result.told.now ≤ PACKET_BYTES }
 {
@@ -75,7 +74,7 @@ fn spell_parts<'a>(request: &'a Request, kind: u8, count: u8, told: &'a [u8]) ->
 
 /// The exchange that a string spells.
 pub(crate) fn read_exchange(string: &[u8]) -> Exchange
-    requires { IsSpelling string.now }
+    requires { IsExchangeString string.now }
     ensures { result ≡ exchange_in string.now }
 {
     let (head, bytes) = string.split_at(HEAD_BYTES);

@@ -1,13 +1,13 @@
 //! Byte strings, one behind another in one buffer.
 ghost use Rattle.std.specs.Prelude.{◌≡◌, ◌≤◌, ◌<◌, ◌+◌, [], ◌∷◌, ◌++◌, length, Some, None, IfOk, OnOk, OnErr, MatchOption, slice_get, vec_len, vec_capacity};
-ghost use Rattle.xcp_trace.specs.Tape.{behind_string, framed, length_at, string_at};
+ghost use Rattle.xcp_trace.specs.Tape.{behind_string, framed, length_at, spelt, string_at};
 
 use std::alloc::{AllocError, Global};
 use std::marker::Model;
 use std::mem;
 
 /// The bytes before a string, which say its length.
-const LENGTH_BYTES: usize = 2;
+pub(crate) const LENGTH_BYTES: usize = 2;
 
 /// Byte strings of at most 65,535 bytes each, one behind another in one growing buffer.
 #[derive(Drop)]
@@ -193,6 +193,30 @@ impl<'a> Model for Strings<'a> {
 }
 
 impl<'a> Strings<'a> {
+    /// The same strings, to be read once more.
+    pub fn again(&self) -> Strings<'a>
+        ensures { result ≡ self.now }
+    {
+        Strings {
+            left: self.left,
+            count: self.count,
+        }
+    }
+
+    /// How many strings there are.
+    pub(crate) fn len(&self) -> usize
+        ensures { result ≡ length self.now }
+    {
+        self.count
+    }
+
+    /// Their bytes, each string behind its length.
+    pub(crate) fn bytes(&self) -> &'a [u8]
+        ensures { result.now ≡ spelt self.now }
+    {
+        self.left
+    }
+
     /// The next string, if there is one.
     pub fn next(&mut self) -> Option<&'a [u8]>
         ensures { MatchOption result ((self.old ≡ []) × (self.new ≡ []))

@@ -19,14 +19,13 @@ pub struct Trace {
 impl Model for Trace {
     ghost use Rattle.std.specs.Prelude.{map};
     ghost use Rattle.std.specs.List.{AllByRecursion};
-    ghost use Rattle.xcp_trace.specs.ExchangeSpelling.{TraceValue, exchange_in};
-    ghost use Rattle.xcp_trace.specs.private.ExchangeSpelling.{IsSpelling};
+    ghost use Rattle.xcp_trace.specs.ExchangeSpelling.{IsExchangeString, TraceValue, exchange_in};
 
     ghost Value = { TraceValue };
 
     ghost view = { λ t. record { exchanges = map exchange_in t.tape.strings; room = t.tape.room } };
 
-    ghost invariant = { λ t. AllByRecursion IsSpelling t.tape.strings };
+    ghost invariant = { λ t. AllByRecursion IsExchangeString t.tape.strings };
 }
 
 impl Trace {
@@ -106,14 +105,13 @@ impl<'a> Model for Exchanges<'a> {
     ghost use Rattle.std.specs.Prelude.{List, map};
     ghost use Rattle.std.specs.List.{AllByRecursion};
     ghost use Rattle.xcp_slave.specs.declared.Exchange.{Exchange};
-    ghost use Rattle.xcp_trace.specs.ExchangeSpelling.{exchange_in};
-    ghost use Rattle.xcp_trace.specs.private.ExchangeSpelling.{IsSpelling};
+    ghost use Rattle.xcp_trace.specs.ExchangeSpelling.{IsExchangeString, exchange_in};
 
     ghost Value = { List Exchange };
 
     ghost view = { λ e. map exchange_in e.strings };
 
-    ghost invariant = { λ e. AllByRecursion IsSpelling e.strings };
+    ghost invariant = { λ e. AllByRecursion IsExchangeString e.strings };
 }
 
 impl<'a> Exchanges<'a> {

@@ -1,4 +1,4 @@
-use Rattle.std.proofs.Common.{◌≡◌, ◌<◌, ◌+◌, List, rules, refl, arith, length}
+use Rattle.std.proofs.Common.{◌≡◌, ◌<◌, ◌+◌, ◌∙◌, List, rules, refl, sym, arith, length}
 use Rattle.xcp_trace.specs.declared.Entry.{Entry}
 use Rattle.xcp_record.proofs.TapeLemmas.{nothing}
 use Rattle.xcp_record.proofs.CallLemmas.{walks_more, walks_none, walks_on}
@@ -19,20 +19,22 @@ returns-clause-told g c =
 
 pub returns-then-not-answers-clause-err : goal.returns-then-not-answers-clause-err
 returns-then-not-answers-clause-err g c = λ strings spells.
-    let was = c.loop-left.invariant in (
+    let was = c.loop-left.invariant in
+    let next = c.in-Some.ensures.some in (
       was.0,
       was.3,
-      differs_here c.args.slave.now c.loop-left.slave c.args.bytes.now c.loop-left.left.now c.in-Some.more.now c.in-Some.string.now was.0 c.read_call-call.result was.1 was.2 c.in-Some.ensures.some.0
-          c.read_call-call.ensures (c.answers.ensures.no c.if-not-answers.true) strings spells,
+      differs_here c.args.slave.now c.loop-left.slave c.args.bytes.now c.loop-left.left.now c.in-Some.more.now next.string was.0 c.owned-call.result was.1 was.2 next.joined
+          (c.owned-call.ensures ∙ sym next.spells) (c.answers.ensures.no c.if-not-answers.true) strings spells,
     )
 
 pub returns-then-not-answers-clause-told_some : goal.returns-then-not-answers-clause-told_some
 returns-then-not-answers-clause-told_some g c = λ strings spells.
     let was = c.loop-left.invariant in
+    let next = c.in-Some.ensures.some in
     let Heard : List Entry → Type 0 = λ calls. g.T.Witness.hears c.args.witness.now calls c.told.new.self in (
       was.0,
       was.3,
-      heard_here Heard c.args.bytes.now c.loop-left.left.now c.in-Some.more.now c.in-Some.string.now was.0 c.read_call-call.result was.1 c.in-Some.ensures.some.0 c.read_call-call.ensures strings spells
+      heard_here Heard c.args.bytes.now c.loop-left.left.now c.in-Some.more.now next.string was.0 c.owned-call.result was.1 next.joined (c.owned-call.ensures ∙ sym next.spells) strings spells
           (g.met.T.Witness.hears_more _ _ _ _ _ was.4 c.told.ensures),
     )
 
@@ -54,10 +56,11 @@ overflow_add-place g c =
 pub loop-left-preserved : goal.loop-left-preserved
 loop-left-preserved g c =
     let was = c.loop-left.invariant in
-    let some = c.in-Some.ensures.some in (
+    let next = c.in-Some.ensures.some in
+    let is = c.owned-call.ensures ∙ sym next.spells in (
       was.0 + 1,
-      walks_more c.args.bytes.now c.loop-left.left.now c.in-Some.more.now c.in-Some.string.now was.0 was.1 some.0 some.1,
-      run_more c.args.slave.now c.loop-left.slave c.answers.new.slave was.1.done c.in-Some.string.now c.read_call-call.result c.read_call-call.ensures was.2 (c.answers.ensures.yes c.if-not-answers.false),
+      walks_more c.args.bytes.now c.loop-left.left.now c.in-Some.more.now was.0 _ was.1 next,
+      run_more c.args.slave.now c.loop-left.slave c.answers.new.slave was.1.done next.string c.owned-call.result is was.2 (c.answers.ensures.yes c.if-not-answers.false),
       (let place = was.3 in omega (arith, place)),
-      heard_more (λ calls. g.T.Witness.hears c.args.witness.now calls c.told.new.self) was.1.done c.in-Some.string.now c.read_call-call.result c.read_call-call.ensures (g.met.T.Witness.hears_more _ _ _ _ _ was.4 c.told.ensures),
+      heard_more (λ calls. g.T.Witness.hears c.args.witness.now calls c.told.new.self) was.1.done next.string c.owned-call.result is (g.met.T.Witness.hears_more _ _ _ _ _ was.4 c.told.ensures),
     )

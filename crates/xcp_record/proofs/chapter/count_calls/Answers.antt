@@ -13,4 +13,4 @@ overflow_add-count c =
     search (rules, arith, short)
 
 pub loop-left-preserved : goal.loop-left-preserved
-loop-left-preserved c = walks_more c.args.bytes.now c.loop-left.left.now c.in-Some.more.now _ c.loop-left.count c.loop-left.invariant (c.in-Some.ensures.some).0 (c.in-Some.ensures.some).1
+loop-left-preserved c = walks_more c.args.bytes.now c.loop-left.left.now c.in-Some.more.now c.loop-left.count _ c.loop-left.invariant c.in-Some.ensures.some

@@ -1,6 +1,5 @@
-use Rattle.std.proofs.Common.{◌≡◌, ◌≤◌, ◌∙◌, ap, subst, sym, length, List, ℕ}
-use Rattle.xcp_trace.specs.ExchangeSpelling.{exchange_in, request_bytes, request_tag}
-use Rattle.xcp_trace.specs.private.ExchangeSpelling.{IsSpelling}
+use Rattle.std.proofs.Common.{◌≡◌, ◌≤◌, ◌∙◌, ap, subst, sym, length}
+use Rattle.xcp_trace.specs.ExchangeSpelling.{IsExchangeString, exchange_in, request_bytes, request_tag}
 use Rattle.xcp_trace.proofs.SpellingLaws.{exchange_again, fits, string_is}
 use Rattle.xcp_trace.proofs.spelling.spell_parts.Goals as goal
 
@@ -14,4 +13,4 @@ returns-clause-fits c =
     let s = string_is c.args.request.now _ _ c.args.kind c.args.count _ _ c.args.told.now c.request_parts-tag.ensures.tag c.request_parts-tag.ensures.channel c.request_parts-tag.ensures.bytes c.request_parts-tag.ensures.word c.to_le_bytes-channel.ensures in
     let asked : length (request_bytes c.args.request.now) ≤ 255 = rw c.request_parts-tag.ensures.bytes at c.request_parts-tag.ensures.short in
     let signals : request_tag c.args.request.now ≡ 1 → length (request_bytes c.args.request.now) ≤ 64 = rw (c.request_parts-tag.ensures.bytes, c.request_parts-tag.ensures.tag) at c.request_parts-tag.ensures.signals in
-    subst IsSpelling (sym s) (fits c.args.request.now c.args.kind c.args.count c.args.told.now asked signals c.requires.short c.requires.width)
+    subst IsExchangeString (sym s) (fits c.args.request.now c.args.kind c.args.count c.args.told.now asked signals c.requires.short c.requires.width)

@@ -2,15 +2,14 @@ use Rattle.std.proofs.Common.{ap, arith, ◌∙◌, ◌++◌, ◌∷◌, []}
 use Rattle.xcp_slave.specs.declared.Exchange.{Exchange}
 use Rattle.xcp_slave.specs.AnswerInBytes.{answer_in}
 use Rattle.xcp_trace.specs.declared.journal.Entry.{Entry}
-use Rattle.xcp_trace.specs.EntrySpelling.{JournalValue}
-use Rattle.xcp_trace.specs.private.EntrySpelling.{IsEntry}
+use Rattle.xcp_trace.specs.EntrySpelling.{IsEntryString, JournalValue}
 use Rattle.xcp_trace.proofs.SpellingLaws.{all_more, entry_pushed}
 use Rattle.xcp_trace.proofs.journal.Journal.push_told.Goals as goal
 
 pub invariant_of-self : goal.invariant_of-self
 invariant_of-self c =
     rw (c.push.ensures)
-    (all_more IsEntry _ _ c.self.invariant (record { caller = omega arith; exchange = c.spell_told-parts.ensures.fits }))
+    (all_more IsEntryString _ _ c.self.invariant (record { caller = omega arith; exchange = c.spell_told-parts.ensures.fits }))
 
 pub returns : goal.returns
 returns c =

@@ -1,12 +1,11 @@
 use Rattle.std.proofs.Common.{ap, ◌∙◌, ◌++◌, ◌∷◌, []}
 use Rattle.xcp_slave.specs.declared.Exchange.{Exchange}
-use Rattle.xcp_trace.specs.ExchangeSpelling.{TraceValue}
-use Rattle.xcp_trace.specs.private.ExchangeSpelling.{IsSpelling}
+use Rattle.xcp_trace.specs.ExchangeSpelling.{IsExchangeString, TraceValue}
 use Rattle.xcp_trace.proofs.SpellingLaws.{all_more, exchange_pushed}
 use Rattle.xcp_trace.proofs.trace.Trace.push.Goals as goal
 
 pub invariant_of-self : goal.invariant_of-self
-invariant_of-self c = rw (c.push.ensures) (all_more IsSpelling _ _ c.self.invariant c.spell-spelled.ensures.fits)
+invariant_of-self c = rw (c.push.ensures) (all_more IsExchangeString _ _ c.self.invariant c.spell-spelled.ensures.fits)
 
 pub returns : goal.returns
 returns c =

@@ -1,3 +1,0 @@
--- Words that contracts of private functions and invariants cite. No contract of a public function needs them.
-pub mod EntrySpelling
-pub mod ExchangeSpelling
