@@ -5,8 +5,7 @@ use crate::fakes::desk;
 use crate::shelf::Shelf;
 use std::alloc::Global;
 use std::io::{Read, Write};
-use xcp_framing::{Desk, ServeError, Served, Station, Watched, serve, serve_by};
-use xcp_packet::Packet;
+use xcp_framing::{Batch, Desk, ServeError, Served, Station, Watched, serve, serve_by};
 use xcp_script::{ReplayError, replay_on};
 
 /// A stream whose answers are written.
@@ -32,7 +31,7 @@ pub fn served<S: Station + Drop, R: Read + Drop, W: Write + Drop>(
     (result, reader.into_inner(), writer.into_inner())
 }
 
-/// A stream whose answers are put at an end that takes so many packets and hands the next one back: those that
+/// A stream whose answers are put at an end that takes so many batches and hands the next one back: those that
 /// were put.
 pub fn put<S: Station + Drop, R: Read + Drop>(
     alloc: Global,
@@ -41,15 +40,15 @@ pub fn put<S: Station + Drop, R: Read + Drop>(
     good: u32,
     max_cto: u8,
     turns: u32,
-) -> (Result<Served, ServeError>, R, Vec<Packet>) {
+) -> (Result<Served, ServeError>, R, Vec<Batch>) {
     let mut station = station;
     let mut reader = Watched::new(reader);
     let mut shelf = Shelf {
-        packets: Vec::new(alloc),
+        batches: Vec::new(alloc),
         good,
     };
     let result = serve_by(alloc, &mut reader, &mut shelf, &mut station, max_cto, turns);
-    (result, reader.into_inner(), shelf.packets)
+    (result, reader.into_inner(), shelf.batches)
 }
 
 /// A script that runs through a new desk; also how many exchanges there were. None where there is no desk.

@@ -1,7 +1,7 @@
 //! What waits in a station, pumped to an end.
 use crate::fakes::desk;
 use crate::holding::hold;
-use crate::shelf::{Shelf, are};
+use crate::shelf::{Shelf, are, count};
 use crate::stations::{Pending, Refusing};
 use arrayvec::ArrayVec;
 use std::alloc::Global;
@@ -26,7 +26,7 @@ const ACQUISITION: &[u8] = &[
 
 fn shelf(alloc: Global, good: u32) -> Shelf {
     Shelf {
-        packets: Vec::new(alloc),
+        batches: Vec::new(alloc),
         good,
     }
 }
@@ -53,7 +53,7 @@ fn puts_both(alloc: Global, desk: &mut Desk) -> bool {
     let before = desk.pending();
     let result = pump(desk, &mut data, &stop, 10);
     let good = before == 2 && result == Ok(2) && desk.pending() == 0;
-    good && are(&data.packets, &[&[0, 7], &[0, 9]])
+    good && are(&data.batches, &[&[0, 7], &[0, 9]])
 }
 
 fn are_put(alloc: Global) -> bool {
@@ -71,7 +71,8 @@ fn events_are_put_in_order(rt: HostRuntime) {
 /// How a pump ended, how many packets were put, how many Drains there were, and how often it waited.
 type Came = (Result<u64, ServeError>, usize, usize, u32);
 
-/// Ten turns over a station that answers so many Drains with packets, and an end that hands one back.
+/// Ten turns over a station that answers so many Drains with packets, and an end that takes so many batches and hands
+/// the next one back.
 fn pumped(alloc: Global, packets: u32, blocks: bool, good: u32, stopped: bool) -> Came {
     let mut station = Pending {
         exchanges: Vec::new(alloc),
@@ -84,7 +85,7 @@ fn pumped(alloc: Global, packets: u32, blocks: bool, good: u32, stopped: bool) -
     let result = pump(&mut station, &mut data, &stop, 10);
     (
         result,
-        data.packets.len(),
+        count(&data.batches),
         station.exchanges.len(),
         station.waits,
     )
@@ -95,11 +96,11 @@ static TURNS: [(u32, bool, u32, bool, Came); 9] = [
     (3, false, 1000, false, (Ok(3), 3, 3, 7)),
     (12, false, 1000, false, (Ok(10), 10, 10, 0)),
     (3, false, 1000, true, (Ok(0), 0, 0, 0)),
-    (3, false, 2, false, (Err(ServeError::Write), 2, 3, 0)),
+    (3, false, 0, false, (Err(ServeError::Write), 0, 3, 0)),
+    (12, false, 0, false, (Err(ServeError::Write), 0, 10, 0)),
     (3, true, 1000, false, (Ok(9), 9, 3, 7)),
-    (3, true, 3, false, (Err(ServeError::Write), 3, 2, 0)),
-    (3, true, 4, false, (Err(ServeError::Write), 4, 2, 0)),
-    (3, true, 5, false, (Err(ServeError::Write), 5, 2, 0)),
+    (3, true, 1, false, (Ok(9), 9, 3, 7)),
+    (3, true, 0, false, (Err(ServeError::Write), 0, 3, 0)),
 ];
 
 fn first_wrong_turns(alloc: Global) -> Option<usize> {
@@ -111,8 +112,8 @@ fn first_wrong_turns(alloc: Global) -> Option<usize> {
     None
 }
 
-/// Where nothing waits nothing is drained, and the pump waits; what waits is put as far as the turns go, and a packet
-/// that is handed back ends the call, also in the middle of a block.
+/// Where nothing waits nothing is drained, and the pump waits; what waits is put together as far as the turns go, and
+/// a batch that is handed back ends the call.
 #[test]
 fn turns(rt: HostRuntime) {
     hold(&rt, first_wrong_turns(rt.alloc()));

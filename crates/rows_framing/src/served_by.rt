@@ -1,13 +1,13 @@
 //! Streams whose answers are put at an end.
-use crate::fakes::{desk, desk_of};
+use crate::fakes::{Pieces, desk, desk_of};
 use crate::holding::hold;
 use crate::over::put;
 use crate::serve_rows::CONNECT;
-use crate::shelf::{Shelf, are};
+use crate::shelf::{Shelf, are, count as packets_in};
 use crate::stations::{Pending, Refusing};
 use std::alloc::Global;
-use xcp_framing::{ServeError, Served, StationError, Watched, serve_by};
-use xcp_packet::Packet;
+use std::io::Read;
+use xcp_framing::{Batch, ServeError, Served, StationError, Watched, serve_by};
 
 /// CONNECT, a command that is unknown, SYNCH, a second CONNECT, SET_MTA, an UPLOAD of 16 bytes, and SYNCH.
 const COMMANDS: &[u8] = &[
@@ -28,53 +28,99 @@ static ANSWERS: [&[u8]; 9] = [
     &[0xFE, 0],
 ];
 
-/// What is served of a stream where an end takes so many packets and hands the next one back, and
-/// what was put; none where there is no desk.
-fn served(
-    alloc: Global,
-    stream: &[u8],
-    good: u32,
-    turns: u32,
-) -> Option<(Result<Served, ServeError>, Vec<Packet>)> {
+/// So many batches that an end takes of a command each, and how many packets these are.
+static FRONTS: [(u32, usize); 7] = [(0, 0), (1, 1), (2, 2), (3, 3), (4, 4), (5, 5), (6, 8)];
+
+/// How a call ended, and the batches that were put.
+type Came = (Result<Served, ServeError>, Vec<Batch>);
+
+/// What is served of a stream where an end takes so many batches and hands the next one back; none
+/// where there is no desk.
+fn served<R: Read + Drop>(alloc: Global, stream: R, good: u32, turns: u32) -> Option<Came> {
     let desk = desk_of(alloc, 8)?;
-    let (result, _, packets) = put(alloc, desk, stream, good, 8, turns);
-    Some((result, packets))
+    let (result, _, batches) = put(alloc, desk, stream, good, 8, turns);
+    Some((result, batches))
 }
 
 /// Whether a call ends so, and these packets were put.
-fn is_served(
-    came: &Option<(Result<Served, ServeError>, Vec<Packet>)>,
-    end: Result<Served, ServeError>,
-    wanted: &[&[u8]],
-) -> bool {
+fn is_served(came: &Option<Came>, end: Result<Served, ServeError>, wanted: &[&[u8]]) -> bool {
     match came {
-        Some((result, packets)) => *result == end && are(packets, wanted),
+        Some((result, batches)) => *result == end && are(batches, wanted),
         None => false,
     }
 }
 
-#[test]
-fn answers_are_put_in_order(rt: HostRuntime) {
-    let came = served(rt.alloc(), COMMANDS, 1000, 1000);
-    assert!(rt; is_served(&came, Ok(Served { frames: 7, sent: 9 }), &ANSWERS));
+/// How many batches were put.
+fn batches_of(came: &Option<Came>) -> usize {
+    match came {
+        Some((_, batches)) => batches.len(),
+        None => 0,
+    }
 }
 
-/// The number of packets that were put, at which the next one that is handed back doesn't end the call, or others
-/// were put.
+/// The commands a byte a read.
+fn by_bytes() -> Pieces<'static> {
+    Pieces {
+        text: COMMANDS,
+        most: 1,
+        good_reads: 1000,
+    }
+}
+
+/// The answers of one read are one batch; those of a command each where no read brings two.
+#[test]
+fn answers_are_put_in_order(rt: HostRuntime) {
+    let at_once = served(rt.alloc(), COMMANDS, 1000, 1000);
+    assert!(rt; is_served(&at_once, Ok(Served { frames: 7, sent: 9 }), &ANSWERS));
+    assert!(rt; batches_of(&at_once) == 1);
+    let each = served(rt.alloc(), by_bytes(), 1000, 1000);
+    assert!(rt; is_served(&each, Ok(Served { frames: 7, sent: 9 }), &ANSWERS));
+    assert!(rt; batches_of(&each) == 7);
+}
+
+/// The number of packets that were put, at which a batch that is handed back doesn't end the call, or others were
+/// put.
 fn first_not_ended(alloc: Global) -> Option<usize> {
-    for good in 0..9u8 {
-        let came = served(alloc, COMMANDS, u32::from(good), 1000);
-        let good = usize::from(good);
-        if !is_served(&came, Err(ServeError::Write), &ANSWERS[..good]) {
-            return Some(good);
+    for (good, packets) in &FRONTS {
+        let came = served(alloc, by_bytes(), *good, 1000);
+        if !is_served(&came, Err(ServeError::Write), &ANSWERS[..(*packets).min(9)]) {
+            return Some(*packets);
         }
     }
     None
 }
 
 #[test]
-fn a_packet_that_is_handed_back_is_a_failed_write(rt: HostRuntime) {
+fn a_batch_that_is_handed_back_is_a_failed_write(rt: HostRuntime) {
     hold(&rt, first_not_ended(rt.alloc()));
+    let none = served(rt.alloc(), COMMANDS, 0, 1000);
+    assert!(rt; is_served(&none, Err(ServeError::Write), &[]));
+}
+
+/// So many CONNECTs, one behind another.
+fn connects(alloc: Global, count: u8) -> Option<Vec<u8>> {
+    let mut stream = Vec::new(alloc);
+    for _ in 0..count {
+        stream.extend_from_slice(&[2, 0, 0, 0, 0xFF, 0]).ok()?;
+    }
+    Some(stream)
+}
+
+/// Whether a call over so many CONNECTs ended with `Ok`, how many batches were put by an end that takes so many, and
+/// how many packets.
+fn connected(alloc: Global, count: u8, good: u32) -> Option<(bool, usize, usize)> {
+    let stream = connects(alloc, count)?;
+    let (result, batches) = served(alloc, stream.as_slice(), good, 1000)?;
+    Some((result.is_ok(), batches.len(), packets_in(&batches)))
+}
+
+/// The answers of one read are two batches where they are more than one has room for: 64 packets of 8 bytes. What an
+/// end takes of them stays put, though it hands back the next.
+#[test]
+fn a_full_batch_is_put_before_the_next_command(rt: HostRuntime) {
+    assert!(rt; connected(rt.alloc(), 64, 1000) == Some((true, 1, 64)));
+    assert!(rt; connected(rt.alloc(), 85, 1000) == Some((true, 2, 85)));
+    assert!(rt; connected(rt.alloc(), 85, 1) == Some((false, 1, 64)));
 }
 
 /// A stream, the turns, how it ends, and the packets that are put.
@@ -93,7 +139,7 @@ static ENDS: [End; 3] = [
 
 fn first_other_end(alloc: Global) -> Option<usize> {
     for (number, (stream, turns, end, packets)) in ENDS.iter().enumerate() {
-        let came = served(alloc, stream, 1000, *turns);
+        let came = served(alloc, *stream, 1000, *turns);
         if !is_served(&came, Err(*end), packets) {
             return Some(number);
         }
@@ -143,7 +189,7 @@ fn undrained(alloc: Global) -> (Result<Served, ServeError>, usize, u32) {
     };
     let mut reader = Watched::new(CONNECT);
     let mut shelf = Shelf {
-        packets: Vec::new(alloc),
+        batches: Vec::new(alloc),
         good: 1000,
     };
     let result = serve_by(alloc, &mut reader, &mut shelf, &mut station, 32, 1000);

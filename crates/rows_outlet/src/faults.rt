@@ -1,10 +1,10 @@
 // Writers that fail, end marks that are missing, packets that come back.
-use crate::packets::{DATA, REPLY, numbered};
+use crate::packets::{DATA, REPLY, batch, is_batch};
 use std::alloc::{AllocError, Global};
 use std::io::{self, Write};
 use std::sync::Wait;
 use std::thread::{Threads, join};
-use xcp_framing::Watched;
+use xcp_framing::{Batch, Watched};
 use xcp_outlet::{DataEnd, ReplyEnd, SendEnd, SendError, outlet};
 use xcp_packet::Packet;
 
@@ -34,9 +34,9 @@ impl Write for Failing {
 // A sender of three short packets, of which the data end's is in the middle, and of both end marks.
 fn short_sender<R: Wait>(rt: &R, alloc: Global) -> Result<SendEnd, AllocError> {
     let (mut replies, mut data, sender) = outlet(alloc)?;
-    let _ = replies.put_reply(rt, numbered(REPLY, 0));
-    let _ = data.put_data(rt, numbered(DATA, 0));
-    let _ = replies.put_reply(rt, numbered(REPLY, 1));
+    let _ = replies.put_replies(rt, batch(alloc, REPLY, &[0]));
+    let _ = data.put_data(rt, batch(alloc, DATA, &[0]));
+    let _ = replies.put_replies(rt, batch(alloc, REPLY, &[1]));
     let _ = replies.finish(rt);
     let _ = data.finish(rt);
     Ok(sender)
@@ -50,7 +50,9 @@ fn long_sender<R: Wait>(rt: &R, alloc: Global) -> Result<SendEnd, AllocError> {
         for _ in 0..255 {
             let _ = packet.try_push(number);
         }
-        let _ = replies.put_reply(rt, packet);
+        let mut batch = Batch::new(alloc);
+        let _ = batch.push(&packet);
+        let _ = replies.put_replies(rt, batch);
     }
     let _ = replies.finish(rt);
     let _ = data.finish(rt);
@@ -148,11 +150,14 @@ fn packets_before_a_failed_write_are_counted(rt: HostRuntime) {
 }
 
 // Puts more packets than the channel has room for, and both marks: whether none came back.
-fn put_many<R: Wait>(rt: &R, replies: ReplyEnd, data: DataEnd) -> bool {
+fn put_many<R: Wait>(rt: &R, alloc: Global, replies: ReplyEnd, data: DataEnd) -> bool {
     let mut replies = replies;
     let mut put = true;
     for number in 0..200 {
-        put = put && replies.put_reply(rt, numbered(REPLY, number)).is_ok();
+        put = put
+            && replies
+                .put_replies(rt, batch(alloc, REPLY, &[number]))
+                .is_ok();
     }
     let _ = replies.finish(rt);
     let _ = data.finish(rt);
@@ -169,7 +174,7 @@ fn take_behind<R: Threads + Wait + Sync>(
 ) -> bool {
     let (put, told) = join(
         rt,
-        move || -> bool { put_many(rt, replies, data) },
+        move || -> bool { put_many(rt, alloc, replies, data) },
         move || -> bool { tells(rt, alloc, sender, 3, Err(SendError::Write(0)), 3) },
     );
     put && told
@@ -187,8 +192,8 @@ fn packets_are_taken_behind_a_failed_write(rt: HostRuntime) {
 // A sender of a packet of each end, and of the data end's mark.
 fn unmarked_sender<R: Wait>(rt: &R, alloc: Global) -> Result<SendEnd, AllocError> {
     let (mut replies, mut data, sender) = outlet(alloc)?;
-    let _ = replies.put_reply(rt, numbered(REPLY, 0));
-    let _ = data.put_data(rt, numbered(DATA, 0));
+    let _ = replies.put_replies(rt, batch(alloc, REPLY, &[0]));
+    let _ = data.put_data(rt, batch(alloc, DATA, &[0]));
     let _ = data.finish(rt);
     Ok(sender)
 }
@@ -205,7 +210,7 @@ fn an_end_without_its_mark_is_a_cut(rt: HostRuntime) {
 // A sender of a packet without any mark.
 fn dropped_sender<R: Wait>(rt: &R, alloc: Global) -> Result<SendEnd, AllocError> {
     let (mut replies, _data, sender) = outlet(alloc)?;
-    let _ = replies.put_reply(rt, numbered(REPLY, 0));
+    let _ = replies.put_replies(rt, batch(alloc, REPLY, &[0]));
     Ok(sender)
 }
 
@@ -219,10 +224,15 @@ fn a_failed_write_is_told_before_a_cut(rt: HostRuntime) {
 }
 
 // Whether both ends have their packets back.
-fn come_back<R: Wait>(rt: &R, replies: &mut ReplyEnd, data: &mut DataEnd) -> bool {
-    let reply = replies.put_reply(rt, numbered(REPLY, 7));
-    let sample = data.put_data(rt, numbered(DATA, 8));
-    reply == Err(numbered(REPLY, 7)) && sample == Err(numbered(DATA, 8))
+fn come_back<R: Wait>(rt: &R, alloc: Global, replies: &mut ReplyEnd, data: &mut DataEnd) -> bool {
+    let reply = replies.put_replies(rt, batch(alloc, REPLY, &[7, 9]));
+    let sample = data.put_data(rt, batch(alloc, DATA, &[8]));
+    match (reply, sample) {
+        (Err(reply), Err(sample)) => {
+            is_batch(&reply, REPLY, &[7, 9]) && is_batch(&sample, DATA, &[8])
+        }
+        _ => false,
+    }
 }
 
 // The ends of an outlet without a sender.
@@ -232,9 +242,9 @@ fn unsent(alloc: Global) -> Result<(ReplyEnd, DataEnd), AllocError> {
 }
 
 #[test]
-fn packets_come_back_where_nothing_takes_them(rt: HostRuntime) {
+fn batches_come_back_where_nothing_takes_them(rt: HostRuntime) {
     let came = match unsent(rt.alloc()) {
-        Ok((mut replies, mut data)) => come_back(&rt, &mut replies, &mut data),
+        Ok((mut replies, mut data)) => come_back(&rt, rt.alloc(), &mut replies, &mut data),
         Err(_) => false,
     };
     assert!(&rt; came);

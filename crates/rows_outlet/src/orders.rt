@@ -1,7 +1,7 @@
 // Each end in a thread of its own.
 ghost use Rattle.std.specs.Prelude.{◌≡◌};
 
-use crate::packets::{DATA, REPLY, Seen, numbered, seen_in};
+use crate::packets::{DATA, REPLY, Seen, batch, seen_in};
 use std::alloc::{AllocError, Global};
 use std::sync::Wait;
 use std::thread::{Threads, join};
@@ -11,24 +11,27 @@ use xcp_outlet::{DataEnd, Put, ReplyEnd, SendEnd, Sent, outlet};
 // How many packets each end puts.
 const PACKETS: u16 = 1000;
 
-fn put_replies<R: Wait>(rt: &R, end: ReplyEnd) -> Put
+// The replies come one by one, the data packets by fours.
+fn put_replies<R: Wait>(rt: &R, alloc: Global, end: ReplyEnd) -> Put
     ensures { result.outlet ≡ end.outlet }
 {
     let mut end = end;
     for number in 0..PACKETS {
-        if end.put_reply(rt, numbered(REPLY, number)).is_err() {
+        if end.put_replies(rt, batch(alloc, REPLY, &[number])).is_err() {
             break;
         }
     }
     end.finish(rt)
 }
 
-fn put_data<R: Wait>(rt: &R, end: DataEnd) -> Put
+fn put_data<R: Wait>(rt: &R, alloc: Global, end: DataEnd) -> Put
     ensures { result.outlet ≡ end.outlet }
 {
     let mut end = end;
-    for number in 0..PACKETS {
-        if end.put_data(rt, numbered(DATA, number)).is_err() {
+    for four in 0..PACKETS / 4 {
+        let first = four * 4;
+        let numbers = [first, first + 1, first + 2, first + 3];
+        if end.put_data(rt, batch(alloc, DATA, &numbers)).is_err() {
             break;
         }
     }
@@ -55,7 +58,7 @@ fn put_and_send<R: Threads + Wait + Sync>(
         rt,
         move || -> Put
             ensures { result.outlet ≡ samples.outlet }
-        { put_data(rt, samples) },
+        { put_data(rt, alloc, samples) },
         move || -> (Sent, Vec<u8>)
             ensures { result.0.took.outlet ≡ sender.outlet }
         { send_all(rt, alloc, sender) },
@@ -69,7 +72,7 @@ fn run_all<R: Threads + Wait + Sync>(rt: &R, alloc: Global) -> Result<(Sent, Vec
         rt,
         move || -> Put
             ensures { result.outlet ≡ replies.outlet }
-        { put_replies(rt, replies) },
+        { put_replies(rt, alloc, replies) },
         move || -> (Put, (Sent, Vec<u8>))
             ensures { (result.0.outlet ≡ samples.outlet) × (result.1.0.took.outlet ≡ sender.outlet) }
         { put_and_send(rt, alloc, samples, sender) },

@@ -1,4 +1,6 @@
 // Packets that tell which end put them, and as the how many-th.
+use std::alloc::Global;
+use xcp_framing::Batch;
 use xcp_packet::Packet;
 
 /// The first byte of a packet of the reply end, and of the data end.
@@ -13,6 +15,27 @@ pub fn numbered(end: u8, number: u16) -> Packet {
     let _ = packet.try_push((number / 256) as u8);
     let _ = packet.try_push((number % 256) as u8);
     packet
+}
+
+/// A batch of packets with these numbers.
+pub fn batch(alloc: Global, end: u8, numbers: &[u16]) -> Batch {
+    let mut batch = Batch::new(alloc);
+    for number in numbers {
+        let _ = batch.push(&numbered(end, *number));
+    }
+    batch
+}
+
+/// Whether a batch is one of packets with these numbers.
+pub fn is_batch(batch: &Batch, end: u8, numbers: &[u16]) -> bool {
+    let mut packets = batch.packets();
+    let mut packet = Packet::new();
+    for number in numbers {
+        if !packets.next_into(&mut packet) || packet != numbered(end, *number) {
+            return false;
+        }
+    }
+    !packets.next_into(&mut packet)
 }
 
 /// How many frames were seen, and how many packets of each end.

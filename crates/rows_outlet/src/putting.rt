@@ -1,21 +1,24 @@
 // Ends that are lent to a loop which knows no runtime, and ends of threads that never began.
 ghost use Rattle.std.specs.Prelude.{◌≡◌};
 
-use crate::packets::{DATA, REPLY, numbered};
+use crate::packets::{DATA, REPLY, batch, is_batch};
 use std::alloc::{AllocError, Global};
 use std::sync::Wait;
-use xcp_framing::{End, Watched};
+use xcp_framing::{Batch, End, Watched};
 use xcp_outlet::{DataEnd, PutData, PutReplies, ReplyEnd, SendEnd, SendError, outlet};
-use xcp_packet::Packet;
 
-// Puts two packets by the trait alone: whether neither came back.
-fn put_two<E: End>(end: &mut E, kind: u8) -> bool {
-    end.put(numbered(kind, 0)).is_ok() && end.put(numbered(kind, 1)).is_ok()
+// Puts two packets by the trait alone, together or one by one: whether none came back.
+fn put_two<E: End>(end: &mut E, kind: u8, together: bool) -> bool {
+    let alloc = end.alloc();
+    if together {
+        return end.put(batch(alloc, kind, &[0, 1])).is_ok();
+    }
+    end.put(batch(alloc, kind, &[0])).is_ok() && end.put(batch(alloc, kind, &[1])).is_ok()
 }
 
-// What comes back of a packet that is put by the trait alone.
-fn back_of<E: End>(end: &mut E, packet: Packet) -> Option<Packet> {
-    end.put(packet).err()
+// What comes back of a batch that is put by the trait alone.
+fn back_of<E: End>(end: &mut E, batch: Batch) -> Option<Batch> {
+    end.put(batch).err()
 }
 
 // What a sender tells, and what it wrote.
@@ -34,7 +37,7 @@ const TWO_OF_EACH: &[u8] = &[
 fn put_all<R: Wait>(rt: &R, replies: ReplyEnd, data: DataEnd) -> bool {
     let mut replies = PutReplies::new(rt, replies);
     let mut data = PutData::new(rt, data);
-    let put = put_two(&mut replies, REPLY) && put_two(&mut data, DATA);
+    let put = put_two(&mut replies, REPLY, true) && put_two(&mut data, DATA, false);
     let _ = replies.into_end().finish(rt);
     let _ = data.into_end().finish(rt);
     put
@@ -63,20 +66,26 @@ fn lent_ends_put_as_their_own(rt: HostRuntime) {
     assert!(&rt; good);
 }
 
-// Whether both ends hand their packets back, by the trait alone.
-fn hand_back<R: Wait>(rt: &R, replies: ReplyEnd, data: DataEnd) -> bool {
+// Whether both ends hand their batches back, by the trait alone.
+fn hand_back<R: Wait>(rt: &R, alloc: Global, replies: ReplyEnd, data: DataEnd) -> bool {
     let mut replies = PutReplies::new(rt, replies);
     let mut data = PutData::new(rt, data);
-    let reply = back_of(&mut replies, numbered(REPLY, 7));
-    let sample = back_of(&mut data, numbered(DATA, 8));
-    reply == Some(numbered(REPLY, 7)) && sample == Some(numbered(DATA, 8))
+    let reply = back_of(&mut replies, batch(alloc, REPLY, &[7]));
+    let sample = back_of(&mut data, batch(alloc, DATA, &[8, 9]));
+    match (reply, sample) {
+        (Some(reply), Some(sample)) => {
+            is_batch(&reply, REPLY, &[7]) && is_batch(&sample, DATA, &[8, 9])
+        }
+        _ => false,
+    }
 }
 
 #[test]
 fn lent_ends_hand_back_where_nothing_takes(rt: HostRuntime) {
     let good = match outlet(rt.alloc()) {
         Ok((replies, data, sender)) => {
-            sender.give_up().count == Err(SendError::Cut(0)) && hand_back(&rt, replies, data)
+            sender.give_up().count == Err(SendError::Cut(0))
+                && hand_back(&rt, rt.alloc(), replies, data)
         }
         Err(_) => false,
     };
@@ -105,8 +114,8 @@ fn ends_that_never_began_meet(rt: HostRuntime) {
 // A sender of a packet of each end, of which one puts its mark, and the other gives up.
 fn half_sender<R: Wait>(rt: &R, alloc: Global) -> Result<SendEnd, AllocError> {
     let (mut replies, mut data, sender) = outlet(alloc)?;
-    let _ = replies.put_reply(rt, numbered(REPLY, 0));
-    let _ = data.put_data(rt, numbered(DATA, 0));
+    let _ = replies.put_replies(rt, batch(alloc, REPLY, &[0]));
+    let _ = data.put_data(rt, batch(alloc, DATA, &[0]));
     drop(replies.finish(rt));
     drop(data.give_up());
     Ok(sender)

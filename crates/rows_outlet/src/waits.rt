@@ -1,5 +1,6 @@
 // A packet that was taken is written before the sender waits for the next.
-use crate::packets::{DATA, REPLY, numbered};
+use crate::packets::{DATA, REPLY, batch};
+use std::alloc::Global;
 use std::io::{self, Write};
 use std::sync::Wait;
 use std::sync::atomic::{AtomicU64, Ordering};
@@ -45,17 +46,18 @@ fn is_written(clock: &impl Clock, written: &AtomicU64, bytes: u64) -> bool {
 // Puts three packets by turns, each one only when the one before is written. Then it puts the marks.
 fn put_by_turns<R: Wait + Clock>(
     rt: &R,
+    alloc: Global,
     replies: ReplyEnd,
     data: DataEnd,
     written: &AtomicU64,
 ) -> bool {
     let mut replies = replies;
     let mut data = data;
-    let _ = replies.put_reply(rt, numbered(REPLY, 0));
+    let _ = replies.put_replies(rt, batch(alloc, REPLY, &[0]));
     let first = is_written(rt, written, 7);
-    let _ = data.put_data(rt, numbered(DATA, 0));
+    let _ = data.put_data(rt, batch(alloc, DATA, &[0]));
     let second = is_written(rt, written, 14);
-    let _ = replies.put_reply(rt, numbered(REPLY, 1));
+    let _ = replies.put_replies(rt, batch(alloc, REPLY, &[1]));
     let third = is_written(rt, written, 21);
     let _ = replies.finish(rt);
     let _ = data.finish(rt);
@@ -70,6 +72,7 @@ fn send_telling<R: Wait>(rt: &R, sender: SendEnd, written: &AtomicU64) -> Result
 // Whether all three came, by a sender in a thread of its own that counts them.
 fn come_by_turns<R: Threads + Wait + Clock + Sync>(
     rt: &R,
+    alloc: Global,
     replies: ReplyEnd,
     data: DataEnd,
     sender: SendEnd,
@@ -78,7 +81,7 @@ fn come_by_turns<R: Threads + Wait + Clock + Sync>(
     let bytes = &written;
     let (came, count) = join(
         rt,
-        move || -> bool { put_by_turns(rt, replies, data, bytes) },
+        move || -> bool { put_by_turns(rt, alloc, replies, data, bytes) },
         move || -> Result<u64, SendError> { send_telling(rt, sender, bytes) },
     );
     came && count == Ok(3)
@@ -87,7 +90,7 @@ fn come_by_turns<R: Threads + Wait + Clock + Sync>(
 #[test]
 fn a_packet_in_hand_is_written_before_the_next_wait(rt: HostRuntime) {
     let came = match outlet(rt.alloc()) {
-        Ok((replies, data, sender)) => come_by_turns(&rt, replies, data, sender),
+        Ok((replies, data, sender)) => come_by_turns(&rt, rt.alloc(), replies, data, sender),
         Err(_) => false,
     };
     assert!(&rt; came);

@@ -1,5 +1,5 @@
 -- Drains, and then more.
-use Rattle.std.proofs.Common.{◌≡◌, ◌+◌, ℕ, List, [], ◌∷◌, ◌++◌, length, Result, Ok, Err, refl, sym, ap, ◌∙◌, subst, arith, append_assoc, length-append}
+use Rattle.std.proofs.Common.{◌≡◌, ◌≢◌, ◌+◌, ℕ, List, [], ◌∷◌, ◌++◌, length, Result, Ok, Err, IfErr, IfOk, OnErr, refl, sym, ap, ◌∙◌, subst, arith, append_assoc, length-append}
 use Rattle.std.proofs.lemmas.List.{append-nil}
 use Rattle.xcp_slave.specs.declared.Exchange.{Exchange}
 use Rattle.xcp_slave.specs.declared.Request.{Request}
@@ -12,7 +12,10 @@ use Rattle.xcp_framing.specs.Serve.{packet_of, packets_of, refused_with}
 use Rattle.xcp_framing.specs.ServeBy.{IsHandedBack}
 use Rattle.xcp_framing.specs.ServeRefusal.{Refused}
 use Rattle.xcp_framing.specs.ServeParts.{IsInterruption}
-use Rattle.xcp_framing.specs.Pump.{AllDrains, PutsDrains, DrainsUpTo, Pumped, Pumps, DrainAgain}
+use Rattle.xcp_framing.specs.Pump.{AllDrains, Pumped, Pumps, DrainAgain}
+use Rattle.xcp_framing.specs.private.PutOutput.{Moves, MovesSoFar}
+use Rattle.xcp_framing.specs.private.Pump.{PumpsHeld}
+use Rattle.xcp_framing.proofs.PutOutputLemmas.{all_put, back_on, both_move, lost_in, moves_back, moves_in, moves_more, moves_none, moves_put, put_on}
 use Rattle.xcp_framing.proofs.ExchangeLemmas.{packets_of-append}
 
 ok_is : {x y : ℕ} → ◌≡◌ {A = Result ℕ ServeError} (Ok x) (Ok y) → x ≡ y
@@ -29,95 +32,125 @@ drains_append : (xs ys : List Exchange) → AllDrains xs → AllDrains ys → Al
 drains_append [] ys h k = k
 drains_append (x ∷ xs) ys h k = (h.0, drains_append xs ys h.1 k)
 
-puts_more : (xs ys : List Exchange) (a b c : List (List ℕ)) → PutsDrains xs a b → PutsDrains ys b c → PutsDrains (xs ++ ys) a c
-puts_more xs ys a b c h k = record {
-  drains = drains_append xs ys h.drains k.drains;
-  put = k.put ∙ (ap (λ (z : List (List ℕ)). z ++ packets_of ys) h.put ∙ (append_assoc a (packets_of xs) (packets_of ys) ∙ ap (λ (z : List (List ℕ)). a ++ z) (sym (packets_of-append xs ys))));
-}
-
-up_to_more : (xs ys : List Exchange) (a b c : List (List ℕ)) → PutsDrains xs a b → DrainsUpTo ys b c → DrainsUpTo (xs ++ ys) a c
-up_to_more xs ys a b c h k = record {
-  full = xs ++ k.full;
-  last = k.last;
-  joined = ap (λ (z : List Exchange). xs ++ z) k.joined ∙ sym (append_assoc xs k.full (k.last ∷ []));
-  mid = k.mid;
-  answered = puts_more xs k.full a b k.mid h k.answered;
-  asked = k.asked;
-  handed = k.handed;
-}
-
 -- nothing yet
-pub pumps_none : (n : ℕ) (old new : List Exchange) (a b : List (List ℕ)) → n ≡ 0 → new ≡ old → b ≡ a → Pumps (Ok n) old new a b
-pumps_none n old new a b z e f = record {
+pub pumps_none : (n : ℕ) (old : List Exchange) (a h : List (List ℕ)) → n ≡ 0 → PumpsHeld (Ok n) old old a h a h
+pumps_none n old a h z = record {
   exchanges = [];
-  grown = e ∙ sym (append-nil old);
-  puts = record { drains = tt; put = f ∙ sym (append-nil a) };
+  grown = sym (append-nil old);
+  drains = tt;
+  moves = moves_none a h;
   counts = λ m is. sym (ok_is is) ∙ z;
 }
 
 -- a look that changed no exchange
-pub pumps_kept : (n : ℕ) (old mid new : List Exchange) (a b : List (List ℕ)) → new ≡ mid → Pumps (Ok n) old mid a b → Pumps (Ok n) old new a b
-pumps_kept n old mid new a b e h = subst (λ (z : List Exchange). Pumps (Ok n) old z a b) (sym e) h
+pub pumps_kept : (n : ℕ) (old mid new : List Exchange) {a h b k : List (List ℕ)} → new ≡ mid → PumpsHeld (Ok n) old mid a h b k → PumpsHeld (Ok n) old new a h b k
+pumps_kept n old mid new {a = a} {h = h} {b = b} {k = k} e x = subst (λ (z : List Exchange). PumpsHeld (Ok n) old z a h b k) (sym e) x
+
+-- the batch was put
+pub pumps_put : (n : ℕ) (old new : List Exchange) {a h b k c l : List (List ℕ)} → c ≡ b ++ k → l ≡ [] → PumpsHeld (Ok n) old new a h b k → PumpsHeld (Ok n) old new a h c l
+pumps_put n old new e f x = record { exchanges = x.exchanges; grown = x.grown; drains = x.drains; moves = put_on (packets_of x.exchanges) x.moves e f; counts = x.counts }
+
+-- the batch was handed back
+pub pumps_back : (n : ℕ) (old new : List Exchange) {a h b k c l : List (List ℕ)} → c ≡ b → k ≢ [] → l ≡ [] → PumpsHeld (Ok n) old new a h b k → PumpsHeld (Err errors.Write) old new a h c l
+pumps_back n old new e some f x = record { exchanges = x.exchanges; grown = x.grown; drains = x.drains; moves = (back_on (packets_of x.exchanges) x.moves e some, f); counts = λ m is. absurd (no_ok is) }
 
 -- Drains behind Drains
-pub pumps_more : (n k : ℕ) {old mid new : List Exchange} {a b c : List (List ℕ)} → Pumps (Ok n) old mid a b → Pumps (Ok k) mid new b c → Pumps (Ok (n + k)) old new a c
-pumps_more n k {old = old} {a = a} {b = b} {c = c} h j = record {
-  exchanges = h.exchanges ++ j.exchanges;
-  grown = j.grown ∙ (ap (λ (z : List Exchange). z ++ j.exchanges) h.grown ∙ append_assoc old h.exchanges j.exchanges);
-  puts = puts_more h.exchanges j.exchanges a b c h.puts j.puts;
-  counts = λ m is. omega (arith, ok_is is, h.counts n refl, j.counts k refl, ap (λ (z : List (List ℕ)). length z) (packets_of-append h.exchanges j.exchanges), length-append (packets_of h.exchanges) (packets_of j.exchanges));
+pub pumps_more : (n j : ℕ) {old mid new : List Exchange} {a h b k c l : List (List ℕ)} → PumpsHeld (Ok n) old mid a h b k → PumpsHeld (Ok j) mid new b k c l → PumpsHeld (Ok (n + j)) old new a h c l
+pumps_more n j {old = old} x y = record {
+  exchanges = x.exchanges ++ y.exchanges;
+  grown = y.grown ∙ (ap (λ (z : List Exchange). z ++ y.exchanges) x.grown ∙ append_assoc old x.exchanges y.exchanges);
+  drains = drains_append x.exchanges y.exchanges x.drains y.drains;
+  moves = rw (packets_of-append x.exchanges y.exchanges) (both_move (packets_of x.exchanges) (packets_of y.exchanges) x.moves y.moves);
+  counts = λ m is. omega (arith, ok_is is, x.counts n refl, y.counts j refl, ap (λ (z : List (List ℕ)). length z) (packets_of-append x.exchanges y.exchanges), length-append (packets_of x.exchanges) (packets_of y.exchanges));
 }
 
-pumped_err : (e : ServeError) (xs ys : List Exchange) (a b c : List (List ℕ)) → IsInterruption e → PutsDrains xs a b → Pumped {R = ℕ} (Err e) ys b c → Pumped {R = ℕ} (Err e) (xs ++ ys) a c
-pumped_err errors.Write xs ys a b c i h k = up_to_more xs ys a b c h k
-pumped_err errors.Memory xs ys a b c i h k = puts_more xs ys a b c h k
-pumped_err errors.JournalFull xs ys a b c i h k = puts_more xs ys a b c h k
-pumped_err errors.Read xs ys a b c i h k = absurd i
-pumped_err (errors.BadLength n) xs ys a b c i h k = absurd i
-pumped_err errors.Truncated xs ys a b c i h k = absurd i
-pumped_err errors.TurnsSpent xs ys a b c i h k = absurd i
-
 -- Drains, and then one that ended the call
-pub pumps_err : (n : ℕ) (e : ServeError) {old mid new : List Exchange} {a b c : List (List ℕ)} → IsInterruption e → Pumps (Ok n) old mid a b → Pumps (Err e) mid new b c → Pumps (Err e) old new a c
-pumps_err n e {old = old} {a = a} {b = b} {c = c} i h j = record {
-  exchanges = h.exchanges ++ j.exchanges;
-  grown = j.grown ∙ (ap (λ (z : List Exchange). z ++ j.exchanges) h.grown ∙ append_assoc old h.exchanges j.exchanges);
-  puts = pumped_err e h.exchanges j.exchanges a b c i h.puts j.puts;
+pub pumps_err : (n : ℕ) (e : ServeError) {old mid new : List Exchange} {a h b k c l : List (List ℕ)} → PumpsHeld (Ok n) old mid a h b k → PumpsHeld (Err e) mid new b k c l → PumpsHeld (Err e) old new a h c l
+pumps_err n e {old = old} {a = a} {h = h} {b = b} {k = k} {c = c} {l = l} x y = record {
+  exchanges = x.exchanges ++ y.exchanges;
+  grown = y.grown ∙ (ap (λ (z : List Exchange). z ++ y.exchanges) x.grown ∙ append_assoc old x.exchanges y.exchanges);
+  drains = drains_append x.exchanges y.exchanges x.drains y.drains;
+  moves = rw (packets_of-append x.exchanges y.exchanges) (moves_more {A = ℕ} (Err e) a b c h k l (packets_of x.exchanges) (packets_of y.exchanges) x.moves y.moves);
   counts = λ m is. absurd (no_ok is);
 }
 
--- one Drain
-pub one_drain : (n : ℕ) (x : Exchange) (old new : List Exchange) (a b : List (List ℕ)) → x.request ≡ requests.Drain → new ≡ old ++ x ∷ [] → b ≡ a ++ packet_of x.answer → n ≡ length (packet_of x.answer) → Pumps (Ok n) old new a b
-one_drain n x old new a b asked grown put count =
+-- there was no room for one more Drain
+pub no_room : {old new : List Exchange} {a h b k : List (List ℕ)} → new ≡ old → MovesSoFar {A = Unit {0}} (Err errors.Write) a h b k [] → PumpsHeld (Err errors.Write) old new a h b k
+no_room {old = old} e x = record {
+  exchanges = [];
+  grown = e ∙ sym (append-nil old);
+  drains = tt;
+  moves = x;
+  counts = λ m is. absurd (no_ok is);
+}
+
+-- one Drain, behind room for its packets
+pub one_drain : (n : ℕ) (x : Exchange) {old new : List Exchange} {a h b k l : List (List ℕ)} → x.request ≡ requests.Drain → new ≡ old ++ x ∷ [] → Moves a h b k [] → l ≡ k ++ packet_of x.answer → n ≡ length (packet_of x.answer) → PumpsHeld (Ok n) old new a h b l
+one_drain n x {b = b} {k = k} asked grown room held count =
     let all : packets_of (x ∷ []) ≡ packet_of x.answer = append-nil (packet_of x.answer) in
     record {
       exchanges = x ∷ [];
       grown = grown;
-      puts = record { drains = (asked, tt); put = put ∙ ap (λ (z : List (List ℕ)). a ++ z) (sym all) };
+      drains = (asked, tt);
+      moves = rw all (both_move [] (packet_of x.answer) room (moves_in (packet_of x.answer) refl held));
       counts = λ m is. sym (ok_is is) ∙ (count ∙ ap (λ (z : List (List ℕ)). length z) (sym all));
     }
 
--- one Drain whose packet was handed back
-pub one_back : (x : Exchange) (old new : List Exchange) (a b : List (List ℕ)) → x.request ≡ requests.Drain → new ≡ old ++ x ∷ [] → IsHandedBack (packet_of x.answer) a b → Pumps (Err errors.Write) old new a b
-one_back x old new a b asked grown handed = record {
-  exchanges = x ∷ [];
-  grown = grown;
-  puts = record { full = []; last = x; joined = refl; mid = a; answered = record { drains = tt; put = sym (append-nil a) }; asked = asked; handed = handed };
-  counts = λ m is. absurd (no_ok is);
-}
+-- one Drain for whose packets there was no memory
+pub one_lost : (x : Exchange) {old new : List Exchange} {a h b k l : List (List ℕ)} → x.request ≡ requests.Drain → new ≡ old ++ x ∷ [] → Moves a h b k [] → l ≡ [] → packet_of x.answer ≢ [] → PumpsHeld (Err errors.Write) old new a h b l
+one_lost x {a = a} {h = h} {b = b} {k = k} {l = l} asked grown room held some =
+    let all : packets_of (x ∷ []) ≡ packet_of x.answer = append-nil (packet_of x.answer) in
+    record {
+      exchanges = x ∷ [];
+      grown = grown;
+      drains = (asked, tt);
+      moves = rw all (moves_more {A = ℕ} (Err errors.Write) a b b h k l [] (packet_of x.answer) room (lost_in k (packet_of x.answer) refl some, held));
+      counts = λ m is. absurd (no_ok is);
+    }
 
-none_err : (e : StationError) (a b : List (List ℕ)) → b ≡ a → Pumped {R = ℕ} (Err (refused_with e)) [] a b
-none_err refusals.Memory a b h = record { drains = tt; put = h ∙ sym (append-nil a) }
-none_err refusals.JournalFull a b h = record { drains = tt; put = h ∙ sym (append-nil a) }
+-- one Drain, whose packets were gathered, or there was no memory for them
+pub drain_gathered : (r : Result ℕ ServeError) (x : Exchange) {old new : List Exchange} {a h b k l : List (List ℕ)} → x.request ≡ requests.Drain → new ≡ old ++ x ∷ [] → Moves a h b k []
+    → IfOk r (λ n. (l ≡ k ++ packet_of x.answer) × (n ≡ length (packet_of x.answer))) → OnErr r ((l ≡ []) × (packet_of x.answer ≢ [])) → IfErr r (λ e. e ≡ errors.Write) → PumpsHeld r old new a h b l
+drain_gathered (Ok n) x asked grown room ok back err = one_drain n x asked grown room ok.0 ok.1
+drain_gathered (Err e) x asked grown room ok back err = rw (err) (one_lost x asked grown room back.0 back.1)
+
+none_err : (e : StationError) {a h b k : List (List ℕ)} → Moves a h b k [] → MovesSoFar {A = ℕ} (Err (refused_with e)) a h b k []
+none_err refusals.Memory x = x
+none_err refusals.JournalFull x = x
 
 -- a Drain that was refused
-pub no_drain : (e : StationError) (old new : List Exchange) (a b : List (List ℕ)) → new ≡ old → b ≡ a → Pumps (Err (refused_with e)) old new a b
-no_drain e old new a b same put = record {
+pub no_drain : (e : StationError) {old new : List Exchange} {a h b k : List (List ℕ)} → new ≡ old → Moves a h b k [] → PumpsHeld (Err (refused_with e)) old new a h b k
+no_drain e {old = old} same room = record {
   exchanges = [];
   grown = same ∙ sym (append-nil old);
-  puts = none_err e a b put;
+  drains = tt;
+  moves = none_err e room;
   counts = λ m is. absurd (no_ok is);
 }
+
+pumped_of : (r : Result ℕ ServeError) (xs : List Exchange) (a b : List (List ℕ)) → IfErr r IsInterruption → AllDrains xs → MovesSoFar r a [] b [] (packets_of xs) → Pumped r xs a b
+pumped_of (Ok n) xs a b i d x = record { drains = d; put = all_put (packets_of xs) x }
+pumped_of (Err errors.Write) xs a b i d x = record { drains = d; handed = x.0 }
+pumped_of (Err errors.Memory) xs a b i d x = record { drains = d; put = all_put (packets_of xs) x }
+pumped_of (Err errors.JournalFull) xs a b i d x = record { drains = d; put = all_put (packets_of xs) x }
+pumped_of (Err errors.Read) xs a b i d x = absurd i
+pumped_of (Err (errors.BadLength n)) xs a b i d x = absurd i
+pumped_of (Err errors.Truncated) xs a b i d x = absurd i
+pumped_of (Err errors.TurnsSpent) xs a b i d x = absurd i
+
+-- all of it, and the batch was put behind it
+pub pumps_of : (r : Result ℕ ServeError) {old new : List Exchange} {a h b k c : List (List ℕ)} → h ≡ [] → IfErr r IsInterruption → c ≡ b ++ k → PumpsHeld r old new a h b k → Pumps r old new a c
+pumps_of r {a = a} {h = h} {b = b} {k = k} {c = c} none i e x =
+    let all : MovesSoFar r a h c [] (packets_of x.exchanges) = moves_put {A = ℕ} r a b c h k [] (packets_of x.exchanges) x.moves e refl in
+    let moves : MovesSoFar r a [] c [] (packets_of x.exchanges) = subst (λ (z : List (List ℕ)). MovesSoFar r a z c [] (packets_of x.exchanges)) none all in
+    record { exchanges = x.exchanges; grown = x.grown; puts = pumped_of r x.exchanges a c i x.drains moves; counts = x.counts }
+
+-- and it was handed back
+pub pumps_lost : (r : Result ℕ ServeError) {old new : List Exchange} {a h b k c : List (List ℕ)} → h ≡ [] → c ≡ b → k ≢ [] → PumpsHeld r old new a h b k → Pumps (Err errors.Write) old new a c
+pumps_lost r {a = a} {h = h} {b = b} {k = k} {c = c} none e some x =
+    let all : IsHandedBack (h ++ packets_of x.exchanges) a c = moves_back {A = ℕ} r a b c h k (packets_of x.exchanges) x.moves e some in
+    let back : IsHandedBack (packets_of x.exchanges) a c = subst (λ (z : List (List ℕ)). IsHandedBack (z ++ packets_of x.exchanges) a c) none all in
+    record { exchanges = x.exchanges; grown = x.grown; puts = record { drains = x.drains; handed = back }; counts = λ m is. absurd (no_ok is) }
 
 -- a station's refusal, as an error of serving, interrupts the call
 pub stops_so : (e : StationError) → IsInterruption (refused_with e)

@@ -13,7 +13,6 @@ use Rattle.std.specs.Io.KnownBytes.{Appends}
 use Rattle.xcp_framing.specs.private.FrameOutput.{Gathers, Output, Sends}
 use Rattle.xcp_framing.specs.Wire.{wire_from, frame_bytes}
 use Rattle.xcp_framing.specs.Serve.{packet_of, packets_of, GavePacket, AnswersAll, AnswersStart, AnswersPart, AnswersSoFar, most_drains, refused_with}
-use Rattle.xcp_framing.specs.ServeBy.{IsHandedBack}
 use Rattle.xcp_framing.specs.ServeParts.{IsInterruption}
 use Rattle.xcp_framing.specs.private.ServeParts.{Grows, DrainsSoFar, EndsPiece, fine}
 use Rattle.xcp_framing.specs.Prefix.{AppendsFront}
@@ -359,10 +358,6 @@ pub put_all : {a b : List (List ℕ)} {n : ℕ} {packets : List (List ℕ)} → 
 put_all {a = a} {packets = packets} k =
     let all : packets ≡ k.done = k.joined ∙ append-nil k.done in
     (k.put ∙ ap (λ (z : List (List ℕ)). a ++ z) (sym all), k.counts ∙ ap (λ (z : List (List ℕ)). length z) (sym all))
-
--- the next one was handed back
-pub put_back : {a b c : List (List ℕ)} {n : ℕ} {packets left : List (List ℕ)} (p : List ℕ) (rest : List (List ℕ)) → PutPart a b n packets left → left ≡ p ∷ rest → c ≡ b → IsHandedBack packets a c
-put_back p rest k e w = record { front = k.done; back = p ∷ rest; joined = k.joined ∙ ap (λ (z : List (List ℕ)). k.done ++ z) e; some = cons≢nil; put = w ∙ k.put }
 
 pub put_room : {a b : List (List ℕ)} {n : ℕ} {packets left : List (List ℕ)} (p : List ℕ) (rest : List (List ℕ)) → PutPart a b n packets left → left ≡ p ∷ rest → n + 1 ≤ length packets
 put_room p rest k e =

@@ -7,6 +7,7 @@ pub mod PieceLemmas
 pub mod FrameCutLaws
 pub mod DrainLemmas
 pub mod PartialFrameLemmas
+pub mod PutOutputLemmas
 pub mod PutPacketLemmas
 pub mod ServeRefusalLemmas
 pub mod FrameOutputLemmas

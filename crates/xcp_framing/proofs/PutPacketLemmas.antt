@@ -1,5 +1,5 @@
 -- What `serve_by` does, from how its packets are answered and put.
-use Rattle.std.proofs.Common.{◌≡◌, ◌+◌, ℕ, List, [], ◌∷◌, ◌++◌, length, OnOk, IfOk, Option, Result, Ok, Err, ◌⊎◌, inr, refl, sym, ap, ◌∙◌, subst, arith, append_assoc, length-append}
+use Rattle.std.proofs.Common.{◌≡◌, ◌≢◌, ◌+◌, ℕ, List, [], ◌∷◌, ◌++◌, length, OnOk, IfOk, Option, Result, Ok, Err, ◌⊎◌, inr, refl, sym, ap, ◌∙◌, subst, arith, append_assoc, length-append}
 use Rattle.std.proofs.lemmas.List.{append-nil, map-append}
 use Rattle.xcp_slave.specs.declared.Exchange.{Exchange}
 use Rattle.xcp_slave.specs.declared.Request.{Request}
@@ -11,11 +11,12 @@ use Rattle.xcp_framing.specs.declared.serving.ServeError.{ServeError}
 use Rattle.xcp_framing.specs.declared.serving.ServeError.TheVariants as errors
 use Rattle.xcp_framing.specs.Serve.{packet_of, packets_of, Counts, refused_with}
 use Rattle.xcp_framing.specs.ServeRefusal.{OnRefusal, Refused}
-use Rattle.xcp_framing.specs.ServeParts.{IsInterruption}
-use Rattle.xcp_framing.specs.ServeBy.{command, commands, IsHandedBack, PutsAll, PutsUpTo, PutsSome, PutsSoFar, ServesBy, CommandNext}
+use Rattle.xcp_framing.specs.ServeBy.{command, commands, PutsSoFar, ServesBy, CommandNext}
 use Rattle.xcp_framing.specs.private.AnsweredStream.{Stand, Streams, outcome}
-use Rattle.xcp_framing.specs.private.ServeBy.{NextCommand, AnswersByPut, HandsNothingOn}
+use Rattle.xcp_framing.specs.private.PutOutput.{Moves, MovesSoFar}
+use Rattle.xcp_framing.specs.private.ServeBy.{NextCommand, AsksFirst, AsksSoFar, AnswersByPut, HandsBatchOn}
 use Rattle.xcp_framing.proofs.ExchangeLemmas.{packets_of-append}
+use Rattle.xcp_framing.proofs.PutOutputLemmas.{all_put, lost_in, moves_back, moves_in, moves_more, moves_none, moves_put}
 use Rattle.xcp_framing.proofs.StreamLemmas.{read_none}
 use Rattle.xcp_framing.proofs.ServeRefusalLemmas.{on_refusal, on_refusal_all, refused_more, read_packets}
 use Rattle.xcp_framing.proofs.ServeAnswerLemmas.{refusal_of, refused_as}
@@ -24,78 +25,28 @@ asked_more : (ps qs : List (List ℕ)) (xs ys : List Exchange) → requests_of x
 asked_more ps qs xs ys h k =
     map-append (λ (x : Exchange). x.request) xs ys ∙ ap (λ (z : List Request). z ++ requests_of ys) h ∙ ap (λ (z : List Request). commands ps ++ z) k ∙ sym (map-append command ps qs)
 
--- packets whose answers were put, and then more
-all_more : (ps qs : List (List ℕ)) (xs ys : List Exchange) (a b c : List (List ℕ)) → PutsAll ps xs a b → PutsAll qs ys b c → PutsAll (ps ++ qs) (xs ++ ys) a c
-all_more ps qs xs ys a b c h k = record {
-  asked = asked_more ps qs xs ys h.asked k.asked;
-  put = k.put ∙ (ap (λ (z : List (List ℕ)). z ++ packets_of ys) h.put ∙ (append_assoc a (packets_of xs) (packets_of ys) ∙ ap (λ (z : List (List ℕ)). a ++ z) (sym (packets_of-append xs ys))));
-}
-
-up_to_more : (ps qs : List (List ℕ)) (xs ys : List Exchange) (a b c : List (List ℕ)) → PutsAll ps xs a b → PutsUpTo qs ys b c → PutsUpTo (ps ++ qs) (xs ++ ys) a c
-up_to_more ps qs xs ys a b c h k = record {
-  done = ps ++ k.done;
-  packet = k.packet;
-  later = k.later;
-  full = xs ++ k.full;
-  last = k.last;
-  packets_are = ap (λ (z : List (List ℕ)). ps ++ z) k.packets_are ∙ sym (append_assoc ps k.done (k.packet ∷ k.later));
-  joined = ap (λ (z : List Exchange). xs ++ z) k.joined ∙ sym (append_assoc xs k.full (k.last ∷ []));
-  mid = k.mid;
-  answered = all_more ps k.done xs k.full a b k.mid h k.answered;
-  asked = k.asked;
-  handed = k.handed;
-}
-
-some_more : (ps qs : List (List ℕ)) (xs ys : List Exchange) (a b c : List (List ℕ)) → PutsAll ps xs a b → PutsSome qs ys b c → PutsSome (ps ++ qs) (xs ++ ys) a c
-some_more ps qs xs ys a b c h k = record {
+asks_more : {A : Type 0} (r : Result A ServeError) (ps qs : List (List ℕ)) (xs ys : List Exchange) → requests_of xs ≡ commands ps → AsksSoFar r qs ys → AsksSoFar r (ps ++ qs) (xs ++ ys)
+asks_more (Ok v) ps qs xs ys h k = asked_more ps qs xs ys h k
+asks_more (Err e) ps qs xs ys h k = record {
   done = ps ++ k.done;
   later = k.later;
   packets_are = ap (λ (z : List (List ℕ)). ps ++ z) k.packets_are ∙ sym (append_assoc ps k.done k.later);
-  answered = all_more ps k.done xs ys a b c h k.answered;
+  asked = asked_more ps k.done xs ys h k.asked;
 }
-
-so_far_more : {A : Type 0} (r : Result A ServeError) (ps qs : List (List ℕ)) (xs ys : List Exchange) (a b c : List (List ℕ)) → PutsAll ps xs a b → PutsSoFar r qs ys b c → PutsSoFar r (ps ++ qs) (xs ++ ys) a c
-so_far_more (Ok v) ps qs xs ys a b c h k = all_more ps qs xs ys a b c h k
-so_far_more (Err errors.Write) ps qs xs ys a b c h k = up_to_more ps qs xs ys a b c h k
-so_far_more (Err errors.Memory) ps qs xs ys a b c h k = some_more ps qs xs ys a b c h k
-so_far_more (Err errors.JournalFull) ps qs xs ys a b c h k = some_more ps qs xs ys a b c h k
-so_far_more (Err errors.Read) ps qs xs ys a b c h k = all_more ps qs xs ys a b c h k
-so_far_more (Err (errors.BadLength n)) ps qs xs ys a b c h k = all_more ps qs xs ys a b c h k
-so_far_more (Err errors.Truncated) ps qs xs ys a b c h k = all_more ps qs xs ys a b c h k
-so_far_more (Err errors.TurnsSpent) ps qs xs ys a b c h k = all_more ps qs xs ys a b c h k
 
 -- packets that come later don't matter to an interruption
-up_to_before : (ps qs : List (List ℕ)) (xs : List Exchange) (a b : List (List ℕ)) → PutsUpTo ps xs a b → PutsUpTo (ps ++ qs) xs a b
-up_to_before ps qs xs a b k = record {
-  done = k.done;
-  packet = k.packet;
-  later = k.later ++ qs;
-  full = k.full;
-  last = k.last;
-  packets_are = ap (λ (z : List (List ℕ)). z ++ qs) k.packets_are ∙ append_assoc k.done (k.packet ∷ k.later) qs;
-  joined = k.joined;
-  mid = k.mid;
-  answered = k.answered;
-  asked = k.asked;
-  handed = k.handed;
-}
-
-some_before : (ps qs : List (List ℕ)) (xs : List Exchange) (a b : List (List ℕ)) → PutsSome ps xs a b → PutsSome (ps ++ qs) xs a b
-some_before ps qs xs a b k = record {
+asks_before : (ps qs : List (List ℕ)) (xs : List Exchange) → AsksFirst ps xs → AsksFirst (ps ++ qs) xs
+asks_before ps qs xs k = record {
   done = k.done;
   later = k.later ++ qs;
   packets_are = ap (λ (z : List (List ℕ)). z ++ qs) k.packets_are ∙ append_assoc k.done k.later qs;
-  answered = k.answered;
+  asked = k.asked;
 }
 
-so_far_before : (e : ServeError) (ps qs : List (List ℕ)) (xs : List Exchange) (a b : List (List ℕ)) → IsInterruption e → PutsSoFar {R = Unit {0}} (Err e) ps xs a b → PutsSoFar {R = Unit {0}} (Err e) (ps ++ qs) xs a b
-so_far_before errors.Write ps qs xs a b i k = up_to_before ps qs xs a b k
-so_far_before errors.Memory ps qs xs a b i k = some_before ps qs xs a b k
-so_far_before errors.JournalFull ps qs xs a b i k = some_before ps qs xs a b k
-so_far_before errors.Read ps qs xs a b i k = absurd i
-so_far_before (errors.BadLength n) ps qs xs a b i k = absurd i
-so_far_before errors.Truncated ps qs xs a b i k = absurd i
-so_far_before errors.TurnsSpent ps qs xs a b i k = absurd i
+-- what was asked is so of a front, whatever the result
+asks_first : {A : Type 0} (r : Result A ServeError) (ps : List (List ℕ)) (xs : List Exchange) → AsksSoFar r ps xs → AsksFirst ps xs
+asks_first (Ok v) ps xs h = record { done = ps; later = []; packets_are = sym (append-nil ps); asked = h }
+asks_first (Err e) ps xs h = h
 
 next_more : (ps qs : List (List ℕ)) (xs ys : List Exchange) (q : Request) → requests_of xs ≡ commands ps → NextCommand qs ys q → NextCommand (ps ++ qs) (xs ++ ys) q
 next_more ps qs xs ys q h k = record {
@@ -121,18 +72,19 @@ counted_more : {A : Type 0} (r : Result A ServeError) (xs ys : List Exchange) (f
 counted_more (Ok v) xs ys from at to h k = omega (arith, h, k, ap (λ (z : List (List ℕ)). length z) (packets_of-append xs ys), length-append (packets_of xs) (packets_of ys))
 counted_more (Err e) xs ys from at to h k = tt
 
--- nothing was put of a packet whose command was refused
-none_put : (e : StationError) (p : List ℕ) (a b : List (List ℕ)) → b ≡ a → PutsSoFar {R = Unit {0}} (Err (refused_with e)) (p ∷ []) [] a b
-none_put refusals.Memory p a b h = record { done = []; later = p ∷ []; packets_are = refl; answered = record { asked = refl; put = h ∙ sym (append-nil a) } }
-none_put refusals.JournalFull p a b h = record { done = []; later = p ∷ []; packets_are = refl; answered = record { asked = refl; put = h ∙ sym (append-nil a) } }
+-- no packet moves where a command is refused
+none_moves : (e : StationError) {a b h k : List (List ℕ)} → b ≡ a → k ≡ h → MovesSoFar {A = Unit {0}} (Err (refused_with e)) a h b k []
+none_moves refusals.Memory {h = h} e f = moves_in [] e (f ∙ sym (append-nil h))
+none_moves refusals.JournalFull {h = h} e f = moves_in [] e (f ∙ sym (append-nil h))
 
-module _ {S K O : Type 0} (exchanges_of : S → List Exchange) (refuses : S → Request → StationError → Type 0) (same_station : S → S → Type 0) (put_of : O → List (List ℕ)) (same_out : O → O → Type 0) where
+module _ {S K O : Type 0} (exchanges_of : S → List Exchange) (refuses : S → Request → StationError → Type 0) (same_station : S → S → Type 0) (put_of : O → List (List ℕ)) (same_out : O → O → Type 0) (sent_of : K → ℕ) (held_of : K → List (List ℕ)) where
   -- no packet
-  pub puts_none : ((x : S) → same_station x x) → ((x : O) → same_out x x) → (sent_of : K → ℕ) (a : Stand S K O) → AnswersByPut exchanges_of refuses same_station put_of same_out sent_of (Ok tt) [] a a
-  puts_none station_refl same_refl sent_of a = record {
+  pub puts_none : ((x : S) → same_station x x) → ((x : O) → same_out x x) → (a : Stand S K O) → AnswersByPut exchanges_of refuses same_station put_of same_out sent_of held_of (Ok tt) [] a a
+  puts_none station_refl same_refl a = record {
     exchanges = [];
     grown = sym (append-nil (exchanges_of a.station));
-    puts = record { asked = refl; put = sym (append-nil (put_of a.out)) };
+    asks = refl;
+    moves = moves_none (put_of a.out) (held_of a.state);
     stays = station_refl a.station;
     kept = same_refl a.out;
     counted = omega arith;
@@ -140,82 +92,135 @@ module _ {S K O : Type 0} (exchanges_of : S → List Exchange) (refuses : S → 
   }
 
   -- packets, and then more
-  pub puts_behind : ((x y z : S) → same_station x y → same_station y z → same_station x z) → ((x y z : O) → same_out x y → same_out y z → same_out x z) → (sent_of : K → ℕ) (r : Result (Unit {0}) ServeError) (ps qs : List (List ℕ)) (a b c : Stand S K O)
-      → AnswersByPut exchanges_of refuses same_station put_of same_out sent_of (Ok tt) ps a b → AnswersByPut exchanges_of refuses same_station put_of same_out sent_of r qs b c → AnswersByPut exchanges_of refuses same_station put_of same_out sent_of r (ps ++ qs) a c
-  puts_behind station_trans same_trans sent_of r ps qs a b c x y = record {
+  pub puts_behind : ((x y z : S) → same_station x y → same_station y z → same_station x z) → ((x y z : O) → same_out x y → same_out y z → same_out x z) → (r : Result (Unit {0}) ServeError) (ps qs : List (List ℕ)) (a b c : Stand S K O)
+      → AnswersByPut exchanges_of refuses same_station put_of same_out sent_of held_of (Ok tt) ps a b → AnswersByPut exchanges_of refuses same_station put_of same_out sent_of held_of r qs b c → AnswersByPut exchanges_of refuses same_station put_of same_out sent_of held_of r (ps ++ qs) a c
+  puts_behind station_trans same_trans r ps qs a b c x y = record {
     exchanges = x.exchanges ++ y.exchanges;
     grown = y.grown ∙ (ap (λ (z : List Exchange). z ++ y.exchanges) x.grown ∙ append_assoc (exchanges_of a.station) x.exchanges y.exchanges);
-    puts = so_far_more r ps qs x.exchanges y.exchanges (put_of a.out) (put_of b.out) (put_of c.out) x.puts y.puts;
+    asks = asks_more r ps qs x.exchanges y.exchanges x.asks y.asks;
+    moves = rw (packets_of-append x.exchanges y.exchanges) (moves_more r (put_of a.out) (put_of b.out) (put_of c.out) (held_of a.state) (held_of b.state) (held_of c.state) (packets_of x.exchanges) (packets_of y.exchanges) x.moves y.moves);
     stays = station_trans a.station b.station c.station x.stays y.stays;
     kept = same_trans a.out b.out c.out x.kept y.kept;
     counted = counted_more r x.exchanges y.exchanges (sent_of a.state) (sent_of b.state) (sent_of c.state) x.counted y.counted;
-    refused = on_refusal_all (Unit {0}) r _ _ (λ e k. refused_more exchanges_of refuses e (NextCommand qs) (NextCommand (ps ++ qs)) x.exchanges x.grown (λ ys q n. next_more ps qs x.exchanges ys q x.puts.asked n) k) y.refused;
+    refused = on_refusal_all (Unit {0}) r _ _ (λ e k. refused_more exchanges_of refuses e (NextCommand qs) (NextCommand (ps ++ qs)) x.exchanges x.grown (λ ys q n. next_more ps qs x.exchanges ys q x.asks n) k) y.refused;
   }
 
   -- an interruption leaves the packets that come later
-  pub puts_before : (sent_of : K → ℕ) (e : ServeError) (ps qs : List (List ℕ)) (a b : Stand S K O) → IsInterruption e
-      → AnswersByPut exchanges_of refuses same_station put_of same_out sent_of (Err e) ps a b → AnswersByPut exchanges_of refuses same_station put_of same_out sent_of (Err e) (ps ++ qs) a b
-  puts_before sent_of e ps qs a b i x = record {
+  pub puts_before : (e : ServeError) (ps qs : List (List ℕ)) (a b : Stand S K O)
+      → AnswersByPut exchanges_of refuses same_station put_of same_out sent_of held_of (Err e) ps a b → AnswersByPut exchanges_of refuses same_station put_of same_out sent_of held_of (Err e) (ps ++ qs) a b
+  puts_before e ps qs a b x = record {
     exchanges = x.exchanges;
     grown = x.grown;
-    puts = so_far_before e ps qs x.exchanges (put_of a.out) (put_of b.out) i x.puts;
+    asks = asks_before ps qs x.exchanges x.asks;
+    moves = x.moves;
     stays = x.stays;
     kept = x.kept;
     counted = tt;
     refused = on_refusal_all (Unit {0}) (Err e) _ _ (λ f k. refused_as exchanges_of refuses f (NextCommand ps) (NextCommand (ps ++ qs)) (exchanges_of a.station) b.station (λ xs q n. next_before ps qs xs q n) k) x.refused;
   }
 
-  -- nothing was handed on
-  pub puts_handed : (sent_of : K → ℕ) (r : Result (Unit {0}) ServeError) (ps : List (List ℕ)) (a b : Stand S K O) (k : K) (o : O)
-      → AnswersByPut exchanges_of refuses same_station put_of same_out sent_of r ps a b → HandsNothingOn (Ok tt) b.state b.out k o
-      → AnswersByPut exchanges_of refuses same_station put_of same_out sent_of r ps a (record { station = b.station; state = k; out = o })
-  puts_handed sent_of r ps a b k o x h = rw (h.state_kept, h.out_kept) x
+  -- what was held was put
+  pub puts_handed : ((x y z : O) → same_out x y → same_out y z → same_out x z) → (r : Result (Unit {0}) ServeError) (ps : List (List ℕ)) (a b : Stand S K O) (k : K) (o : O)
+      → AnswersByPut exchanges_of refuses same_station put_of same_out sent_of held_of r ps a b → HandsBatchOn put_of same_out sent_of held_of (Ok tt) b.state b.out k o
+      → AnswersByPut exchanges_of refuses same_station put_of same_out sent_of held_of r ps a (record { station = b.station; state = k; out = o })
+  puts_handed same_trans r ps a b k o x h = record {
+    exchanges = x.exchanges;
+    grown = x.grown;
+    asks = x.asks;
+    moves = moves_put r (put_of a.out) (put_of b.out) (put_of o) (held_of a.state) (held_of b.state) (held_of k) (packets_of x.exchanges) x.moves h.ok h.held;
+    stays = x.stays;
+    kept = same_trans a.out b.out o x.kept h.kept;
+    counted = rw (h.sent) x.counted;
+    refused = x.refused;
+  }
 
-  -- what isn't held can't fail to be handed on
-  pub puts_held : (sent_of : K → ℕ) (r : Result (Unit {0}) ServeError) (e : ServeError) (ps : List (List ℕ)) (a b : Stand S K O) (k : K) (o : O)
-      → AnswersByPut exchanges_of refuses same_station put_of same_out sent_of r ps a b → HandsNothingOn (Err e) b.state b.out k o
-      → AnswersByPut exchanges_of refuses same_station put_of same_out sent_of (Err e) ps a (record { station = b.station; state = k; out = o })
-  puts_held sent_of r e ps a b k o x h = absurd h.fine
+  -- what was held was handed back
+  pub puts_held : ((x y z : O) → same_out x y → same_out y z → same_out x z) → (r : Result (Unit {0}) ServeError) (e : ServeError) (ps : List (List ℕ)) (a b : Stand S K O) (k : K) (o : O)
+      → AnswersByPut exchanges_of refuses same_station put_of same_out sent_of held_of r ps a b → HandsBatchOn put_of same_out sent_of held_of (Err e) b.state b.out k o
+      → AnswersByPut exchanges_of refuses same_station put_of same_out sent_of held_of (Err e) ps a (record { station = b.station; state = k; out = o })
+  puts_held same_trans r e ps a b k o x h = rw (h.err) (record {
+    exchanges = x.exchanges;
+    grown = x.grown;
+    asks = asks_first r ps x.exchanges x.asks;
+    moves = (moves_back r (put_of a.out) (put_of b.out) (put_of o) (held_of a.state) (held_of b.state) (packets_of x.exchanges) x.moves h.back.0 h.back.1, h.held);
+    stays = x.stays;
+    kept = same_trans a.out b.out o x.kept h.kept;
+    counted = tt;
+    refused = tt;
+  })
 
-  -- one packet whose answer is none, or was put
-  pub one_answer : (sent_of : K → ℕ) (x : Exchange) (p : List ℕ) (a b : Stand S K O) → x.request ≡ command p → exchanges_of b.station ≡ exchanges_of a.station ++ x ∷ []
-      → put_of b.out ≡ put_of a.out ++ packet_of x.answer → same_station a.station b.station → same_out a.out b.out → sent_of b.state ≡ sent_of a.state + length (packet_of x.answer)
-      → AnswersByPut exchanges_of refuses same_station put_of same_out sent_of (Ok tt) (p ∷ []) a b
-  one_answer sent_of x p a b asked grown put stays kept counted =
+  -- room was made for an answer
+  pub room_made : ((x : S) → same_station x x) → (a b : Stand S K O) → b.station ≡ a.station → Moves (put_of a.out) (held_of a.state) (put_of b.out) (held_of b.state) [] → same_out a.out b.out → sent_of b.state ≡ sent_of a.state
+      → AnswersByPut exchanges_of refuses same_station put_of same_out sent_of held_of (Ok tt) [] a b
+  room_made station_refl a b same moves kept sent = record {
+    exchanges = [];
+    grown = ap exchanges_of same ∙ sym (append-nil (exchanges_of a.station));
+    asks = refl;
+    moves = moves;
+    stays = subst (λ (z : S). same_station a.station z) (sym same) (station_refl a.station);
+    kept = kept;
+    counted = omega (arith, sent);
+    refused = tt;
+  }
+
+  -- there was none
+  pub room_lacks : ((x : S) → same_station x x) → (p : List ℕ) (a b : Stand S K O) → b.station ≡ a.station → MovesSoFar {A = Unit {0}} (Err errors.Write) (put_of a.out) (held_of a.state) (put_of b.out) (held_of b.state) [] → same_out a.out b.out
+      → AnswersByPut exchanges_of refuses same_station put_of same_out sent_of held_of (Err errors.Write) (p ∷ []) a b
+  room_lacks station_refl p a b same moves kept = record {
+    exchanges = [];
+    grown = ap exchanges_of same ∙ sym (append-nil (exchanges_of a.station));
+    asks = record { done = []; later = p ∷ []; packets_are = refl; asked = refl };
+    moves = moves;
+    stays = subst (λ (z : S). same_station a.station z) (sym same) (station_refl a.station);
+    kept = kept;
+    counted = tt;
+    refused = tt;
+  }
+
+  -- one packet whose answer is none, or is held
+  pub one_answer : (x : Exchange) (p : List ℕ) (a b : Stand S K O) → x.request ≡ command p → exchanges_of b.station ≡ exchanges_of a.station ++ x ∷ []
+      → put_of b.out ≡ put_of a.out → held_of b.state ≡ held_of a.state ++ packet_of x.answer → same_station a.station b.station → same_out a.out b.out → sent_of b.state ≡ sent_of a.state + length (packet_of x.answer)
+      → AnswersByPut exchanges_of refuses same_station put_of same_out sent_of held_of (Ok tt) (p ∷ []) a b
+  one_answer x p a b asked grown put held stays kept counted =
       let all : packets_of (x ∷ []) ≡ packet_of x.answer = append-nil (packet_of x.answer) in
       record {
         exchanges = x ∷ [];
         grown = grown;
-        puts = record { asked = λ i. asked i ∷ []; put = put ∙ ap (λ (z : List (List ℕ)). put_of a.out ++ z) (sym all) };
+        asks = λ i. asked i ∷ [];
+        moves = rw all (moves_in (packet_of x.answer) put held);
         stays = stays;
         kept = kept;
         counted = counted ∙ ap (λ (z : List (List ℕ)). sent_of a.state + length z) (sym all);
         refused = tt;
       }
 
-  -- one packet whose answer was handed back
-  pub one_back : (sent_of : K → ℕ) (x : Exchange) (p : List ℕ) (a b : Stand S K O) → x.request ≡ command p → exchanges_of b.station ≡ exchanges_of a.station ++ x ∷ []
-      → IsHandedBack (packet_of x.answer) (put_of a.out) (put_of b.out) → same_station a.station b.station → same_out a.out b.out
-      → AnswersByPut exchanges_of refuses same_station put_of same_out sent_of (Err errors.Write) (p ∷ []) a b
-  one_back sent_of x p a b asked grown handed stays kept = record {
-    exchanges = x ∷ [];
-    grown = grown;
-    puts = record { done = []; packet = p; later = []; full = []; last = x; packets_are = refl; joined = refl; mid = put_of a.out; answered = record { asked = refl; put = sym (append-nil (put_of a.out)) }; asked = asked; handed = handed };
-    stays = stays;
-    kept = kept;
-    counted = tt;
-    refused = tt;
-  }
+  -- one packet for whose answer there was no memory
+  pub one_lost : (x : Exchange) (p : List ℕ) (a b : Stand S K O) → x.request ≡ command p → exchanges_of b.station ≡ exchanges_of a.station ++ x ∷ []
+      → put_of b.out ≡ put_of a.out → held_of b.state ≡ [] → packet_of x.answer ≢ [] → same_station a.station b.station → same_out a.out b.out
+      → AnswersByPut exchanges_of refuses same_station put_of same_out sent_of held_of (Err errors.Write) (p ∷ []) a b
+  one_lost x p a b asked grown put held some stays kept =
+      let all : packets_of (x ∷ []) ≡ packet_of x.answer = append-nil (packet_of x.answer) in
+      record {
+        exchanges = x ∷ [];
+        grown = grown;
+        asks = record { done = p ∷ []; later = []; packets_are = refl; asked = λ i. asked i ∷ [] };
+        moves = (rw all (lost_in (held_of a.state) (packet_of x.answer) put some), held);
+        stays = stays;
+        kept = kept;
+        counted = tt;
+        refused = tt;
+      }
 
   -- one packet whose command was refused
-  pub one_refused : ((x : S) → same_station x x) → ((x : O) → same_out x x) → (sent_of : K → ℕ) (e : StationError) (p : List ℕ) (a b : Stand S K O) → b.station ≡ a.station → b.out ≡ a.out → refuses b.station (command p) e
-      → AnswersByPut exchanges_of refuses same_station put_of same_out sent_of (Err (refused_with e)) (p ∷ []) a b
-  one_refused station_refl same_refl sent_of e p a b same out may =
+  pub one_refused : ((x : S) → same_station x x) → ((x : O) → same_out x x) → (e : StationError) (p : List ℕ) (a b : Stand S K O) → b.station ≡ a.station → b.out ≡ a.out → held_of b.state ≡ held_of a.state → refuses b.station (command p) e
+      → AnswersByPut exchanges_of refuses same_station put_of same_out sent_of held_of (Err (refused_with e)) (p ∷ []) a b
+  one_refused station_refl same_refl e p a b same out held may =
       let grown : exchanges_of b.station ≡ exchanges_of a.station ++ [] = ap exchanges_of same ∙ sym (append-nil (exchanges_of a.station)) in
       record {
         exchanges = [];
         grown = grown;
-        puts = none_put e p (put_of a.out) (put_of b.out) (ap put_of out);
+        asks = record { done = []; later = p ∷ []; packets_are = refl; asked = refl };
+        moves = none_moves e (ap put_of out) held;
         stays = subst (λ (z : S). same_station a.station z) (sym same) (station_refl a.station);
         kept = subst (λ (z : O). same_out a.out z) (sym out) (same_refl a.out);
         counted = tt;
@@ -228,16 +233,16 @@ module _ {S K O : Type 0} (exchanges_of : S → List Exchange) (refuses : S → 
         });
       }
 
--- what became of the packets, told of a call that gives more
-puts_of : (r : Result Served ServeError) (ps : List (List ℕ)) (xs : List Exchange) (a b : List (List ℕ)) → PutsSoFar (outcome r) ps xs a b → PutsSoFar r ps xs a b
-puts_of (Ok served) ps xs a b h = h
-puts_of (Err errors.Write) ps xs a b h = h
-puts_of (Err errors.Memory) ps xs a b h = h
-puts_of (Err errors.JournalFull) ps xs a b h = h
-puts_of (Err errors.Read) ps xs a b h = h
-puts_of (Err (errors.BadLength n)) ps xs a b h = h
-puts_of (Err errors.Truncated) ps xs a b h = h
-puts_of (Err errors.TurnsSpent) ps xs a b h = h
+-- what became of the packets, told of a call with nothing held at its beginning and at its end
+puts_of : (r : Result Served ServeError) (ps : List (List ℕ)) (xs : List Exchange) (a b : List (List ℕ)) → AsksSoFar (outcome r) ps xs → MovesSoFar (outcome r) a [] b [] (packets_of xs) → PutsSoFar r ps xs a b
+puts_of (Ok served) ps xs a b h m = record { asked = h; put = all_put (packets_of xs) m }
+puts_of (Err errors.Write) ps xs a b h m = record { done = h.done; later = h.later; packets_are = h.packets_are; asked = h.asked; handed = m.0 }
+puts_of (Err errors.Memory) ps xs a b h m = record { done = h.done; later = h.later; packets_are = h.packets_are; answered = record { asked = h.asked; put = all_put (packets_of xs) m } }
+puts_of (Err errors.JournalFull) ps xs a b h m = record { done = h.done; later = h.later; packets_are = h.packets_are; answered = record { asked = h.asked; put = all_put (packets_of xs) m } }
+puts_of (Err errors.Read) ps xs a b h m = record { asked = h; put = all_put (packets_of xs) m }
+puts_of (Err (errors.BadLength n)) ps xs a b h m = record { asked = h; put = all_put (packets_of xs) m }
+puts_of (Err errors.Truncated) ps xs a b h m = record { asked = h; put = all_put (packets_of xs) m }
+puts_of (Err errors.TurnsSpent) ps xs a b h m = record { asked = h; put = all_put (packets_of xs) m }
 
 counts_by : (r : Result Served ServeError) (ps : List (List ℕ)) (xs : List Exchange) (from to : ℕ) → from ≡ 0 → IfOk r (λ served. served.frames ≡ length ps) → IfOk r (λ served. served.sent ≡ to)
     → OnOk (outcome r) (to ≡ from + length (packets_of xs)) → Counts r ps (packets_of xs)
@@ -257,26 +262,27 @@ by_memory m i old a = record {
   counts = tt;
 }
 
-module _ {S K O : Type 0} (exchanges_of : S → List Exchange) (refuses : S → Request → StationError → Type 0) (same_station : S → S → Type 0) (put_of : O → List (List ℕ)) (same_out : O → O → Type 0) (sent_of : K → ℕ) where
+module _ {S K O : Type 0} (exchanges_of : S → List Exchange) (refuses : S → Request → StationError → Type 0) (same_station : S → S → Type 0) (put_of : O → List (List ℕ)) (same_out : O → O → Type 0) (sent_of : K → ℕ) (held_of : K → List (List ℕ)) where
   -- a call whose packets were answered so
-  pub by_of : (m : ℕ) (r : Result Served ServeError) (i o : Option (List ℕ)) (a b : Stand S K O) → Streams (AnswersByPut exchanges_of refuses same_station put_of same_out sent_of) m r i o a b
-      → sent_of a.state ≡ 0 → IfOk r (λ served. served.sent ≡ sent_of b.state)
+  pub by_of : (m : ℕ) (r : Result Served ServeError) (i o : Option (List ℕ)) (a b : Stand S K O) → Streams (AnswersByPut exchanges_of refuses same_station put_of same_out sent_of held_of) m r i o a b
+      → sent_of a.state ≡ 0 → held_of a.state ≡ [] → held_of b.state ≡ [] → IfOk r (λ served. served.sent ≡ sent_of b.state)
       → ServesBy m r i o (exchanges_of a.station) (exchanges_of b.station) (put_of a.out) (put_of b.out)
-  by_of m r i o a b s none sent =
+  by_of m r i o a b s none before after sent =
       let x = s.answered in
+      let moves = rw (before, after) at x.moves in
       record {
         packets = s.packets;
         behind = s.behind;
         read = s.read;
         exchanges = x.exchanges;
         grown = x.grown;
-        puts = puts_of r s.packets x.exchanges (put_of a.out) (put_of b.out) x.puts;
+        puts = puts_of r s.packets x.exchanges (put_of a.out) (put_of b.out) x.asks moves;
         ends = s.ends;
         counts = counts_by r s.packets x.exchanges (sent_of a.state) (sent_of b.state) none s.counts sent x.counted;
       }
 
   -- the request that the station refused
-  pub refused_by : (F : StationError → Type 0) (m : ℕ) (r : Result Served ServeError) (i o : Option (List ℕ)) (a b : Stand S K O) → Streams (AnswersByPut exchanges_of refuses same_station put_of same_out sent_of) m r i o a b
+  pub refused_by : (F : StationError → Type 0) (m : ℕ) (r : Result Served ServeError) (i o : Option (List ℕ)) (a b : Stand S K O) → Streams (AnswersByPut exchanges_of refuses same_station put_of same_out sent_of held_of) m r i o a b
       → OnRefusal r (λ e. F e ⊎ Refused exchanges_of refuses e (CommandNext m i o) (exchanges_of a.station) b.station)
   refused_by F m r i o a b s =
       refusal_of r _ (on_refusal_all (Unit {0}) (outcome r) _ _

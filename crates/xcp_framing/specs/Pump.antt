@@ -5,7 +5,7 @@ use Rattle.xcp_slave.specs.declared.Request.{Request}
 use Rattle.xcp_slave.specs.declared.Request.TheVariants as requests
 use Rattle.xcp_framing.specs.declared.serving.ServeError.{ServeError}
 use Rattle.xcp_framing.specs.declared.serving.ServeError.TheVariants as errors
-use Rattle.xcp_framing.specs.Serve.{packet_of, packets_of}
+use Rattle.xcp_framing.specs.Serve.{packets_of}
 use Rattle.xcp_framing.specs.ServeBy.{IsHandedBack}
 
 abbrev pub AllDrains : List Exchange → Type 0
@@ -17,15 +17,10 @@ pub record PutsDrains (exchanges : List Exchange) (before after : List (List ℕ
   pub drains : AllDrains exchanges
   pub put : after ≡ before ++ packets_of exchanges
 
--- of the last one's packets one was handed back
+-- of their packets a batch was handed back
 pub record DrainsUpTo (exchanges : List Exchange) (before after : List (List ℕ)) : Type 0 where
-  pub full : List Exchange
-  pub last : Exchange
-  pub joined : exchanges ≡ full ++ last ∷ []
-  pub mid : List (List ℕ)
-  pub answered : PutsDrains full before mid
-  pub asked : last.request ≡ requests.Drain
-  pub handed : IsHandedBack (packet_of last.answer) mid after
+  pub drains : AllDrains exchanges
+  pub handed : IsHandedBack (packets_of exchanges) before after
 
 abbrev pub Pumped : {R : Type 0} → Result R ServeError → List Exchange → List (List ℕ) → List (List ℕ) → Type 0
 Pumped (Err errors.Write) exchanges before after = DrainsUpTo exchanges before after

@@ -8,7 +8,7 @@ use Rattle.xcp_framing.specs.declared.serving.Served.{Served}
 use Rattle.xcp_framing.specs.declared.serving.ServeError.{ServeError}
 use Rattle.xcp_framing.specs.declared.serving.ServeError.TheVariants as errors
 use Rattle.xcp_framing.specs.Frames.{frames, rest}
-use Rattle.xcp_framing.specs.Serve.{packet_of, packets_of, OnRead, EndsStream, Counts}
+use Rattle.xcp_framing.specs.Serve.{packets_of, OnRead, EndsStream, Counts}
 
 abbrev pub command : List ℕ → Request
 command packet = requests.Command (record { items = packet })
@@ -22,7 +22,7 @@ pub record PutsAll (packets : List (List ℕ)) (exchanges : List Exchange) (befo
   pub asked : requests_of exchanges ≡ commands packets
   pub put : after ≡ before ++ packets_of exchanges
 
--- Of these packets the first were put, and the next one was handed back.
+-- Of these packets the first were put, and the others, which are some, were not: a batch of them was handed back.
 pub record IsHandedBack (packets : List (List ℕ)) (before after : List (List ℕ)) : Type 0 where
   pub front : List (List ℕ)
   pub back : List (List ℕ)
@@ -30,19 +30,13 @@ pub record IsHandedBack (packets : List (List ℕ)) (before after : List (List �
   pub some : back ≢ []
   pub put : after ≡ before ++ front
 
--- those of the first packets, up to one of whose answer's packets one was handed back
+-- those of the first packets, of whose answers' packets a batch was handed back
 pub record PutsUpTo (packets : List (List ℕ)) (exchanges : List Exchange) (before after : List (List ℕ)) : Type 0 where
   pub done : List (List ℕ)
-  pub packet : List ℕ
   pub later : List (List ℕ)
-  pub full : List Exchange
-  pub last : Exchange
-  pub packets_are : packets ≡ done ++ packet ∷ later
-  pub joined : exchanges ≡ full ++ last ∷ []
-  pub mid : List (List ℕ)
-  pub answered : PutsAll done full before mid
-  pub asked : last.request ≡ command packet
-  pub handed : IsHandedBack (packet_of last.answer) mid after
+  pub packets_are : packets ≡ done ++ later
+  pub asked : requests_of exchanges ≡ commands done
+  pub handed : IsHandedBack (packets_of exchanges) before after
 
 -- those of the first packets
 pub record PutsSome (packets : List (List ℕ)) (exchanges : List Exchange) (before after : List (List ℕ)) : Type 0 where

@@ -4,6 +4,8 @@ pub mod FramerInput
 pub mod FrameOutput
 pub mod FramesAnswered
 pub mod LentRequests
+pub mod Pump
+pub mod PutOutput
 pub mod Serve
 pub mod ServeBy
 pub mod ServeParts

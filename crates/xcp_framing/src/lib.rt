@@ -9,10 +9,12 @@
 //! `specs/Wire.antt` has the frames of a stream, `specs/Serve.antt` what serving promises.
 #![tactic(auto)]
 
+mod batch;
 mod desk;
 mod end;
 mod frame_writer;
 mod framer;
+mod gathering;
 mod law;
 mod lent;
 mod passage;
@@ -25,6 +27,7 @@ mod tally;
 mod watched;
 mod wire;
 
+pub use batch::{Batch, Packets};
 pub use desk::Desk;
 pub use end::End;
 pub use framer::{Brought, Cut, Fed, Framer, Got};

@@ -4,34 +4,36 @@ ghost use Rattle.xcp_framing.specs.Serve.{EndsReader};
 ghost use Rattle.xcp_framing.specs.ServeRefusal.{OnRefusal, Refused};
 ghost use Rattle.xcp_framing.specs.ServeBy.{CommandNext, ServesBy};
 
-use crate::end::put_told;
+use crate::gathering::{gather_told, hand_on, make_room};
 use crate::lent::LentCommand;
 use crate::passage::{Answerer, READ_SIZE, answer_stream};
-use crate::{End, ServeError, Served, Station, StationError, Watched};
+use crate::{Batch, End, ServeError, Served, Station, StationError, Watched};
 use std::alloc::Global;
 use std::io::Read;
 use xcp_packet::Packet;
 
-/// How many packets were put at an end.
+/// How many packets the answers had, and those of them that aren't put yet.
 #[derive(Drop)]
 struct Putting {
     sent: u64,
+    batch: Batch,
 }
 
-/// A packet is answered by its command alone, and the packets of the answer are put.
+/// A packet is answered by its command alone, and the packets of the answer are put in a batch, with
+/// those of the answers before and behind it.
 struct ByCommand;
 
 impl<S: Station, E: End> Answerer<S, Putting, E> for ByCommand {
-    ghost use Rattle.std.specs.Prelude.{⊤};
-    ghost use Rattle.xcp_framing.specs.private.ServeBy.{AnswersByPut, HandsNothingOn};
+    ghost use Rattle.std.specs.Prelude.{◌≡◌, []};
+    ghost use Rattle.xcp_framing.specs.private.ServeBy.{AnswersByPut, HandsBatchOn};
 
     ghost sent_of = { λ k. k.sent };
 
-    ghost rests = { λ k. ⊤ };
+    ghost rests = { λ k. k.batch ≡ [] };
 
-    ghost answers = { AnswersByPut S.exchanges S.refuses S.same E.put_so_far E.same (λ k. k.sent) };
+    ghost answers = { AnswersByPut S.exchanges S.refuses S.same E.put_so_far E.same (λ k. k.sent) (λ k. k.batch) };
 
-    ghost hands = { HandsNothingOn };
+    ghost hands = { HandsBatchOn E.put_so_far E.same (λ k. k.sent) (λ k. k.batch) };
 
     fn answer(
         command: &LentCommand,
@@ -39,14 +41,15 @@ impl<S: Station, E: End> Answerer<S, Putting, E> for ByCommand {
         state: &mut Putting,
         end: &mut E,
     ) -> Result<(), ServeError> {
+        make_room(&mut state.batch, end)?;
         let mut reply = Packet::new();
         let told = station.submit_into(command.request(), &mut reply)?;
-        state.sent += put_told(end, told, reply)?;
+        state.sent += gather_told(&mut state.batch, end.alloc(), told, &reply)?;
         Ok(())
     }
 
-    fn hand_on(_state: &mut Putting, _end: &mut E) -> Result<(), ServeError> {
-        Ok(())
+    fn hand_on(state: &mut Putting, end: &mut E) -> Result<(), ServeError> {
+        hand_on(&mut state.batch, end)
     }
 
     fn sent(state: &Putting) -> u64 {
@@ -54,9 +57,13 @@ impl<S: Station, E: End> Answerer<S, Putting, E> for ByCommand {
     }
 }
 
-/// Answers a stream of frames as `serve` does, but without `Drain`: the packets of each answer are
-/// put at an end, for another thread to send. `sent` counts the packets put, and one that is handed back
-/// ends the call with `Write`.
+/// Answers a stream of frames as `serve` does, but without `Drain`: the packets of the answers are
+/// put at an end, for another thread to send. They are gathered in a batch, which is put before the
+/// next read, before any return, and where it has no room for the packets of one more answer. Its
+/// memory is taken before anything is done, and that of the next one before a batch is put.
+///
+/// `sent` counts the packets put. A batch that is handed back, or for whose successor there is no
+/// memory, ends the call with `Write`: its packets weren't put, and none behind them.
 pub fn serve_by<R: Read, S: Station, E: End>(
     alloc: Global,
     reader: &mut Watched<R>,
@@ -88,7 +95,11 @@ pub fn serve_by<R: Read, S: Station, E: End>(
     let Ok(mut buffer) = vec![in alloc; 0; READ_SIZE] else {
         return Err(ServeError::Memory);
     };
-    let mut state = Putting { sent: 0 };
+    let mut batch = Batch::new(alloc);
+    if batch.take_room().is_err() {
+        return Err(ServeError::Memory);
+    }
+    let mut state = Putting { sent: 0, batch };
     answer_stream::<ByCommand, S, Putting, E, R>(
         reader,
         &mut buffer,

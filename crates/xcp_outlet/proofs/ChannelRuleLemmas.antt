@@ -6,9 +6,9 @@ use lib.ListN.{get_elem?}
 use Rattle.crossbeam_channel.specs.Fifo.{Pushes, Pops, Forks, Merges, Learns}
 use Rattle.atomic_table.proofs.Lists.{at_set, at_snoc}
 use Rattle.xcp_outlet.specs.declared.message.Message.{Message}
-use Rattle.xcp_outlet.specs.PassKnowledge.{Half, Known, Packet, bytes_of, half}
+use Rattle.xcp_outlet.specs.PassKnowledge.{Half, Known, half}
 use Rattle.xcp_outlet.specs.private.PassKnowledge.{nobody, everything, one_half, message, more, after_put_on, after_put, after_take, both_of}
-use Rattle.xcp_outlet.specs.ChannelRule.{keep, of}
+use Rattle.xcp_outlet.specs.ChannelRule.{keep, of, parts}
 use Rattle.xcp_outlet.specs.private.ChannelRule.{mark, sent, Owned, Routed, Compares}
 use Rattle.xcp_framing.specs.Prefix.{IsFront}
 use Rattle.xcp_outlet.specs.OutletEnds.{packets, has_mark}
@@ -116,35 +116,35 @@ module _ {X : Type 0} (f : Known → Option X) (P Q : X → Type 0) where
 -- lists of one side
 pub of_append : (side : Bool) (xs ys : List Message) → of side (xs ++ ys) ≡ of side xs ++ of side ys
 of_append side [] ys = refl
-of_append side (x ∷ xs) ys = keeps side x.from_data (bytes_of x.packet) (of side (xs ++ ys)) (of side xs) (of side ys) (of_append side xs ys)
+of_append side (x ∷ xs) ys = keeps side x.from_data (parts x.batch) (of side (xs ++ ys)) (of side xs) (of side ys) (of_append side xs ys)
   where
-    keeps : (a b : Bool) (p : Option (List ℕ)) (all l r : List (Option (List ℕ))) → all ≡ l ++ r → keep a b p all ≡ keep a b p l ++ r
-    keeps true true p all l r e = ap (λ (z : List (Option (List ℕ))). p ∷ z) e
-    keeps true false p all l r e = e
-    keeps false true p all l r e = e
-    keeps false false p all l r e = ap (λ (z : List (Option (List ℕ))). p ∷ z) e
-
-map_snoc : (ps : List (List ℕ)) (p : List ℕ) → map Some (ps ++ p ∷ []) ++ [] ≡ (map Some ps ++ []) ++ Some p ∷ []
-map_snoc [] p = refl
-map_snoc (x ∷ xs) p = ap (λ (z : List (Option (List ℕ))). Some x ∷ z) (map_snoc xs p)
-
-marks : (ps : List (List ℕ)) → map Some ps ++ None ∷ [] ≡ (map Some ps ++ []) ++ None ∷ []
-marks [] = refl
-marks (x ∷ xs) = ap (λ (z : List (Option (List ℕ))). Some x ∷ z) (marks xs)
-
-sent_more : (p : Option (List ℕ)) (ps : List (List ℕ)) → sent (more p (half ps false)) ≡ sent (half ps false) ++ p ∷ []
-sent_more None ps = marks ps
-sent_more (Some p) ps = map_snoc ps p
-
--- at a put of the side itself, and of the other side
-here : (side : Bool) (p : Option Packet) (ps : List (List ℕ)) (taken items : List Message) → keep side side (bytes_of p) [] ≡ bytes_of p ∷ [] → sent (half ps false) ≡ of side (taken ++ items) → sent (more (bytes_of p) (half ps false)) ≡ of side (taken ++ (items ++ message side p ∷ []))
-here side p ps taken items one e = sent_more (bytes_of p) ps ∙ (ap (λ (z : List (Option (List ℕ))). z ++ bytes_of p ∷ []) e ∙ sym (ap (of side) (sym (append_assoc taken items (message side p ∷ []))) ∙ (of_append side (taken ++ items) (message side p ∷ []) ∙ ap (λ (z : List (Option (List ℕ))). of side (taken ++ items) ++ z) one)))
+    keeps : (a b : Bool) (ps all l r : List (Option (List ℕ))) → all ≡ l ++ r → keep a b ps all ≡ keep a b ps l ++ r
+    keeps true true ps all l r e = ap (λ (z : List (Option (List ℕ))). ps ++ z) e ∙ sym (append_assoc ps l r)
+    keeps true false ps all l r e = e
+    keeps false true ps all l r e = e
+    keeps false false ps all l r e = ap (λ (z : List (Option (List ℕ))). ps ++ z) e ∙ sym (append_assoc ps l r)
 
 nil_end : (xs : List (Option (List ℕ))) → xs ++ [] ≡ xs
 nil_end [] = refl
 nil_end (x ∷ xs) = ap (λ (z : List (Option (List ℕ))). x ∷ z) (nil_end xs)
 
-there : (side other : Bool) (p : Option Packet) (taken items : List Message) → keep side other (bytes_of p) [] ≡ [] → of side (taken ++ (items ++ message other p ∷ [])) ≡ of side (taken ++ items)
+map_behind : (ps qs : List (List ℕ)) → map Some (ps ++ qs) ++ [] ≡ (map Some ps ++ []) ++ map Some qs
+map_behind [] qs = nil_end (map Some qs)
+map_behind (x ∷ xs) qs = ap (λ (z : List (Option (List ℕ))). Some x ∷ z) (map_behind xs qs)
+
+marks : (ps : List (List ℕ)) → map Some ps ++ None ∷ [] ≡ (map Some ps ++ []) ++ None ∷ []
+marks [] = refl
+marks (x ∷ xs) = ap (λ (z : List (Option (List ℕ))). Some x ∷ z) (marks xs)
+
+sent_more : (b : Option (List (List ℕ))) (ps : List (List ℕ)) → sent (more b (half ps false)) ≡ sent (half ps false) ++ parts b
+sent_more None ps = marks ps
+sent_more (Some qs) ps = map_behind ps qs
+
+-- at a put of the side itself, and of the other side
+here : (side : Bool) (p : Option (List (List ℕ))) (ps : List (List ℕ)) (taken items : List Message) → keep side side (parts p) [] ≡ parts p → sent (half ps false) ≡ of side (taken ++ items) → sent (more p (half ps false)) ≡ of side (taken ++ (items ++ message side p ∷ []))
+here side p ps taken items one e = sent_more p ps ∙ (ap (λ (z : List (Option (List ℕ))). z ++ parts p) e ∙ sym (ap (of side) (sym (append_assoc taken items (message side p ∷ []))) ∙ (of_append side (taken ++ items) (message side p ∷ []) ∙ ap (λ (z : List (Option (List ℕ))). of side (taken ++ items) ++ z) one)))
+
+there : (side other : Bool) (p : Option (List (List ℕ))) (taken items : List Message) → keep side other (parts p) [] ≡ [] → of side (taken ++ (items ++ message other p ∷ [])) ≡ of side (taken ++ items)
 there side other p taken items none = ap (of side) (sym (append_assoc taken items (message other p ∷ []))) ∙ (of_append side (taken ++ items) (message other p ∷ []) ∙ (ap (λ (z : List (Option (List ℕ))). of side (taken ++ items) ++ z) none ∙ nil_end (of side (taken ++ items))))
 
 only : (id : ℕ) (v : Known) → get_elem? (everything ∷ []) id ≡ some v → (id ≡ 0) × (everything ≡ v)
@@ -160,15 +160,15 @@ begins = record {
   takes = (0, λ id v e h is. let t = only id v e in (t.0, sym (some_is (ap (λ (z : Known). z.taken) t.1 ∙ is))));
 }
 
-puts_at : (n id : ℕ) (side : Bool) (p : Option Packet) (ps : List (List ℕ)) → Pushes Routed n id (one_half side (half ps false)) (message side p) (λ w. w ≡ after_put_on side (bytes_of p) (one_half side (half ps false)))
+puts_at : (n id : ℕ) (side : Bool) (p : Option (List (List ℕ))) (ps : List (List ℕ)) → Pushes Routed n id (one_half side (half ps false)) (message side p) (λ w. w ≡ after_put_on side p (one_half side (half ps false)))
 puts_at n id false p ps items views room r at =
     let v : Known = one_half false (half ps false) in
-    let w : Known = after_put_on false (bytes_of p) v in (
+    let w : Known = after_put_on false p v in (
       w,
       record {
         got = r.got;
         replies = owned_own (λ v. v.reply) (λ h. sent h ≡ of false (r.got ++ items)) (λ h. sent h ≡ of false (r.got ++ (items ++ message false p ∷ []))) views id v w (half ps false) at refl
-            (λ h is e. subst (λ (u : Half). sent u ≡ of false (r.got ++ (items ++ message false p ∷ []))) (some_is is) (here false p ps r.got items refl e)) r.replies;
+            (λ h is e. subst (λ (u : Half). sent u ≡ of false (r.got ++ (items ++ message false p ∷ []))) (some_is is) (here false p ps r.got items (nil_end (parts p)) e)) r.replies;
         data_packets = owned_same (λ v. v.daq) (λ h. sent h ≡ of true (r.got ++ items)) (λ h. sent h ≡ of true (r.got ++ (items ++ message false p ∷ []))) views id v w at refl (λ h e. e ∙ sym (there true false p r.got items refl)) r.data_packets;
         takes = owned_same (λ v. v.taken) (λ t. t ≡ r.got) (λ t. t ≡ r.got) views id v w at refl (λ h e. e) r.takes;
       },
@@ -176,20 +176,20 @@ puts_at n id false p ps items views room r at =
     )
 puts_at n id true p ps items views room r at =
     let v : Known = one_half true (half ps false) in
-    let w : Known = after_put_on true (bytes_of p) v in (
+    let w : Known = after_put_on true p v in (
       w,
       record {
         got = r.got;
         replies = owned_same (λ v. v.reply) (λ h. sent h ≡ of false (r.got ++ items)) (λ h. sent h ≡ of false (r.got ++ (items ++ message true p ∷ []))) views id v w at refl (λ h e. e ∙ sym (there false true p r.got items refl)) r.replies;
         data_packets = owned_own (λ v. v.daq) (λ h. sent h ≡ of true (r.got ++ items)) (λ h. sent h ≡ of true (r.got ++ (items ++ message true p ∷ []))) views id v w (half ps false) at refl
-            (λ h is e. subst (λ (u : Half). sent u ≡ of true (r.got ++ (items ++ message true p ∷ []))) (some_is is) (here true p ps r.got items refl e)) r.data_packets;
+            (λ h is e. subst (λ (u : Half). sent u ≡ of true (r.got ++ (items ++ message true p ∷ []))) (some_is is) (here true p ps r.got items (nil_end (parts p)) e)) r.data_packets;
         takes = owned_same (λ v. v.taken) (λ t. t ≡ r.got) (λ t. t ≡ r.got) views id v w at refl (λ h e. e) r.takes;
       },
       refl,
     )
 
 -- the rule stays where an end that has put no end mark puts one more message, and its pass knows it
-pub puts : (n id : ℕ) (side : Bool) (p : Option Packet) (ps : List (List ℕ)) (v : Known) → v ≡ one_half side (half ps false)
+pub puts : (n id : ℕ) (side : Bool) (p : Option (List (List ℕ))) (ps : List (List ℕ)) (v : Known) → v ≡ one_half side (half ps false)
     → Pushes Routed n id v (message side p) (λ w. w ≡ after_put (message side p) v) × Learns Routed id v (λ items. Unit {0})
 puts n id side p ps v is = (subst (λ (u : Known). Pushes Routed n id u (message side p) (λ w. w ≡ after_put (message side p) u)) (sym is) (puts_at n id side p ps), λ items views h at. tt)
 

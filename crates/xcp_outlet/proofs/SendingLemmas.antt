@@ -1,5 +1,5 @@
 -- One message more for the end that takes.
-use Rattle.std.proofs.Common.{◌≡◌, ℕ, ◌+◌, ◌%◌, Bool, true, false, true≢false, List, [], ◌∷◌, ◌++◌, length, sym, refl, ap, ◌∙◌, subst, append_assoc, Some, None, arith, length-append}
+use Rattle.std.proofs.Common.{◌≡◌, ℕ, ◌+◌, ◌%◌, Bool, true, false, true≢false, List, [], ◌∷◌, ◌++◌, map, length, sym, refl, ap, ◌∙◌, subst, append_assoc, Some, None, arith, length-append}
 use Rattle.std.specs.Prelude.{Option}
 use Rattle.std.specs.Io.KnownBytes.{Appends}
 use Rattle.std.proofs.lemmas.List.{append-nil}
@@ -8,7 +8,6 @@ use Rattle.xcp_framing.specs.Prefix.{AppendsFront}
 use Rattle.xcp_framing.specs.Wire.{wire, wire_from, frame_bytes}
 use Rattle.xcp_outlet.specs.declared.message.Message.{Message}
 use Rattle.xcp_outlet.specs.declared.line.Line.{Line}
-use Rattle.xcp_outlet.specs.PassKnowledge.{Packet, bytes_of}
 use Rattle.xcp_outlet.specs.private.PassKnowledge.{message}
 use Rattle.xcp_outlet.specs.ChannelRule.{of}
 use Rattle.xcp_outlet.specs.OutletEnds.{packet_list, all_packets, has_mark}
@@ -17,9 +16,9 @@ use Rattle.xcp_outlet.specs.private.Sending.{Holds, Wrote, Progress, NoneInHand}
 use Rattle.xcp_outlet.proofs.ChannelRuleLemmas.{of_append}
 use Rattle.xcp_outlet.proofs.WireLemmas.{appends_no_byte, appends_both, wire_of_both, frame_counts, no_frames}
 
-all_snoc : (ms : List Message) (m : Message) → all_packets (ms ++ m ∷ []) ≡ all_packets ms ++ packet_list (bytes_of m.packet)
-all_snoc [] m = append-nil (packet_list (bytes_of m.packet))
-all_snoc (x ∷ ms) m = ap (λ (z : List (List ℕ)). packet_list (bytes_of x.packet) ++ z) (all_snoc ms m) ∙ sym (append_assoc (packet_list (bytes_of x.packet)) (all_packets ms) (packet_list (bytes_of m.packet)))
+all_snoc : (ms : List Message) (m : Message) → all_packets (ms ++ m ∷ []) ≡ all_packets ms ++ packet_list m.batch
+all_snoc [] m = append-nil (packet_list m.batch)
+all_snoc (x ∷ ms) m = ap (λ (z : List (List ℕ)). packet_list x.batch ++ z) (all_snoc ms m) ∙ sym (append_assoc (packet_list x.batch) (all_packets ms) (packet_list m.batch))
 
 mark_still : (xs ys : List (Option (List ℕ))) → has_mark ys ≡ false → has_mark (xs ++ ys) ≡ has_mark xs
 mark_still [] ys e = e
@@ -37,11 +36,23 @@ still side t m e = sym (ap has_mark (of_append side t (m ∷ [])) ∙ mark_still
 gets : (side : Bool) (t : List Message) (m : Message) → has_mark (of side (m ∷ [])) ≡ true → true ≡ has_mark (of side (t ++ m ∷ []))
 gets side t m e = sym (ap has_mark (of_append side t (m ∷ [])) ∙ mark_gets (of side t) (of side (m ∷ [])) e)
 
-packet_marks : (side from : Bool) (p : Packet) → has_mark (of side (message from (Some p) ∷ [])) ≡ false
-packet_marks true true p = refl
-packet_marks true false p = refl
-packet_marks false true p = refl
-packet_marks false false p = refl
+no_mark : (ps : List (List ℕ)) → has_mark (map Some ps ++ []) ≡ false
+no_mark [] = refl
+no_mark (p ∷ ps) = no_mark ps
+
+packet_marks : (side from : Bool) (ps : List (List ℕ)) → has_mark (of side (message from (Some ps) ∷ [])) ≡ false
+packet_marks true true ps = no_mark ps
+packet_marks true false ps = refl
+packet_marks false true ps = refl
+packet_marks false false ps = no_mark ps
+
+-- of a batch one packet more was taken
+marks_same : (side from : Bool) (t : List Message) (ps qs : List (List ℕ)) → has_mark (of side (t ++ message from (Some ps) ∷ [])) ≡ has_mark (of side (t ++ message from (Some qs) ∷ []))
+marks_same side from t ps qs = sym (still side t (message from (Some ps)) (packet_marks side from ps)) ∙ still side t (message from (Some qs)) (packet_marks side from qs)
+
+all_more : (t : List Message) (from : Bool) (ps : List (List ℕ)) (p : List ℕ) → all_packets (t ++ message from (Some (ps ++ p ∷ [])) ∷ []) ≡ all_packets (t ++ message from (Some ps) ∷ []) ++ p ∷ []
+all_more t from ps p =
+    all_snoc t (message from (Some (ps ++ p ∷ []))) ∙ (sym (append_assoc (all_packets t) ps (p ∷ [])) ∙ ap (λ (z : List (List ℕ)). z ++ p ∷ []) (sym (all_snoc t (message from (Some ps)))))
 
 -- an end mark brings no packet
 mark_wrote : (b : Bool) (n k : ℕ) (held : List ℕ) (t : List Message) (from : Bool) (before after : Option (List ℕ)) (old new : ℕ) → Wrote b n k held (all_packets t) before after old new → Wrote b n k held (all_packets (t ++ message from None ∷ [])) before after old new
@@ -146,17 +157,27 @@ part_more n ps p w = record {
   failed = w.failed;
 }
 
+-- of a batch no packet yet
+pub begun : (line : Line) (t : List Message) (from : Bool) {a b : Option (List ℕ)} {old new : ℕ} → Progress line t a b old new → Progress line (t ++ message from (Some []) ∷ []) a b old new
+begun line t from {a = a} {b = b} {old = old} {new = new} g = record {
+  wrote = subst (λ (z : List (List ℕ)). Wrote line.broken line.flushed line.sent line.held.items z a b old new) (sym (all_snoc t (message from (Some [])) ∙ append-nil (all_packets t))) g.wrote;
+  reply_mark = g.reply_mark ∙ still false t (message from (Some [])) (packet_marks false from []);
+  data_mark = g.data_mark ∙ still true t (message from (Some [])) (packet_marks true from []);
+}
+
 -- the frame of a packet is held
-pub added : (line : Line) (t : List Message) (from : Bool) (p : Packet) (held : ArrayVec ℕ) {a b : Option (List ℕ)} {old new : ℕ} → line.broken ≡ false → held.items ≡ line.held.items ++ frame_bytes (line.sent % 65536) p.items → Progress line t a b old new
-    → Progress (record { sent = (line.sent + 1) % 18446744073709551616; flushed = line.flushed; held = held; broken = line.broken; replies_ended = line.replies_ended; data_ended = line.data_ended }) (t ++ message from (Some p) ∷ []) a b old new
-added line t from p held {a = a} {b = b} {old = old} {new = new} well is g =
-    let was : Holds line.flushed line.sent line.held.items (all_packets t) a b old new = subst (λ (x : Bool). Wrote x line.flushed line.sent line.held.items (all_packets t) a b old new) well g.wrote in
-    let now : Holds line.flushed ((line.sent + 1) % 18446744073709551616) held.items (all_packets (t ++ message from (Some p) ∷ [])) a b old new =
-    rw (is, all_snoc t (message from (Some p))) (holds_more line.flushed line.sent line.held.items (all_packets t) p.items was) in
+pub added : (line : Line) (t : List Message) (from : Bool) (ps : List (List ℕ)) (p : List ℕ) (held : ArrayVec ℕ) {a b : Option (List ℕ)} {old new : ℕ} → line.broken ≡ false → held.items ≡ line.held.items ++ frame_bytes (line.sent % 65536) p
+    → Progress line (t ++ message from (Some ps) ∷ []) a b old new
+    → Progress (record { sent = (line.sent + 1) % 18446744073709551616; flushed = line.flushed; held = held; broken = line.broken; replies_ended = line.replies_ended; data_ended = line.data_ended }) (t ++ message from (Some (ps ++ p ∷ [])) ∷ []) a b old new
+added line t from ps p held {a = a} {b = b} {old = old} {new = new} well is g =
+    let u : List Message = t ++ message from (Some ps) ∷ [] in
+    let was : Holds line.flushed line.sent line.held.items (all_packets u) a b old new = subst (λ (x : Bool). Wrote x line.flushed line.sent line.held.items (all_packets u) a b old new) well g.wrote in
+    let now : Holds line.flushed ((line.sent + 1) % 18446744073709551616) held.items (all_packets (t ++ message from (Some (ps ++ p ∷ [])) ∷ [])) a b old new =
+    rw (is, all_more t from ps p) (holds_more line.flushed line.sent line.held.items (all_packets u) p was) in
     record {
-      wrote = subst (λ (x : Bool). Wrote x line.flushed ((line.sent + 1) % 18446744073709551616) held.items (all_packets (t ++ message from (Some p) ∷ [])) a b old new) (sym well) now;
-      reply_mark = g.reply_mark ∙ still false t (message from (Some p)) (packet_marks false from p);
-      data_mark = g.data_mark ∙ still true t (message from (Some p)) (packet_marks true from p);
+      wrote = subst (λ (x : Bool). Wrote x line.flushed ((line.sent + 1) % 18446744073709551616) held.items (all_packets (t ++ message from (Some (ps ++ p ∷ [])) ∷ [])) a b old new) (sym well) now;
+      reply_mark = g.reply_mark ∙ marks_same false from t ps (ps ++ p ∷ []);
+      data_mark = g.data_mark ∙ marks_same true from t ps (ps ++ p ∷ []);
     }
 
 -- what is held is written
@@ -179,14 +200,16 @@ broken line t a b c {old = old} {new = new} {last = last} well h failed g =
     record { wrote = holds_broken line.flushed line.sent line.held.items (all_packets t) a b c was h failed; reply_mark = g.reply_mark; data_mark = g.data_mark }
 
 -- a packet after a write failed
-pub passed : (line : Line) (t : List Message) (from : Bool) (p : Packet) {a b : Option (List ℕ)} {old new : ℕ} → line.broken ≡ true → Progress line t a b old new → Progress line (t ++ message from (Some p) ∷ []) a b old new
-passed line t from p {a = a} {b = b} {old = old} {new = new} off g =
-    let was : WritesPart line.flushed (all_packets t) a b old new = subst (λ (x : Bool). Wrote x line.flushed line.sent line.held.items (all_packets t) a b old new) off g.wrote in
-    let now : WritesPart line.flushed (all_packets (t ++ message from (Some p) ∷ [])) a b old new = subst (λ (z : List (List ℕ)). WritesPart line.flushed z a b old new) (sym (all_snoc t (message from (Some p)))) (part_more line.flushed (all_packets t) p.items was) in
+pub passed : (line : Line) (t : List Message) (from : Bool) (ps : List (List ℕ)) (p : List ℕ) {a b : Option (List ℕ)} {old new : ℕ} → line.broken ≡ true
+    → Progress line (t ++ message from (Some ps) ∷ []) a b old new → Progress line (t ++ message from (Some (ps ++ p ∷ [])) ∷ []) a b old new
+passed line t from ps p {a = a} {b = b} {old = old} {new = new} off g =
+    let u : List Message = t ++ message from (Some ps) ∷ [] in
+    let was : WritesPart line.flushed (all_packets u) a b old new = subst (λ (x : Bool). Wrote x line.flushed line.sent line.held.items (all_packets u) a b old new) off g.wrote in
+    let now : WritesPart line.flushed (all_packets (t ++ message from (Some (ps ++ p ∷ [])) ∷ [])) a b old new = subst (λ (z : List (List ℕ)). WritesPart line.flushed z a b old new) (sym (all_more t from ps p)) (part_more line.flushed (all_packets u) p was) in
     record {
-      wrote = subst (λ (x : Bool). Wrote x line.flushed line.sent line.held.items (all_packets (t ++ message from (Some p) ∷ [])) a b old new) (sym off) now;
-      reply_mark = g.reply_mark ∙ still false t (message from (Some p)) (packet_marks false from p);
-      data_mark = g.data_mark ∙ still true t (message from (Some p)) (packet_marks true from p);
+      wrote = subst (λ (x : Bool). Wrote x line.flushed line.sent line.held.items (all_packets (t ++ message from (Some (ps ++ p ∷ [])) ∷ [])) a b old new) (sym off) now;
+      reply_mark = g.reply_mark ∙ marks_same false from t ps (ps ++ p ∷ []);
+      data_mark = g.data_mark ∙ marks_same true from t ps (ps ++ p ∷ []);
     }
 
 -- all is written
@@ -227,3 +250,30 @@ none_in_hand line t a b {old = old} {new = new} none g well =
     let later : w.later ≡ [] = no_frames (length w.whole) w.later (sym (none well) ∙ w.held_is) in
     let same : w.whole ≡ all_packets t = sym (w.all ∙ (ap (λ (z : List (List ℕ)). w.whole ++ z) later ∙ append-nil w.whole)) in
     (none well, w.count ∙ ap (λ (z : List (List ℕ)). length z % 18446744073709551616) same)
+
+-- the first packets of a batch were taken
+pub record Begun (batch left : List (List ℕ)) (old now : Line) (o n : Option (List ℕ)) (first last : ℕ) : Type 0 where
+  pub done : List (List ℕ)
+  pub joined : batch ≡ done ++ left
+  pub goes_on : (before : Option (List ℕ)) (failures : ℕ) (taken : List Message) (from : Bool) → Progress old taken before o failures first → Progress now (taken ++ message from (Some done) ∷ []) before n failures last
+
+-- none of them yet
+pub batch_begun : (ps : List (List ℕ)) (line : Line) (o : Option (List ℕ)) (first : ℕ) → Begun ps ps line line o o first first
+batch_begun ps line o first = record { done = []; joined = refl; goes_on = λ before failures taken from g. begun line taken from g }
+
+-- one more
+pub batch_more : {ps left : List (List ℕ)} (p : List ℕ) (rest : List (List ℕ)) {old now new : Line} {o n m : Option (List ℕ)} {first last then : ℕ} → Begun ps left old now o n first last → left ≡ p ∷ rest
+    → ((before : Option (List ℕ)) (failures : ℕ) (taken : List Message) (from : Bool) (done : List (List ℕ)) → Progress now (taken ++ message from (Some done) ∷ []) before n failures last → Progress new (taken ++ message from (Some (done ++ p ∷ [])) ∷ []) before m failures then)
+    → Begun ps rest old new o m first then
+batch_more p rest x is f = record {
+  done = x.done ++ p ∷ [];
+  joined = x.joined ∙ (ap (λ (z : List (List ℕ)). x.done ++ z) is ∙ sym (append_assoc x.done (p ∷ []) rest));
+  goes_on = λ before failures taken from g. f before failures taken from x.done (x.goes_on before failures taken from g);
+}
+
+-- all of them
+pub batch_all : {ps left : List (List ℕ)} {old now : Line} {o n : Option (List ℕ)} {first last : ℕ} → Begun ps left old now o n first last → left ≡ []
+    → (before : Option (List ℕ)) (failures : ℕ) (taken : List Message) (from : Bool) → Progress old taken before o failures first → Progress now (taken ++ message from (Some ps) ∷ []) before n failures last
+batch_all {ps = ps} {now = now} {n = n} {last = last} x none before failures taken from g =
+    let all : x.done ≡ ps = sym (x.joined ∙ (ap (λ (z : List (List ℕ)). x.done ++ z) none ∙ append-nil x.done)) in
+    subst (λ (z : List (List ℕ)). Progress now (taken ++ message from (Some z) ∷ []) before n failures last) all (x.goes_on before failures taken from g)

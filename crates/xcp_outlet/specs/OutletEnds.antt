@@ -5,7 +5,7 @@ use Rattle.atomic_table.specs.declared.badge.Badge.{Badge}
 use Rattle.crossbeam_channel.specs.declared.flavors.array.Key.{Key}
 use Rattle.crossbeam_channel.specs.Claims.{Pass, view}
 use Rattle.xcp_outlet.specs.declared.message.Message.{Message}
-use Rattle.xcp_outlet.specs.PassKnowledge.{Half, Known, half, half_of, bytes_of}
+use Rattle.xcp_outlet.specs.PassKnowledge.{Half, Known, half, half_of}
 
 -- what a pass knows
 abbrev pub knows : Pass Message Known → Known
@@ -48,7 +48,7 @@ pub record Taking : Type 0 where
 abbrev pub taking_of : Pass Message Known → Taking
 taking_of p = record { outlet = outlet_of p; taken = some_list (knows p).taken }
 
--- the packets of one side among the messages
+-- the packets of one side in the messages
 abbrev pub packets : List (Option (List ℕ)) → List (List ℕ)
 packets [] = []
 packets (None ∷ ms) = packets ms
@@ -59,11 +59,11 @@ has_mark [] = false
 has_mark (None ∷ ms) = true
 has_mark (Some p ∷ ms) = has_mark ms
 
-abbrev pub packet_list : Option (List ℕ) → List (List ℕ)
+abbrev pub packet_list : Option (List (List ℕ)) → List (List ℕ)
 packet_list None = []
-packet_list (Some p) = p ∷ []
+packet_list (Some ps) = ps
 
 -- the packets of both sides, in the order in which they were taken
 abbrev pub all_packets : List Message → List (List ℕ)
 all_packets [] = []
-all_packets (m ∷ ms) = packet_list (bytes_of m.packet) ++ all_packets ms
+all_packets (m ∷ ms) = packet_list m.batch ++ all_packets ms

@@ -1,16 +1,6 @@
 -- What a pass of the outlet knows.
-use Rattle.std.specs.Prelude.{ℕ, Bool, true, false, List, Option, Some, None}
-use Rattle.arrayvec.specs.ArrayVec.{ArrayVec}
+use Rattle.std.specs.Prelude.{ℕ, Bool, true, false, List, Option}
 use Rattle.xcp_outlet.specs.declared.message.Message.{Message}
-
--- a packet
-abbrev pub Packet : Type 0
-Packet = ArrayVec ℕ
-
--- the bytes of a packet, if it is one; the end mark has none
-abbrev pub bytes_of : Option Packet → Option (List ℕ)
-bytes_of None = None
-bytes_of (Some p) = Some p.items
 
 -- what one end has put: its packets, and whether its end mark followed
 pub record Half : Type 0 where

@@ -1,13 +1,14 @@
 //! The two ends that put.
-ghost use Rattle.std.specs.Prelude.{◌≡◌, ◌++◌, [], ◌∷◌, true, false, MatchResult};
+ghost use Rattle.std.specs.Prelude.{◌≡◌, ◌++◌, true, false, MatchResult};
 
 use crate::message::Message;
 use crate::opening::{Sender, Token};
 use crate::put::Put;
 use crate::rule::Puts;
+use std::alloc::Global;
 use std::marker::Model;
 use std::sync::Wait;
-use xcp_packet::Packet;
+use xcp_framing::Batch;
 
 /// The end that puts replies.
 #[derive(Drop)]
@@ -27,15 +28,20 @@ impl Model for ReplyEnd {
 }
 
 impl ReplyEnd {
-    /// Puts a packet behind those that were put before. It waits while the channel is full. Where
-    /// the send fails it has put nothing, and the packet comes back.
-    pub fn put_reply<R: Wait>(&mut self, rt: &R, packet: Packet) -> Result<(), Packet>
+    /// What gives memory for batches.
+    pub(crate) fn alloc(&self) -> Global {
+        self.end.alloc
+    }
+
+    /// Puts the packets of a batch behind those that were put before. It waits while the channel is
+    /// full. Where the send fails it has put none of them, and the batch comes back.
+    pub fn put_replies<R: Wait>(&mut self, rt: &R, batch: Batch) -> Result<(), Batch>
         ensures same { (self.new.outlet ≡ self.old.outlet) × (self.new.side ≡ self.old.side) }
         ensures put { MatchResult result
-            (λ _. self.new.put ≡ self.old.put ++ packet.items ∷ [])
-            (λ back. (back ≡ packet) × (self.new.put ≡ self.old.put)) }
+            (λ _. self.new.put ≡ self.old.put ++ batch)
+            (λ back. (back ≡ batch) × (self.new.put ≡ self.old.put)) }
     {
-        self.end.put(rt, packet)
+        self.end.put(rt, batch)
     }
 
     /// Puts the end mark, and puts no more. It waits while the channel is full.
@@ -77,15 +83,20 @@ impl Model for DataEnd {
 }
 
 impl DataEnd {
-    /// Puts a packet behind those that were put before. It waits while the channel is full. Where
-    /// the send fails it has put nothing, and the packet comes back.
-    pub fn put_data<R: Wait>(&mut self, rt: &R, packet: Packet) -> Result<(), Packet>
+    /// What gives memory for batches.
+    pub(crate) fn alloc(&self) -> Global {
+        self.end.alloc
+    }
+
+    /// Puts the packets of a batch behind those that were put before. It waits while the channel is
+    /// full. Where the send fails it has put none of them, and the batch comes back.
+    pub fn put_data<R: Wait>(&mut self, rt: &R, batch: Batch) -> Result<(), Batch>
         ensures same { (self.new.outlet ≡ self.old.outlet) × (self.new.side ≡ self.old.side) }
         ensures put { MatchResult result
-            (λ _. self.new.put ≡ self.old.put ++ packet.items ∷ [])
-            (λ back. (back ≡ packet) × (self.new.put ≡ self.old.put)) }
+            (λ _. self.new.put ≡ self.old.put ++ batch)
+            (λ back. (back ≡ batch) × (self.new.put ≡ self.old.put)) }
     {
-        self.end.put(rt, packet)
+        self.end.put(rt, batch)
     }
 
     /// Puts the end mark, and puts no more. It waits while the channel is full.
@@ -115,6 +126,7 @@ pub(crate) struct End {
     pub(crate) is_data: bool,
     pub(crate) sender: Sender,
     pub(crate) pass: Token,
+    pub(crate) alloc: Global,
 }
 
 impl Model for End {
@@ -135,20 +147,20 @@ impl Model for End {
 }
 
 impl End {
-    /// Puts a packet, or gives it back.
-    fn put<R: Wait>(&mut self, rt: &R, packet: Packet) -> Result<(), Packet>
+    /// Puts the packets of a batch, or gives it back.
+    fn put<R: Wait>(&mut self, rt: &R, batch: Batch) -> Result<(), Batch>
         ensures same { (self.new.outlet ≡ self.old.outlet) × (self.new.side ≡ self.old.side) }
         ensures put { MatchResult result
-            (λ _. self.new.put ≡ self.old.put ++ packet.items ∷ [])
-            (λ back. (back ≡ packet) × (self.new.put ≡ self.old.put)) }
+            (λ _. self.new.put ≡ self.old.put ++ batch)
+            (λ back. (back ≡ batch) × (self.new.put ≡ self.old.put)) }
     {
         let message = Message {
             from_data: self.is_data,
-            packet: Some(packet),
+            batch: Some(batch),
         };
         match self.sender.send_as::<Puts, R>(rt, &mut self.pass, message) {
             Ok(()) => Ok(()),
-            Err(refused) => match refused.into_inner().packet {
+            Err(refused) => match refused.into_inner().batch {
                 Some(back) => Err(back),
                 None => unreachable!(),
             },
@@ -164,10 +176,11 @@ impl End {
             is_data,
             sender,
             mut pass,
+            alloc: _,
         } = self;
         let message = Message {
             from_data: is_data,
-            packet: None,
+            batch: None,
         };
         let ended = sender.send_as::<Puts, R>(rt, &mut pass, message).is_ok();
         Put {
@@ -187,6 +200,7 @@ impl End {
             is_data,
             sender,
             pass,
+            alloc: _,
         } = self;
         Put {
             is_data,

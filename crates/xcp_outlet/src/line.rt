@@ -1,14 +1,16 @@
 //! Frames of packets that were taken, from their making to their writing.
-ghost use Rattle.std.specs.Prelude.{◌≡◌, ℕ, List, Option, [], ◌∷◌, ◌++◌, ◌+◌, ◌≤◌, false, length};
+ghost use Rattle.std.specs.Prelude.{◌≡◌, ℕ, Bool, List, Option, Some, [], ◌∷◌, ◌++◌, ◌+◌, ◌≤◌, false, length};
 ghost use Rattle.xcp_outlet.specs.declared.message.Message.{Message};
 ghost use Rattle.xcp_outlet.specs.Sending.{Sends};
+ghost use Rattle.xcp_outlet.specs.private.PassKnowledge.{message};
 ghost use Rattle.xcp_outlet.specs.private.Sending.{NoneInHand, Progress};
 
 use crate::fault::SendError;
 use crate::message::Message;
 use arrayvec::ArrayVec;
 use std::io::Write;
-use xcp_framing::{FRAME_SIZE, Watched, frame};
+use xcp_framing::{Batch, FRAME_SIZE, Watched, frame};
+use xcp_packet::Packet;
 
 /// The most bytes of frames that are written together.
 const HELD_SIZE: usize = 2048;
@@ -81,8 +83,44 @@ impl Line {
         }
     }
 
-    /// Makes the frame of a packet that was taken, or notes an end mark. CTR is the number of
-    /// packets before, of both ends, modulo 65,536. After a failed write it makes no frame.
+    /// Makes the frame of a packet that was taken. CTR is the number of packets before, of both ends,
+    /// modulo 65,536. After a failed write it makes no frame.
+    fn add_packet<W: Write>(&mut self, packet: &Packet, writer: &mut Watched<W>)
+        ensures { (before : Option (List ℕ)) (failures : ℕ) (taken : List Message) (from : Bool)
+            (done : List (List ℕ))
+            → Progress self.old (taken ++ message from (Some done) ∷ [])
+            before (W.contents writer.old.inner) failures writer.old.failures
+            → Progress self.new (taken ++ message from (Some (done ++ packet.now.items ∷ [])) ∷ [])
+            before (W.contents writer.new.inner) failures writer.new.failures }
+    {
+        self.make_room(writer);
+        if self.broken {
+            return;
+        }
+        let frame = frame((self.sent % 65_536) as u16, packet);
+        let _ = self.held.try_extend_from_slice(frame.as_slice());
+        self.sent = self.sent.wrapping_add(1);
+    }
+
+    /// Makes the frames of the packets of a batch that was taken, in order.
+    fn add_batch<W: Write>(&mut self, batch: &Batch, writer: &mut Watched<W>)
+        ensures { (before : Option (List ℕ)) (failures : ℕ) (taken : List Message) (from : Bool)
+            → Progress self.old taken
+            before (W.contents writer.old.inner) failures writer.old.failures
+            → Progress self.new (taken ++ message from (Some batch.now) ∷ [])
+            before (W.contents writer.new.inner) failures writer.new.failures }
+    {
+        let mut packets = batch.packets();
+        let mut packet = Packet::new();
+        'packets: loop {
+            if !packets.next_into(&mut packet) {
+                return;
+            }
+            self.add_packet(&packet, writer);
+        }
+    }
+
+    /// Makes the frames of the packets that were taken with a message, or notes an end mark.
     pub(crate) fn add<W: Write>(&mut self, message: Message, writer: &mut Watched<W>)
         ensures { (before : Option (List ℕ)) (failures : ℕ) (taken : List Message)
             → Progress self.old taken
@@ -90,7 +128,7 @@ impl Line {
             → Progress self.new (taken ++ message ∷ [])
             before (W.contents writer.new.inner) failures writer.new.failures }
     {
-        let Some(packet) = message.packet else {
+        let Some(batch) = message.batch else {
             if message.from_data {
                 self.data_ended = true;
                 return;
@@ -98,13 +136,7 @@ impl Line {
             self.replies_ended = true;
             return;
         };
-        self.make_room(writer);
-        if self.broken {
-            return;
-        }
-        let frame = frame((self.sent % 65_536) as u16, &packet);
-        let _ = self.held.try_extend_from_slice(frame.as_slice());
-        self.sent = self.sent.wrapping_add(1);
+        self.add_batch(&batch, writer);
     }
 
     /// What the sender tells at its end, where it holds no frame.

@@ -1,9 +1,9 @@
 //! What goes through the channel.
-use xcp_packet::Packet;
+use xcp_framing::Batch;
 
-/// A packet of one end, or its end mark, which is no packet.
+/// A batch of packets of one end, or its end mark, which is no batch.
 #[derive(Drop)]
 pub struct Message {
     pub from_data: bool,
-    pub packet: Option<Packet>,
+    pub batch: Option<Batch>,
 }

@@ -37,6 +37,7 @@ pub fn outlet(alloc: Global) -> Result<(ReplyEnd, DataEnd, SendEnd), AllocError>
                 is_data: false,
                 sender,
                 pass: replies,
+                alloc,
             },
         },
         DataEnd {
@@ -44,6 +45,7 @@ pub fn outlet(alloc: Global) -> Result<(ReplyEnd, DataEnd, SendEnd), AllocError>
                 is_data: true,
                 sender: other,
                 pass: data,
+                alloc,
             },
         },
         SendEnd {

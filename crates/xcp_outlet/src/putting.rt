@@ -2,11 +2,11 @@
 ghost use Rattle.std.specs.Prelude.{◌≡◌};
 
 use crate::end::{DataEnd, ReplyEnd};
+use std::alloc::Global;
 use std::sync::Wait;
-use xcp_framing::End;
-use xcp_packet::Packet;
+use xcp_framing::{Batch, End};
 
-/// The end that puts replies, as one that takes packets one behind another. A put waits while the
+/// The end that puts replies, as one that takes batch behind batch. A put waits while the
 /// channel is full.
 #[derive(Drop)]
 pub struct PutReplies<'a, R: Wait> {
@@ -42,12 +42,16 @@ impl<'a, R: Wait> End for PutReplies<'a, R> {
 
     ghost same_trans = { λ x y z p q. (q.0 ∙ p.0, q.1 ∙ p.1) };
 
-    fn put(&mut self, packet: Packet) -> Result<(), Packet> {
-        self.end.put_reply(self.rt, packet)
+    fn put(&mut self, batch: Batch) -> Result<(), Batch> {
+        self.end.put_replies(self.rt, batch)
+    }
+
+    fn alloc(&self) -> Global {
+        self.end.alloc()
     }
 }
 
-/// The end that puts data packets, as one that takes packets one behind another. A put waits while
+/// The end that puts data packets, as one that takes batch behind batch. A put waits while
 /// the channel is full.
 #[derive(Drop)]
 pub struct PutData<'a, R: Wait> {
@@ -83,7 +87,11 @@ impl<'a, R: Wait> End for PutData<'a, R> {
 
     ghost same_trans = { λ x y z p q. (q.0 ∙ p.0, q.1 ∙ p.1) };
 
-    fn put(&mut self, packet: Packet) -> Result<(), Packet> {
-        self.end.put_data(self.rt, packet)
+    fn put(&mut self, batch: Batch) -> Result<(), Batch> {
+        self.end.put_data(self.rt, batch)
+    }
+
+    fn alloc(&self) -> Global {
+        self.end.alloc()
     }
 }

@@ -1,7 +1,7 @@
 -- What a pass of the outlet knows behind each step of the channel.
 use Rattle.std.specs.Prelude.{ℕ, Bool, true, false, List, [], ◌∷◌, ◌++◌, Option, Some, None, option_map}
 use Rattle.xcp_outlet.specs.declared.message.Message.{Message}
-use Rattle.xcp_outlet.specs.PassKnowledge.{Packet, bytes_of, Half, Known, half}
+use Rattle.xcp_outlet.specs.PassKnowledge.{Half, Known, half}
 
 abbrev pub nobody : Known
 nobody = record { reply = None; daq = None; taken = None }
@@ -14,20 +14,20 @@ abbrev pub one_half : Bool → Half → Known
 one_half false h = record { reply = Some h; daq = None; taken = None }
 one_half true h = record { reply = None; daq = Some h; taken = None }
 
-abbrev pub message : Bool → Option Packet → Message
-message side p = record { from_data = side; packet = p }
+abbrev pub message : Bool → Option (List (List ℕ)) → Message
+message side b = record { from_data = side; batch = b }
 
--- one message more: a packet, or the end mark
-abbrev pub more : Option (List ℕ) → Half → Half
-more (Some p) h = half (h.put ++ p ∷ []) h.ended
+-- one message more: a batch of packets, or the end mark
+abbrev pub more : Option (List (List ℕ)) → Half → Half
+more (Some ps) h = half (h.put ++ ps) h.ended
 more None h = half h.put true
 
-abbrev pub after_put_on : Bool → Option (List ℕ) → Known → Known
-after_put_on false p v = record { reply = option_map (more p) v.reply; daq = v.daq; taken = v.taken }
-after_put_on true p v = record { reply = v.reply; daq = option_map (more p) v.daq; taken = v.taken }
+abbrev pub after_put_on : Bool → Option (List (List ℕ)) → Known → Known
+after_put_on false b v = record { reply = option_map (more b) v.reply; daq = v.daq; taken = v.taken }
+after_put_on true b v = record { reply = v.reply; daq = option_map (more b) v.daq; taken = v.taken }
 
 abbrev pub after_put : Message → Known → Known
-after_put m v = after_put_on m.from_data (bytes_of m.packet) v
+after_put m v = after_put_on m.from_data m.batch v
 
 abbrev pub after_take : Message → Known → Known
 after_take m v = record { reply = v.reply; daq = v.daq; taken = option_map (λ t. t ++ m ∷ []) v.taken }

@@ -1,5 +1,5 @@
 -- What the sender has in hand between two packets.
-use Rattle.std.specs.Prelude.{◌≡◌, ◌+◌, ◌%◌, ◌^◌, ℕ, Bool, true, false, List, [], ◌++◌, length, Option}
+use Rattle.std.specs.Prelude.{◌≡◌, ◌%◌, ◌^◌, ℕ, Bool, true, false, List, [], ◌++◌, length, Option}
 use Rattle.std.specs.Io.KnownBytes.{Appends}
 use Rattle.xcp_framing.specs.Wire.{wire, wire_from}
 use Rattle.xcp_outlet.specs.declared.message.Message.{Message}

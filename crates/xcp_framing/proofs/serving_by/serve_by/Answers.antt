@@ -1,18 +1,27 @@
-use Rattle.std.proofs.Common.{refl}
-use Rattle.xcp_framing.proofs.PutPacketLemmas.{puts_behind, puts_before, by_memory, by_of, refused_by}
+use Rattle.std.proofs.Common.{rules, refl}
+use Rattle.xcp_framing.proofs.PutPacketLemmas.{puts_behind, puts_before, puts_handed, puts_held, by_memory, by_of, refused_by}
 use Rattle.xcp_framing.proofs.serving_by.serve_by.Goals as goal
 
 pub answer_stream-requires-clause-more : goal.answer_stream-requires-clause-more
-answer_stream-requires-clause-more g c = puts_behind _ _ _ _ _ g.met.S.Station.same_trans g.met.E.End.same_trans _
+answer_stream-requires-clause-more g c = puts_behind _ _ _ _ _ _ _ g.met.S.Station.same_trans g.met.E.End.same_trans
 
 pub answer_stream-requires-clause-before : goal.answer_stream-requires-clause-before
-answer_stream-requires-clause-before g c = puts_before _ _ _ _ _ _
+answer_stream-requires-clause-before g c = λ e ps qs a b i x. puts_before _ _ _ _ _ _ _ e ps qs a b x
+
+pub answer_stream-requires-clause-handed : goal.answer_stream-requires-clause-handed
+answer_stream-requires-clause-handed g c = puts_handed _ _ _ _ _ _ _ g.met.E.End.same_trans
+
+pub answer_stream-requires-clause-held : goal.answer_stream-requires-clause-held
+answer_stream-requires-clause-held g c = puts_held _ _ _ _ _ _ _ g.met.E.End.same_trans
 
 pub returns-in_default-clause-serves : goal.returns-in_default-clause-serves
 returns-in_default-clause-serves g c = by_memory _ _ _ _
 
+pub returns-then-is_err-clause-serves : goal.returns-then-is_err-clause-serves
+returns-then-is_err-clause-serves g c = by_memory _ _ _ _
+
 pub returns-clause-serves : goal.returns-clause-serves
-returns-clause-serves g c = by_of _ _ _ _ _ _ _ _ _ _ _ _ c.answer_stream.ensures.streams refl c.answer_stream.ensures.sent
+returns-clause-serves g c = by_of _ _ _ _ _ _ _ _ _ _ _ _ _ c.answer_stream.ensures.streams refl (search rules) c.answer_stream.ensures.rests c.answer_stream.ensures.sent
 
 pub returns-clause-refused : goal.returns-clause-refused
-returns-clause-refused g c = refused_by _ _ _ _ _ _ _ _ _ _ _ _ _ c.answer_stream.ensures.streams
+returns-clause-refused g c = refused_by _ _ _ _ _ _ _ _ _ _ _ _ _ _ c.answer_stream.ensures.streams

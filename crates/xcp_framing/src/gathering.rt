@@ -1,0 +1,121 @@
+//! Packets that are gathered in a batch, so that one put takes many of them.
+ghost use Rattle.std.specs.Prelude.{◌≡◌, ◌≢◌, ◌≤◌, [], ◌++◌, OnErr, OnOk, IfErr, IfOk, length};
+ghost use Rattle.xcp_packet.specs.PacketTrains.{block_packets};
+ghost use Rattle.xcp_slave.specs.AnswerInBytes.{answer_in};
+ghost use Rattle.xcp_framing.specs.Serve.{packet_of};
+ghost use Rattle.xcp_framing.specs.private.PutOutput.{MovesSoFar};
+ghost use Rattle.xcp_framing.specs.private.Serve.{most_train};
+
+use crate::{Batch, End, ServeError};
+use std::alloc::{AllocError, Global};
+use std::mem;
+use xcp_packet::{Packet, Width};
+use xcp_slave::Told;
+
+/// Puts the packets of a batch, if it has some. It has none then, also where they are handed back,
+/// and room for those of the next answers. Where there is no memory for this room they aren't put.
+pub(crate) fn hand_on<E: End>(batch: &mut Batch, end: &mut E) -> Result<(), ServeError>
+    ensures ok { OnOk result (E.put_so_far end.new ≡ E.put_so_far end.old ++ batch.old) }
+    ensures back { OnErr result ((E.put_so_far end.new ≡ E.put_so_far end.old) × (batch.old ≢ [])) }
+    ensures held { batch.new ≡ [] }
+    ensures err { IfErr result (λ e. e ≡ ServeError.Write) }
+    ensures same { E.same end.old end.new }
+{
+    if batch.is_empty() {
+        return Ok(());
+    }
+    let full = mem::replace(batch, Batch::new(end.alloc()));
+    if batch.take_room().is_err() {
+        return Err(ServeError::Write);
+    }
+    if end.put(full).is_err() {
+        return Err(ServeError::Write);
+    }
+    Ok(())
+}
+
+/// Hands a batch on that has no room for the packets of one more answer, and takes room where the
+/// batch never had some. Where there is no memory for it, the next packet finds that.
+pub(crate) fn make_room<E: End>(batch: &mut Batch, end: &mut E) -> Result<(), ServeError>
+    ensures moves { MovesSoFar result (E.put_so_far end.old) batch.old
+        (E.put_so_far end.new) batch.new [] }
+    ensures err { IfErr result (λ e. e ≡ ServeError.Write) }
+    ensures same { E.same end.old end.new }
+{
+    if batch.has_room() {
+        return Ok(());
+    }
+    hand_on(batch, end)?;
+    let _ = batch.take_room();
+    Ok(())
+}
+
+/// Puts the packets of an answer into a batch, and answers how many they are. Where there is no
+/// memory for one, all that the batch has is given up.
+pub(crate) fn gather_told(
+    batch: &mut Batch,
+    alloc: Global,
+    told: Told,
+    packet: &Packet,
+) -> Result<u64, ServeError>
+    ensures ok { IfOk result (λ n.
+        (batch.new ≡ batch.old ++ packet_of (answer_in told packet.now))
+        × (n ≡ length (packet_of (answer_in told packet.now)))) }
+    ensures most { IfOk result (λ n. n ≤ most_train) }
+    ensures back { OnErr result ((batch.new ≡ [])
+        × (packet_of (answer_in told packet.now) ≢ [])) }
+    ensures err { IfErr result (λ e. e ≡ ServeError.Write) }
+{
+    match push_told(batch, told, packet) {
+        Ok(count) => Ok(count),
+        Err(AllocError) => {
+            *batch = Batch::new(alloc);
+            Err(ServeError::Write)
+        }
+    }
+}
+
+/// Puts the packets of an answer into a batch.
+fn push_told(batch: &mut Batch, told: Told, packet: &Packet) -> Result<u64, AllocError>
+    ensures ok { IfOk result (λ n.
+        (batch.new ≡ batch.old ++ packet_of (answer_in told packet.now))
+        × (n ≡ length (packet_of (answer_in told packet.now)))) }
+    ensures most { IfOk result (λ n. n ≤ most_train) }
+    ensures some { OnErr result (packet_of (answer_in told packet.now) ≢ []) }
+{
+    match told {
+        Told::Packet => {
+            batch.push(packet)?;
+            Ok(1)
+        }
+        Told::Block(width) => push_block(batch, packet, width),
+        _ => Ok(0),
+    }
+}
+
+/// Puts the packets of a block into a batch.
+fn push_block(batch: &mut Batch, bytes: &[u8], width: Width) -> Result<u64, AllocError>
+    requires { length bytes.now ≤ 255 }
+    ensures ok { IfOk result (λ n. (batch.new ≡ batch.old ++ block_packets width bytes.now)
+        × (n ≡ length (block_packets width bytes.now))) }
+    ensures most { IfOk result (λ n. n ≤ most_train) }
+    ensures some { OnErr result (block_packets width bytes.now ≢ []) }
+{
+    let _least = width.bytes();
+    let mut count = 0;
+    let mut left = bytes;
+    let mut piece = Packet::new();
+    'pieces: loop {
+        match width.cut(left, &mut piece) {
+            None => {
+                batch.push(&piece)?;
+                return Ok(count + 1);
+            }
+            Some(rest) => {
+                batch.push(&piece)?;
+                count += 1;
+                left = rest;
+            }
+        }
+    }
+}

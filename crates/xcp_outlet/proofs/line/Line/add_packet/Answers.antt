@@ -1,0 +1,13 @@
+use Rattle.std.proofs.Common.{rules, ◌≡◌, ◌%◌, ◌++◌, false}
+use Rattle.xcp_framing.specs.Wire.{frame_bytes}
+use Rattle.xcp_outlet.proofs.SendingLemmas.{passed, added}
+use Rattle.xcp_outlet.proofs.line.Line.add_packet.Goals as goal
+
+pub returns-then-self : goal.returns-then-self
+returns-then-self g c before failures taken from done p = passed c.make_room.new.self taken from done c.args.packet.now.items c.if-self.true (c.make_room.ensures.goes_on before failures _ p)
+
+pub returns : goal.returns
+returns g c before failures taken from done p =
+    let well : c.make_room.new.self.broken ≡ false = search rules in
+    let more : c.try_extend_from_slice.new.self.items ≡ c.make_room.new.self.held.items ++ frame_bytes (c.make_room.new.self.sent % 65536) c.args.packet.now.items = search rules in
+    added c.make_room.new.self taken from done c.args.packet.now.items _ well more (c.make_room.ensures.goes_on before failures _ p)
