@@ -6,6 +6,7 @@ use std::alloc::Global;
 use xcp_framing::Watched;
 use xcp_record::{AuditFault, RecordFault, Silent, audit};
 use xcp_scribe::{Recording, Scribe};
+use xcp_slave::Slave;
 use xcp_trace::Journal;
 
 /// A recording to a stream that takes so many bytes.
@@ -17,21 +18,21 @@ fn recording(alloc: Global, room: usize) -> Result<Recording<Narrow>, RecordFaul
     Recording::new(alloc, stream, LAYOUT)
 }
 
-/// Gives a scribe a chapter of these calls.
-fn give<S: Scribe>(scribe: &mut S, calls: &Journal) {
+/// Gives a scribe a chapter of these calls, which ends with this slave.
+fn give<S: Scribe>(scribe: &mut S, calls: &Journal, last: &Slave) {
     if calls.len() <= 65_536 {
-        scribe.write(calls.entries());
+        scribe.write(calls.entries(), last);
     }
 }
 
 /// Gives it chapters of 7 and 9 calls, and one without: whether there was memory.
 fn give_three<S: Scribe>(alloc: Global, scribe: &mut S) -> bool {
-    let Some((first, second)) = chapters(alloc) else {
+    let (Some((first, second)), Some(last)) = (chapters(alloc), slave(alloc)) else {
         return false;
     };
-    give(scribe, &first);
-    give(scribe, &second);
-    give(scribe, &Journal::new(alloc));
+    give(scribe, &first, &last);
+    give(scribe, &second, &last);
+    give(scribe, &Journal::new(alloc), &last);
     true
 }
 

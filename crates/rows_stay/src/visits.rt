@@ -13,6 +13,7 @@ use std::time::{Clock, Duration};
 use xcp_locked::Unnamed;
 use xcp_scribe::Scribe;
 use xcp_seats::Halt;
+use xcp_slave::Slave;
 use xcp_stay::{Plan, Report, stay};
 use xcp_trace::Entries;
 
@@ -25,7 +26,7 @@ impl Scribe for Counting {
 
     ghost wrote = { λ s chapters. ⊤ };
 
-    fn write(&mut self, _calls: Entries<'_>) {
+    fn write(&mut self, _calls: Entries<'_>, _last: &Slave) {
         self.0 = self.0.wrapping_add(1);
     }
 }

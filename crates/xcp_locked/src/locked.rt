@@ -27,7 +27,7 @@ use std::sync::{Arc, Condvar};
 use xcp_controller::keeps_image;
 use xcp_packet::Packet;
 use xcp_slave::{Request, Slave, Told};
-use xcp_trace::Journal;
+use xcp_trace::{Entries, Journal};
 
 /// The most entries of a journal.
 pub const JOURNAL: usize = 65_536;
@@ -200,6 +200,20 @@ impl<N: Name> Locked<N> {
         &self.base
     }
 
+    /// The slave as it is. It executes nothing but by `submit`.
+    pub fn slave(&self) -> &Slave
+        ensures { result.now ≡ self.now.slave }
+    {
+        &self.slave
+    }
+
+    /// The calls of the open chapter, from the first one on.
+    pub fn entries(&self) -> Entries<'_>
+        ensures { result ≡ self.now.journal }
+    {
+        self.journal.entries()
+    }
+
     /// How many packets wait in the slave's outbox, for `Drain`.
     pub fn pending(&self) -> u8
         ensures { result ≡ length self.now.slave.outbox }
@@ -308,7 +322,7 @@ fn publish(publisher: &mut Publisher, slave: &Slave, request: &Request, place: u
         × Answers before request.now answer slave.now × (publisher.old.last ≡ image_of before) }
     ensures { Offers place (image_of slave.now) publisher.old publisher.new }
 {
-    if keeps_image(request) {
+    if keeps_image(request.asked()) {
         return;
     }
     publisher.offer(slave, place);

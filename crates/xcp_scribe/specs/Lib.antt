@@ -1,1 +1,3 @@
+pub mod Flashing
+pub mod Given
 pub mod Scribing

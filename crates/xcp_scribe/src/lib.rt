@@ -1,14 +1,22 @@
 //! What writes the chapters of a journal down while a server runs.
 //!
-//! A [`Scribe`] is given the calls of each chapter, one chapter after another. A [`Recording`] writes them to the file of a journal; where
-//! nobody asks for one, `None` does.
-//! `specs/Scribing.antt` has what stands in the file of a recording.
+//! A [`Scribe`] is given each chapter, one after another: its calls, and the slave with which it ends. A [`Recording`] writes the calls to
+//! the file of a journal; where nobody asks for one, `None` does; a [`Flashing`] keeps the pages that tools
+//! store in a file of their own; [`Both`] are two scribes.
+//! `specs/Given.antt` has what a scribe is given, `specs/Scribing.antt` what stands in the file of a recording, `specs/Flashing.antt` in that
+//! of stored pages.
 #![tactic(auto)]
 
+mod both;
+mod flashing;
 mod recording;
 mod scribe;
+mod shelf;
 mod synced;
 
+pub use both::Both;
+pub use flashing::{Flashing, Standing};
 pub use recording::Recording;
 pub use scribe::Scribe;
+pub use shelf::Shelf;
 pub use synced::Synced;

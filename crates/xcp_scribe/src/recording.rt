@@ -1,5 +1,7 @@
 //! A scribe that writes the file of a journal.
-ghost use Rattle.std.specs.Prelude.{◌≡◌, [], IfOk, IfErr, ◌⊎◌};
+ghost use Rattle.std.specs.Prelude.{◌≡◌, ◌≤◌, ◌++◌, [], ◌∷◌, List, IfOk, IfErr, ◌⊎◌, length};
+ghost use Rattle.xcp_record.specs.FileFormat.{most_calls};
+ghost use Rattle.xcp_trace.specs.declared.journal.Entry.{Entry};
 ghost use Rattle.xcp_scribe.specs.Scribing.{HasWritten};
 
 use crate::scribe::Scribe;
@@ -7,6 +9,7 @@ use std::alloc::Global;
 use std::io::Write;
 use std::snapshot::Snapshot;
 use xcp_record::{RecordFault, Recorder};
+use xcp_slave::Slave;
 use xcp_trace::Entries;
 
 /// Writes each chapter to the file of a journal. Its first fault ends the writing: what is whole in the file then stays so, and nothing
@@ -53,6 +56,21 @@ impl<W: Write> Recording<W> {
         self.fault
     }
 
+    /// Appends a chapter with these calls.
+    fn put(&mut self, calls: Entries<'_>)
+        requires { length calls ≤ most_calls }
+        ensures { (chapters : List (List Entry)) → HasWritten W.contents self.old chapters
+            → HasWritten W.contents self.new (chapters ++ calls.entry ∷ []) }
+    {
+        let number = self.recorder.chapters();
+        let appended = self.recorder.append(number, calls);
+        if let Err(fault) = appended {
+            if self.fault.is_none() {
+                self.fault = Some(fault);
+            }
+        }
+    }
+
     /// The stream.
     pub fn into_stream(self) -> W
         ensures { result ≡ self.recorder.writer.inner }
@@ -62,17 +80,12 @@ impl<W: Write> Recording<W> {
 }
 
 impl<W: Write + Drop> Scribe for Recording<W> {
+    ghost use Rattle.xcp_scribe.specs.Given.{calls_given};
     ghost use Rattle.xcp_scribe.specs.Scribing.{HasWritten};
 
-    ghost wrote = { HasWritten W.contents };
+    ghost wrote = { λ r given. HasWritten W.contents r (calls_given given) };
 
-    fn write(&mut self, calls: Entries<'_>) {
-        let number = self.recorder.chapters();
-        let appended = self.recorder.append(number, calls);
-        if let Err(fault) = appended {
-            if self.fault.is_none() {
-                self.fault = Some(fault);
-            }
-        }
+    fn write(&mut self, calls: Entries<'_>, _last: &Slave) {
+        self.put(calls);
     }
 }

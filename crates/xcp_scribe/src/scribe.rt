@@ -1,29 +1,30 @@
 //! What is given the chapters of a journal.
 ghost use Rattle.std.specs.Prelude.{◌≤◌, ◌++◌, [], ◌∷◌, List, ⊤, length, MatchOption};
 ghost use Rattle.xcp_record.specs.FileFormat.{most_calls};
-ghost use Rattle.xcp_trace.specs.declared.journal.Entry.{Entry};
+ghost use Rattle.xcp_scribe.specs.Given.{Given};
 
+use xcp_slave::Slave;
 use xcp_trace::Entries;
 
-/// Is given the calls of each chapter of a journal to write down, in order.
+/// Is given the chapters of a journal to write down, in order: of each its calls, and the slave with which it ends.
 pub trait Scribe: Drop {
-    /// It was given the calls of these chapters, in this order, and no others.
-    ghost wrote: { Self → List (List Entry) → Type 0 };
+    /// It was given these chapters, in this order, and no others.
+    ghost wrote: { Self → List Given → Type 0 };
 
-    /// Writes the calls of the next chapter down. Where that can't be done, it is kept in mind, and whoever gives them goes on.
-    fn write(&mut self, calls: Entries<'_>)
+    /// Writes the next chapter down. Where that can't be done, it is kept in mind, and whoever gives them goes on.
+    fn write(&mut self, calls: Entries<'_>, last: &Slave)
         requires { length calls ≤ most_calls }
-        ensures { (chapters : List (List Entry)) → wrote self.old chapters
-            → wrote self.new (chapters ++ calls.entry ∷ []) };
+        ensures { (given : List Given) → wrote self.old given
+            → wrote self.new (given ++ record { calls = calls.entry; last = last.now } ∷ []) };
 }
 
 /// Without a scribe nothing is written down.
 impl<S: Scribe> Scribe for Option<S> {
-    ghost wrote = { λ s chapters. MatchOption s ⊤ (λ scribe. S.wrote scribe chapters) };
+    ghost wrote = { λ s given. MatchOption s ⊤ (λ scribe. S.wrote scribe given) };
 
-    fn write(&mut self, calls: Entries<'_>) {
+    fn write(&mut self, calls: Entries<'_>, last: &Slave) {
         if let Some(scribe) = self {
-            scribe.write(calls);
+            scribe.write(calls, last);
         }
     }
 }

@@ -5,7 +5,7 @@ use Rattle.xcp_bank.specs.BankId.{BankId}
 use Rattle.xcp_bank.specs.BankEnds.{six_readers}
 use Rattle.xcp_memory.specs.Layout.{LayoutValue}
 use Rattle.xcp_slave.specs.Run.{Run}
-use Rattle.xcp_trace.specs.declared.Entry.{Entry}
+use Rattle.xcp_scribe.specs.Given.{Given}
 use Rattle.xcp_slave.specs.SlaveValue.{opening}
 use Rattle.xcp_slave.specs.declared.answer.Answer.{Answer}
 use Rattle.xcp_slave.specs.declared.answer.Answer.TheVariants as answers
@@ -18,7 +18,7 @@ use Rattle.xcp_locked.specs.Caller.{CallerValue, callers_of}
 use Rattle.xcp_locked.specs.Chapters.{Disagree, IsWhole, entries_of}
 use Rattle.xcp_locked.specs.Journal.{exchanges}
 use Rattle.xcp_server.specs.LastHangup.{EndsSession}
-use Rattle.xcp_locked.specs.LockedSlave.{ChapterValue, IsReached}
+use Rattle.xcp_locked.specs.LockedSlave.{ChapterValue, IsReached, LockedValue}
 use Rattle.xcp_locked.specs.Publications.{image_of}
 use Rattle.xcp_server.specs.ServerOutcome.{Closes, CountTheirCommands}
 use Rattle.xcp_server.specs.declared.closing.Closing.{Closing}
@@ -87,14 +87,18 @@ pub record IsReport {N I O : Type 0} (layout : LayoutValue) (c : Closing N I O) 
   pub whole : IsWhole layout c.locked c.chapters.items c.callers.items
   pub fault : r.fault ≡ first_of (fault_of_ends c.ends.items) (fault_of_tasks c.fault)
 
--- the calls of chapters, chapter by chapter
-abbrev pub calls_in : List ChapterValue → List (List Entry)
-calls_in chapters = map (λ (c : ChapterValue). c.entries) chapters
+-- what a scribe is given of chapters: the calls of each, and the slave with which it ends
+abbrev pub given_in : List ChapterValue → List Given
+given_in chapters = map (λ (c : ChapterValue). record { calls = c.entries; last = c.last }) chapters
+
+-- the same of the open chapter, as the slave is
+abbrev pub given_open : LockedValue → Given
+given_open l = record { calls = l.journal; last = l.slave }
 
 -- A server's work was done on a slave of this layout, by tasks that no gate ended, and this is what it gives back: what is told of
 -- the work, the journal of its open chapter, which is a run from where the chapter begins, its connections as the work left them, and the
--- scribe, which was given the calls of all chapters, in order, those of the open one last.
-pub record IsServed {I O S : Type 0} (N : Type 0) (remaining : I → Option (List ℕ)) (contents : O → Option (List ℕ)) (wrote : S → List (List Entry) → Type 0) (layout : LayoutValue) (turns cycles chapter tasks callers : ℕ) (bank : BankId) (ends : List (Watched I × Watched O)) (ending : Ending I O S) : Type 0 where
+-- scribe, which was given all chapters, in order, the open one last.
+pub record IsServed {I O S : Type 0} (N : Type 0) (remaining : I → Option (List ℕ)) (contents : O → Option (List ℕ)) (wrote : S → List Given → Type 0) (layout : LayoutValue) (turns cycles chapter tasks callers : ℕ) (bank : BankId) (ends : List (Watched I × Watched O)) (ending : Ending I O S) : Type 0 where
   pub closing : Closing N I O
   pub closes : Closes remaining contents layout ⊥ layout.max_cto turns cycles chapter tasks (callers_of layout callers) (six_readers bank (image_of (opening layout))) ends closing
   pub frames : CountTheirCommands closing.ends.items closing.callers.items
@@ -104,4 +108,4 @@ pub record IsServed {I O S : Type 0} (N : Type 0) (remaining : I → Option (Lis
   pub told : MatchResult ending.told (IsReport layout closing) (IsMismatch layout closing)
   pub journal : ending.journal.entries ≡ closing.locked.journal
   pub left : ending.left.items ≡ closing.left.items
-  pub written : wrote ending.scribe (calls_in closing.chapters.items ++ closing.locked.journal ∷ [])
+  pub written : wrote ending.scribe (given_in closing.chapters.items ++ given_open closing.locked ∷ [])

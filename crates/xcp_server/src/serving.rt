@@ -28,7 +28,7 @@ const PUMP_TURNS: u32 = 4_000_000_000;
 /// joins them, ends the session, settles all callers for each chapter and tells how many chapters and
 /// calls there were, or which chapter doesn't follow the one before it, or which caller's receipts
 /// aren't the journal's. A task begins its cycle n once n of its periods, in nanoseconds, have passed
-/// since the call. The scribe is given the calls of all chapters at the end, in order. `Memory`, and no other
+/// since the call. The scribe is given all chapters at the end, in order. `Memory`, and no other
 /// fault, is the call's own: it comes where memory or a thread is refused, before anybody has begun.
 pub fn serve_ends<
     I: Read + Send + Drop,
@@ -92,9 +92,8 @@ fn serve_named<
         return Err(Fault::Memory);
     };
     let told = conclude(&mut closing);
-    closing.locked.audit();
+    let scribe = write_down(scribe, &closing.chapters, &closing.locked);
     let journal = closing.locked.into_journal();
-    let scribe = write_down(scribe, &closing.chapters, &journal);
     let left = closing.left;
     Ok(Ending {
         told,

@@ -3,14 +3,14 @@ use Rattle.std.proofs.Common.{◌≡◌, ◌+◌, ℕ, zero, suc, Bool, true, fa
 use Rattle.std.proofs.lemmas.List.{append-nil}
 use Rattle.std.specs.List.{AllByRecursion}
 use Rattle.relay.specs.Ends.{items_of}
-use Rattle.xcp_trace.specs.declared.Entry.{Entry}
 use Rattle.xcp_memory.specs.Layout.{LayoutValue}
+use Rattle.xcp_scribe.specs.Given.{Given}
 use Rattle.xcp_locked.specs.Caller.{CallerValue, callers_of, fresh_caller}
 use Rattle.xcp_locked.specs.LockedSlave.{ChapterValue}
 use Rattle.xcp_locked.specs.Sheaves.{SheafValue}
 use Rattle.xcp_locked.specs.declared.receipt.Receipt.{Receipt}
 use Rattle.xcp_service.specs.Keeping.{KeeperValue, receipts_by}
-use Rattle.xcp_service.specs.Parcels.{AreNumbered, ParcelValue, calls_in, receipts_put}
+use Rattle.xcp_service.specs.Parcels.{AreNumbered, ParcelValue, given_in, receipts_put}
 use Rattle.xcp_service.specs.Sheaves.{receipts_in}
 use Rattle.xcp_service.specs.private.Collected.{IsCollected, IsOfItsCaller, chapters_taken, sheaves_taken}
 use Rattle.xcp_service.proofs.KeepingLemmas.{all_more}
@@ -24,10 +24,10 @@ pub sheaves_more : (xs : List (ℕ × ParcelValue)) (x : ℕ × ParcelValue) →
 sheaves_more [] x = append-nil x.1.sheaves
 sheaves_more (y ∷ xs) x = ap (λ (l : List SheafValue). y.1.sheaves ++ l) (sheaves_more xs x) ∙ sym (append_assoc y.1.sheaves (sheaves_taken xs) x.1.sheaves)
 
--- the calls of two lists of chapters
-pub calls_append : (cs ds : List ChapterValue) → calls_in (cs ++ ds) ≡ calls_in cs ++ calls_in ds
-calls_append [] ds = refl
-calls_append (c ∷ cs) ds = ap (λ (l : List (List Entry)). c.entries ∷ l) (calls_append cs ds)
+-- what is given of two lists of chapters
+pub given_append : (cs ds : List ChapterValue) → given_in (cs ++ ds) ≡ given_in cs ++ given_in ds
+given_append [] ds = refl
+given_append (c ∷ cs) ds = ap (λ (l : List Given). record { calls = c.entries; last = c.last } ∷ l) (given_append cs ds)
 
 -- what a keeper took is collected, where it took one more
 pub collected_more : (k l : KeeperValue) (taken more : List (ℕ × ParcelValue)) (x : ℕ × ParcelValue) → IsCollected k taken → more ≡ taken ++ x ∷ [] → l.chapters ≡ k.chapters ++ x.1.chapters

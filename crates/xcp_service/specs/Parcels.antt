@@ -1,7 +1,7 @@
 -- What goes to a keeper by its post, and what came of it.
 use Rattle.std.specs.Prelude.{◌≡◌, ◌+◌, ℕ, ⊤, List, [], ◌∷◌, ◌++◌, map}
-use Rattle.xcp_trace.specs.declared.Entry.{Entry}
 use Rattle.xcp_memory.specs.Layout.{LayoutValue}
+use Rattle.xcp_scribe.specs.Given.{Given}
 use Rattle.xcp_locked.specs.Caller.{CallerValue, callers_of}
 use Rattle.xcp_locked.specs.LockedSlave.{ChapterValue}
 use Rattle.xcp_locked.specs.Sheaves.{SheafValue}
@@ -14,9 +14,9 @@ pub record ParcelValue : Type 0 where
   pub chapters : List ChapterValue
   pub sheaves : List SheafValue
 
--- the calls of chapters, chapter by chapter
-abbrev pub calls_in : List ChapterValue → List (List Entry)
-calls_in chapters = map (λ (c : ChapterValue). c.entries) chapters
+-- what a scribe is given of chapters: the calls of each, and the slave with which it ends
+abbrev pub given_in : List ChapterValue → List Given
+given_in chapters = map (λ (c : ChapterValue). record { calls = c.entries; last = c.last }) chapters
 
 abbrev pub parcel_of_chapter : ChapterValue → ParcelValue
 parcel_of_chapter c = record { chapters = c ∷ []; sheaves = [] }

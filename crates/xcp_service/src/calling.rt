@@ -1,5 +1,5 @@
 //! One call of a slave that stays.
-ghost use Rattle.std.specs.Prelude.{◌≡◌, ◌≤◌, ℕ, Err, IfOk, OnErr, length};
+ghost use Rattle.std.specs.Prelude.{◌≡◌, ◌≢◌, ◌≤◌, ◌<◌, ℕ, Err, IfOk, OnErr, false, length, true};
 ghost use Rattle.xcp_slave.specs.AnswerInBytes.{answer_in};
 ghost use Rattle.xcp_locked.specs.Caller.{accepting};
 ghost use Rattle.xcp_locked.specs.Journal.{journal_limit};
@@ -18,8 +18,9 @@ use xcp_slave::{Request, Told};
 /// From how many calls on the open chapter is cut off.
 pub const CHAPTER: u64 = 16_384;
 
-/// Submits a request that is lent, under the lock that the slave is lent from. Where this fills the open chapter, cuts it off
-/// under the same hold; where there was no memory for that, the next call does. What the member has at hand of chapters that were
+/// Submits a request that is lent, under the lock that the slave is lent from. Where this fills the open chapter, or stores a
+/// segment's pages, cuts the chapter off under the same hold, so that the keeper has what was stored at once; where there was no
+/// memory for a full one, the next call does. What the member has at hand of chapters that were
 /// cut off it hands over. `JournalFull` comes only where the open chapter had 65,536 calls before, since there was never memory to
 /// cut it off; after an error nothing was executed.
 pub fn call<N: Name, M: Route>(
@@ -42,8 +43,20 @@ pub fn call<N: Name, M: Route>(
     }
     member.hand_over(rt, alloc, locked, post);
     let told = member.submit(locked, request, packet)?;
-    if locked.len() >= CHAPTER {
+    if ends_chapter(locked.len(), &told) {
         post.cut(rt, alloc, locked);
     }
     Ok(told)
+}
+
+/// Whether a chapter ends that has so many calls, of which the last one was told this: it is full, or pages were stored.
+fn ends_chapter(calls: u64, told: &Told) -> bool
+    ensures full { 16384 ≤ calls → result ≡ true }
+    ensures stored { (segments : ℕ) → told.now ≡ Told.Stored segments → 0 < segments → result ≡ true }
+    ensures neither { calls < 16384 → ((segments : ℕ) → 0 < segments → told.now ≢ Told.Stored segments) → result ≡ false }
+{
+    match told {
+        Told::Stored(segments) => *segments > 0 || calls >= CHAPTER,
+        _ => calls >= CHAPTER,
+    }
 }

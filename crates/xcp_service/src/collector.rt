@@ -1,8 +1,8 @@
 //! A keeper, with the end of the post from which it takes, and who writes down what it takes.
 ghost use Rattle.std.specs.Prelude.{◌≡◌, ◌++◌, [], List, true};
 ghost use Rattle.xcp_service.specs.Keeping.{receipts_by};
-ghost use Rattle.xcp_service.specs.Parcels.{calls_in, receipts_put};
-ghost use Rattle.xcp_trace.specs.declared.journal.Entry.{Entry};
+ghost use Rattle.xcp_service.specs.Parcels.{given_in, receipts_put};
+ghost use Rattle.xcp_scribe.specs.Given.{Given};
 
 use crate::keeper::{Keeper, Unkept};
 use crate::parcel::Parcel;
@@ -16,7 +16,7 @@ use xcp_locked::Name;
 use xcp_scribe::Scribe;
 
 /// A keeper that takes what comes by its post. What it took is what was handed in: the chapters, and of each caller its sheaves. Its
-/// scribe was given the calls of these chapters, in order.
+/// scribe was given these chapters, in order.
 #[derive(Drop)]
 pub struct Collector<N: Name, M: Route, S: Scribe> {
     keeper: Keeper<N>,
@@ -28,14 +28,14 @@ pub struct Collector<N: Name, M: Route, S: Scribe> {
 impl<N: Name, M: Route, S: Scribe> Model for Collector<N, M, S> {
     ghost use Rattle.std.specs.Prelude.{◌≡◌};
     ghost use Rattle.xcp_service.specs.Keeping.{KeeperValue};
-    ghost use Rattle.xcp_service.specs.Parcels.{calls_in};
+    ghost use Rattle.xcp_service.specs.Parcels.{given_in};
     ghost use Rattle.xcp_service.specs.private.Collected.{IsCollected};
 
     ghost Value = { KeeperValue };
 
     ghost view = { λ c. c.keeper };
 
-    ghost invariant = { λ c. (c.taker.relay ≡ M.relay) × IsCollected c.keeper c.taker.taken × S.wrote c.scribe (calls_in c.keeper.chapters) };
+    ghost invariant = { λ c. (c.taker.relay ≡ M.relay) × IsCollected c.keeper c.taker.taken × S.wrote c.scribe (given_in c.keeper.chapters) };
 }
 
 impl<N: Name, M: Route, S: Scribe> Collector<N, M, S> {
@@ -88,20 +88,20 @@ impl<N: Name, M: Route, S: Scribe> Collector<N, M, S> {
     /// The keeper, which takes nothing more, and its scribe.
     pub fn into_parts(self) -> (Keeper<N>, S)
         ensures keeper { result.0 ≡ self }
-        ensures wrote { S.wrote result.1 (calls_in result.0.chapters) }
+        ensures wrote { S.wrote result.1 (given_in result.0.chapters) }
     {
         let Collector { keeper, scribe, .. } = self;
         (keeper, scribe)
     }
 }
 
-/// Gives a scribe the calls of the chapter that comes, if one does.
+/// Gives a scribe the chapter that comes, if one does.
 fn write_down<N: Name, S: Scribe>(scribe: &mut S, parcel: &Parcel<N>)
-    ensures { (chapters : List (List Entry)) → S.wrote scribe.old chapters
-        → S.wrote scribe.new (chapters ++ calls_in parcel.now.chapters) }
+    ensures { (given : List Given) → S.wrote scribe.old given
+        → S.wrote scribe.new (given ++ given_in parcel.now.chapters) }
 {
     if let Some(chapter) = &parcel.chapter {
         chapter.audit();
-        scribe.write(chapter.entries());
+        scribe.write(chapter.entries(), chapter.last());
     }
 }

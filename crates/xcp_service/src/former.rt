@@ -1,7 +1,7 @@
 //! Callers that call no more.
 ghost use Rattle.std.specs.List.{AllByRecursion};
 ghost use Rattle.std.specs.Prelude.{◌≡◌, IfOk};
-ghost use Rattle.xcp_service.specs.Parcels.{AreNumbered, IsHandedOver, calls_in};
+ghost use Rattle.xcp_service.specs.Parcels.{AreNumbered, IsHandedOver, given_in};
 
 use crate::collector::Collector;
 use crate::keeper::{Keeper, Unkept};
@@ -60,7 +60,7 @@ pub fn resign_all<N: Name, M: Route, S: Scribe>(
 ) -> Result<Resigned<N, S>, Unkept>
     ensures numbered { IfOk result (λ r. AreNumbered 0 r.members.items) }
     ensures handed { IfOk result (λ r. AllByRecursion (IsHandedOver r.keeper) r.members.items) }
-    ensures wrote { IfOk result (λ r. S.wrote r.scribe (calls_in r.keeper.chapters)) }
+    ensures wrote { IfOk result (λ r. S.wrote r.scribe (given_in r.keeper.chapters)) }
 {
     let mut collector = collector;
     let mut all = Vec::new(alloc);

@@ -1,17 +1,17 @@
 -- What is told of a server that stayed.
 use Rattle.std.proofs.Common.{◌≡◌, ℕ, List, subst, sym}
-use Rattle.xcp_trace.specs.declared.Entry.{Entry}
 use Rattle.xcp_memory.specs.Layout.{LayoutValue}
 use Rattle.xcp_slave.specs.SlaveValue.{SlaveValue}
+use Rattle.xcp_scribe.specs.Given.{Given}
 use Rattle.xcp_locked.specs.Caller.{CallerValue}
 use Rattle.xcp_locked.specs.Chapters.{AreJoined}
 use Rattle.xcp_service.specs.Keeping.{AreKeptSettled, KeeperValue}
-use Rattle.xcp_service.specs.Parcels.{calls_in}
+use Rattle.xcp_service.specs.Parcels.{given_in}
 use Rattle.xcp_stay.specs.Stay.{AreAllMembers, IsKept}
 use Rattle.xcp_stay.specs.declared.staying.Report.{Report}
 
-pub kept_as : (l : LayoutValue) (count : ℕ) (wrote : List (List Entry) → Type 0) (k : KeeperValue) (cs : List CallerValue) (n m : ℕ) (v : SlaveValue) (r : Report) → r.chapters ≡ n → r.calls ≡ m
-    → AreJoined l k.chapters n m v → AreKeptSettled k → AreAllMembers count k cs → wrote (calls_in k.chapters) → IsKept l count wrote r
+pub kept_as : (l : LayoutValue) (count : ℕ) (wrote : List Given → Type 0) (k : KeeperValue) (cs : List CallerValue) (n m : ℕ) (v : SlaveValue) (r : Report) → r.chapters ≡ n → r.calls ≡ m
+    → AreJoined l k.chapters n m v → AreKeptSettled k → AreAllMembers count k cs → wrote (given_in k.chapters) → IsKept l count wrote r
 kept_as l count wrote k cs n m v r chapters calls joined settled all written = record {
   keeper = k;
   last = v;

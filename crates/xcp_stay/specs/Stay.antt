@@ -1,13 +1,13 @@
 -- What is true of all calls of a server that stayed.
 use Rattle.std.specs.Prelude.{◌≡◌, ℕ, List, length}
 use Rattle.std.specs.List.{AllByRecursion}
-use Rattle.xcp_trace.specs.declared.Entry.{Entry}
 use Rattle.xcp_memory.specs.Layout.{LayoutValue}
 use Rattle.xcp_slave.specs.SlaveValue.{SlaveValue}
+use Rattle.xcp_scribe.specs.Given.{Given}
 use Rattle.xcp_locked.specs.Caller.{CallerValue}
 use Rattle.xcp_locked.specs.Chapters.{AreJoined}
 use Rattle.xcp_service.specs.Keeping.{AreKeptSettled, KeeperValue}
-use Rattle.xcp_service.specs.Parcels.{AreNumbered, IsHandedOver, calls_in}
+use Rattle.xcp_service.specs.Parcels.{AreNumbered, IsHandedOver, given_in}
 use Rattle.xcp_service.specs.declared.keeper.Unkept.{Unkept}
 use Rattle.xcp_service.specs.declared.keeper.Unkept.TheVariants as unkept
 use Rattle.xcp_stay.specs.declared.ending.StayError.{StayError}
@@ -26,13 +26,13 @@ pub record AreAllMembers (count : ℕ) (k : KeeperValue) (members : List CallerV
   pub handed : AllByRecursion (IsHandedOver k) members
 
 -- What is told of a server that stayed: so many chapters, one behind another from the opening of the layout, with so many calls, are one
--- run of the slave, and each is settled by all callers, with all receipts that so many members ever had. What was written down is the calls
--- of just these chapters, in order.
-pub record IsKept (layout : LayoutValue) (count : ℕ) (wrote : List (List Entry) → Type 0) (r : Report) : Type 0 where
+-- run of the slave, and each is settled by all callers, with all receipts that so many members ever had. The scribe was given just these
+-- chapters, in order.
+pub record IsKept (layout : LayoutValue) (count : ℕ) (wrote : List Given → Type 0) (r : Report) : Type 0 where
   pub keeper : KeeperValue
   pub last : SlaveValue
   pub joined : AreJoined layout keeper.chapters r.chapters r.calls last
   pub settled : AreKeptSettled keeper
   pub members : List CallerValue
   pub all : AreAllMembers count keeper members
-  pub written : wrote (calls_in keeper.chapters)
+  pub written : wrote (given_in keeper.chapters)

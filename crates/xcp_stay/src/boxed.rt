@@ -2,6 +2,7 @@
 
 use std::boxed::Box;
 use xcp_scribe::Scribe;
+use xcp_slave::Slave;
 use xcp_trace::Entries;
 
 /// A scribe whose size nobody has to know through whose hands it goes.
@@ -11,9 +12,9 @@ pub(crate) struct Boxed<S: Scribe> {
 }
 
 impl<S: Scribe> Scribe for Boxed<S> {
-    ghost wrote = { λ b chapters. S.wrote b.scribe.value chapters };
+    ghost wrote = { λ b given. S.wrote b.scribe.value given };
 
-    fn write(&mut self, calls: Entries<'_>) {
-        self.scribe.as_mut().write(calls);
+    fn write(&mut self, calls: Entries<'_>, last: &Slave) {
+        self.scribe.as_mut().write(calls, last);
     }
 }

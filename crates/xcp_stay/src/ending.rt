@@ -2,7 +2,7 @@
 ghost use Rattle.std.specs.Prelude.{◌≡◌, [], IfOk};
 ghost use Rattle.xcp_locked.specs.Chapters.{AreJoined};
 ghost use Rattle.xcp_service.specs.Keeping.{AreKeptSettled};
-ghost use Rattle.xcp_service.specs.Parcels.{calls_in};
+ghost use Rattle.xcp_service.specs.Parcels.{given_in};
 ghost use Rattle.xcp_stay.specs.Stay.{AreAllMembers};
 
 use std::alloc::{AllocError, Global};
@@ -106,7 +106,7 @@ pub(crate) fn conclude<N: Name, M: Route, S: Scribe, R: Wait>(
     ensures settled { IfOk result (λ s. AreKeptSettled s.keeper) }
     ensures closed { IfOk result (λ s. (s.locked.journal ≡ []) × (s.locked.base ≡ s.locked.slave)) }
     ensures members { IfOk result (λ s. AreAllMembers count s.keeper s.members.items) }
-    ensures wrote { IfOk result (λ s. S.wrote s.scribe (calls_in s.keeper.chapters)) }
+    ensures wrote { IfOk result (λ s. S.wrote s.scribe (given_in s.keeper.chapters)) }
 {
     let Gathered { members, kept } = gathered;
     let Some(kept) = kept else {

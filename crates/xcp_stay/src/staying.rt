@@ -3,7 +3,7 @@ ghost use Rattle.std.specs.Prelude.{◌≡◌, ◌≤◌, ◌+◌, [], IfOk, len
 ghost use Rattle.std.specs.Vec.Iter.{into_iter_items};
 ghost use Rattle.xcp_locked.specs.Chapters.{AreJoined};
 ghost use Rattle.xcp_service.specs.Keeping.{AreKeptSettled};
-ghost use Rattle.xcp_service.specs.Parcels.{AreOpened, calls_in};
+ghost use Rattle.xcp_service.specs.Parcels.{AreOpened, given_in};
 ghost use Rattle.xcp_stay.specs.Stay.{AreAllMembers, IsKept};
 
 use crate::boxed::Boxed;
@@ -168,7 +168,7 @@ pub fn stay_named<
     ensures closed { IfOk result (λ s. (s.locked.journal ≡ []) × (s.locked.base ≡ s.locked.slave)) }
     ensures members { IfOk result (λ s. AreAllMembers (plan.tools + plan.tools + plan.tasks)
         s.keeper s.members.items) }
-    ensures wrote { IfOk result (λ s. S.wrote s.scribe (calls_in s.keeper.chapters)) }
+    ensures wrote { IfOk result (λ s. S.wrote s.scribe (given_in s.keeper.chapters)) }
 {
     let max_cto = unnamed.max_cto();
     let ready = Ready {
@@ -235,7 +235,7 @@ fn stay_by_post<
     ensures closed { IfOk result (λ s. (s.locked.journal ≡ []) × (s.locked.base ≡ s.locked.slave)) }
     ensures members { IfOk result (λ s. AreAllMembers (plan.tools + plan.tools + plan.tasks)
         s.keeper s.members.items) }
-    ensures wrote { IfOk result (λ s. S.wrote s.scribe.scribe.value (calls_in s.keeper.chapters)) }
+    ensures wrote { IfOk result (λ s. S.wrote s.scribe.scribe.value (given_in s.keeper.chapters)) }
 {
     let Ready {
         opening,

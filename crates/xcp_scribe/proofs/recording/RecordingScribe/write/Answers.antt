@@ -1,69 +1,13 @@
-use Rattle.std.proofs.Common.{◌≡◌, ◌<◌, ◌⊎◌, ℕ, arith, inl, inr, ◌∙◌, List, [], ◌∷◌, ◌++◌, refl, sym, ap, subst, append_assoc, true≢false}
-use Rattle.std.specs.Prelude.{false, Err, Option, None, Some, is_some}
-use Rattle.xcp_record.specs.FileFormat.{last_chapter}
-use Rattle.xcp_record.specs.Recording.{StopsInside}
-use Rattle.xcp_record.specs.declared.fault.RecordFault.{RecordFault}
-use Rattle.xcp_record.specs.declared.fault.RecordFault.TheVariants.{Memory, Number, Stopped, Write}
-use Rattle.xcp_record.specs.declared.recorder.Recorder.{Recorder}
+use Rattle.std.proofs.Common.{◌≡◌, List, [], ◌∷◌, ◌++◌, refl, sym, ap, subst}
 use Rattle.xcp_trace.specs.declared.Entry.{Entry}
-use Rattle.xcp_scribe.specs.Scribing.{IsFaulty}
-use Rattle.xcp_scribe.specs.declared.recording.Recording.{Recording}
+use Rattle.xcp_scribe.specs.Given.{Given, calls_given}
+use Rattle.xcp_scribe.specs.Scribing.{HasWritten}
 use Rattle.xcp_scribe.proofs.recording.RecordingScribe.write.Goals as goal
 
-some_is_none : {A : Type 0} (x : A) → Some x ≡ None → ⊥
-some_is_none x e = true≢false (ap is_some e)
+given_more : (given : List Given) (g : Given) → calls_given (given ++ g ∷ []) ≡ calls_given given ++ g.calls ∷ []
+given_more [] g = refl
+given_more (x ∷ given) g = ap (λ (l : List (List Entry)). x.calls ∷ l) (given_more given g)
 
-none_of : {A : Type 0} (o : Option A) → is_some o ≡ false → o ≡ None
-none_of None e = refl
-none_of (Some x) e = absurd (true≢false e)
-
--- a fault is none of these
-not_none : {W : Type 0} (r : Recording W) → IsFaulty r → r.fault ≡ None → ⊥
-not_none r (inl memory) none = some_is_none _ (sym memory ∙ none)
-not_none r (inr (inl write)) none = some_is_none _ (sym write.0 ∙ none)
-not_none r (inr (inr number)) none = some_is_none _ (sym number.0 ∙ none)
-
--- its first one
-first_fault : {W : Type 0} (r : Recording W) (f : RecordFault) → r.fault ≡ Some f → (f ≡ Write → 0 < r.recorder.writer.failures) → (f ≡ Number → last_chapter < r.recorder.chapters) → (f ≡ Stopped → ⊥) → IsFaulty r
-first_fault r Memory is write number stopped = inl is
-first_fault r Write is write number stopped = inr (inl (is, write refl))
-first_fault r Number is write number stopped = inr (inr (is, number refl))
-first_fault r Stopped is write number stopped = absurd (stopped refl)
-
--- chapters are numbered as they come
-numbered : (number old new : ℕ) → number ≡ old → new ≡ old → (number ≡ old → ⊥) ⊎ (last_chapter < number) → last_chapter < new
-numbered number old new is same (inl other) = absurd (other is)
-numbered number old new is same (inr last) = omega (arith, is, same, last)
-
-pub returns-then-is_none : goal.returns-then-is_none
-returns-then-is_none g c = λ chapters was. elim was [
-  | inl whole ↦ inr (record {
-    faulty = first_fault
-        (record { recorder = c.append-appended.new.self; layout = c.args.self.now.layout; start = c.args.self.now.start; fault = Some c.in-Err.fault })
-        c.in-Err.fault refl (λ e. let grown = c.in-Err.ensures.write (ap Err e) in omega (arith, grown))
-        (λ e. numbered c.chapters-number.result c.args.self.now.recorder.chapters c.append-appended.new.self.chapters c.chapters-number.ensures c.in-Err.ensures.err.2 (c.in-Err.ensures.number (ap Err e)))
-        (λ e. true≢false (sym (c.in-Err.ensures.since (ap Err e)) ∙ whole.going));
-    stopped = c.in-Err.ensures.err.0;
-    whole = chapters;
-    first = record { rest = c.args.calls ∷ []; joined = refl };
-    calls = c.in-Err.ensures.err.1 ∙ whole.records.called;
-    stops = c.in-Err.ensures.front c.args.self.now.layout _ chapters whole.records;
-  })
-  | inr cut ↦ absurd (not_none c.args.self.now cut.faulty (none_of c.args.self.now.fault (c.if-is_none.ensures {u = tt})))
-]
-
-pub returns-else-is_none : goal.returns-else-is_none
-returns-else-is_none g c = λ chapters was. elim was [
-  | inl whole ↦ absurd (true≢false (sym (c.if-is_none.ensures {u = tt}) ∙ ap is_some whole.fine))
-  | inr cut ↦
-      let same = (c.in-Err.ensures.stopped cut.stopped).1 in
-      let start = g.W.Write.contents c.args.self.now.start.value in
-      inr (record {
-        faulty = subst (λ (r : Recorder _). IsFaulty (record { recorder = r; layout = c.args.self.now.layout; start = c.args.self.now.start; fault = c.args.self.now.fault })) (sym same) cut.faulty;
-        stopped = ap (λ (r : Recorder _). r.stopped) same ∙ cut.stopped;
-        whole = cut.whole;
-        first = record { rest = cut.first.rest ++ c.args.calls ∷ []; joined = sym (append_assoc cut.whole cut.first.rest (c.args.calls ∷ [])) ∙ ap (λ (l : List (List Entry)). l ++ c.args.calls ∷ []) cut.first.joined };
-        calls = ap (λ (r : Recorder _). r.calls) same ∙ cut.calls;
-        stops = subst (λ (r : Recorder _). StopsInside c.args.self.now.layout start (g.W.Write.contents r.writer.inner) cut.whole) (sym same) cut.stops;
-      })
-]
+pub returns : goal.returns
+returns g c = λ given was.
+    subst (λ (l : List (List Entry)). HasWritten g.W.Write.contents c.put.new.self l) (sym (given_more given (record { calls = c.args.calls; last = c.args._last.now }))) (c.put.ensures (calls_given given) was)

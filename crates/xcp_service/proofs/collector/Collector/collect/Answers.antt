@@ -1,7 +1,7 @@
 use Rattle.std.proofs.Common.{◌∙◌, ap, subst, sym}
 use Rattle.relay.specs.Ends.{TakerValue}
-use Rattle.xcp_service.specs.Parcels.{ParcelValue, calls_in}
-use Rattle.xcp_service.proofs.ParcelLemmas.{calls_append, collected_more}
+use Rattle.xcp_service.specs.Parcels.{ParcelValue, given_in}
+use Rattle.xcp_service.proofs.ParcelLemmas.{given_append, collected_more}
 use Rattle.xcp_service.proofs.collector.Collector.collect.Goals as goal
 
 pub loop-parcel-preserved : goal.loop-parcel-preserved
@@ -12,6 +12,6 @@ loop-parcel-preserved g c =
       ap (λ (t : TakerValue ParcelValue). t.relay) taken ∙ at.invariant.0,
       collected_more at.keeper c.take-in-loop-parcel.new.self at.taker.taken c.take.new.taker.taken (c.in-Some-take.tag, c.in-Some-take.parcel) at.invariant.1
           (ap (λ (t : TakerValue ParcelValue). t.taken) taken) kept.chapters kept.sheaves kept.own,
-      subst (g.S.Scribe.wrote c.write_down.new.scribe) (sym (ap calls_in kept.chapters ∙ calls_append at.keeper.chapters c.in-Some-take.parcel.chapters))
-          (c.write_down.ensures (calls_in at.keeper.chapters) at.invariant.2),
+      subst (g.S.Scribe.wrote c.write_down.new.scribe) (sym (ap given_in kept.chapters ∙ given_append at.keeper.chapters c.in-Some-take.parcel.chapters))
+          (c.write_down.ensures (given_in at.keeper.chapters) at.invariant.2),
     )

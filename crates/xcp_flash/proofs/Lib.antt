@@ -1,0 +1,6 @@
+mod FileLemmas
+mod PageLemmas
+mod FaultLemmas
+mod LayoutLemmas
+mod TakingLemmas
+mod FittingLemmas

@@ -1,0 +1,5 @@
+pub mod FlashFile
+pub mod References
+pub mod Restoring
+pub mod FlashLaws
+pub mod private

@@ -1,0 +1,2 @@
+-- Words that contracts of private functions cite. No contract of a public function needs them.
+pub mod Reading

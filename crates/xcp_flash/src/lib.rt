@@ -1,0 +1,21 @@
+//! The file of stored pages: it keeps the reference page of each segment of a layout, so that a later start begins with
+//! them.
+//!
+//! [`References`] are the pages to keep, and spell the file. [`restore`] puts a file's pages into the layout, before the
+//! slave is opened. `specs/FlashFile.antt` has the bytes, `specs/References.antt` which pages they are, and
+//! `specs/Restoring.antt` what may be wrong with a file.
+#![tactic(auto)]
+
+mod fault;
+mod fitting;
+mod head;
+mod law;
+mod page;
+mod reading;
+mod references;
+mod restoring;
+
+pub use fault::FlashError;
+pub use law::{a_file_has_one_content, what_is_stored_is_restored};
+pub use references::References;
+pub use restoring::restore;
