@@ -23,6 +23,7 @@ fn answer(rt: &HostRuntime, conversation: &Conversation) -> io::Result<()> {
     match replay(
         rt.alloc(),
         conversation.layout,
+        None,
         &mut reader,
         &mut writer,
         TURNS,

@@ -1,10 +1,10 @@
 //! A tool that submits under the lock, beside threads that take images off it.
 ghost use Rattle.std.specs.Prelude.{⊤};
 
-use crate::calls::{beginning, download, status, upload};
+use crate::calls::{beginning, command, download, status, upload};
 use crate::figures::Times;
 use crate::seats::{BLANK, Seat};
-use std::alloc::Global;
+use std::alloc::{AllocError, Global};
 use std::rt::Clock;
 use std::sync::atomic::{AtomicBool, AtomicU64, Ordering};
 use std::sync::{Mutex, Wait};
@@ -39,19 +39,24 @@ pub enum Talk {
 }
 
 impl Talk {
-    fn requests(&self) -> [Request; 8] {
-        let first = [status(), upload(), status(), download(0x11)];
-        let [a, b, c, d] = match self {
-            Talk::Asks => [status(), status(), status(), status()],
-            Talk::Mixed => first,
-            Talk::Writes => [download(1), download(2), download(3), download(4)],
-        };
-        let [e, f, g, h] = match self {
-            Talk::Asks => [status(), status(), status(), status()],
-            Talk::Mixed => [status(), upload(), status(), download(0x22)],
-            Talk::Writes => [download(5), download(6), download(7), download(8)],
-        };
-        [a, b, c, d, e, f, g, h]
+    // The request at a place of eight.
+    fn request(&self, place: u8) -> Request {
+        match (*self, place) {
+            (Talk::Asks, _) => status(),
+            (Talk::Writes, _) => download(place.wrapping_add(1)),
+            (Talk::Mixed, 1 | 5) => upload(),
+            (Talk::Mixed, 3) => download(0x11),
+            (Talk::Mixed, 7) => download(0x22),
+            (Talk::Mixed, _) => status(),
+        }
+    }
+
+    fn requests(&self, alloc: Global) -> Result<Vec<Request>, AllocError> {
+        let mut requests = Vec::new(alloc);
+        for place in 0..8 {
+            requests.push(self.request(place))?;
+        }
+        Ok(requests)
     }
 }
 
@@ -120,17 +125,13 @@ impl<'a, N: Name + Send + Sync, C: Clock + Sync> Work<io::Result<Times>> for Tal
         } = self;
         let mut tool = Tool::new(rt, lock, caller);
         let mut times = Times::new(alloc);
-        // All readers have begun before the first round.
-        for _ in 0..u64::MAX {
-            if pace.ready.load(Ordering::SeqCst) >= pace.readers {
-                break;
-            }
-            thread::yield_now();
-        }
-        let ended = time_talk(clock, &mut tool, talk, pace, &mut times);
+        await_readers(pace);
+        let ended = begin_talk(clock, alloc, &mut tool, talk, pace, &mut times);
         pace.stop.store(true, Ordering::SeqCst);
-        ended?;
-        Ok(times)
+        match ended {
+            Ok(()) => Ok(times),
+            Err(error) => Err(error),
+        }
     }
 
     fn leave(self) -> io::Result<Times> {
@@ -138,22 +139,45 @@ impl<'a, N: Name + Send + Sync, C: Clock + Sync> Work<io::Result<Times>> for Tal
     }
 }
 
-// The rounds of a tool in which others ran, if there are any.
-fn time_talk<C: Clock, S: Station>(
+// All readers have begun before the first round.
+fn await_readers(pace: &Pace) {
+    for _ in 0..u64::MAX {
+        if pace.ready.load(Ordering::SeqCst) >= pace.readers {
+            break;
+        }
+        thread::yield_now();
+    }
+}
+
+fn begin_talk<C: Clock, S: Station>(
     clock: &C,
+    alloc: Global,
     tool: &mut S,
     talk: Talk,
     pace: &Pace,
     times: &mut Times,
 ) -> io::Result<()> {
-    for request in &beginning(true) {
-        ask(tool, request)?;
+    for bytes in beginning(true) {
+        ask(tool, &command(*bytes))?;
     }
-    let requests = talk.requests();
+    match talk.requests(alloc) {
+        Ok(requests) => time_talk(clock, tool, &requests, pace, times),
+        Err(error) => Err(error.into()),
+    }
+}
+
+// The rounds of a tool in which others ran, if there are any.
+fn time_talk<C: Clock, S: Station>(
+    clock: &C,
+    tool: &mut S,
+    requests: &[Request],
+    pace: &Pace,
+    times: &mut Times,
+) -> io::Result<()> {
     let mut left = ROUNDS;
     for _ in 0..ROUNDS * TRIES {
         let told = pace.told.load(Ordering::SeqCst);
-        let took = round(clock, tool, &requests)?;
+        let took = round(clock, tool, requests)?;
         if pace.readers == 0 || pace.told.load(Ordering::SeqCst) != told {
             times.add(took, 8 * EIGHTS)?;
             left = left.saturating_sub(1);
@@ -168,7 +192,7 @@ fn time_talk<C: Clock, S: Station>(
 fn round<C: Clock, S: Station>(
     clock: &C,
     tool: &mut S,
-    requests: &[Request; 8],
+    requests: &[Request],
 ) -> io::Result<Duration> {
     let start = Instant::now(clock)?;
     for _ in 0..EIGHTS {

@@ -43,7 +43,7 @@ impl fmt::Display for Call {
     }
 }
 
-fn command(bytes: &[u8]) -> Request {
+pub fn command(bytes: &[u8]) -> Request {
     let mut packet = Packet::new();
     let _ = packet.try_extend_from_slice(bytes);
     Request::Command(packet)
@@ -74,26 +74,49 @@ fn event() -> Request {
     Request::Event(0, signals)
 }
 
+// CONNECT, SET_CAL_PAGE and SHORT_DOWNLOAD.
+static OF_BOTH: [&[u8]; 3] = [
+    &[0xFF, 0],
+    &[0xEB, 0x83, 0, 1],
+    &[0xED, 1, 0, 0, 0, 0x10, 0, 0, 0x33],
+];
+
+static OF_TOOL: [&[u8]; 3] = [
+    &[0xFF, 0],
+    &[0xEB, 0x82, 0, 1],
+    &[0xED, 1, 0, 0, 0, 0x10, 0, 0, 0x33],
+];
+
 /// What a session begins with: the tool has page 1 and writes on it; the controller has it too where
 /// both should.
-pub fn beginning(both: bool) -> [Request; 3] {
-    let mode = if both { 0x83 } else { 0x82 };
-    [command(&[0xFF, 0]), switch(mode, 1), download(0x33)]
+pub fn beginning(both: bool) -> &'static [&'static [u8]; 3] {
+    if both { &OF_BOTH } else { &OF_TOOL }
 }
 
 impl Call {
-    fn beginning(&self) -> [Request; 3] {
-        beginning(!matches!(self, Call::OwnPage | Call::Switch))
+    // Whether the controller has the tool's page too.
+    fn is_of_both(&self) -> bool {
+        !matches!(self, Call::OwnPage | Call::Switch)
     }
 
     // The two that are submitted in turn.
-    fn pair(&self) -> [Request; 2] {
+    fn one(&self) -> Request {
         match self {
-            Call::Event => [event(), event()],
-            Call::Status => [status(), status()],
-            Call::SameByte => [download(0x33), download(0x33)],
-            Call::OwnPage | Call::OtherByte => [download(0x11), download(0x22)],
-            Call::Switch => [switch(0x81, 1), switch(0x81, 0)],
+            Call::Event => event(),
+            Call::Status => status(),
+            Call::SameByte => download(0x33),
+            Call::OwnPage | Call::OtherByte => download(0x11),
+            Call::Switch => switch(0x81, 1),
+        }
+    }
+
+    fn other(&self) -> Request {
+        match self {
+            Call::Event => event(),
+            Call::Status => status(),
+            Call::SameByte => download(0x33),
+            Call::OwnPage | Call::OtherByte => download(0x22),
+            Call::Switch => switch(0x81, 0),
         }
     }
 }
@@ -114,8 +137,8 @@ impl<N: Name> Alone<N> {
     }
 
     pub fn begin(&mut self, both: bool) -> io::Result<()> {
-        for request in &beginning(both) {
-            self.submit(request.copy())?;
+        for bytes in beginning(both) {
+            self.submit(command(*bytes))?;
         }
         Ok(())
     }
@@ -145,11 +168,20 @@ pub fn time_submits<C: Clock, N: Name>(
     call: Call,
     times: &mut Times,
 ) -> io::Result<u64> {
-    for request in &call.beginning() {
-        alone.submit(request.copy())?;
-    }
+    alone.begin(call.is_of_both())?;
     let before = alone.published(reader);
-    let [one, other] = call.pair();
+    let timed = time_pairs(rt, alone, &call.one(), &call.other(), times);
+    timed?;
+    Ok(alone.published(reader).saturating_sub(before))
+}
+
+fn time_pairs<C: Clock, N: Name>(
+    rt: &C,
+    alone: &mut Alone<N>,
+    one: &Request,
+    other: &Request,
+    times: &mut Times,
+) -> io::Result<()> {
     for _ in 0..ROUNDS {
         let start = Instant::now(rt)?;
         for _ in 0..CALLS / 2 {
@@ -158,7 +190,7 @@ pub fn time_submits<C: Clock, N: Name>(
         }
         times.add(start.elapsed(rt)?, CALLS)?;
     }
-    Ok(alone.published(reader).saturating_sub(before))
+    Ok(())
 }
 
 /// Times cuts, each of a chapter of so many calls.
@@ -172,14 +204,28 @@ pub fn time_cuts<C: Clock, N: Name>(
         for _ in 0..CALLS {
             alone.submit(event())?;
         }
-        let start = Instant::now(rt)?;
-        let cut = alone.locked.cut(alloc);
-        times.add(start.elapsed(rt)?, 1)?;
-        if cut.is_err() {
-            return Err(io::Error::from(io::ErrorKind::OutOfMemory));
-        }
+        time_cut(rt, alloc, alone, times)?;
     }
     Ok(0)
+}
+
+fn time_cut<C: Clock, N: Name>(
+    rt: &C,
+    alloc: Global,
+    alone: &mut Alone<N>,
+    times: &mut Times,
+) -> io::Result<()> {
+    let start = Instant::now(rt)?;
+    let cut = alone.locked.cut(alloc);
+    let took = start.elapsed(rt);
+    let good = cut.is_ok();
+    drop(cut);
+    times.add(took?, 1)?;
+    if good {
+        Ok(())
+    } else {
+        Err(io::Error::from(io::ErrorKind::OutOfMemory))
+    }
 }
 
 /// Times submits to a slave with no journal, no receipts and no images for others.
@@ -189,15 +235,24 @@ pub fn time_bare<C: Clock>(
     call: Call,
     times: &mut Times,
 ) -> io::Result<()> {
-    for request in &call.beginning() {
-        let _ = slave.submit(request);
+    for bytes in beginning(call.is_of_both()) {
+        let _ = slave.submit(&command(*bytes));
     }
-    let [one, other] = call.pair();
+    time_answers(rt, slave, &call.one(), &call.other(), times)
+}
+
+fn time_answers<C: Clock>(
+    rt: &C,
+    slave: &mut Slave,
+    one: &Request,
+    other: &Request,
+    times: &mut Times,
+) -> io::Result<()> {
     for _ in 0..ROUNDS {
         let start = Instant::now(rt)?;
         for _ in 0..CALLS / 2 {
-            let _ = answer(slave, &one);
-            let _ = answer(slave, &other);
+            let _ = answer(slave, one);
+            let _ = answer(slave, other);
         }
         times.add(start.elapsed(rt)?, CALLS)?;
     }

@@ -61,37 +61,54 @@ fn show<R: Clock + Eprint + Threads + Wait + Sync>(
 ) -> io::Result<()> {
     eprintln!(rt; "| {title}, ns | best | middle | mean | times the base | images |")?;
     eprintln!(rt; "|---|---|---|---|---|---|")?;
-    let mut rows = rows(alloc, plans)?;
-    for _ in 0..blocks {
-        for row in rows.iter_mut() {
-            let images = measure(rt, alloc, row.plan, &mut row.times)?;
-            row.images = row.images.saturating_add(images);
-        }
+    match rows(alloc, plans) {
+        Ok(mut rows) => show_rows(rt, alloc, blocks, &mut rows),
+        Err(error) => Err(error.into()),
     }
+}
+
+fn show_rows<R: Clock + Eprint + Threads + Wait + Sync>(
+    rt: &R,
+    alloc: Global,
+    blocks: u32,
+    rows: &mut [Row],
+) -> io::Result<()> {
+    for _ in 0..blocks {
+        measure_rows(rt, alloc, rows)?;
+    }
+    print_rows(rt, rows)
+}
+
+fn measure_rows<R: Clock + Threads + Wait + Sync>(
+    rt: &R,
+    alloc: Global,
+    rows: &mut [Row],
+) -> io::Result<()> {
+    for row in rows.iter_mut() {
+        let images = measure(rt, alloc, row.plan, &mut row.times)?;
+        row.images = row.images.saturating_add(images);
+    }
+    Ok(())
+}
+
+fn print_rows<R: Eprint>(rt: &R, rows: &mut [Row]) -> io::Result<()> {
     let mut base = None;
-    for row in rows {
-        let plan = row.plan;
-        let figure = print_row(rt, row, base)?;
-        if plan.is_base() {
+    for row in rows.iter_mut() {
+        let figure = row.times.figure()?;
+        print_row(rt, row, figure, base)?;
+        if row.plan.is_base() {
             base = Some(figure);
         }
     }
     Ok(())
 }
 
-fn print_row<R: Eprint>(rt: &R, row: Row, base: Option<Figure>) -> io::Result<Figure> {
-    let Row {
-        plan,
-        mut times,
-        images,
-    } = row;
-    let figure = times.figure()?;
-    eprint!(rt; "| {plan} | {figure} | ")?;
+fn print_row<R: Eprint>(rt: &R, row: &Row, figure: Figure, base: Option<Figure>) -> io::Result<()> {
+    eprint!(rt; "| {} | {figure} | ", row.plan)?;
     if let Some(base) = base {
         eprint!(rt; "{}", Ratio::of(&figure, &base))?;
     }
-    eprintln!(rt; " | {images} |")?;
-    Ok(figure)
+    eprintln!(rt; " | {} |", row.images)
 }
 
 const SEATS: [Plan; 6] = [

@@ -85,30 +85,34 @@ pub fn measure<R: Clock + Threads + Wait + Sync>(
     }
 }
 
+// What is measured where no image is counted.
+fn none(measured: io::Result<()>) -> io::Result<u64> {
+    match measured {
+        Ok(()) => Ok(0),
+        Err(error) => Err(error),
+    }
+}
+
 fn measure_bank<C: Clock>(rt: &C, alloc: Global, look: Look, times: &mut Times) -> io::Result<u64> {
     let (writer, mut readers) = Bank::new(alloc, &BLANK)?;
     let mut writing = Writing(writer, BLANK);
-    time_seats(rt, &mut writing, &mut readers, look, times)?;
-    Ok(0)
+    none(time_seats(rt, &mut writing, &mut readers, look, times))
 }
 
 fn measure_publications<C: Clock>(rt: &C, alloc: Global, times: &mut Times) -> io::Result<u64> {
     let (writer, _readers) = Bank::new(alloc, &BLANK)?;
     let mut writing = Writing(writer, BLANK);
-    time_publications(rt, &mut writing, times)?;
-    Ok(0)
+    none(time_publications(rt, &mut writing, times))
 }
 
 fn measure_bare<C: Clock>(rt: &C, alloc: Global, call: Call, times: &mut Times) -> io::Result<u64> {
     let mut slave = Slave::new(alloc, layout(alloc)?)?;
-    time_bare(rt, &mut slave, call, times)?;
-    Ok(0)
+    none(time_bare(rt, &mut slave, call, times))
 }
 
 fn measure_comparisons<C: Clock>(rt: &C, alloc: Global, times: &mut Times) -> io::Result<u64> {
     let slave = Slave::new(alloc, layout(alloc)?)?;
-    time_comparisons(rt, &slave, times)?;
-    Ok(0)
+    none(time_comparisons(rt, &slave, times))
 }
 
 // The same of a slave under a lock.
@@ -132,23 +136,61 @@ fn measure_named<N: Name + Send + Sync, R: Clock + Threads + Wait + Sync>(
     requires { (unnamed.name ≡ N.name) × (unnamed.callers ≡ N.parts)
         × (unnamed.layout ≡ N.layout) × (unnamed.bank ≡ N.bank) }
 {
+    match Locked::<N>::new(alloc, unnamed) {
+        Ok(opening) => measure_open(rt, alloc, opening, plan, times),
+        Err(error) => Err(error.into()),
+    }
+}
+
+fn measure_open<N: Name + Send + Sync, R: Clock + Threads + Wait + Sync>(
+    rt: &R,
+    alloc: Global,
+    opening: Opening<N>,
+    plan: Plan,
+    times: &mut Times,
+) -> io::Result<u64> {
     let Opening {
         locked,
         mut callers,
         readers,
-    } = Locked::<N>::new(alloc, unnamed)?;
-    let Some(caller) = callers.pop() else {
-        return Ok(0);
-    };
-    let mut alone = Alone { locked, caller };
+    } = opening;
+    match callers.pop() {
+        Some(caller) => measure_alone(rt, alloc, Alone { locked, caller }, readers, plan, times),
+        None => Ok(0),
+    }
+}
+
+fn measure_alone<N: Name + Send + Sync, R: Clock + Threads + Wait + Sync>(
+    rt: &R,
+    alloc: Global,
+    alone: Alone<N>,
+    readers: [Reader<N>; 6],
+    plan: Plan,
+    times: &mut Times,
+) -> io::Result<u64> {
+    let mut alone = alone;
     let mut readers = readers;
     match plan {
-        Plan::SlaveSeats(look) => measure_seats(rt, &mut alone, &mut readers, look, times),
-        Plan::Submit(call) => time_submits(rt, &mut alone, &mut readers[0], call, times),
-        Plan::Cut => time_cuts(rt, alloc, &mut alone, times),
         Plan::Beside(talk, count, pause) => {
             measure_beside(rt, alloc, alone, readers, count, talk, pause, times)
         }
+        _ => measure_still(rt, alloc, &mut alone, &mut readers, plan, times),
+    }
+}
+
+// The same where no other thread runs.
+fn measure_still<N: Name, C: Clock>(
+    rt: &C,
+    alloc: Global,
+    alone: &mut Alone<N>,
+    readers: &mut [Reader<N>; 6],
+    plan: Plan,
+    times: &mut Times,
+) -> io::Result<u64> {
+    match plan {
+        Plan::SlaveSeats(look) => measure_seats(rt, alone, readers, look, times),
+        Plan::Submit(call) => time_submits(rt, alone, &mut readers[0], call, times),
+        Plan::Cut => time_cuts(rt, alloc, alone, times),
         _ => Ok(0),
     }
 }
@@ -161,8 +203,7 @@ fn measure_seats<N: Name, C: Clock>(
     times: &mut Times,
 ) -> io::Result<u64> {
     alone.begin(true)?;
-    time_seats(rt, alone, readers, look, times)?;
-    Ok(0)
+    none(time_seats(rt, alone, readers, look, times))
 }
 
 // A tool beside so many readers, each in a thread of its own.
@@ -179,17 +220,43 @@ fn measure_beside<N: Name + Send + Sync, R: Clock + Threads + Wait + Sync>(
     let Alone { locked, caller } = alone;
     let lock = Mutex::new(locked);
     let pace = Pace::new(count as u64);
-    let tools = tool_of(rt, alloc, &lock, caller, talk, &pace)?;
-    let others = followers(rt, alloc, readers, count, pause, &pace)?;
-    let (tools, images) = run_all(rt, alloc, tools, others)?;
-    for told in tools {
-        times.append(&told?)?;
+    let tools = tool_of(rt, alloc, &lock, caller, talk, &pace);
+    let others = followers(rt, alloc, readers, count, pause, &pace);
+    told(run_all(rt, alloc, tools, others), times)
+}
+
+// Adds what the tool took, and counts the images.
+fn told(ended: Ended, times: &mut Times) -> io::Result<u64> {
+    match ended {
+        Ok((tools, images)) => {
+            let images = sum_of(&images);
+            append_all(tools, times)?;
+            Ok(images)
+        }
+        Err(error) => Err(error.into()),
     }
-    let mut all = 0u64;
-    for count in images {
-        all = all.saturating_add(count);
+}
+
+fn sum_of(counts: &[u64]) -> u64 {
+    let mut sum = 0u64;
+    for count in counts {
+        sum = sum.saturating_add(*count);
     }
-    Ok(all)
+    sum
+}
+
+fn append_all(all: Vec<io::Result<Times>>, times: &mut Times) -> io::Result<()> {
+    for told in all {
+        append(told, times)?;
+    }
+    Ok(())
+}
+
+fn append(told: io::Result<Times>, times: &mut Times) -> io::Result<()> {
+    match told {
+        Ok(others) => Ok(times.append(&others)?),
+        Err(error) => Err(error),
+    }
 }
 
 fn tool_of<'a, N: Name, C: Clock>(
@@ -200,15 +267,16 @@ fn tool_of<'a, N: Name, C: Clock>(
     talk: Talk,
     pace: &'a Pace,
 ) -> Result<Vec<Talking<'a, N, C>>, AllocError> {
-    let tool = Talking {
+    let mut tools = Vec::new(alloc);
+    tools.push(Talking {
         clock,
         alloc,
         lock,
         caller,
         talk,
         pace,
-    };
-    Ok(Vec::from_array(alloc, [tool])?)
+    })?;
+    Ok(tools)
 }
 
 fn followers<'a, N: Name, C: Clock>(
@@ -237,8 +305,8 @@ type Ended = Result<(Vec<io::Result<Times>>, Vec<u64>), AllocError>;
 fn run_all<'a, N: Name + Send + Sync, R: Clock + Threads + Wait + Sync>(
     rt: &R,
     alloc: Global,
-    tools: Vec<Talking<'a, N, R>>,
-    others: Vec<Following<'a, N, R>>,
+    tools: Result<Vec<Talking<'a, N, R>>, AllocError>,
+    others: Result<Vec<Following<'a, N, R>>, AllocError>,
 ) -> Ended {
-    run_both(rt, alloc, tools, others)
+    run_both(rt, alloc, tools?, others?)
 }

@@ -50,7 +50,7 @@ pub fn replay_desk(alloc: Global) -> Outcome {
 pub fn replay_config(alloc: Global) -> Outcome {
     let mut reader = Watched::new(SCRIPT);
     let mut writer = Watched::new(Sheet::new());
-    let end = replay(alloc, CONFIG, &mut reader, &mut writer, TURNS);
+    let end = replay(alloc, CONFIG, None, &mut reader, &mut writer, TURNS);
     let sheet = writer.into_inner();
     match end {
         Ok(requests) => whole(requests, &sheet),

@@ -1,9 +1,9 @@
-//! The file of a small slave's journal.
+//! The file of a small slave's journal, and of its stored page.
 
 use arrayvec::ArrayVec;
 use sha2::{Digest, Sha256};
 use std::alloc::{AllocError, Global};
-use xcp_program::layout_of;
+use xcp_program::layout_stored;
 use xcp_record::Recorder;
 use xcp_slave::{Request, Slave};
 use xcp_trace::Journal;
@@ -72,9 +72,21 @@ pub(crate) static LINES: [&str; REQUESTS] = [
     "2\thangup\t-\n",
 ];
 
-/// The slave of the layout file; none where memory is lacking.
-fn new_slave(alloc: Global) -> Option<Slave> {
-    let layout = layout_of(alloc, CONFIG).ok()?;
+/// The file of a stored page for the layout file's segment: 16 bytes 7.
+pub(crate) fn flash(alloc: Global) -> Result<Vec<u8>, AllocError> {
+    let mut file = Vec::new(alloc);
+    file.extend_from_slice(b"XCPF\x01\x00")?;
+    file.extend_from_slice(&Sha256::digest(CONFIG.as_bytes()))?;
+    file.extend_from_slice(&[16, 0, 0, 0])?;
+    file.extend_from_slice(&[7; 16])?;
+    let digest = Sha256::digest(&file);
+    file.extend_from_slice(&digest)?;
+    Ok(file)
+}
+
+/// The slave of the layout file, with the stored page of a file, if there is one; none where memory is lacking.
+fn new_slave(alloc: Global, flash: Option<&[u8]>) -> Option<Slave> {
+    let layout = layout_stored(alloc, CONFIG, flash).ok()?;
     Slave::new(alloc, layout).ok()
 }
 
@@ -111,7 +123,7 @@ fn second(alloc: Global, slave: &mut Slave, whole: bool) -> Option<Journal> {
     if whole {
         return journal(alloc, slave, 5, REQUESTS).ok();
     }
-    match new_slave(alloc) {
+    match new_slave(alloc, None) {
         Some(mut other) => journal(alloc, &mut other, 5, REQUESTS).ok(),
         None => None,
     }
@@ -136,8 +148,16 @@ fn file_of(alloc: Global, slave: &mut Slave, whole: bool) -> Option<Vec<u8>> {
 /// The file of a journal of two chapters, of 5 and 7 calls; or with a second chapter by a slave of its own, to which nobody is
 /// connected.
 pub(crate) fn file(alloc: Global, whole: bool) -> Option<Vec<u8>> {
-    match new_slave(alloc) {
+    match new_slave(alloc, None) {
         Some(mut slave) => file_of(alloc, &mut slave, whole),
+        None => None,
+    }
+}
+
+/// The file of a journal of such chapters, of a slave that began with the stored page of this file.
+pub(crate) fn stored_file(alloc: Global, flash: &[u8]) -> Option<Vec<u8>> {
+    match new_slave(alloc, Some(flash)) {
+        Some(mut slave) => file_of(alloc, &mut slave, true),
         None => None,
     }
 }

@@ -1,27 +1,28 @@
 //! What is printed and answered of files.
 
-use crate::files::{CONFIG, LINES, REQUESTS, file};
+use crate::files::{CONFIG, LINES, REQUESTS, file, flash, stored_file};
 use crate::streams::{Failing, Full};
 use std::alloc::{AllocError, Global};
 use std::fmt::Write;
 use xcp_audit::{Printer, Trouble, print_audit};
 use xcp_framing::Watched;
-use xcp_program::{Fault, layout_of};
+use xcp_program::{Fault, layout_stored};
 
 /// Room for all that is printed, and bytes of all that is read.
 const ENOUGH: usize = 10_000;
 
-/// What is said of an audit of a journal's file by the layout file, where so many of its bytes can be read and so many be
-/// printed, and what is printed; none where another trouble is kept than is said.
+/// What is said of an audit of a journal's file by the layout file and by a file of stored pages, if there is one, where so many of
+/// its bytes can be read and so many be printed, and what is printed; none where another trouble is kept than is said.
 fn audited(
     alloc: Global,
     config: &str,
+    flash: Option<&[u8]>,
     file: &[u8],
     lines: bool,
     good: usize,
     room: usize,
 ) -> Option<(Result<(), Fault>, Vec<u8>)> {
-    let layout = layout_of(alloc, config).ok()?;
+    let layout = layout_stored(alloc, config, flash).ok()?;
     let mut reader = Watched::new(Failing { text: file, good });
     let full = Full {
         bytes: Vec::new(alloc),
@@ -41,12 +42,13 @@ fn audited(
 fn printed(
     alloc: Global,
     config: &str,
+    flash: Option<&[u8]>,
     file: &[u8],
     lines: bool,
     good: usize,
     room: usize,
 ) -> Option<String> {
-    let (said, bytes) = audited(alloc, config, file, lines, good, room)?;
+    let (said, bytes) = audited(alloc, config, flash, file, lines, good, room)?;
     let mut text = String::from_utf8(bytes).ok()?;
     if let Err(fault) = said {
         write!(text, " {fault}").ok()?;
@@ -56,7 +58,7 @@ fn printed(
 
 /// Whether this is printed where all of the file can be read, and all be printed.
 fn is_printed(alloc: Global, config: &str, file: &[u8], lines: bool, wanted: &str) -> bool {
-    match printed(alloc, config, file, lines, ENOUGH, ENOUGH) {
+    match printed(alloc, config, None, file, lines, ENOUGH, ENOUGH) {
         Some(text) => text.as_str() == wanted,
         None => false,
     }
@@ -170,7 +172,7 @@ static GOOD: [usize; 4] = [0, 37, 60, 289];
 /// Whether that is told of each such reader.
 fn are_misread(alloc: Global, file: &[u8]) -> bool {
     for good in &GOOD {
-        match printed(alloc, CONFIG, file, false, *good, ENOUGH) {
+        match printed(alloc, CONFIG, None, file, false, *good, ENOUGH) {
             Some(text) if text.as_str() == " journal 1" => {}
             _ => return false,
         }
@@ -192,7 +194,7 @@ fn is_front(text: &str, room: usize, whole: &str) -> bool {
 /// Whether that is told of each such writer, behind what it took.
 fn are_full(alloc: Global, file: &[u8], whole: &str) -> bool {
     for room in &ROOMS {
-        match printed(alloc, CONFIG, file, true, ENOUGH, *room) {
+        match printed(alloc, CONFIG, None, file, true, ENOUGH, *room) {
             Some(text) if is_front(&text, *room, whole) => {}
             _ => return false,
         }
@@ -215,4 +217,30 @@ fn streams_that_fail(rt: HostRuntime) {
         None => false,
     };
     assert!(rt; good);
+}
+
+/// What is printed of a journal's file, with this file of stored pages, if there is one.
+fn printed_with(alloc: Global, flash: Option<&[u8]>, file: &[u8]) -> Option<String> {
+    printed(alloc, CONFIG, flash, file, false, ENOUGH, ENOUGH)
+}
+
+/// Whether a journal is settled where its slave began with the stored page as the audit does, or neither did, and else its first
+/// UPLOAD differs.
+fn are_apart(alloc: Global, flash: &[u8]) -> Option<bool> {
+    let fresh = file(alloc, true)?;
+    let stored = stored_file(alloc, flash)?;
+    let settled = printed_with(alloc, Some(flash), &stored)?;
+    let left_out = printed_with(alloc, None, &stored)?;
+    let put_in = printed_with(alloc, Some(flash), &fresh)?;
+    let apart = left_out.as_str() == " mismatch call 2" && put_in.as_str() == " mismatch call 2";
+    Some(apart && settled.as_str() == "calls 12\nsettled\n")
+}
+
+#[test]
+fn an_audit_begins_with_stored_pages(rt: HostRuntime) {
+    let good = match flash(rt.alloc()) {
+        Ok(bytes) => are_apart(rt.alloc(), &bytes),
+        Err(_) => None,
+    };
+    assert_eq!(rt; good, Some(true));
 }

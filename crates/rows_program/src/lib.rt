@@ -13,4 +13,6 @@ mod replays;
 #[cfg(test)]
 mod sources;
 #[cfg(test)]
+mod stored;
+#[cfg(test)]
 mod words;

@@ -5,11 +5,17 @@ use std::alloc::{AllocError, Global};
 use xcp_framing::Watched;
 use xcp_program::{Fault, replay};
 
-/// How a replay of a script ends, in at most so many turns, and a comma and what it wrote behind that.
-fn told(alloc: Global, config: &str, script: &str, turns: u32) -> Result<String, AllocError> {
+/// How a replay of a script ends, with this file of stored pages, in at most so many turns, and a comma and what it wrote behind that.
+pub fn told(
+    alloc: Global,
+    config: &str,
+    flash: Option<&[u8]>,
+    script: &str,
+    turns: u32,
+) -> Result<String, AllocError> {
     let mut reader = Watched::new(script.as_bytes());
     let mut writer = Watched::new(Vec::new(alloc));
-    let ended = replay(alloc, config, &mut reader, &mut writer, turns);
+    let ended = replay(alloc, config, flash, &mut reader, &mut writer, turns);
     let written = writer.into_inner();
     let text = str::from_utf8(written.as_slice()).unwrap_or("no UTF-8");
     match ended {
@@ -24,7 +30,7 @@ type Row = (&'static str, u32, &'static str);
 /// The first row of which something else is told by this layout file.
 fn first_other(alloc: Global, config: &str, rows: &[Row]) -> Result<Option<usize>, AllocError> {
     for (number, (script, turns, text)) in rows.iter().enumerate() {
-        if told(alloc, config, script, *turns)?.as_str() != *text {
+        if told(alloc, config, None, script, *turns)?.as_str() != *text {
             return Ok(Some(number));
         }
     }
@@ -149,7 +155,7 @@ fn the_engine_that_is_shipped(rt: HostRuntime) {
 }
 
 /// Faults, and their texts with their statuses.
-static FAULTS: [(Fault, &str); 8] = [
+static FAULTS: [(Fault, &str); 9] = [
     (Fault::Configuration(0), "configuration 0, 1"),
     (Fault::Line(4), "line 4, 2"),
     (Fault::Stream(2), "stream 2, 3"),
@@ -161,6 +167,7 @@ static FAULTS: [(Fault, &str); 8] = [
     ),
     (Fault::MismatchedCall(7), "mismatch call 7, 5"),
     (Fault::Journal(3), "journal 3, 6"),
+    (Fault::Flash(2), "flash 2, 6"),
 ];
 
 fn first_other_fault(alloc: Global) -> Result<Option<usize>, AllocError> {

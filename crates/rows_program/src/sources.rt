@@ -1,6 +1,6 @@
-//! The reading of a layout file.
+//! The reading of a layout file, and of stored pages.
 use std::alloc::Global;
-use xcp_program::{Fault, read_text, read_whole};
+use xcp_program::{Fault, read_flash, read_text, read_whole};
 
 /// A file of so many such bytes.
 fn file_of(alloc: Global, byte: u8, count: usize) -> Result<Vec<u8>, Fault> {
@@ -62,4 +62,18 @@ fn a_file_that_is_no_text(rt: HostRuntime) {
     assert!(rt; text_of(rt.alloc(), b"id") == Ok(2));
     assert!(rt; text_of(rt.alloc(), b"id\xFF") == Err(Fault::Configuration(1)));
     assert!(rt; text_of_many(rt.alloc()) == Err(Fault::Configuration(0)));
+}
+
+/// Whether a file of so many bytes is read as one of stored pages, whole.
+fn pages_of(alloc: Global, count: usize) -> Result<bool, Fault> {
+    let bytes = file_of(alloc, 7, count)?;
+    let all = read_flash(alloc, bytes.as_slice())?;
+    Ok(all.len() == count && all == bytes)
+}
+
+#[test]
+fn stored_pages_have_at_most_4_096_bytes(rt: HostRuntime) {
+    assert!(rt; pages_of(rt.alloc(), 0) == Ok(true));
+    assert!(rt; pages_of(rt.alloc(), 4_096) == Ok(true));
+    assert!(rt; pages_of(rt.alloc(), 4_097) == Err(Fault::Flash(1)));
 }

@@ -42,18 +42,36 @@ impl Env for Started<'_> {
 
 /// What a program that was started with these words does: the file of a replay, the file of a server with its host, port,
 /// tools, tasks, cycles, chapter and period, or, behind `stay`, with its host, port, tools, tasks, period and patience (and behind
-/// either the file of its journal, if it is named, and `paced`, if it is), the file of a description with its host and port (behind `describe`, or `check` if it is only checked), the file of an audit, its journal and whether lines are wanted, or the status, a blank
-/// and what it tells.
+/// either the file of its journal, if it is named, and `paced`, if it is), the file of a description with its host and port (behind
+/// `describe`, or `check` if it is only checked), the file of an audit, its journal and whether lines are wanted, and behind these
+/// `flash` and the file of the stored pages, if it is named; or the status, a blank and what it tells.
 fn told(alloc: Global, words: &[u8]) -> Result<String, AllocError> {
     match asked(alloc, read_words(&(Started(words), alloc))) {
-        Ok(does) => done(alloc, &does),
+        Ok(does) => {
+            let line = done(alloc, &does)?;
+            match flash_of(&does) {
+                Some(file) => format!(in alloc; "{line} flash {file}"),
+                None => Ok(line),
+            }
+        }
         Err(e) => format!(in alloc; "{} {e}", e.status()),
+    }
+}
+
+/// The file of the stored pages.
+fn flash_of(does: &Options) -> Option<&str> {
+    match does {
+        Options::Replay { flash, .. } => flash.as_deref(),
+        Options::Serve { flash, .. } => flash.as_deref(),
+        Options::Stay { flash, .. } => flash.as_deref(),
+        Options::Audit { flash, .. } => flash.as_deref(),
+        Options::Describe { .. } => None,
     }
 }
 
 fn done(alloc: Global, does: &Options) -> Result<String, AllocError> {
     match does {
-        Options::Replay { config } => line(alloc, config, &[], &[], None, false),
+        Options::Replay { config, .. } => line(alloc, config, &[], &[], None, false),
         Options::Serve {
             config,
             host,
@@ -65,6 +83,7 @@ fn done(alloc: Global, does: &Options) -> Result<String, AllocError> {
             period,
             journal,
             pace,
+            ..
         } => {
             let [port, tools, tasks] = [u32::from(*port), u32::from(*tools), u32::from(*tasks)];
             let numbers = [port, tools, tasks, *cycles, *chapter, *period];
@@ -80,6 +99,7 @@ fn done(alloc: Global, does: &Options) -> Result<String, AllocError> {
             patience,
             journal,
             pace,
+            ..
         } => {
             let [port, tools, tasks] = [u32::from(*port), u32::from(*tools), u32::from(*tasks)];
             let numbers = [port, tools, tasks, *period, *patience];
@@ -112,6 +132,7 @@ fn done(alloc: Global, does: &Options) -> Result<String, AllocError> {
             config,
             file,
             lines,
+            ..
         } => line(
             alloc,
             config,
@@ -169,14 +190,16 @@ Wrong words end the program with status 1, and what is wrong with them on standa
 const REPLAY_HELP: &str =
     "0 Answers command packets in hex, one line of standard input each, by one line of standard output each
 
-Usage: xcpd replay --config <FILE>
+Usage: xcpd replay [OPTIONS] --config <FILE>
 
 Options:
       --config <FILE>  The layout file, in TOML: identification, packet lengths, segments, signals, events
+      --flash <FILE>   A file of stored pages, with which the slave begins
   -h, --help           Print help
 
 Each line is a command packet in hex, as FF00 (CONNECT), or one of: event C HEX, drain, store, hangup.
 Empty lines and lines that begin with # are skipped. A dash is the answer where nothing is sent.
+With --flash the slave begins with the stored pages of FILE, which isn't changed.
 
 Wrong words end the program with status 1, and what is wrong with them on standard error. Any other fault ends it
 with one line there, and this status:
@@ -185,6 +208,7 @@ with one line there, and this status:
   2  line N: the line is faulty
   3  stream N: reading (1) or writing (2) failed
   4  memory: an allocation failed
+  6  flash 1: the file of the stored pages can't be read, is of another layout, cut short or altered
 ";
 
 const SERVE_HELP: &str =
@@ -204,6 +228,7 @@ Options:
       --period <MS>     The milliseconds from one cycle of a task to its next, 0 to 1,000 [default: 0]
       --patience <S>    The seconds that a tool may stop inside a frame, or read nothing, 1 to 3,600; only for --stay [default: 60]
       --journal <FILE>  A new file that all calls are written to, for an audit
+      --flash <FILE>    The file that keeps the pages that tools store
       --pace            Each task raises its channel by the channel's own cycle and unit, not by --period, if these say a time
   -h, --help            Print help
 
@@ -218,6 +243,8 @@ status is not that of a connection's fault. Without it T is 1 or 2, and --patien
 With --pace a task's period is the time that its channel's cycle and unit say; where these say none, it is --period.
 With --journal all calls are written to FILE, which must not be there yet: with --stay chapter by chapter, else at the
 end. One line more is printed then, behind settled: recorded N (N is the number of calls that stand in FILE).
+With --flash the pages that tools store are kept in FILE: where it is there, the slave begins with them, and after each
+store it is replaced whole. Without --stay it is replaced at the end.
 
 Wrong words end the program with status 1, and what is wrong with them on standard error. Any other fault ends it
 with one line there, and this status:
@@ -229,6 +256,8 @@ with one line there, and this status:
   5  mismatch chapter K: chapter K of the journal doesn't follow the one before
   5  mismatch caller C at I: what caller C was answered differs from the journal, first at its call I
   6  journal N: the journal's file can't be made, or is there already (1), or not all calls could be written (2)
+  6  flash N: the file of the stored pages can't be read, is of another layout, cut short or altered (1), or not all
+     could be written (2)
 ";
 
 const DESCRIBE_HELP: &str = "0 Prints the A2L file of the slave: ASAP2 1.6, on standard output
@@ -264,6 +293,7 @@ Arguments:
 
 Options:
       --config <FILE>  The layout file, in TOML: identification, packet lengths, segments, signals, events
+      --flash <FILE>   A file of stored pages, with which the slave begins
       --lines          Prints each call as a line
   -h, --help           Print help
 
@@ -271,6 +301,7 @@ Each call of the journal is executed again, on a new slave of the layout file, a
 (N is the number of all calls), and: settled. Where the file is cut short or altered, it prints calls N alone: so many calls
 stand before, and are good. With --lines there is a line for each call before, its parts with a tab between them: the
 caller's number, the request as a replay reads it, and the answer as a replay writes it.
+With --flash the slave begins with the stored pages of FILE, which isn't changed.
 
 Wrong words end the program with status 1, and what is wrong with them on standard error. Any other fault ends it
 with one line there, and this status:
@@ -281,6 +312,7 @@ with one line there, and this status:
   5  mismatch call I: call I is the first, counted from 0, that has another answer than the slave's
   6  journal N: the journal's file can't be opened (0) or read (1), ends inside a chapter (3), has a chapter that isn't
      as it was written (4), is of another layout (5), is no such file, is of another version or too long (6)
+  6  flash 1: the file of the stored pages can't be read, is of another layout, cut short or altered
 ";
 
 /// Words, and what the program does with them, or how that begins.
@@ -307,9 +339,18 @@ fn first_other_beginning(alloc: Global, rows: &[Row]) -> Result<Option<usize>, A
 }
 
 /// What the program does with words of `audit`.
-static AUDITS: [Row; 10] = [
+static AUDITS: [Row; 13] = [
     (b"xcpd|audit|--config|F|J", "F J false"),
     (b"xcpd|audit|J|--lines|--config=F", "F J true"),
+    (b"xcpd|audit|--flash|P|--config|F|J", "F J false flash P"),
+    (
+        b"xcpd|audit|--lines|J|--config=F|--flash=",
+        "F J true flash ",
+    ),
+    (
+        b"xcpd|audit|--config|F|J|--flash|P|--flash|P",
+        "1 error: the argument '--flash <FILE>' cannot be used multiple times\n\nUsage: xcpd audit [OPTIONS] --config <FILE> <JOURNAL>\n\nFor more information, try '--help'.\n",
+    ),
     (
         b"xcpd|audit|--lines|--config|F|--|--lines",
         "F --lines true",
@@ -402,7 +443,7 @@ fn the_words_of_a_description(rt: HostRuntime) {
 }
 
 /// What the program does with words of `serve` behind a configuration file F and a port.
-static SERVERS: [Row; 18] = [
+static SERVERS: [Row; 20] = [
     (
         b"xcpd|serve|--config|F|--port|5555",
         "F 127.0.0.1 5555 1 1 100 65536 0",
@@ -471,11 +512,19 @@ static SERVERS: [Row; 18] = [
         b"xcpd|serve|--pace|--journal|J|--period|10|--config|F|--port|2000",
         "F 127.0.0.1 2000 1 1 100 65536 10 J paced",
     ),
+    (
+        b"xcpd|serve|--flash|P|--config|F|--port|2000",
+        "F 127.0.0.1 2000 1 1 100 65536 0 flash P",
+    ),
+    (
+        b"xcpd|serve|--config|F|--pace|--journal|J|--port|2000|--flash=P",
+        "F 127.0.0.1 2000 1 1 100 65536 0 J paced flash P",
+    ),
     (b"xcpd|serve|--help", SERVE_HELP),
 ];
 
 /// What it does with words of `serve` that have `--stay`.
-static STAYING: [Row; 12] = [
+static STAYING: [Row; 14] = [
     (
         b"xcpd|serve|--config|F|--port|5555|--stay",
         "stay F 127.0.0.1 5555 1 1 0 60",
@@ -517,6 +566,14 @@ static STAYING: [Row; 12] = [
         "stay F 127.0.0.1 2000 1 1 10 60 J paced",
     ),
     (
+        b"xcpd|serve|--config|F|--port|2000|--flash|P|--stay",
+        "stay F 127.0.0.1 2000 1 1 0 60 flash P",
+    ),
+    (
+        b"xcpd|serve|--stay|--config|F|--port|2000|--journal|J|--flash|P|--pace",
+        "stay F 127.0.0.1 2000 1 1 0 60 J paced flash P",
+    ),
+    (
         b"xcpd|serve|--config|F|--port|2000|--tools|3",
         "1 xcpd: more than 2 tools want --stay\n",
     ),
@@ -527,7 +584,7 @@ static STAYING: [Row; 12] = [
 ];
 
 /// What it tells of words of `serve` that are wrong.
-static WRONG_SERVERS: [Row; 30] = [
+static WRONG_SERVERS: [Row; 33] = [
     (
         b"xcpd|serve",
         "1 error: the following required arguments were not provided:\n  --config <FILE>\n  --port <PORT>\n",
@@ -595,6 +652,18 @@ static WRONG_SERVERS: [Row; 30] = [
     (
         b"xcpd|replay|--config|F|--pace",
         "1 error: unexpected argument '--pace' found",
+    ),
+    (
+        b"xcpd|serve|--config|F|--port|5555|--flash",
+        "1 error: a value is required for '--flash <FILE>'",
+    ),
+    (
+        b"xcpd|serve|--config|F|--port|5555|--flash|P|--flash|Q",
+        "1 error: the argument '--flash <FILE>' cannot",
+    ),
+    (
+        b"xcpd|describe|--config|F|--flash|P",
+        "1 error: unexpected argument '--flash' found",
     ),
     (
         b"xcpd|serve|--stay",
@@ -693,9 +762,14 @@ fn the_faults_of_words_have_numbers(rt: HostRuntime) {
 }
 
 /// What the program does with words of `replay`, and without a subcommand.
-static REPLAYS: [Row; 7] = [
+static REPLAYS: [Row; 9] = [
     (b"xcpd|replay|--config|L.toml", "L.toml"),
     (b"xcpd|replay|--config=a b.toml", "a b.toml"),
+    (b"xcpd|replay|--config|L.toml|--flash|P", "L.toml flash P"),
+    (
+        b"xcpd|replay|--flash=L.toml|--config=a b.toml",
+        "a b.toml flash L.toml",
+    ),
     (b"xcpd|--help", PROGRAM_HELP),
     (b"xcpd|replay|--help", REPLAY_HELP),
     (b"xcpd|--version", "0 xcpd 0.1.0\n"),
@@ -712,7 +786,7 @@ fn the_words_of_the_command_line(rt: HostRuntime) {
 }
 
 /// What it tells of such words that are wrong.
-static WRONG_REPLAYS: [Row; 7] = [
+static WRONG_REPLAYS: [Row; 9] = [
     (b"", "1 error: 'xcpd' requires a subcommand"),
     (b"xcpd", "1 error: 'xcpd' requires a subcommand"),
     (
@@ -726,6 +800,14 @@ static WRONG_REPLAYS: [Row; 7] = [
     (
         b"xcpd|replay|--config|a|--config|b",
         "1 error: the argument '--config <FILE>' cannot",
+    ),
+    (
+        b"xcpd|replay|--config|a|--flash",
+        "1 error: a value is required for '--flash <FILE>'",
+    ),
+    (
+        b"xcpd|replay|--flash|a",
+        "1 error: the following required arguments were not provided",
     ),
     (
         b"xcpd|replay|--config|a|b",

@@ -1,7 +1,7 @@
 //! An audit of a journal's file, printed.
 //!
-//! [`print_audit`] executes the calls of the file again, on a new slave of the layout that a layout file describes, and prints
-//! what came of it, and each call as a line if that is asked. What prints is a [`Printer`].
+//! [`print_audit`] executes the calls of the file again, on a new slave of the layout that a layout file describes, with stored
+//! pages or without, and prints what came of it, and each call as a line if that is asked. What prints is a [`Printer`].
 //! `specs/CallLine.antt` has the line of a call, `specs/Printing.antt` what a printer does, `specs/PrintedAudit.antt` what is
 //! printed and answered.
 #![tactic(auto)]

@@ -1,9 +1,9 @@
 //! An audit whose outcome is printed.
-ghost use Rattle.std.specs.Prelude.{◌≡◌, ◌≢◌, ◌<◌, ◌⊎◌, ◌++◌, [], ℕ, List, Err, IfOk, IfSome, if◌then◌else◌, codes, decimal, string_bytes};
+ghost use Rattle.std.specs.Prelude.{◌≡◌, ◌≢◌, ◌<◌, ◌⊎◌, ◌++◌, [], ℕ, List, Option, Err, IfOk, IfSome, if◌then◌else◌, codes, decimal, string_bytes};
 ghost use Rattle.std.specs.Io.KnownBytes.{Consumes, IsAtEnd};
 ghost use Rattle.xcp_slave.specs.SlaveValue.{SlaveValue};
 ghost use Rattle.xcp_trace.specs.declared.Entry.{Entry};
-ghost use Rattle.xcp_config.specs.ConfigText.{HasLayout};
+ghost use Rattle.xcp_program.specs.Beginning.{Begins};
 ghost use Rattle.xcp_record.specs.Audit.{Audits, Hears, HoldsRun, SaysSettled};
 ghost use Rattle.xcp_audit.specs.CallLine.{lines_of};
 ghost use Rattle.xcp_audit.specs.Printing.{Prints, stand_of};
@@ -20,8 +20,8 @@ use xcp_record::{AuditFault, Silent, audit};
 use xcp_slave::Slave;
 
 /// Executes the calls of a journal's file again, on a new slave of this layout, which the text of the layout file describes,
-/// and prints what came of it: `calls N` and `settled`, or `calls N` where the file has an end behind so many good calls;
-/// before that each call as a line, where lines are wanted.
+/// with the stored pages of a file or with its own, and prints what came of it: `calls N` and `settled`, or `calls N` where
+/// the file has an end behind so many good calls; before that each call as a line, where lines are wanted.
 ///
 /// Faults: `Stream(2)` where a write failed; `Memory` at any place; `MismatchedCall`; `Journal`, 1 and 3 to 6.
 pub fn print_audit<R: Read, W: Write>(
@@ -32,7 +32,7 @@ pub fn print_audit<R: Read, W: Write>(
     printer: &mut Printer<W>,
     lines: bool,
 ) -> Result<(), Fault>
-    requires { HasLayout config.now layout }
+    requires { (flash : Option (List ℕ)) × Begins config.now flash layout }
     // Memory may be short before anything is read or printed.
     ensures ends { ((result ≡ Err Fault.Memory) × (reader.new ≡ reader.old) × (printer.new ≡ printer.old))
         ⊎ PrintsAudit config.now layout

@@ -58,7 +58,7 @@ has_spelt found = has_spelt_in found (codes "serve")
 pub named_apart : (a b : Text) (found : Option (Text × List Row)) → option_map (λ p. p.0) found ≡ Some a → option_map (λ p. p.0) found ≡ Some b → (a ≡ b → ⊥) → ⊥
 named_apart a b found h k apart = apart (some_is a b (sym h ∙ k))
 
-no_replay : codes "replay" ≡ codes "serve" → ⊥
+pub no_replay : codes "replay" ≡ codes "serve" → ⊥
 no_replay e = cc
 
 pub no_description : codes "describe" ≡ codes "serve" → ⊥
@@ -69,12 +69,12 @@ no_audit e = let first : 97 ≡ 115 = ap (λ (t : Text). slice_index t 0) e in a
 
 -- what is asked for has not too many tools
 pub not_too_many : (found : Option (Text × List Row)) (o : Options) → Asks found o → AsksTooMany found → ⊥
-not_too_many found (Replay config) h many = named_apart (codes "replay") (codes "serve") found h.text.name many.tools.spelt.value.name no_replay
-not_too_many found (Serve config host p t k n m ms journal pace) h many =
+not_too_many found (Replay config flash) h many = named_apart (codes "replay") (codes "serve") found h.config.text.name many.tools.spelt.value.name no_replay
+not_too_many found (Serve config host p t k n m ms journal flash pace) h many =
     let same : t ≡ many.number = same_number found (codes "serve") tools.name t many.number h.tools.spelt many.tools.spelt in
     let least : t ≤ 2 = h.few in
     let above : 2 < many.number = many.many in
     omega arith
-not_too_many found (Stay config host p t k ms s journal pace) h many = many.ends h.stays
+not_too_many found (Stay config host p t k ms s journal flash pace) h many = many.ends h.stays
 not_too_many found (Describe config host p check) h many = named_apart (codes "describe") (codes "serve") found h.config.text.name many.tools.spelt.value.name no_description
-not_too_many found (Audit config file lines) h many = named_apart (codes "audit") (codes "serve") found h.config.text.name many.tools.spelt.value.name no_audit
+not_too_many found (Audit config file flash lines) h many = named_apart (codes "audit") (codes "serve") found h.config.text.name many.tools.spelt.value.name no_audit

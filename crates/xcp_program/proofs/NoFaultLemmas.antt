@@ -15,7 +15,7 @@ use Rattle.clap.proofs.ValueTestLemmas.{accepts-Accepts}
 use Rattle.clap.specs.declared.builder.value_parser.ValueParser.TheVariants.{Unsigned}
 use Rattle.clap.specs.declared.error.kind.ErrorKind.TheVariants as kind
 use Rattle.xcp_program.specs.CommandLine.{HasNumber, HasNumberIn, Numeric, chapter, cycles, host_default, named_port, patience, period, port, program, tasks, tools}
-use Rattle.xcp_program.specs.private.CommandLine.{AsksAudit, AsksDescription, AsksRun, AsksSomething, HasFlag, IsChosen}
+use Rattle.xcp_program.specs.private.CommandLine.{AsksAudit, AsksDescription, AsksReplay, AsksRun, AsksSomething, HasFlag, IsChosen}
 use Rattle.xcp_program.proofs.ClapRowLemmas.{Each, EachRule, Good, IsGiven, Keeps, default_row, defaults_leave, found_row, found_rule, keeps_flag, keeps_set, leaves_row, no_kinds, default_among, parts, row_for}
 use Rattle.xcp_program.proofs.ClapWalkLemmas.{NoHelp, settles, walk_kept, walk_stops}
 
@@ -60,7 +60,10 @@ no_values n e = go (0 == suc n) (eqb-zero-suc n) e
 keeps_replay : EachRule (Keeps (Good replay_shape.rules)) replay_shape.rules
 keeps_replay = (
   keeps_set replay_shape.rules (nth 0 replay_shape) refl refl refl (λ again rows e. no_kinds _ _ e),
-  (λ again values rows e v. v, tt),
+  (
+    keeps_set replay_shape.rules (nth 1 replay_shape) refl refl refl (λ again rows e. no_kinds _ _ e),
+    (λ again values rows e v. v, tt),
+  ),
 )
 
 keeps_serve : EachRule (Keeps (Good serve_shape.rules)) serve_shape.rules
@@ -87,8 +90,11 @@ keeps_serve = (
                     (
                       keeps_set serve_shape.rules (nth 10 serve_shape) refl refl refl (λ again rows e. no_kinds _ _ e),
                       (
-                        keeps_flag serve_shape.rules (nth 11 serve_shape) (codes "true") refl refl refl refl (λ again y ys rows e. no_values (length ys) (parts _ _ e).0),
-                        (λ again values rows e v. v, tt),
+                        keeps_set serve_shape.rules (nth 11 serve_shape) refl refl refl (λ again rows e. no_kinds _ _ e),
+                        (
+                          keeps_flag serve_shape.rules (nth 12 serve_shape) (codes "true") refl refl refl refl (λ again y ys rows e. no_values (length ys) (parts _ _ e).0),
+                          (λ again values rows e v. v, tt),
+                        ),
                       ),
                     ),
                   ),
@@ -123,8 +129,11 @@ keeps_audit = (
   (
     keeps_set audit_shape.rules (nth 1 audit_shape) refl refl refl (λ again rows e. no_kinds _ _ e),
     (
-      keeps_flag audit_shape.rules (nth 2 audit_shape) (codes "true") refl refl refl refl (λ again y ys rows e. no_values (length ys) (parts _ _ e).0),
-      (λ again values rows e v. v, tt),
+      keeps_set audit_shape.rules (nth 2 audit_shape) refl refl refl (λ again rows e. no_kinds _ _ e),
+      (
+        keeps_flag audit_shape.rules (nth 3 audit_shape) (codes "true") refl refl refl refl (λ again y ys rows e. no_values (length ys) (parts _ _ e).0),
+        (λ again values rows e v. v, tt),
+      ),
     ),
   ),
 )
@@ -213,10 +222,13 @@ default_stands a v rows all same good passes = go (row_for a.id rows) refl good
     go (Some r) e h = stands a all (Some v) r (same ∙ ap (λ (o : Option Row). Some (unwrap_or o (default_row a v))) e) h
 
 -- an option that needn't be given and has no default: it stands, or nothing does
-choice_stands : (a : Rule) (rows all : List Row) → row_for a.id all ≡ row_for a.id rows → IfSome (row_for a.id rows) (IsGiven a) → Stands a all None ⊎ ((is_given a.id all ≡ false) × (first_of a.id all ≡ None))
+abbrev MayStand : Rule → List Row → Type 0
+MayStand a rows = Stands a rows None ⊎ ((is_given a.id rows ≡ false) × (first_of a.id rows ≡ None))
+
+choice_stands : (a : Rule) (rows all : List Row) → row_for a.id all ≡ row_for a.id rows → IfSome (row_for a.id rows) (IsGiven a) → MayStand a all
 choice_stands a rows all same good = go (row_for a.id rows) refl good
   where
-    go : (o : Option Row) → row_for a.id rows ≡ o → IfSome o (IsGiven a) → Stands a all None ⊎ ((is_given a.id all ≡ false) × (first_of a.id all ≡ None))
+    go : (o : Option Row) → row_for a.id rows ≡ o → IfSome o (IsGiven a) → MayStand a all
     go None e h = inr (ap (λ (o : Option Row). option_map_or (λ q. explicit_source q.source) o false) (same ∙ e), ap (option_and_then (λ q. slice_get q.values 0)) (same ∙ e))
     go (Some r) e h = inl (stands a all None r (same ∙ e) h)
 
@@ -227,7 +239,7 @@ module _ (s : Shape) (words : List Text) (kept : EachRule (Keeps (Good s.rules))
   by_words a one leaves given = wanted_stands a (given_rows s words) (all_rows s words) (defaults_leave a.id s.rules (given_rows s words) leaves) (row_is_good s words kept e a one) given
 
   by_choice : (a : Rule) → arg_by_id s.rules a.id ≡ Some a → list_all (leaves_row a.id) s.rules ≡ true
-      → Stands a (all_rows s words) None ⊎ ((is_given a.id (all_rows s words) ≡ false) × (first_of a.id (all_rows s words) ≡ None))
+      → MayStand a (all_rows s words)
   by_choice a one leaves = choice_stands a (given_rows s words) (all_rows s words) (defaults_leave a.id s.rules (given_rows s words) leaves) (row_is_good s words kept e a one)
 
   by_default : (before after : List Rule) (a : Rule) (v : Text) → before ++ a ∷ after ≡ s.rules → list_all (leaves_row a.id) before ≡ true → list_all (leaves_row a.id) after ≡ true → a.defaults ≡ v ∷ []
@@ -237,19 +249,11 @@ module _ (s : Shape) (words : List Text) (kept : EachRule (Keeps (Good s.rules))
       ap (λ (c : List Rule). row_for a.id (fold with_default (given_rows s words) c)) (sym whole) ∙ default_among before after a v (given_rows s words) front back own in
       default_stands a v (given_rows s words) (all_rows s words) row (row_is_good s words kept e a one) passes
 
--- ---- `replay`
+-- ---- an option's number, a flag, a choice
 
 one_wanted : (g : Bool) → (if (not g || false) then kind.MissingRequiredArgument ∷ [] else []) ≡ [] → g ≡ true
 one_wanted true e = refl
 one_wanted false e = absurd (no_kinds _ _ e)
-
-replay_asked : (words : List Text) → level_fault replay_shape [] nothing_held words false [] ≡ [] → AsksRun (Some (rows_at replay_shape words))
-replay_asked words e =
-    let given = one_wanted (is_given (codes "config") (all_rows replay_shape words)) (checked replay_shape words keeps_replay e) in
-    let file = by_words replay_shape words keeps_replay e (nth 0 replay_shape) refl refl given in
-    inl (file.text, record { text = record { name = refl; value = file.value }; given = given })
-
--- ---- `serve`
 
 two_wanted : (g h : Bool) → (if (not g || (not h || false)) then kind.MissingRequiredArgument ∷ [] else []) ≡ [] → (g ≡ true) × (h ≡ true)
 two_wanted true true e = (refl, refl)
@@ -302,13 +306,34 @@ no_text a e = cc
 
 -- an option that needn't be given, and has no default
 choice_among : (s : Shape) (command : Text) (words : List Text) → (rows_at s words).0 ≡ command → (rows_at s words).1 ≡ all_rows s words → (a : Rule)
-    → Stands a (all_rows s words) None ⊎ ((is_given a.id (all_rows s words) ≡ false) × (first_of a.id (all_rows s words) ≡ None)) → IsChosen (Some (rows_at s words)) command a.id
+    → MayStand a (all_rows s words) → IsChosen (Some (rows_at s words)) command a.id
 choice_among s command words named all a (inl h) = go (is_given a.id (all_rows s words)) refl
   where
     go : (g : Bool) → is_given a.id (all_rows s words) ≡ g → IsChosen (Some (rows_at s words)) command a.id
     go true e = inl (h.text, record { text = record { name = ap Some named; value = ap (first_of a.id) all ∙ h.value }; given = ap (is_given a.id) all ∙ e })
     go false e = absurd (no_text _ (sym (h.otherwise e)))
 choice_among s command words named all a (inr h) = inr (ap (is_given a.id) all ∙ h.0, λ text has. no_text text (sym has.value ∙ ap (first_of a.id) all ∙ h.1))
+
+-- ---- `replay`
+
+module _ (words : List Text) (e : level_fault replay_shape [] nothing_held words false [] ≡ []) where
+  layout_given : is_given (codes "config") (all_rows replay_shape words) ≡ true
+  layout_given = one_wanted _ (checked replay_shape words keeps_replay e)
+
+  layout_stands : Stands (nth 0 replay_shape) (all_rows replay_shape words) None
+  layout_stands = by_words replay_shape words keeps_replay e (nth 0 replay_shape) refl refl layout_given
+
+  pages_stand : MayStand (nth 1 replay_shape) (all_rows replay_shape words)
+  pages_stand = by_choice replay_shape words keeps_replay e (nth 1 replay_shape) refl refl
+
+  replay_asked : AsksReplay (Some (rows_at replay_shape words))
+  replay_asked = record {
+    file = layout_stands.text;
+    config = record { text = record { name = refl; value = layout_stands.value }; given = layout_given };
+    flash = choice_among replay_shape (codes "replay") words refl refl (nth 1 replay_shape) pages_stand;
+  }
+
+-- ---- `serve`
 
 module _ (words : List Text) (e : level_fault serve_shape [] nothing_held words false [] ≡ []) where
   wants : (is_given (codes "config") (all_rows serve_shape words) ≡ true) × (is_given (codes "port") (all_rows serve_shape words) ≡ true)
@@ -344,11 +369,14 @@ module _ (words : List Text) (e : level_fault serve_shape [] nothing_held words 
   patience_stands : Stands (nth 9 serve_shape) (all_rows serve_shape words) patience.default
   patience_stands = by_default serve_shape words keeps_serve e (take 9 serve_shape.rules) (drop 10 serve_shape.rules) (nth 9 serve_shape) (codes "60") refl refl refl refl refl refl
 
-  written_stands : Stands (nth 10 serve_shape) (all_rows serve_shape words) None ⊎ ((is_given (codes "journal") (all_rows serve_shape words) ≡ false) × (first_of (codes "journal") (all_rows serve_shape words) ≡ None))
+  written_stands : MayStand (nth 10 serve_shape) (all_rows serve_shape words)
   written_stands = by_choice serve_shape words keeps_serve e (nth 10 serve_shape) refl refl
 
-  pace_stands : Stands (nth 11 serve_shape) (all_rows serve_shape words) (Some (codes "false"))
-  pace_stands = by_default serve_shape words keeps_serve e (take 11 serve_shape.rules) (drop 12 serve_shape.rules) (nth 11 serve_shape) (codes "false") refl refl refl refl refl refl
+  kept_stands : MayStand (nth 11 serve_shape) (all_rows serve_shape words)
+  kept_stands = by_choice serve_shape words keeps_serve e (nth 11 serve_shape) refl refl
+
+  pace_stands : Stands (nth 12 serve_shape) (all_rows serve_shape words) (Some (codes "false"))
+  pace_stands = by_default serve_shape words keeps_serve e (take 12 serve_shape.rules) (drop 13 serve_shape.rules) (nth 12 serve_shape) (codes "false") refl refl refl refl refl refl
 
   serve_asked : AsksRun (Some (rows_at serve_shape words))
   serve_asked =
@@ -380,7 +408,8 @@ module _ (words : List Text) (e : level_fault serve_shape [] nothing_held words 
         period = ms.1;
         patience = s.1;
         journal = choice_among serve_shape (codes "serve") words refl refl (nth 10 serve_shape) written_stands;
-        pace = flag_among serve_shape (codes "serve") words refl refl (nth 11 serve_shape) refl refl pace_stands;
+        flash = choice_among serve_shape (codes "serve") words refl refl (nth 11 serve_shape) kept_stands;
+        pace = flag_among serve_shape (codes "serve") words refl refl (nth 12 serve_shape) refl refl pace_stands;
       })
 
 -- ---- `describe`
@@ -426,8 +455,11 @@ module _ (words : List Text) (e : level_fault audit_shape [] nothing_held words 
   journal_stands : Stands (nth 1 audit_shape) (all_rows audit_shape words) None
   journal_stands = by_words audit_shape words keeps_audit e (nth 1 audit_shape) refl refl both_given.1
 
-  lines_stands : Stands (nth 2 audit_shape) (all_rows audit_shape words) (Some (codes "false"))
-  lines_stands = by_default audit_shape words keeps_audit e (take 2 audit_shape.rules) (drop 3 audit_shape.rules) (nth 2 audit_shape) (codes "false") refl refl refl refl refl refl
+  begun_stands : MayStand (nth 2 audit_shape) (all_rows audit_shape words)
+  begun_stands = by_choice audit_shape words keeps_audit e (nth 2 audit_shape) refl refl
+
+  lines_stands : Stands (nth 3 audit_shape) (all_rows audit_shape words) (Some (codes "false"))
+  lines_stands = by_default audit_shape words keeps_audit e (take 3 audit_shape.rules) (drop 4 audit_shape.rules) (nth 3 audit_shape) (codes "false") refl refl refl refl refl refl
 
   audit_asked : AsksAudit (Some (rows_at audit_shape words))
   audit_asked = record {
@@ -435,7 +467,8 @@ module _ (words : List Text) (e : level_fault audit_shape [] nothing_held words 
     journal = journal_stands.text;
     config = record { text = record { name = refl; value = option_stands.value }; given = both_given.0 };
     place = record { text = record { name = refl; value = journal_stands.value }; given = both_given.1 };
-    lines = flag_among audit_shape (codes "audit") words refl refl (nth 2 audit_shape) refl refl lines_stands;
+    flash = choice_among audit_shape (codes "audit") words refl refl (nth 2 audit_shape) begun_stands;
+    lines = flag_among audit_shape (codes "audit") words refl refl (nth 3 audit_shape) refl refl lines_stands;
   }
 
 -- ---- the program's own words
@@ -462,7 +495,7 @@ entered_asks (Some p) n f h = go (answers_to p.0 (label_of replay_shape)) (answe
         → option_map_or (λ s. level_fault s [] nothing_held p.1 false []) (named x y d a z) [] ≡ []
         → is_some (option_map (λ s. rows_at s p.1) (named x y d a z)) ≡ true
         → AsksSomething (option_map (λ s. rows_at s p.1) (named x y d a z))
-    go true y d a z other f h = inl (replay_asked p.1 f)
+    go true y d a z other f h = inl (inl (replay_asked p.1 f))
     go false true d a z other f h = inl (serve_asked p.1 f)
     go false false true a z other f h = inr (inl (description_asked p.1 f))
     go false false false true z other f h = inr (inr (audit_asked p.1 f))

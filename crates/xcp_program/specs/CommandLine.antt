@@ -19,10 +19,6 @@ use Rattle.clap.specs.declared.builder.value_parser.ValueParser.TheVariants.{Uns
 abbrev pub config_rule : Rule
 config_rule = record (new_rule (codes "config")) { long = Some (codes "config"); action = Some Set; value_names = 1; required = true }
 
--- `replay --config FILE`
-abbrev pub replay_app : App
-replay_app = with_rule (new_app (codes "replay")) config_rule
-
 -- an option of `serve` that has a number: its name, the bounds of the number, and the number's text where it isn't given
 pub record Numeric : Type 0 where
   pub name : Text
@@ -81,12 +77,16 @@ flag_rule name = record (new_rule name) { long = Some name; action = Some SetTru
 abbrev pub choice_rule : Text → Rule
 choice_rule name = record (new_rule name) { long = Some name; action = Some Set; value_names = 1 }
 
+-- `replay --config FILE [--flash FILE]`
+abbrev pub replay_app : App
+replay_app = with_rule (with_rule (new_app (codes "replay")) config_rule) (choice_rule (codes "flash"))
+
 -- `serve --config FILE --port PORT [--host HOST] [--stay] [--tools T] [--tasks K] [--cycles N] [--chapter M] [--period MS] [--patience S]
--- [--journal FILE] [--pace]`
+-- [--journal FILE] [--flash FILE] [--pace]`
 abbrev pub serve_app : App
-serve_app = with_rule (with_rule (with_rule (with_rule (with_rule (with_rule (with_rule (with_rule (with_rule (with_rule (with_rule (with_rule (new_app (codes "serve"))
+serve_app = with_rule (with_rule (with_rule (with_rule (with_rule (with_rule (with_rule (with_rule (with_rule (with_rule (with_rule (with_rule (with_rule (new_app (codes "serve"))
     config_rule) (numeric_rule port)) host_rule) (flag_rule (codes "stay"))) (numeric_rule tools)) (numeric_rule tasks)) (numeric_rule cycles)) (numeric_rule chapter)) (numeric_rule period)) (numeric_rule patience))
-    (choice_rule (codes "journal"))) (flag_rule (codes "pace"))
+    (choice_rule (codes "journal"))) (choice_rule (codes "flash"))) (flag_rule (codes "pace"))
 
 -- the port that a description names
 abbrev pub named_port : Numeric
@@ -100,9 +100,9 @@ describe_app = with_rule (with_rule (with_rule (with_rule (new_app (codes "descr
 abbrev pub file_rule : Rule
 file_rule = record (new_rule (codes "file")) { action = Some Set; value_names = 1; required = true }
 
--- `audit --config FILE FILE [--lines]`
+-- `audit --config FILE FILE [--flash FILE] [--lines]`
 abbrev pub audit_app : App
-audit_app = with_rule (with_rule (with_rule (new_app (codes "audit")) config_rule) file_rule) (flag_rule (codes "lines"))
+audit_app = with_rule (with_rule (with_rule (with_rule (new_app (codes "audit")) config_rule) file_rule) (choice_rule (codes "flash"))) (flag_rule (codes "lines"))
 
 abbrev pub with_a_version : App → App
 with_a_version a = record a { top = record a.top { has_version = true } }
@@ -137,9 +137,14 @@ HasChoice found command option (Some text) = HasGiven found command option text
 abbrev pub HasFile : Option (Text × List Row) → Text → Text → Type 0
 HasFile found command file = HasGiven found command (codes "config") file
 
--- a subcommand with its rows is a replay with this configuration file
-abbrev pub IsReplay : Option (Text × List Row) → Text → Type 0
-IsReplay found file = HasFile found (codes "replay") file
+-- the words give the file that keeps the stored pages, or none
+abbrev pub HasFlash : Option (Text × List Row) → Text → Option Text → Type 0
+HasFlash found command flash = HasChoice found command (codes "flash") flash
+
+-- a subcommand with its rows is a replay with this configuration file, and this file of stored pages
+pub record IsReplay (found : Option (Text × List Row)) (file : Text) (stored : Option Text) : Type 0 where
+  pub config : HasFile found (codes "replay") file
+  pub flash : HasFlash found (codes "replay") stored
 
 -- an option of a subcommand has a text of decimal digits (a plus may stand before them), and this is their number
 pub record SpellsIn (found : Option (Text × List Row)) (command option : Text) (n : ℕ) : Type 0 where
@@ -175,9 +180,9 @@ Stays found = gives (codes "stay") found ≡ true
 abbrev pub HasJournal : Option (Text × List Row) → Option Text → Type 0
 HasJournal found journal = HasChoice found (codes "serve") (codes "journal") journal
 
--- a subcommand with its rows is a server that ends, with this configuration file, this host, these numbers, this file for its journal, and
--- with or without the flag `--pace`
-pub record IsServe (found : Option (Text × List Row)) (file address : Text) (p t k n m ms : ℕ) (written : Option Text) (paced : Bool) : Type 0 where
+-- a subcommand with its rows is a server that ends, with this configuration file, this host, these numbers, this file for its journal, this
+-- one for the stored pages, and with or without the flag `--pace`
+pub record IsServe (found : Option (Text × List Row)) (file address : Text) (p t k n m ms : ℕ) (written stored : Option Text) (paced : Bool) : Type 0 where
   pub config : HasFile found (codes "serve") file
   pub host : HasHost found (codes "serve") address
   pub port : HasNumber found port p
@@ -188,11 +193,12 @@ pub record IsServe (found : Option (Text × List Row)) (file address : Text) (p 
   pub chapter : HasNumber found chapter m
   pub period : HasNumber found period ms
   pub journal : HasJournal found written
+  pub flash : HasFlash found (codes "serve") stored
   pub pace : gives (codes "pace") found ≡ paced
   pub ends : ¬ (Stays found)
 
 -- a subcommand with its rows is a server that stays, likewise
-pub record IsStay (found : Option (Text × List Row)) (file address : Text) (p t k ms s : ℕ) (written : Option Text) (paced : Bool) : Type 0 where
+pub record IsStay (found : Option (Text × List Row)) (file address : Text) (p t k ms s : ℕ) (written stored : Option Text) (paced : Bool) : Type 0 where
   pub config : HasFile found (codes "serve") file
   pub host : HasHost found (codes "serve") address
   pub port : HasNumber found port p
@@ -201,6 +207,7 @@ pub record IsStay (found : Option (Text × List Row)) (file address : Text) (p t
   pub period : HasNumber found period ms
   pub patience : HasNumber found patience s
   pub journal : HasJournal found written
+  pub flash : HasFlash found (codes "serve") stored
   pub pace : gives (codes "pace") found ≡ paced
   pub stays : Stays found
 
@@ -218,29 +225,31 @@ pub record IsDescription (found : Option (Text × List Row)) (file address : Tex
   pub port : HasNumberIn found (codes "describe") named_port p
   pub flag : gives (codes "check") found ≡ checked
 
--- a subcommand with its rows is an audit of this journal by this configuration file, with or without the flag `--lines`
-pub record IsAudit (found : Option (Text × List Row)) (file word : Text) (lines : Bool) : Type 0 where
+-- a subcommand with its rows is an audit of this journal by this configuration file and this file of stored pages, with or without the
+-- flag `--lines`
+pub record IsAudit (found : Option (Text × List Row)) (file word : Text) (stored : Option Text) (lines : Bool) : Type 0 where
   pub config : HasFile found (codes "audit") file
   pub journal : HasGiven found (codes "audit") (codes "file") word
+  pub flash : HasFlash found (codes "audit") stored
   pub flag : gives (codes "lines") found ≡ lines
 
 -- what a subcommand with its rows asks for
 abbrev pub Asks : Option (Text × List Row) → Options → Type 0
-Asks found (Replay config) = IsReplay found (string_bytes config)
-Asks found (Serve config host p t k n m ms journal pace) = IsServe found (string_bytes config) (string_bytes host) p t k n m ms (option_map string_bytes journal) pace
-Asks found (Stay config host p t k ms s journal pace) = IsStay found (string_bytes config) (string_bytes host) p t k ms s (option_map string_bytes journal) pace
+Asks found (Replay config flash) = IsReplay found (string_bytes config) (option_map string_bytes flash)
+Asks found (Serve config host p t k n m ms journal flash pace) = IsServe found (string_bytes config) (string_bytes host) p t k n m ms (option_map string_bytes journal) (option_map string_bytes flash) pace
+Asks found (Stay config host p t k ms s journal flash pace) = IsStay found (string_bytes config) (string_bytes host) p t k ms s (option_map string_bytes journal) (option_map string_bytes flash) pace
 Asks found (Describe config host p check) = IsDescription found (string_bytes config) (string_bytes host) p check
-Asks found (Audit config file lines) = IsAudit found (string_bytes config) (string_bytes file) lines
+Asks found (Audit config file flash lines) = IsAudit found (string_bytes config) (string_bytes file) (option_map string_bytes flash) lines
 
 -- each number is in its option's bounds, and the tools of a server that ends are few
 abbrev pub InRange : Options → Type 0
-InRange (Replay config) = ⊤
-InRange (Serve config host p t k n m ms journal pace) = (port.least ≤ p) × (p ≤ port.most) × (tools.least ≤ t) × (t ≤ few) × (tasks.least ≤ k) × (k ≤ tasks.most) × (cycles.least ≤ n) × (n ≤ cycles.most)
+InRange (Replay config flash) = ⊤
+InRange (Serve config host p t k n m ms journal flash pace) = (port.least ≤ p) × (p ≤ port.most) × (tools.least ≤ t) × (t ≤ few) × (tasks.least ≤ k) × (k ≤ tasks.most) × (cycles.least ≤ n) × (n ≤ cycles.most)
     × (chapter.least ≤ m) × (m ≤ chapter.most) × (period.least ≤ ms) × (ms ≤ period.most)
-InRange (Stay config host p t k ms s journal pace) = (port.least ≤ p) × (p ≤ port.most) × (tools.least ≤ t) × (t ≤ tools.most) × (tasks.least ≤ k) × (k ≤ tasks.most) × (period.least ≤ ms) × (ms ≤ period.most)
+InRange (Stay config host p t k ms s journal flash pace) = (port.least ≤ p) × (p ≤ port.most) × (tools.least ≤ t) × (t ≤ tools.most) × (tasks.least ≤ k) × (k ≤ tasks.most) × (period.least ≤ ms) × (ms ≤ period.most)
     × (patience.least ≤ s) × (s ≤ patience.most)
 InRange (Describe config host p check) = (named_port.least ≤ p) × (p ≤ named_port.most)
-InRange (Audit config file lines) = ⊤
+InRange (Audit config file flash lines) = ⊤
 
 -- Why the words ask for nothing, by the kinds of error of the first fault that clap finds in them (a wish for help is one), and by the
 -- subcommand that they name, with its rows: the error has one of these kinds; or clap finds no fault, and the tools are too many. Memory: an

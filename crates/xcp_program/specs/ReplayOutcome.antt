@@ -1,4 +1,4 @@
--- How a replay of a script ends, by a configuration text and the script.
+-- How a replay of a script ends, by a configuration text, the file of the stored pages, if there is one, and the script.
 use Rattle.std.specs.Prelude.{◌≡◌, ◌⊎◌, ℕ, List, Option, Result, Ok, Err}
 use Rattle.xcp_memory.specs.Layout.{LayoutValue}
 use Rattle.xcp_slave.specs.SlaveValue.{SlaveValue, opening}
@@ -11,7 +11,8 @@ use Rattle.xcp_script.specs.declared.ReplayError.TheVariants as errors
 use Rattle.xcp_config.specs.declared.ConfigError.{ConfigError}
 use Rattle.xcp_config.specs.declared.ConfigError.TheVariants.{Text}
 use Rattle.xcp_config.specs.FaultNumbers.{number_of}
-use Rattle.xcp_config.specs.ConfigText.{HasFault, HasLayout, IsNoDocument}
+use Rattle.xcp_config.specs.ConfigText.{HasFault, IsNoDocument}
+use Rattle.xcp_program.specs.Beginning.{Begins, IsUnfit}
 use Rattle.xcp_program.specs.declared.fault.Fault.{Fault}
 use Rattle.xcp_program.specs.declared.fault.Fault.TheVariants as faults
 
@@ -25,10 +26,10 @@ pub record AnswersScript (layout : LayoutValue) (script old new : Option (List �
   pub asked : OfLines script (λ lines. Replayed layout.max_cto lines ended (requests_of exchanges))
   pub written : Tells ended old new (answers_text exchanges)
 
--- the same, for the layout that the configuration describes
-pub record Replays (config : List ℕ) (script old new : Option (List ℕ)) (ended : Result ℕ ReplayError) : Type 0 where
+-- the same, for the layout that the slave begins with
+pub record Replays (config : List ℕ) (flash : Option (List ℕ)) (script old new : Option (List ℕ)) (ended : Result ℕ ReplayError) : Type 0 where
   pub layout : LayoutValue
-  pub described : HasLayout config layout
+  pub begins : Begins config flash layout
   pub answers : AnswersScript layout script old new ended
 
 -- a run for which memory was short at a request of the script: the slave did not take it, or its answer has no text
@@ -36,10 +37,10 @@ pub record RunsShort (layout : LayoutValue) (script old new : Option (List ℕ))
   pub answers : AnswersScript layout script old new (Err errors.Memory)
   pub short : OfLines script (λ lines. EndsShort (asked layout.max_cto lines) answers.exchanges old new)
 
--- the same, for the layout that the configuration describes
-pub record ReplaysShort (config : List ℕ) (script old new : Option (List ℕ)) : Type 0 where
+-- the same, for the layout that the slave begins with
+pub record ReplaysShort (config : List ℕ) (flash : Option (List ℕ)) (script old new : Option (List ℕ)) : Type 0 where
   pub layout : LayoutValue
-  pub described : HasLayout config layout
+  pub begins : Begins config flash layout
   pub runs : RunsShort layout script old new
 
 -- the configuration has a fault of this number: 1 where its text is no document, else that of the first check that fails
@@ -53,14 +54,16 @@ abbrev pub IsFault : List ℕ → Fault → Type 0
 IsFault config f = (n : ℕ) × (f ≡ faults.Configuration n) × IsFaulty config n
 
 -- What a replay did, by what it returned. Configuration(n): the configuration has the fault of that number, and nothing was
--- written. An allocation may fail before a slave stands: then nothing was written either. A mismatch or a journal's fault is no end of a replay.
-abbrev pub Ends : List ℕ → Option (List ℕ) → Option (List ℕ) → Option (List ℕ) → Result ℕ Fault → Type 0
-Ends config script old new (Ok n) = Replays config script old new (Ok n)
-Ends config script old new (Err (faults.Configuration n)) = IsFaulty config n × (new ≡ old)
-Ends config script old new (Err (faults.Line k)) = Replays config script old new (Err (errors.Line k))
-Ends config script old new (Err (faults.Stream n)) = ((n ≡ 1) × Replays config script old new (Err errors.Read)) ⊎ ((n ≡ 2) × Replays config script old new (Err errors.Write))
-Ends config script old new (Err faults.Memory) = (new ≡ old) ⊎ Replays config script old new (Err errors.Memory)
-Ends config script old new (Err (faults.MismatchedChapter number)) = ⊥
-Ends config script old new (Err (faults.Mismatch caller at)) = ⊥
-Ends config script old new (Err (faults.MismatchedCall at)) = ⊥
-Ends config script old new (Err (faults.Journal n)) = ⊥
+-- written. Flash(1): the file of the stored pages is unfit, and nothing was written. An allocation may fail before a slave stands: then
+-- nothing was written either. A mismatch or a journal's fault is no end of a replay.
+abbrev pub Ends : List ℕ → Option (List ℕ) → Option (List ℕ) → Option (List ℕ) → Option (List ℕ) → Result ℕ Fault → Type 0
+Ends config flash script old new (Ok n) = Replays config flash script old new (Ok n)
+Ends config flash script old new (Err (faults.Configuration n)) = IsFaulty config n × (new ≡ old)
+Ends config flash script old new (Err (faults.Line k)) = Replays config flash script old new (Err (errors.Line k))
+Ends config flash script old new (Err (faults.Stream n)) = ((n ≡ 1) × Replays config flash script old new (Err errors.Read)) ⊎ ((n ≡ 2) × Replays config flash script old new (Err errors.Write))
+Ends config flash script old new (Err faults.Memory) = (new ≡ old) ⊎ Replays config flash script old new (Err errors.Memory)
+Ends config flash script old new (Err (faults.MismatchedChapter number)) = ⊥
+Ends config flash script old new (Err (faults.Mismatch caller at)) = ⊥
+Ends config flash script old new (Err (faults.MismatchedCall at)) = ⊥
+Ends config flash script old new (Err (faults.Journal n)) = ⊥
+Ends config flash script old new (Err (faults.Flash n)) = (n ≡ 1) × IsUnfit config flash × (new ≡ old)

@@ -5,7 +5,7 @@ ghost use Rattle.clap.specs.Words.{app_of, kind_of, rule_of, subcommand_of, subc
 ghost use Rattle.clap.specs.Words.{fault_of as faults_in};
 ghost use Rattle.clap.specs.declared.builder.command.Command.TheViews.{out-Command as fields_of};
 ghost use Rattle.xcp_program.specs.CommandLine.{Asks, AsksTooMany, InRange, HasChoice, HasText, IsMistake, Spells, SpellsIn, gives};
-ghost use Rattle.xcp_program.specs.private.CommandLine.{AsksAudit, AsksDescription, AsksServe, AsksSomething, HasFlag, IsChosen, IsRefusal, placed_app};
+ghost use Rattle.xcp_program.specs.private.CommandLine.{AsksAudit, AsksDescription, AsksReplay, AsksServe, AsksSomething, HasFlag, IsChosen, IsRefusal, placed_app};
 ghost use Rattle.xcp_program.specs.CommandLine.{audit_app, choice_rule, config_rule, describe_app, file_rule, flag_rule, host_rule, numeric_rule, program, replay_app, serve_app};
 
 use crate::purpose::{Options, OptionsFault};
@@ -28,6 +28,7 @@ const STATUS: &str =
 const LINES: &str =
     "Each line is a command packet in hex, as FF00 (CONNECT), or one of: event C HEX, drain, store, hangup.
 Empty lines and lines that begin with # are skipped. A dash is the answer where nothing is sent.
+With --flash the slave begins with the stored pages of FILE, which isn't changed.
 
 Wrong words end the program with status 1, and what is wrong with them on standard error. Any other fault ends it
 with one line there, and this status:
@@ -35,7 +36,8 @@ with one line there, and this status:
      type (3), out of its range (4), areas that overlap (5), or too many segments, bytes or events (6)
   2  line N: the line is faulty
   3  stream N: reading (1) or writing (2) failed
-  4  memory: an allocation failed";
+  4  memory: an allocation failed
+  6  flash 1: the file of the stored pages can't be read, is of another layout, cut short or altered";
 
 /// What help says below the options of a server.
 const ENDS: &str =
@@ -50,6 +52,8 @@ status is not that of a connection's fault. Without it T is 1 or 2, and --patien
 With --pace a task's period is the time that its channel's cycle and unit say; where these say none, it is --period.
 With --journal all calls are written to FILE, which must not be there yet: with --stay chapter by chapter, else at the
 end. One line more is printed then, behind settled: recorded N (N is the number of calls that stand in FILE).
+With --flash the pages that tools store are kept in FILE: where it is there, the slave begins with them, and after each
+store it is replaced whole. Without --stay it is replaced at the end.
 
 Wrong words end the program with status 1, and what is wrong with them on standard error. Any other fault ends it
 with one line there, and this status:
@@ -60,7 +64,9 @@ with one line there, and this status:
   4  memory: an allocation failed, or a thread couldn't be started
   5  mismatch chapter K: chapter K of the journal doesn't follow the one before
   5  mismatch caller C at I: what caller C was answered differs from the journal, first at its call I
-  6  journal N: the journal's file can't be made, or is there already (1), or not all calls could be written (2)";
+  6  journal N: the journal's file can't be made, or is there already (1), or not all calls could be written (2)
+  6  flash N: the file of the stored pages can't be read, is of another layout, cut short or altered (1), or not all
+     could be written (2)";
 
 /// What help says below the options of a description.
 const FAULTS: &str =
@@ -81,6 +87,7 @@ const VERDICTS: &str =
 (N is the number of all calls), and: settled. Where the file is cut short or altered, it prints calls N alone: so many calls
 stand before, and are good. With --lines there is a line for each call before, its parts with a tab between them: the
 caller's number, the request as a replay reads it, and the answer as a replay writes it.
+With --flash the slave begins with the stored pages of FILE, which isn't changed.
 
 Wrong words end the program with status 1, and what is wrong with them on standard error. Any other fault ends it
 with one line there, and this status:
@@ -90,7 +97,11 @@ with one line there, and this status:
   4  memory: an allocation failed
   5  mismatch call I: call I is the first, counted from 0, that has another answer than the slave's
   6  journal N: the journal's file can't be opened (0) or read (1), ends inside a chapter (3), has a chapter that isn't
-     as it was written (4), is of another layout (5), is no such file, is of another version or too long (6)";
+     as it was written (4), is of another layout (5), is no such file, is of another version or too long (6)
+  6  flash 1: the file of the stored pages can't be read, is of another layout, cut short or altered";
+
+/// What help says of the option `--flash` where its file is only read.
+const BEGINS: &str = "A file of stored pages, with which the slave begins";
 
 /// The option `--config`, which each subcommand wants.
 fn config_option<'a>(alloc: Global) -> Arg<'a>
@@ -115,7 +126,8 @@ fn replay_command<'a>(alloc: Global) -> Result<Command<'a>, AllocError>
             "Answers command packets in hex, one line of standard input each, by one line of standard output each",
         )
         .after_help(LINES);
-    Ok(replay.arg(config_option(alloc))?)
+    let replay = replay.arg(config_option(alloc))?;
+    Ok(replay.arg(choice(alloc, "flash", "FILE", BEGINS))?)
 }
 
 /// An option with a number from `least` to `most`, which has to be given where there is no fallback.
@@ -183,16 +195,16 @@ fn host_option<'a>(alloc: Global, value: &'a str, help: &'a str) -> Arg<'a>
         .help(help)
 }
 
-/// The file of a journal, which needn't be named.
-fn journal_option<'a>(alloc: Global) -> Arg<'a>
-    ensures rule { rule_of result ≡ choice_rule (codes "journal") }
+/// An option that needn't be given, with its value's name and its help.
+fn choice<'a>(alloc: Global, option: &'a str, value: &'a str, help: &'a str) -> Arg<'a>
+    ensures rule { rule_of result ≡ choice_rule option.entry.now }
     ensures local { result.global ≡ false }
 {
-    Arg::new(alloc, "journal")
-        .long("journal")
-        .value_name("FILE")
+    Arg::new(alloc, option)
+        .long(option)
+        .value_name(value)
         .action(ArgAction::Set)
-        .help("A new file that all calls are written to, for an audit")
+        .help(help)
 }
 
 /// The front of `serve`: the options that say of which slave, at which port and host, and whether it stays.
@@ -248,7 +260,20 @@ fn serve_command<'a>(alloc: Global) -> Result<Command<'a>, AllocError>
         "The seconds that a tool may stop inside a frame, or read nothing, 1 to 3,600; only for --stay",
     );
     let serve = serve.arg(patience)?;
-    let serve = serve.arg(journal_option(alloc))?;
+    let journal = choice(
+        alloc,
+        "journal",
+        "FILE",
+        "A new file that all calls are written to, for an audit",
+    );
+    let serve = serve.arg(journal)?;
+    let flash = choice(
+        alloc,
+        "flash",
+        "FILE",
+        "The file that keeps the pages that tools store",
+    );
+    let serve = serve.arg(flash)?;
     Ok(serve.arg(flag(
         alloc,
         "pace",
@@ -293,6 +318,7 @@ fn audit_command<'a>(alloc: Global) -> Result<Command<'a>, AllocError>
         .after_help(VERDICTS);
     let audit = audit.arg(config_option(alloc))?;
     let audit = audit.arg(file_word(alloc))?;
+    let audit = audit.arg(choice(alloc, "flash", "FILE", BEGINS))?;
     Ok(audit.arg(flag(alloc, "lines", "Prints each call as a line"))?)
 }
 
@@ -389,10 +415,7 @@ fn asked(alloc: Global, matches: &ArgMatches<'_>) -> Result<Options, OptionsFaul
     ensures refused { IfErr result (λ e. IsRefusal (subcommand_rows_of matches.now) e) }
 {
     match text_in(matches, "replay", "config") {
-        Some(config) => {
-            let config = String::from_str(alloc, config)?;
-            Ok(Options::Replay { config })
-        }
+        Some(_) => replay_asked(alloc, matches),
         None => match text_in(matches, "describe", "config") {
             Some(_) => description_asked(alloc, matches),
             None => match text_in(matches, "audit", "config") {
@@ -431,6 +454,20 @@ fn choice_in(
     }
 }
 
+/// What the matches of a replay ask for.
+fn replay_asked(alloc: Global, matches: &ArgMatches<'_>) -> Result<Options, OptionsFault>
+    requires { AsksReplay (subcommand_rows_of matches.now) }
+    ensures asked { IfOk result (λ o. Asks (subcommand_rows_of matches.now) o) }
+    ensures refused { IfErr result (λ e. e ≡ OptionsFault.Memory) }
+{
+    let Some(config) = text_in(matches, "replay", "config") else {
+        unreachable!()
+    };
+    let config = String::from_str(alloc, config)?;
+    let flash = choice_in(alloc, matches, "replay", "flash")?;
+    Ok(Options::Replay { config, flash })
+}
+
 /// What the matches of a server ask for.
 fn server_asked(alloc: Global, matches: &ArgMatches<'_>) -> Result<Options, OptionsFault>
     requires { AsksServe (subcommand_rows_of matches.now) }
@@ -451,6 +488,7 @@ fn server_asked(alloc: Global, matches: &ArgMatches<'_>) -> Result<Options, Opti
     let config = String::from_str(alloc, config)?;
     let host = String::from_str(alloc, host)?;
     let journal = choice_in(alloc, matches, "serve", "journal")?;
+    let flash = choice_in(alloc, matches, "serve", "flash")?;
     if has_flag(matches, "serve", "stay") {
         Ok(Options::Stay {
             config,
@@ -461,6 +499,7 @@ fn server_asked(alloc: Global, matches: &ArgMatches<'_>) -> Result<Options, Opti
             period,
             patience: number_in(matches, "patience"),
             journal,
+            flash,
             pace,
         })
     } else if tools > MOST_TOOLS {
@@ -476,6 +515,7 @@ fn server_asked(alloc: Global, matches: &ArgMatches<'_>) -> Result<Options, Opti
             chapter: number_in(matches, "chapter"),
             period,
             journal,
+            flash,
             pace,
         })
     }
@@ -517,9 +557,11 @@ fn audit_asked(alloc: Global, matches: &ArgMatches<'_>) -> Result<Options, Optio
     };
     let config = String::from_str(alloc, config)?;
     let file = String::from_str(alloc, file)?;
+    let flash = choice_in(alloc, matches, "audit", "flash")?;
     Ok(Options::Audit {
         config,
         file,
+        flash,
         lines: has_flag(matches, "audit", "lines"),
     })
 }

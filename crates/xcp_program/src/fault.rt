@@ -44,6 +44,9 @@ pub enum Fault {
     /// written.
     #[error("journal {0}")]
     Journal(u8),
+    /// The file of the stored pages: 1 if it can't be read, is of another layout, cut short or altered, 2 if not all could be written.
+    #[error("flash {0}")]
+    Flash(u8),
 }
 
 impl Fault {
@@ -59,7 +62,7 @@ impl Fault {
             Fault::Stream(_) => 3,
             Fault::Memory => 4,
             Fault::MismatchedChapter(_) | Fault::MismatchedCall(_) | Fault::Mismatch { .. } => 5,
-            Fault::Journal(_) => 6,
+            Fault::Journal(_) | Fault::Flash(_) => 6,
         }
     }
 }

@@ -1,11 +1,16 @@
-//! The layout that the configuration describes.
-ghost use Rattle.std.specs.Prelude.{◌≡◌, ◌⊎◌, IfErr, IfOk};
+//! The layout that the configuration describes, and the one that a slave begins with.
+ghost use Rattle.std.specs.Prelude.{◌≡◌, ◌⊎◌, Err, IfErr, IfOk, MatchResult, Some, option_map};
+ghost use Rattle.sha2.specs.Sha256.{sha256};
 ghost use Rattle.xcp_config.specs.ConfigText.{HasLayout};
+ghost use Rattle.xcp_flash.specs.Restoring.{IsRestored};
+ghost use Rattle.xcp_program.specs.Beginning.{Begins, FitsNone, IsUnfit};
 ghost use Rattle.xcp_program.specs.ReplayOutcome.{IsFault};
 
 use crate::fault::Fault;
+use sha2::{Digest, Sha256};
 use std::alloc::Global;
 use xcp_config::{ConfigError, read_layout};
+use xcp_flash::restore;
 use xcp_memory::Layout;
 
 /// The layout that the text of a configuration file describes: `Configuration`, 1 to 6, where it
@@ -18,5 +23,34 @@ pub fn layout_of(alloc: Global, config: &str) -> Result<Layout, Fault>
         Ok(layout) => Ok(layout),
         Err(ConfigError::Memory) => Err(Fault::Memory),
         Err(fault) => Err(Fault::Configuration(fault.number())),
+    }
+}
+
+/// The layout that a slave begins with: the one that the text of a configuration file describes, with the pages of the file of
+/// stored pages that has these bytes, if there is one. `Configuration` and `Memory` as of `layout_of`; then `Flash(1)` exactly
+/// where the bytes are no file of pages that fit that layout.
+pub fn layout_stored(alloc: Global, config: &str, flash: Option<&[u8]>) -> Result<Layout, Fault>
+    ensures layout { IfOk result (λ l. Begins config.now (option_map (λ f. f.now) flash.entry) l) }
+    ensures refused { IfErr result (λ f. (f ≡ Fault.Memory) ⊎ (IsFault config.now f ⊎ (f ≡ Fault.Flash 1))) }
+    ensures unfit { result ≡ Err (Fault.Flash 1) → IsUnfit config.now (option_map (λ f. f.now) flash.entry) }
+    ensures told { IsUnfit config.now (option_map (λ f. f.now) flash.entry)
+        → (result ≡ Err (Fault.Flash 1)) ⊎ (result ≡ Err Fault.Memory) }
+{
+    let layout = layout_of(alloc, config)?;
+    match flash {
+        Some(file) => with_pages(layout, config, file),
+        None => Ok(layout),
+    }
+}
+
+/// A layout with the pages of a file of this configuration: `Flash(1)` exactly where the bytes are no file of pages that fit it.
+fn with_pages(mut layout: Layout, config: &str, file: &[u8]) -> Result<Layout, Fault>
+    ensures { MatchResult result (λ l. IsRestored layout (sha256 config.now) file.now l)
+        (λ f. (f ≡ Fault.Flash 1) × FitsNone config.now layout (Some file.now)) }
+{
+    let digest = Sha256::digest(config.as_bytes());
+    match restore(&mut layout, &digest, file) {
+        Ok(()) => Ok(layout),
+        Err(_) => Err(Fault::Flash(1)),
     }
 }

@@ -11,6 +11,8 @@ pub enum Options {
     Replay {
         /// The name of the configuration file.
         config: String,
+        /// The name of the file that keeps the stored pages, if one does.
+        flash: Option<String>,
     },
     /// To answer tools over TCP on the slave that this file describes, while tasks raise events, until all have ended.
     Serve {
@@ -32,6 +34,8 @@ pub enum Options {
         period: u32,
         /// The name of the file that the journal is written to, if it is.
         journal: Option<String>,
+        /// The name of the file that keeps the stored pages, if one does.
+        flash: Option<String>,
         /// Whether each task goes by its channel's own cycle and unit where these say a time.
         pace: bool,
     },
@@ -53,6 +57,8 @@ pub enum Options {
         patience: u32,
         /// The name of the file that the journal is written to, if it is.
         journal: Option<String>,
+        /// The name of the file that keeps the stored pages, if one does.
+        flash: Option<String>,
         /// Whether each task goes by its channel's own cycle and unit where these say a time.
         pace: bool,
     },
@@ -73,6 +79,8 @@ pub enum Options {
         config: String,
         /// The name of the journal's file.
         file: String,
+        /// The name of the file that keeps the stored pages, if one does.
+        flash: Option<String>,
         /// Whether each call is printed as a line.
         lines: bool,
     },

@@ -1,9 +1,9 @@
 //! A replay: a script of requests on a slave of a configured layout.
-ghost use Rattle.std.specs.Prelude.{◌≡◌, ◌≢◌, ◌<◌, ◌≤◌, ◌+◌, ◌⊎◌, ℕ};
+ghost use Rattle.std.specs.Prelude.{◌≡◌, ◌≢◌, ◌<◌, ◌≤◌, ◌+◌, ◌⊎◌, ℕ, option_map};
 ghost use Rattle.xcp_program.specs.ReplayOutcome.{AnswersScript, Ends, ReplaysShort, RunsShort};
 
 use crate::fault::Fault;
-use crate::layout::layout_of;
+use crate::layout::layout_stored;
 use std::alloc::Global;
 use std::io::{Read, Write};
 use xcp_framing::{Desk, Watched};
@@ -12,21 +12,24 @@ use xcp_script::{ReplayError, replay_on};
 use xcp_slave::Slave;
 
 /// Answers the lines of a script, one line each, on a new slave of the layout that the
-/// configuration describes, and returns the number of requests. The reader is read at most so
+/// configuration describes, and returns the number of requests. Where there is a file of stored
+/// pages, these are its bytes, and the slave begins with the pages. The reader is read at most so
 /// many times as there are turns; the answers of the lines that a read made whole are written
 /// before the next.
 ///
-/// Faults: `Configuration` first, 1 to 6, where the text describes no layout; `Line` of the first
-/// faulty line, once the lines before it are answered; `Stream(1)` where a read failed or the
-/// turns are spent, `Stream(2)` where a write failed; `Memory` at any place.
+/// Faults: `Configuration` first, 1 to 6, where the text describes no layout; then `Flash(1)`, where
+/// the file of stored pages is unfit; `Line` of the first faulty line, once the lines before it are
+/// answered; `Stream(1)` where a read failed or the turns are spent, `Stream(2)` where a write
+/// failed; `Memory` at any place.
 pub fn replay<R: Read, W: Write>(
     alloc: Global,
     config: &str,
+    flash: Option<&[u8]>,
     reader: &mut Watched<R>,
     writer: &mut Watched<W>,
     turns: u32,
 ) -> Result<u64, Fault>
-    ensures ends { Ends config.now (R.remaining reader.old.inner) (W.contents writer.old.inner) (W.contents writer.new.inner) result }
+    ensures ends { Ends config.now (option_map (λ f. f.now) flash.entry) (R.remaining reader.old.inner) (W.contents writer.old.inner) (W.contents writer.new.inner) result }
     // A fault of a stream comes only where that stream failed, or the turns are spent.
     ensures read { result ≡ Err (Fault.Stream 1) → (reader.old.failures < reader.new.failures) ⊎ (reader.new.calls ≡ reader.old.calls + turns) }
     ensures read_quiet { result ≢ Err (Fault.Stream 1) → reader.new.failures ≡ reader.old.failures }
@@ -36,10 +39,11 @@ pub fn replay<R: Read, W: Write>(
     // Memory comes before anything is read or written, or at a request of the script.
     ensures memory { result ≡ Err Fault.Memory
         → ((reader.new ≡ reader.old) × (writer.new ≡ writer.old))
-        ⊎ ReplaysShort config.now (R.remaining reader.old.inner) (W.contents writer.old.inner) (W.contents writer.new.inner) }
+        ⊎ ReplaysShort config.now (option_map (λ f. f.now) flash.entry) (R.remaining reader.old.inner) (W.contents writer.old.inner) (W.contents writer.new.inner) }
     ensures configuration { (n : ℕ) → result ≡ Err (Fault.Configuration n) → (reader.new ≡ reader.old) × (writer.new ≡ writer.old) }
+    ensures flash { (n : ℕ) → result ≡ Err (Fault.Flash n) → (reader.new ≡ reader.old) × (writer.new ≡ writer.old) }
 {
-    let layout = layout_of(alloc, config)?;
+    let layout = layout_stored(alloc, config, flash)?;
     match answer_script(alloc, layout, reader, writer, turns) {
         Ok(requests) => Ok(requests),
         Err(ReplayError::Line(number)) => Err(Fault::Line(number)),

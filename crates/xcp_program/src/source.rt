@@ -1,4 +1,4 @@
-//! The bytes of the configuration file.
+//! The bytes of the configuration file, and of the file of stored pages.
 ghost use Rattle.std.specs.Prelude.{◌≡◌, ◌≤◌, ◌⊎◌, IfOk, IfErr, IfSome, MatchResult, length, string_bytes};
 ghost use Rattle.std.specs.Str.{IsUtf8};
 
@@ -9,6 +9,31 @@ use std::io::{ErrorKind, Read};
 /// The most bytes that a configuration file may have.
 const MOST_BYTES: usize = 65_536;
 
+/// The most bytes that a file of stored pages may have.
+const MOST_STORED_BYTES: usize = 4_096;
+
+/// All bytes of a file of so many bytes at most. `unread` comes where reading fails or there are more, `Memory` where an
+/// allocation fails.
+fn bytes_of<R: Read + Drop>(
+    alloc: Global,
+    file: R,
+    most: usize,
+    unread: Fault,
+) -> Result<Vec<u8>, Fault>
+    requires { most ≤ 65536 }
+    ensures size { IfOk result (λ bytes. length bytes.items ≤ most) }
+    ensures whole { IfOk result (λ bytes. IfSome (R.remaining file) (λ all. bytes.items ≡ all)) }
+    ensures refused { IfErr result (λ e. (e ≡ Fault.Memory) ⊎ (e ≡ unread)) }
+{
+    let mut bytes = Vec::new(alloc);
+    let mut front = file.take(most as u64 + 1);
+    match front.read_to_end(&mut bytes) {
+        Ok(_) if bytes.len() <= most => Ok(bytes),
+        Err(e) if e.kind() == ErrorKind::OutOfMemory => Err(Fault::Memory),
+        _ => Err(unread),
+    }
+}
+
 /// All bytes of a file. `Configuration(0)` comes where reading fails or there are more than
 /// 65,536, `Memory` where an allocation fails.
 pub fn read_whole<R: Read + Drop>(alloc: Global, file: R) -> Result<Vec<u8>, Fault>
@@ -16,13 +41,17 @@ pub fn read_whole<R: Read + Drop>(alloc: Global, file: R) -> Result<Vec<u8>, Fau
     ensures whole { IfOk result (λ bytes. IfSome (R.remaining file) (λ all. bytes.items ≡ all)) }
     ensures refused { IfErr result (λ e. (e ≡ Fault.Memory) ⊎ (e ≡ Fault.Configuration 0)) }
 {
-    let mut bytes = Vec::new(alloc);
-    let mut front = file.take(MOST_BYTES as u64 + 1);
-    match front.read_to_end(&mut bytes) {
-        Ok(_) if bytes.len() <= MOST_BYTES => Ok(bytes),
-        Err(e) if e.kind() == ErrorKind::OutOfMemory => Err(Fault::Memory),
-        _ => Err(Fault::Configuration(0)),
-    }
+    bytes_of(alloc, file, MOST_BYTES, Fault::Configuration(0))
+}
+
+/// All bytes of a file of stored pages. `Flash(1)` comes where reading fails or there are more than
+/// 4,096, `Memory` where an allocation fails.
+pub fn read_flash<R: Read + Drop>(alloc: Global, file: R) -> Result<Vec<u8>, Fault>
+    ensures size { IfOk result (λ bytes. length bytes.items ≤ 4096) }
+    ensures whole { IfOk result (λ bytes. IfSome (R.remaining file) (λ all. bytes.items ≡ all)) }
+    ensures refused { IfErr result (λ e. (e ≡ Fault.Memory) ⊎ (e ≡ Fault.Flash 1)) }
+{
+    bytes_of(alloc, file, MOST_STORED_BYTES, Fault::Flash(1))
 }
 
 /// The text of a file. `Configuration(1)` comes where the file was read whole and its bytes are no UTF-8, the faults of

@@ -1,15 +1,19 @@
--- What writes a server's journal down may cross to another thread.
+-- What writes a server's journal and its stored pages down may cross to another thread.
 use denote.RattleType.{RattleType}
 use denote.Param.Send.{AllSend, IsSend, recorded_send, sendable, struct_send, view_send}
 use denote.Struct.Declared as declared
 use denote.Struct.Struct.{Struct}
 use Rattle.std.proofs.Crossing.{crosses}
+use Rattle.xcp_flash.proofs.references.References.TheSendSync as references
 use Rattle.xcp_framing.specs.contracts.tally.Tally as Tally
 use Rattle.xcp_framing.specs.contracts.watched.Watched as Watched
 use Rattle.xcp_framing.specs.contracts.watched.Watched.TheInside as WatchedInside
 use Rattle.xcp_record.proofs.fault.RecordFault.TheSendSync as fault
 use Rattle.xcp_record.specs.contracts.recorder.Recorder as Recorder
+use Rattle.xcp_scribe.specs.contracts.both.Both as Both
+use Rattle.xcp_scribe.specs.contracts.flashing.Flashing as Flashing
 use Rattle.xcp_scribe.specs.contracts.recording.Recording as Recording
+use Rattle.xcpd.specs.contracts.flash.Place as Place
 
 -- a struct, as all its fields may
 struct_crosses : (T : declared.Declared) → AllSend (declared.fields T) → IsSend (declared.row T)
@@ -25,10 +29,24 @@ watched_crosses T s = view_send (WatchedInside.the_row T) _ _ _ _ (struct_crosse
 recorder_crosses : (W : RattleType) → IsSend W → IsSend (Recorder.the_field W).row
 recorder_crosses W w =
     struct_send (declared.shape (Recorder.the_type W))
-    (watched_crosses W w, (search (sendable, crosses) depth 20, (search sendable, (search sendable, (search sendable, (search (sendable, crosses) depth 20, (search (sendable, crosses) depth 20, tt)))))))
+    (watched_crosses W w, (search (sendable, crosses) depth 20, (search sendable, (search sendable, (search sendable, (search (sendable, crosses) depth 20, tt))))))
 
 -- a recording whose stream may
 pub recording_crosses : (W : RattleType) → IsSend W → IsSend (Recording.the_row W)
 recording_crosses W w =
     struct_crosses (Recording.the_type W)
     (recorder_crosses W w, (search (sendable, crosses) depth 20, (search (sendable, crosses) depth 20, (search (sendable, crosses, fault.the_send) depth 20, tt))))
+
+-- what keeps stored pages, where its shelf may
+pub flashing_crosses : (F : RattleType) → IsSend F → IsSend (Flashing.the_row F)
+flashing_crosses F f =
+    struct_crosses (Flashing.the_type F)
+    (f, (search (sendable, crosses) depth 20, (references.the_send, (search (sendable, crosses) depth 20, (search (sendable, crosses) depth 20, (search (sendable, crosses) depth 20, (search (sendable, crosses) depth 20, tt)))))))
+
+-- two scribes that may
+pub both_crosses : (A B : RattleType) → IsSend A → IsSend B → IsSend (Both.the_row A B)
+both_crosses A B x y = struct_crosses (Both.the_type A B) (x, (y, tt))
+
+-- a file's place
+pub place_crosses : IsSend Place.the_row
+place_crosses = struct_crosses Place.the_type (search (sendable, crosses) depth 20, (search (sendable, crosses) depth 20, (search (sendable, crosses) depth 20, (search (sendable, crosses) depth 20, tt))))

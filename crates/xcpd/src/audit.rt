@@ -1,17 +1,25 @@
 //! An audit of a journal's file, by the program's words.
 
+use crate::flash::stored_in;
 use crate::text_of;
 use std::fs::File;
 use std::io;
 use xcp_audit::{Printer, print_audit};
 use xcp_framing::Watched;
-use xcp_program::{Fault, layout_of};
+use xcp_program::{Fault, layout_stored};
 
-/// Audits the file of a journal by a slave of this configuration file's layout, and prints what came of it. The journal is opened once
-/// the layout has no fault.
-pub fn audit_by(rt: &HostRuntime, config: &str, path: &str, lines: bool) -> Result<(), Fault> {
+/// Audits the file of a journal by a slave of this configuration file's layout, with the pages that are stored in a file, if one is
+/// named, and prints what came of it. The journal is opened once the layout has no fault.
+pub fn audit_by(
+    rt: &HostRuntime,
+    config: &str,
+    path: &str,
+    flash: &Option<String>,
+    lines: bool,
+) -> Result<(), Fault> {
     let text = text_of(rt, config)?;
-    let layout = layout_of(rt.alloc(), text.as_str())?;
+    let stored = stored_in(rt, flash)?;
+    let layout = layout_stored(rt.alloc(), text.as_str(), stored.as_deref())?;
     let Ok(file) = File::open(rt, path) else {
         return Err(Fault::Journal(0));
     };

@@ -3,15 +3,20 @@
 #![tactic(auto)]
 
 mod audit;
+mod flash;
 mod journal;
 mod log;
+mod stack;
 mod stay;
 
 ghost use Rattle.std.specs.Prelude.{◌≡◌, ◌≤◌, ◌+◌, IfOk, vec_len};
+ghost use Rattle.xcp_scribe.specs.Flashing.{KeepsNone};
 ghost use Rattle.xcp_scribe.specs.Scribing.{HasBegun};
 
 use crate::audit::audit_by;
+use crate::flash::{Kept, begin_with, fault_of, stored_in};
 use crate::journal::{Written, journal_at, print_recorded};
+use crate::stack::deepen;
 use crate::stay::{Staying, patience, stay_by};
 use std::fs::File;
 use std::io;
@@ -24,9 +29,9 @@ use xcp_describe::{DescribeError, Findings, check, describe};
 use xcp_framing::Watched;
 use xcp_locked::Unnamed;
 use xcp_program::{
-    Fault, Options, Unasked, asked, layout_of, periods_of, read_text, read_whole, read_words,
-    replay,
+    Fault, Options, Unasked, asked, periods_of, read_text, read_whole, read_words, replay,
 };
+use xcp_scribe::Both;
 use xcp_server::{Report, Tools, accept_tools, serve_ends};
 
 /// The most reads of one replay.
@@ -41,11 +46,19 @@ pub fn text_of(rt: &HostRuntime, path: &str) -> Result<String, Fault> {
 }
 
 /// Replays standard input by the configuration file.
-fn run(rt: &HostRuntime, path: &str) -> Result<u64, Fault> {
+fn run(rt: &HostRuntime, path: &str, flash: &Option<String>) -> Result<u64, Fault> {
     let text = text_of(rt, path)?;
+    let stored = stored_in(rt, flash)?;
     let mut reader = Watched::new(rt.reader());
     let mut writer = Watched::new(io::writer(rt));
-    replay(rt.alloc(), text.as_str(), &mut reader, &mut writer, TURNS)
+    replay(
+        rt.alloc(),
+        text.as_str(),
+        stored.as_deref(),
+        &mut reader,
+        &mut writer,
+        TURNS,
+    )
 }
 
 /// Prints the A2L file of the configuration file's slave.
@@ -89,11 +102,12 @@ fn check_or_tell(rt: &HostRuntime, path: &str) -> ExitCode {
     }
 }
 
-/// What a server begins with: a slave, the periods of its tasks, what writes its journal down, and the tools that have connected.
-type Admitted = (Unnamed, [u64; 6], Written, Tools);
+/// What a server begins with: a slave, the periods of its tasks, what writes its journal and its stored pages down, and the tools that
+/// have connected.
+type Admitted = (Unnamed, [u64; 6], Both<Written, Kept>, Tools);
 
 /// A slave of the configuration file's layout with a caller for each tool, task and pump, the periods of its tasks, what writes its
-/// journal down, and the tools that have connected.
+/// journal and its stored pages down, and the tools that have connected.
 fn admit(
     rt: &HostRuntime,
     path: &str,
@@ -104,12 +118,14 @@ fn admit(
     pace: bool,
     period: u32,
     journal: &Option<String>,
+    flash: &Option<String>,
 ) -> Result<Admitted, Fault>
     requires { (1 ≤ tools) × (tools ≤ 2) × (tasks ≤ 6) }
-    ensures { IfOk result (λ r. (vec_len r.3 ≡ tools) × (r.0.callers ≡ tools + tasks + tools) × HasBegun r.2) }
+    ensures { IfOk result (λ r. (vec_len r.3 ≡ tools) × (r.0.callers ≡ tools + tasks + tools) × HasBegun r.2.first × KeepsNone r.2.second) }
 {
+    deepen(rt.alloc(), path)?;
     let text = text_of(rt, path)?;
-    let layout = layout_of(rt.alloc(), text.as_str())?;
+    let (layout, kept) = begin_with(rt, text.as_str(), flash)?;
     let periods = periods_of(&layout, pace, period);
     let Ok(unnamed) = Unnamed::new(rt.alloc(), layout, tools + tasks + tools) else {
         return Err(Fault::Memory);
@@ -119,12 +135,12 @@ fn admit(
     };
     let written = journal_at(rt, text.as_str(), journal)?;
     let _ = println!(rt; "listening {port}");
-    Ok((
-        unnamed,
-        periods,
-        written,
-        accept_tools(rt.alloc(), &listener, tools)?,
-    ))
+    let ends = accept_tools(rt.alloc(), &listener, tools)?;
+    let scribe = Both {
+        first: written,
+        second: kept,
+    };
+    Ok((unnamed, periods, scribe, ends))
 }
 
 /// Prints the last lines of a server whose callers are settled. Lost events have a line if there are any.
@@ -148,6 +164,12 @@ fn print_end(rt: &HostRuntime, told: Result<Report, Fault>) -> Option<Fault> {
         }
         Err(fault) => Some(fault),
     }
+}
+
+/// Prints how many calls stand in the journal's file, if there is one. The fault is that of the journal's file, else that of the stored
+/// pages'.
+pub fn print_written(rt: &HostRuntime, scribe: &Both<Written, Kept>) -> Option<Fault> {
+    print_recorded(rt, &scribe.first).or(fault_of(&scribe.second))
 }
 
 /// Tells why the program is asked nothing.
@@ -185,11 +207,12 @@ fn serve_by<R: Threads + Wait + Clock + Sync>(
     period: u32,
     pace: bool,
     journal: &Option<String>,
+    flash: &Option<String>,
 ) -> Result<(), Fault>
     requires { (1 ≤ tools) × (tools ≤ 2) × (tasks ≤ 6) }
 {
-    let (unnamed, periods, written, ends) = admit(
-        rt, path, host, port, tools, tasks, pace, period, journal,
+    let (unnamed, periods, scribe, ends) = admit(
+        rt, path, host, port, tools, tasks, pace, period, journal, flash,
     )?;
     let ending = serve_ends(
         handle,
@@ -200,10 +223,10 @@ fn serve_by<R: Threads + Wait + Clock + Sync>(
         cycles,
         chapter,
         periods,
-        written,
+        scribe,
     )?;
     let told = print_end(rt, ending.told);
-    match told.or(print_recorded(rt, &ending.scribe)) {
+    match told.or(print_written(rt, &ending.scribe)) {
         None => Ok(()),
         Some(fault) => Err(fault),
     }
@@ -211,7 +234,7 @@ fn serve_by<R: Threads + Wait + Clock + Sync>(
 
 fn main(rt: HostRuntime) -> ExitCode {
     let fault = match asked(rt.alloc(), read_words(&rt)) {
-        Ok(Options::Replay { config }) => run(&rt, config.as_str()).err(),
+        Ok(Options::Replay { config, flash }) => run(&rt, config.as_str(), &flash).err(),
         Ok(
             Options::Serve {
                 config,
@@ -223,12 +246,14 @@ fn main(rt: HostRuntime) -> ExitCode {
                 chapter,
                 period,
                 journal,
+                flash,
                 pace,
             },
         ) => {
             let (path, host) = (config.as_str(), host.as_str());
             serve_by(
                 &rt, &rt, path, host, port, tools, tasks, cycles, chapter, period, pace, &journal,
+                &flash,
             )
             .err()
         }
@@ -242,6 +267,7 @@ fn main(rt: HostRuntime) -> ExitCode {
                 period,
                 patience: seconds,
                 journal,
+                flash,
                 pace,
             },
         ) => {
@@ -253,7 +279,7 @@ fn main(rt: HostRuntime) -> ExitCode {
                 patience: patience(seconds),
             };
             let (path, host) = (config.as_str(), host.as_str());
-            stay_by(&rt, &rt, path, host, port, staying, &journal).err()
+            stay_by(&rt, &rt, path, host, port, staying, &journal, &flash).err()
         }
         Ok(
             Options::Describe {
@@ -273,9 +299,10 @@ fn main(rt: HostRuntime) -> ExitCode {
             Options::Audit {
                 config,
                 file,
+                flash,
                 lines,
             },
-        ) => audit_by(&rt, config.as_str(), file.as_str(), lines).err(),
+        ) => audit_by(&rt, config.as_str(), file.as_str(), &flash, lines).err(),
         Err(unasked) => return tell(&rt, &unasked),
     };
     end(&rt, fault)

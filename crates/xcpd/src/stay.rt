@@ -1,9 +1,11 @@
 //! A server that stays, by the program's words.
 ghost use Rattle.std.specs.Prelude.{◌≡◌, ◌≤◌};
 
-use crate::journal::{Written, journal_at, print_recorded};
+use crate::flash::{Kept, begin_with};
+use crate::journal::{Written, journal_at};
 use crate::log::Log;
-use crate::{print_counts, text_of};
+use crate::stack::deepen;
+use crate::{print_counts, print_written, text_of};
 use std::net::TcpListener;
 use std::sync::{Arc, Wait};
 use std::thread::Threads;
@@ -11,7 +13,8 @@ use std::time::{Clock, Duration};
 use std::{io, thread};
 use xcp_locked::{Discord, Unnamed};
 use xcp_memory::Layout;
-use xcp_program::{Fault, layout_of, periods_of};
+use xcp_program::{Fault, periods_of};
+use xcp_scribe::Both;
 use xcp_seats::Halt;
 use xcp_stay::{Plan, Report, StayError, stay, wait_for_stop};
 
@@ -50,11 +53,13 @@ pub fn stay_by<R: Threads + Wait + Clock + Copy + Send + Sync + 'static>(
     port: u16,
     staying: Staying,
     journal: &Option<String>,
+    flash: &Option<String>,
 ) -> Result<(), Fault>
     requires { (1 ≤ staying.tools) × (staying.tools ≤ 4) × (staying.tasks ≤ 6) }
 {
+    deepen(rt.alloc(), path)?;
     let text = text_of(rt, path)?;
-    let layout = layout_of(rt.alloc(), text.as_str())?;
+    let (layout, kept) = begin_with(rt, text.as_str(), flash)?;
     let plan = staying.plan(&layout);
     let Ok(unnamed) = Unnamed::new(rt.alloc(), layout, plan.tools + plan.tools + plan.tasks) else {
         return Err(Fault::Memory);
@@ -65,7 +70,10 @@ pub fn stay_by<R: Threads + Wait + Clock + Copy + Send + Sync + 'static>(
     let Ok(halt) = halt_by_input(rt, handle) else {
         return Err(Fault::Memory);
     };
-    let written = journal_at(rt, text.as_str(), journal)?;
+    let scribe = Both {
+        first: journal_at(rt, text.as_str(), journal)?,
+        second: kept,
+    };
     let _ = println!(rt; "listening {port}");
     let log = Log { rt, host, port };
     match stay(
@@ -74,19 +82,19 @@ pub fn stay_by<R: Threads + Wait + Clock + Copy + Send + Sync + 'static>(
         unnamed,
         &listener,
         plan,
-        written,
+        scribe,
         &halt,
         &log,
     ) {
-        Ok((told, written)) => tell(rt, &told, &written),
+        Ok((told, scribe)) => tell(rt, &told, &scribe),
         Err(error) => Err(fault_of(error)),
     }
 }
 
 /// Prints what is told of a server that stayed, and how many of its calls were written down.
-fn tell(rt: &HostRuntime, told: &Report, written: &Written) -> Result<(), Fault> {
+fn tell(rt: &HostRuntime, told: &Report, scribe: &Both<Written, Kept>) -> Result<(), Fault> {
     let printed = print_counts(rt, told.chapters, told.calls, told.lost);
-    match print_recorded(rt, written) {
+    match print_written(rt, scribe) {
         Some(fault) => Err(fault),
         None => printed.map_err(|_| Fault::Stream(2)),
     }

@@ -3,7 +3,7 @@ use Rattle.std.specs.Prelude.{◌≡◌, ◌⊎◌, ℕ, List, Option, codes, tr
 use Rattle.clap.specs.Words.{App, Row, Text, new_app, with_rule}
 use Rattle.xcp_program.specs.declared.purpose.OptionsFault.{OptionsFault}
 use Rattle.xcp_program.specs.declared.purpose.OptionsFault.TheVariants.{Memory, TooManyTools, Words}
-use Rattle.xcp_program.specs.CommandLine.{AsksTooMany, HasFile, HasGiven, HasHost, HasNumber, HasNumberIn, HasText, IsReplay, gives}
+use Rattle.xcp_program.specs.CommandLine.{AsksTooMany, HasFile, HasGiven, HasHost, HasNumber, HasNumberIn, HasText, gives}
 use Rattle.xcp_program.specs.CommandLine.{chapter, config_rule, cycles, flag_rule, host_rule, named_port, numeric_rule, patience, period, port, tasks, tools}
 
 -- `serve` with the first four of its options
@@ -17,6 +17,12 @@ HasFlag found command flag = (HasText found command flag (codes "true") × (give
 -- an option that needn't be given: it has its text, or the words don't give it and it has none
 abbrev pub IsChosen : Option (Text × List Row) → Text → Text → Type 0
 IsChosen found command option = ((text : Text) × HasGiven found command option text) ⊎ ((gives option found ≡ false) × ((text : Text) → ¬ (HasText found command option text)))
+
+-- it is a replay: its options, each with its text
+pub record AsksReplay (found : Option (Text × List Row)) : Type 0 where
+  pub file : Text
+  pub config : HasFile found (codes "replay") file
+  pub flash : IsChosen found (codes "replay") (codes "flash")
 
 -- it is a server: all its options, each with its text or number
 pub record AsksServe (found : Option (Text × List Row)) : Type 0 where
@@ -40,14 +46,16 @@ pub record AsksServe (found : Option (Text × List Row)) : Type 0 where
   pub period : HasNumber found period ms
   pub patience : HasNumber found patience s
   pub journal : IsChosen found (codes "serve") (codes "journal")
+  pub flash : IsChosen found (codes "serve") (codes "flash")
   pub pace : HasFlag found (codes "serve") (codes "pace")
 
--- it is an audit: its option, its file and its flag, each with its text
+-- it is an audit: its options, its file and its flag, each with its text
 pub record AsksAudit (found : Option (Text × List Row)) : Type 0 where
   pub file : Text
   pub journal : Text
   pub config : HasFile found (codes "audit") file
   pub place : HasGiven found (codes "audit") (codes "file") journal
+  pub flash : IsChosen found (codes "audit") (codes "flash")
   pub lines : HasFlag found (codes "audit") (codes "lines")
 
 -- it is a description: its options, each with its text or number
@@ -62,7 +70,7 @@ pub record AsksDescription (found : Option (Text × List Row)) : Type 0 where
 
 -- it is a replay or a server, and it is one of the four
 abbrev pub AsksRun : Option (Text × List Row) → Type 0
-AsksRun found = ((file : Text) × IsReplay found file) ⊎ AsksServe found
+AsksRun found = AsksReplay found ⊎ AsksServe found
 
 abbrev pub AsksSomething : Option (Text × List Row) → Type 0
 AsksSomething found = AsksRun found ⊎ (AsksDescription found ⊎ AsksAudit found)

@@ -11,5 +11,6 @@ returns-clause-asked c =
     record {
       config = record { text = config; given = c.requires.config.given };
       journal = record { text = file; given = c.requires.place.given };
+      flash = c.in_ok-flash.ensures;
       flag = search rules;
     }

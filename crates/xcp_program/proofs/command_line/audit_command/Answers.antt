@@ -9,4 +9,5 @@ returns-clause-app c =
     ap app_of_fields c.after_help-audit.ensures ∙ ap app_of_fields c.about.ensures ∙ c.new.ensures.app in
     let with_file = c.in_ok-audit.ensures.shape c.config_option.ensures.local ∙ ap₂ with_rule new_is c.config_option.ensures.rule in
     let with_journal = c.in_ok-audit-2.ensures.shape c.file_word.ensures.local ∙ ap₂ with_rule with_file c.file_word.ensures.rule in
-    c.in_ok-arg.ensures.shape c.flag.ensures.local ∙ ap₂ with_rule with_journal c.flag.ensures.rule
+    let with_flash = c.in_ok-audit-3.ensures.shape c.choice.ensures.local ∙ ap₂ with_rule with_journal c.choice.ensures.rule in
+    c.in_ok-arg.ensures.shape c.flag.ensures.local ∙ ap₂ with_rule with_flash c.flag.ensures.rule

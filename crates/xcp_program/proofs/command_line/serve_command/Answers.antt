@@ -21,5 +21,6 @@ returns-clause-app c =
     let with_chapter = c.in_ok-serve-5.ensures.shape (ap is_global c.help-chapter.ensures ∙ c.numeric-4.ensures.local) ∙ ap₂ with_rule with_cycles chapter_is in
     let with_period = c.in_ok-serve-6.ensures.shape (ap is_global c.help-period.ensures ∙ c.numeric-5.ensures.local) ∙ ap₂ with_rule with_chapter period_is in
     let with_patience = c.in_ok-serve-7.ensures.shape (ap is_global c.help-patience.ensures ∙ c.numeric-6.ensures.local) ∙ ap₂ with_rule with_period patience_is in
-    let with_journal = c.in_ok-serve-8.ensures.shape c.journal_option.ensures.local ∙ ap₂ with_rule with_patience c.journal_option.ensures.rule in
-    c.in_ok-arg.ensures.shape c.flag.ensures.local ∙ ap₂ with_rule with_journal c.flag.ensures.rule
+    let with_journal = c.in_ok-serve-8.ensures.shape c.choice-journal.ensures.local ∙ ap₂ with_rule with_patience c.choice-journal.ensures.rule in
+    let with_flash = c.in_ok-serve-9.ensures.shape c.choice-flash.ensures.local ∙ ap₂ with_rule with_journal c.choice-flash.ensures.rule in
+    c.in_ok-arg.ensures.shape c.flag.ensures.local ∙ ap₂ with_rule with_flash c.flag.ensures.rule
