@@ -123,7 +123,7 @@ fn admit(
     requires { (1 ≤ tools) × (tools ≤ 2) × (tasks ≤ 6) }
     ensures { IfOk result (λ r. (vec_len r.3 ≡ tools) × (r.0.callers ≡ tools + tasks + tools) × HasBegun r.2.first × KeepsNone r.2.second) }
 {
-    deepen(rt.alloc(), path)?;
+    deepen(rt.alloc(), path, false)?;
     let text = text_of(rt, path)?;
     let (layout, kept) = begin_with(rt, text.as_str(), flash)?;
     let periods = periods_of(&layout, pace, period);

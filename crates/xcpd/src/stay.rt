@@ -57,7 +57,7 @@ pub fn stay_by<R: Threads + Wait + Clock + Copy + Send + Sync + 'static>(
 ) -> Result<(), Fault>
     requires { (1 ≤ staying.tools) × (staying.tools ≤ 4) × (staying.tasks ≤ 6) }
 {
-    deepen(rt.alloc(), path)?;
+    deepen(rt.alloc(), path, true)?;
     let text = text_of(rt, path)?;
     let (layout, kept) = begin_with(rt, text.as_str(), flash)?;
     let plan = staying.plan(&layout);
