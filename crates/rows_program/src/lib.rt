@@ -15,4 +15,12 @@ mod sources;
 #[cfg(test)]
 mod stored;
 #[cfg(test)]
-mod words;
+mod told;
+#[cfg(test)]
+mod words_of_audits;
+#[cfg(test)]
+mod words_of_descriptions;
+#[cfg(test)]
+mod words_of_replays;
+#[cfg(test)]
+mod words_of_servers;
