@@ -10,13 +10,14 @@ mod stack;
 mod stay;
 
 ghost use Rattle.std.specs.Prelude.{◌≡◌, ◌≤◌, ◌+◌, IfOk, vec_len};
+ghost use Rattle.xcp_program.specs.CommandLine.{InRange};
 ghost use Rattle.xcp_scribe.specs.Flashing.{KeepsNone};
 ghost use Rattle.xcp_scribe.specs.Scribing.{HasBegun};
 
 use crate::audit::audit_by;
 use crate::flash::{Kept, begin_with, fault_of, stored_in};
 use crate::journal::{Written, journal_at, print_recorded};
-use crate::stack::deepen;
+use crate::stack::{deepen, has_room};
 use crate::stay::{Staying, patience, stay_by};
 use std::fs::File;
 use std::io;
@@ -232,45 +233,57 @@ fn serve_by<R: Threads + Wait + Clock + Sync>(
     }
 }
 
-fn main(rt: HostRuntime) -> ExitCode {
-    let fault = match asked(rt.alloc(), read_words(&rt)) {
-        Ok(Options::Replay { config, flash }) => run(&rt, config.as_str(), &flash).err(),
-        Ok(
-            Options::Serve {
-                config,
-                host,
-                port,
-                tools,
-                tasks,
-                cycles,
-                chapter,
-                period,
-                journal,
-                flash,
-                pace,
-            },
-        ) => {
+/// Prints the description that is asked for, or what is found in the configuration file, and answers the status.
+fn describe_or_check(rt: &HostRuntime, path: &str, host: &str, port: u16, check: bool) -> ExitCode {
+    if check {
+        check_or_tell(rt, path)
+    } else {
+        describe_or_tell(rt, path, host, port)
+    }
+}
+
+/// Does what is asked for, tells its fault, if it has one, and answers the status.
+fn obey<R: Threads + Wait + Clock + Copy + Send + Sync + 'static>(
+    rt: &HostRuntime,
+    handle: &R,
+    options: Options,
+) -> ExitCode
+    requires { InRange options }
+{
+    let fault = match options {
+        Options::Replay { config, flash } => run(rt, config.as_str(), &flash).err(),
+        Options::Serve {
+            config,
+            host,
+            port,
+            tools,
+            tasks,
+            cycles,
+            chapter,
+            period,
+            journal,
+            flash,
+            pace,
+        } => {
             let (path, host) = (config.as_str(), host.as_str());
             serve_by(
-                &rt, &rt, path, host, port, tools, tasks, cycles, chapter, period, pace, &journal,
-                &flash,
+                rt, handle, path, host, port, tools, tasks, cycles, chapter, period, pace,
+                &journal, &flash,
             )
             .err()
         }
-        Ok(
-            Options::Stay {
-                config,
-                host,
-                port,
-                tools,
-                tasks,
-                period,
-                patience: seconds,
-                journal,
-                flash,
-                pace,
-            },
-        ) => {
+        Options::Stay {
+            config,
+            host,
+            port,
+            tools,
+            tasks,
+            period,
+            patience: seconds,
+            journal,
+            flash,
+            pace,
+        } => {
             let staying = Staying {
                 tools,
                 tasks,
@@ -279,31 +292,41 @@ fn main(rt: HostRuntime) -> ExitCode {
                 patience: patience(seconds),
             };
             let (path, host) = (config.as_str(), host.as_str());
-            stay_by(&rt, &rt, path, host, port, staying, &journal, &flash).err()
+            stay_by(rt, handle, path, host, port, staying, &journal, &flash).err()
         }
-        Ok(
-            Options::Describe {
-                config,
-                host,
-                port,
-                check,
-            },
-        ) => {
-            return if check {
-                check_or_tell(&rt, config.as_str())
-            } else {
-                describe_or_tell(&rt, config.as_str(), host.as_str(), port)
-            };
-        }
-        Ok(
-            Options::Audit {
-                config,
-                file,
-                flash,
-                lines,
-            },
-        ) => audit_by(&rt, config.as_str(), file.as_str(), &flash, lines).err(),
-        Err(unasked) => return tell(&rt, &unasked),
+        Options::Describe {
+            config,
+            host,
+            port,
+            check,
+        } => return describe_or_check(rt, config.as_str(), host.as_str(), port, check),
+        Options::Audit {
+            config,
+            file,
+            flash,
+            lines,
+        } => audit_by(rt, config.as_str(), file.as_str(), &flash, lines).err(),
     };
-    end(&rt, fault)
+    end(rt, fault)
+}
+
+/// Does what the program's words ask for, and answers the status.
+#[inline(never)]
+fn obey_words<R: Threads + Wait + Clock + Copy + Send + Sync + 'static>(
+    rt: &HostRuntime,
+    handle: &R,
+) -> ExitCode {
+    match asked(rt.alloc(), read_words(rt)) {
+        Ok(options) => obey(rt, handle, options),
+        Err(unasked) => tell(rt, &unasked),
+    }
+}
+
+/// The system gives the first thread some stack before it begins. Where there is no room for more, nothing that needs more begins.
+fn main(rt: HostRuntime) -> ExitCode {
+    if has_room(rt.alloc()) {
+        obey_words(&rt, &rt)
+    } else {
+        end(&rt, Some(Fault::Memory))
+    }
 }
