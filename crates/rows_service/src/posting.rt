@@ -1,6 +1,7 @@
 // What members hand over by a post, and when they can resign.
 ghost use Rattle.std.specs.Prelude.{◌≡◌};
 ghost use Rattle.xcp_service.specs.Parcels.{AreOpened};
+ghost use Rattle.xcp_service.specs.Residents.{IsUncut};
 
 use fixtures::unnamed;
 use std::alloc::Global;
@@ -11,7 +12,7 @@ use xcp_locked::{Discord, Locked, Name, Opening, Unnamed, Unsettled};
 use xcp_packet::Packet;
 use xcp_scribe::Recording;
 use xcp_service::{
-    Collector, Member, Post, Posting, Resigned, Route, Unkept, Unrouted, call, resign_all,
+    Collector, Member, Post, Posting, Resident, Resigned, Route, Unkept, Unrouted, call, resign_all,
 };
 use xcp_slave::Request;
 
@@ -28,6 +29,8 @@ enum Way {
     NotCut,
     // The members come back the other way round.
     Exchanged,
+    // A chapter was cut off that the keeper did not take.
+    CutBehind,
 }
 
 // How many members resigned, how many chapters the keeper took, whether it meets the slave, and how many calls were written down.
@@ -38,7 +41,7 @@ type Written = Recording<Vec<u8>>;
 fn call_twice<N: Name, M: Route>(
     rt: &impl Wait,
     alloc: Global,
-    locked: &mut Locked<N>,
+    resident: &mut Resident<N, M>,
     post: &Post<N, M>,
     members: &mut [Member<N, M>],
 ) {
@@ -47,7 +50,7 @@ fn call_twice<N: Name, M: Route>(
             let _ = call(
                 rt,
                 alloc,
-                locked,
+                resident,
                 post,
                 member,
                 &Request::Drain,
@@ -60,17 +63,17 @@ fn call_twice<N: Name, M: Route>(
 fn hand_over<N: Name, M: Route>(
     rt: &impl Wait,
     alloc: Global,
-    locked: &mut Locked<N>,
+    resident: &mut Resident<N, M>,
     post: &Post<N, M>,
     members: &mut [Member<N, M>],
     way: Way,
 ) {
     if way != Way::NotCut {
-        post.cut(rt, alloc, locked);
+        resident.cut(rt, alloc, post);
     }
     for (number, member) in members.iter_mut().enumerate() {
         if way != Way::AtHand || number == 0 {
-            member.hand_rest_over(rt, alloc, locked, post);
+            member.hand_rest_over(rt, alloc, resident, post);
         }
     }
     post.close(rt);
@@ -84,21 +87,23 @@ fn post_routed<N: Name, M: Route>(
     way: Way,
 ) -> Result<Came, Fail>
     requires relay { unrouted ≡ M.relay }
-    requires opened { AreOpened opening.callers.items }
+    requires first { IsUncut N.layout opening.locked }
+    requires opened { AreOpened N.parts opening.callers.items }
 {
     let written: Written = Recording::new(alloc, Vec::new(alloc), [7; 32])?;
     let Opening {
-        mut locked,
+        locked,
         callers,
         ..
     } = opening;
     let Posting {
         post,
+        mut resident,
         mut members,
         collector,
-    } = unrouted.open::<M, Written>(alloc, callers, written)?;
-    call_twice(rt, alloc, &mut locked, &post, &mut members);
-    hand_over(rt, alloc, &mut locked, &post, &mut members, way);
+    } = unrouted.open::<M, Written>(alloc, locked, callers, written)?;
+    call_twice(rt, alloc, &mut resident, &post, &mut members);
+    hand_over(rt, alloc, &mut resident, &post, &mut members, way);
     if way == Way::Exchanged {
         members.reverse();
     }
@@ -107,25 +112,32 @@ fn post_routed<N: Name, M: Route>(
     } else {
         collector.collect(rt, &post)
     };
-    Ok(ended(alloc, &locked, &post, collector, members))
+    if way == Way::CutBehind {
+        resident.cut(rt, alloc, &post);
+    }
+    Ok(ended(alloc, resident, &post, collector, members))
 }
 
 fn ended<N: Name, M: Route>(
     alloc: Global,
-    locked: &Locked<N>,
+    resident: Resident<N, M>,
     post: &Post<N, M>,
     collector: Result<Collector<N, M, Written>, Unkept>,
     members: Vec<Member<N, M>>,
 ) -> Came {
+    let mut collector = collector?;
+    let Some(locked) = resident.resign(post, &mut collector) else {
+        return Err(Unkept::Memory);
+    };
     let Resigned {
         keeper,
         scribe,
         members,
-    } = resign_all(alloc, post, collector?, members)?;
+    } = resign_all(alloc, post, collector, members)?;
     Ok((
         members.len(),
         keeper.chapters(),
-        keeper.meets(locked),
+        keeper.meets(&locked),
         scribe.calls(),
     ))
 }
@@ -156,12 +168,13 @@ fn receipts(chapter: u64, caller: usize, at: usize) -> Unkept {
 
 #[test]
 fn members_hand_over_and_resign(rt: HostRuntime) -> Result<(), Fail> {
-    let rows: [(Way, Came); 5] = [
+    let rows: [(Way, Came); 6] = [
         (Way::InOrder, Ok((2, 1, true, 4))),
         (Way::AtHand, Err(Unkept::Memory)),
         (Way::OnTheWay, Err(Unkept::Memory)),
         (Way::NotCut, Err(receipts(0, 0, 0))),
         (Way::Exchanged, Err(receipts(0, 0, 0))),
+        (Way::CutBehind, Err(Unkept::Memory)),
     ];
     for (row, (way, came)) in rows.iter().enumerate() {
         let found = posted(&rt, rt.alloc(), *way)?;

@@ -51,7 +51,7 @@ pub use sheaf::Sheaf;
 pub use tasks::{Done, Ran, Task, TaskError, event};
 pub use telling::Settled;
 pub use tool::Tool;
-pub use waiting::wait_for_packets;
+pub use waiting::{HasSlave, wait_for_packets};
 pub use worker::Worker;
 pub use xcp_bank::Taken;
 pub use xcp_trace::{Entry, Journal};

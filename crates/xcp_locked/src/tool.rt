@@ -82,6 +82,6 @@ impl<'a, N: Name, R: Wait> Station for Tool<'a, N, R> {
         ensures kept { self.new ≡ self.old }
         ensures stays { Same self.old.caller self.new.caller }
     {
-        wait_for_packets(self.rt, self.lock, stop);
+        wait_for_packets::<N, Locked<N>, R>(self.rt, self.lock, stop);
     }
 }

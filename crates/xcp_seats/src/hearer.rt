@@ -18,7 +18,7 @@ use std::sync::atomic::Ordering;
 use std::time::Duration;
 use together::Work;
 use xcp_framing::{ServeError, Served, Watched, serve_by};
-use xcp_locked::Name;
+use xcp_locked::{HasSlave, Name};
 use xcp_outlet::{DataEnd, PutReplies, Sent, outlet};
 use xcp_service::{Member, Route, Seated, Shared};
 
@@ -145,7 +145,7 @@ impl<'a, N: Name, M: Route, W> Seat<'a, N, M, W> {
         let pumps = self.pump.send(rt, samples).is_ok();
         let mut replies = PutReplies::new(rt, replies);
         let heard = self.hear_passages(rt, station, &mut replies, reader);
-        self.shared.lock.lock(rt).stop(&self.door.stop);
+        self.shared.lock.lock(rt).locked().stop(&self.door.stop);
         let _replies = replies.into_end().finish(rt);
         let pumped = if pumps {
             self.pumped.recv(rt).ok()

@@ -77,17 +77,17 @@ fn raise<N: Name, M: Route>(
     let request = event(member.caller(), task, cycle);
     let mut packet = Packet::new();
     member.reserve();
-    let mut locked = shared.lock.lock(rt);
+    let mut resident = shared.lock.lock(rt);
     let told = call(
         rt,
         alloc,
-        &mut locked,
+        &mut resident,
         &shared.post,
         member,
         &request,
         &mut packet,
     );
-    locked.tell(reader);
+    resident.tell(reader);
     matches!(told, Ok(Told::Overrun))
 }
 

@@ -5,3 +5,4 @@ pub mod SheafLemmas
 pub mod CountLemmas
 pub mod HandedLemmas
 pub mod ParcelLemmas
+pub mod ResidentLemmas

@@ -1,5 +1,5 @@
 -- What goes to a keeper by its post.
-use Rattle.std.proofs.Common.{◌≡◌, ◌+◌, ℕ, zero, suc, Bool, true, false, List, [], ◌∷◌, ◌++◌, ◌==◌, if◌then◌else◌, refl, sym, ap, ap₂, ◌∙◌, subst, append_assoc, length, length-append, arith}
+use Rattle.std.proofs.Common.{◌≡◌, ◌+◌, ℕ, zero, suc, Bool, true, false, List, [], ◌∷◌, ◌++◌, ◌==◌, false-eqb, if◌then◌else◌, refl, sym, ap, ap₂, ◌∙◌, subst, append_assoc, length, length-append, arith}
 use Rattle.std.proofs.lemmas.List.{append-nil}
 use Rattle.std.specs.List.{AllByRecursion}
 use Rattle.relay.specs.Ends.{items_of}
@@ -10,9 +10,9 @@ use Rattle.xcp_locked.specs.LockedSlave.{ChapterValue}
 use Rattle.xcp_locked.specs.Sheaves.{SheafValue}
 use Rattle.xcp_locked.specs.declared.receipt.Receipt.{Receipt}
 use Rattle.xcp_service.specs.Keeping.{KeeperValue, receipts_by}
-use Rattle.xcp_service.specs.Parcels.{AreNumbered, ParcelValue, given_in, receipts_put}
+use Rattle.xcp_service.specs.Parcels.{AreNumbered, ParcelValue, chapters_put, given_in, parcel_of_chapter, receipts_put}
 use Rattle.xcp_service.specs.Sheaves.{receipts_in}
-use Rattle.xcp_service.specs.private.Collected.{IsCollected, IsOfItsCaller, chapters_taken, sheaves_taken}
+use Rattle.xcp_service.specs.private.Collected.{IsCollected, IsOfItsCaller, IsOfItsDesk, chapters_taken, sheaves_taken}
 use Rattle.xcp_service.proofs.KeepingLemmas.{all_more}
 
 -- one more that was taken
@@ -30,13 +30,28 @@ given_append [] ds = refl
 given_append (c ∷ cs) ds = ap (λ (l : List Given). record { calls = c.entries; last = c.last } ∷ l) (given_append cs ds)
 
 -- what a keeper took is collected, where it took one more
-pub collected_more : (k l : KeeperValue) (taken more : List (ℕ × ParcelValue)) (x : ℕ × ParcelValue) → IsCollected k taken → more ≡ taken ++ x ∷ [] → l.chapters ≡ k.chapters ++ x.1.chapters
-    → l.sheaves ≡ k.sheaves ++ x.1.sheaves → IsOfItsCaller x → IsCollected l more
-collected_more k l taken more x h is chapters sheaves own = subst (λ (m : List (ℕ × ParcelValue)). IsCollected l m) (sym is) (record {
+pub collected_more : (desk : ℕ) (k l : KeeperValue) (taken more : List (ℕ × ParcelValue)) (x : ℕ × ParcelValue) → IsCollected desk k taken → more ≡ taken ++ x ∷ [] → l.chapters ≡ k.chapters ++ x.1.chapters
+    → l.sheaves ≡ k.sheaves ++ x.1.sheaves → IsOfItsCaller x → IsOfItsDesk desk x → IsCollected desk l more
+collected_more desk k l taken more x h is chapters sheaves own only = subst (λ (m : List (ℕ × ParcelValue)). IsCollected desk l m) (sym is) (record {
   chapters = chapters ∙ ap (λ (c : List ChapterValue). c ++ x.1.chapters) h.chapters ∙ sym (chapters_more taken x);
   sheaves = sheaves ∙ ap (λ (s : List SheafValue). s ++ x.1.sheaves) h.sheaves ∙ sym (sheaves_more taken x);
   callers = all_more IsOfItsCaller taken x h.callers own;
+  only = all_more (IsOfItsDesk desk) taken x h.only only;
 })
+
+-- what was taken of the desk are all chapters that were taken
+pub chapters_of_desk : (desk : ℕ) (taken : List (ℕ × ParcelValue)) → AllByRecursion (IsOfItsDesk desk) taken → chapters_taken taken ≡ chapters_put (items_of desk taken)
+chapters_of_desk desk [] h = refl
+chapters_of_desk desk (x ∷ xs) h = go (x.0 == desk) refl (chapters_of_desk desk xs h.1)
+  where
+    go : (b : Bool) → (x.0 == desk) ≡ b → chapters_taken xs ≡ chapters_put (items_of desk xs) → x.1.chapters ++ chapters_taken xs ≡ chapters_put (if b then x.1 ∷ items_of desk xs else items_of desk xs)
+    go true e rest = ap (λ (l : List ChapterValue). x.1.chapters ++ l) rest
+    go false e rest = ap (λ (l : List ChapterValue). l ++ chapters_taken xs) (h.0 (false-eqb x.0 desk (sym e))) ∙ rest
+
+-- one more chapter that was put
+pub chapter_put_more : (ps : List ParcelValue) (c : ChapterValue) → chapters_put (ps ++ parcel_of_chapter c ∷ []) ≡ chapters_put ps ++ c ∷ []
+chapter_put_more [] c = refl
+chapter_put_more (p ∷ ps) c = ap (λ (l : List ChapterValue). p.chapters ++ l) (chapter_put_more ps c) ∙ sym (append_assoc p.chapters (chapters_put ps) (c ∷ []))
 
 -- the receipts of one caller's sheaves, of two lists
 by_append : (caller : ℕ) (ss ts : List SheafValue) → receipts_by caller (ss ++ ts) ≡ receipts_by caller ss ++ receipts_by caller ts
@@ -85,7 +100,7 @@ pub numbered_more : (k : ℕ) (cs : List CallerValue) (c : CallerValue) → AreN
 numbered_more k [] c h e = (omega (arith, e), tt)
 numbered_more k (d ∷ cs) c h e = (h.0, numbered_more (k + 1) cs c h.1 (omega (arith, e)))
 
-length-callers_of : (l : LayoutValue) (n : ℕ) → length (callers_of l n) ≡ n
+pub length-callers_of : (l : LayoutValue) (n : ℕ) → length (callers_of l n) ≡ n
 length-callers_of l zero = refl
 length-callers_of l (suc n) = let e = length-callers_of l n in let m = length-append (callers_of l n) (fresh_caller l n ∷ []) in omega (arith, e, m)
 

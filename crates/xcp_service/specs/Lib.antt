@@ -2,5 +2,6 @@ pub mod Calls
 pub mod Keeping
 pub mod Noted
 pub mod Parcels
+pub mod Residents
 pub mod Sheaves
 pub mod private

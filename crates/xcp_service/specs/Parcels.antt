@@ -29,9 +29,14 @@ abbrev pub receipts_put : List ParcelValue → List Receipt
 receipts_put [] = []
 receipts_put (p ∷ ps) = receipts_in p.sheaves ++ receipts_put ps
 
--- These are all callers that an opening of a slave gives out.
-abbrev pub AreOpened : List CallerValue → Type 0
-AreOpened cs = (layout : LayoutValue) × (count : ℕ) × (cs ≡ callers_of layout count)
+-- the chapters in what was put, in order
+abbrev pub chapters_put : List ParcelValue → List ChapterValue
+chapters_put [] = []
+chapters_put (p ∷ ps) = p.chapters ++ chapters_put ps
+
+-- These are all callers that an opening of a slave for so many gives out.
+abbrev pub AreOpened : ℕ → List CallerValue → Type 0
+AreOpened count cs = (layout : LayoutValue) × (cs ≡ callers_of layout count)
 
 -- these are numbered, one behind another, from this number on
 abbrev pub AreNumbered : ℕ → List CallerValue → Type 0

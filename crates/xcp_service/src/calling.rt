@@ -8,10 +8,11 @@ ghost use Rattle.xcp_service.specs.Calls.{Calls, ExecutesNothing};
 
 use crate::member::Member;
 use crate::post::Post;
+use crate::resident::Resident;
 use crate::route::Route;
 use std::alloc::Global;
 use std::sync::Wait;
-use xcp_locked::{JOURNAL, Locked, LockedError, Name};
+use xcp_locked::{HasSlave, JOURNAL, LockedError, Name};
 use xcp_packet::Packet;
 use xcp_slave::{Request, Told};
 
@@ -26,25 +27,25 @@ pub const CHAPTER: u64 = 16_384;
 pub fn call<N: Name, M: Route>(
     rt: &impl Wait,
     alloc: Global,
-    locked: &mut Locked<N>,
+    resident: &mut Resident<N, M>,
     post: &Post<N, M>,
     member: &mut Member<N, M>,
     request: &Request,
     packet: &mut Packet,
 ) -> Result<Told, LockedError>
-    ensures calls { IfOk result (λ told. Calls member.old.number request.now (answer_in told packet.new) locked.old locked.new) }
+    ensures calls { IfOk result (λ told. Calls member.old.number request.now (answer_in told packet.new) resident.old resident.new) }
     ensures member { IfOk result (λ told. (chapter at : ℕ)
         × (member.new ≡ accepting member.old (receipt chapter at request.now (answer_in told packet.new)))) }
-    ensures full { result ≡ Err LockedError.JournalFull → journal_limit ≤ length locked.old.journal }
-    ensures err { OnErr result ((member.new ≡ member.old) × ExecutesNothing locked.old locked.new) }
+    ensures full { result ≡ Err LockedError.JournalFull → journal_limit ≤ length resident.old.locked.journal }
+    ensures err { OnErr result ((member.new ≡ member.old) × ExecutesNothing resident.old resident.new) }
 {
-    if locked.len() >= JOURNAL as u64 {
-        post.cut(rt, alloc, locked);
+    if resident.locked().len() >= JOURNAL as u64 {
+        resident.cut(rt, alloc, post);
     }
-    member.hand_over(rt, alloc, locked, post);
-    let told = member.submit(locked, request, packet)?;
-    if ends_chapter(locked.len(), &told) {
-        post.cut(rt, alloc, locked);
+    member.hand_over(rt, alloc, resident, post);
+    let told = member.submit(resident, request, packet)?;
+    if ends_chapter(resident.locked().len(), &told) {
+        resident.cut(rt, alloc, post);
     }
     Ok(told)
 }

@@ -1,7 +1,7 @@
 //! A keeper, with the end of the post from which it takes, and who writes down what it takes.
 ghost use Rattle.std.specs.Prelude.{◌≡◌, ◌++◌, [], List, true};
 ghost use Rattle.xcp_service.specs.Keeping.{receipts_by};
-ghost use Rattle.xcp_service.specs.Parcels.{given_in, receipts_put};
+ghost use Rattle.xcp_service.specs.Parcels.{chapters_put, given_in, receipts_put};
 ghost use Rattle.xcp_scribe.specs.Given.{Given};
 
 use crate::keeper::{Keeper, Unkept};
@@ -15,12 +15,14 @@ use std::sync::Wait;
 use xcp_locked::Name;
 use xcp_scribe::Scribe;
 
-/// A keeper that takes what comes by its post. What it took is what was handed in: the chapters, and of each caller its sheaves. Its
-/// scribe was given these chapters, in order.
+/// A keeper that takes what comes by its post. What it took is what was handed in: the chapters, all by one giver, and of each caller
+/// its sheaves. Its scribe was given these chapters, in order.
 #[derive(Drop)]
 pub struct Collector<N: Name, M: Route, S: Scribe> {
     keeper: Keeper<N>,
     taker: Taker<Parcel<N>>,
+    /// The tag under which chapters come.
+    desk: u16,
     scribe: S,
     of: PhantomData<M>,
 }
@@ -35,18 +37,25 @@ impl<N: Name, M: Route, S: Scribe> Model for Collector<N, M, S> {
 
     ghost view = { λ c. c.keeper };
 
-    ghost invariant = { λ c. (c.taker.relay ≡ M.relay) × IsCollected c.keeper c.taker.taken × S.wrote c.scribe (given_in c.keeper.chapters) };
+    ghost invariant = { λ c. (c.taker.relay ≡ M.relay) × IsCollected N.parts c.keeper c.taker.taken × S.wrote c.scribe (given_in c.keeper.chapters) × (c.desk ≡ N.parts) };
 }
 
 impl<N: Name, M: Route, S: Scribe> Collector<N, M, S> {
     /// A keeper that has taken nothing yet, and a scribe that was given nothing yet.
-    pub(crate) fn new(alloc: Global, taker: Taker<Parcel<N>>, scribe: S) -> Collector<N, M, S>
+    pub(crate) fn new(
+        alloc: Global,
+        taker: Taker<Parcel<N>>,
+        desk: u16,
+        scribe: S,
+    ) -> Collector<N, M, S>
         requires taker { (taker.relay ≡ M.relay) × (taker.taken ≡ []) }
+        requires desk { desk ≡ N.parts }
         requires scribe { S.wrote scribe [] }
     {
         Collector {
             keeper: Keeper::new(alloc),
             taker,
+            desk,
             scribe,
             of: PhantomData,
         }
@@ -58,6 +67,7 @@ impl<N: Name, M: Route, S: Scribe> Collector<N, M, S> {
         let Collector {
             mut keeper,
             mut taker,
+            desk,
             mut scribe,
             of,
         } = self;
@@ -66,12 +76,13 @@ impl<N: Name, M: Route, S: Scribe> Collector<N, M, S> {
                 return Ok(Collector {
                     keeper,
                     taker,
+                    desk,
                     scribe,
                     of,
                 });
             };
             write_down(&mut scribe, &parcel);
-            keeper.take(tag, parcel)?;
+            keeper.take(desk, tag, parcel)?;
         }
         unreachable!()
     }
@@ -83,6 +94,15 @@ impl<N: Name, M: Route, S: Scribe> Collector<N, M, S> {
         ensures same { (giver.new ≡ giver.old) × (self.new ≡ self.old) }
     {
         post.meets(giver, &mut self.taker)
+    }
+
+    /// Whether all chapters that the giver of the desk handed in were taken. Then they are those of the keeper.
+    pub(crate) fn meets_desk(&mut self, post: &Post<N, M>, chapters: &mut Giver<Parcel<N>>) -> bool
+        requires chapters { (chapters.old.relay ≡ M.relay) × (chapters.old.tag ≡ N.parts) }
+        ensures meets { result ≡ true → self.new.chapters ≡ chapters_put chapters.old.given }
+        ensures same { self.new ≡ self.old }
+    {
+        post.meets(chapters, &mut self.taker)
     }
 
     /// The keeper, which takes nothing more, and its scribe.

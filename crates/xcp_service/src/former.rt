@@ -58,6 +58,7 @@ pub fn resign_all<N: Name, M: Route, S: Scribe>(
     collector: Collector<N, M, S>,
     members: Vec<Member<N, M>>,
 ) -> Result<Resigned<N, S>, Unkept>
+    ensures keeper { IfOk result (λ r. r.keeper ≡ collector) }
     ensures numbered { IfOk result (λ r. AreNumbered 0 r.members.items) }
     ensures handed { IfOk result (λ r. AllByRecursion (IsHandedOver r.keeper) r.members.items) }
     ensures wrote { IfOk result (λ r. S.wrote r.scribe (given_in r.keeper.chapters)) }

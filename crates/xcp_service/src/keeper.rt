@@ -1,6 +1,6 @@
 //! What settles chapters and drops them.
 ghost use Rattle.std.specs.List.{AllByRecursion};
-ghost use Rattle.std.specs.Prelude.{◌≡◌, ◌++◌, [], ◌∷◌, true, false, length, MatchBool, OnOk, OnErr, IfErr, ◌⊎◌};
+ghost use Rattle.std.specs.Prelude.{◌≡◌, ◌≢◌, ◌++◌, [], ◌∷◌, true, false, length, MatchBool, OnOk, OnErr, IfErr, ◌⊎◌};
 ghost use Rattle.xcp_locked.specs.Chapters.{AreJoined, Follows};
 ghost use Rattle.xcp_service.specs.Keeping.{AreDroppedSettled, AreKeptSettled};
 
@@ -163,15 +163,19 @@ impl<N: Name> Keeper<N> {
         drop_settled(&mut self.waiting);
     }
 
-    /// Takes what came under this number: joins a chapter, or settles a sheaf, which must be of the caller with this number; and drops
-    /// what is settled then.
-    pub(crate) fn take(&mut self, number: u16, parcel: Parcel<N>) -> Result<(), Unkept>
+    /// Takes what came under this number: joins a chapter, which must come under the number of the desk, or settles a sheaf, which must be
+    /// of the caller with this number; and drops what is settled then.
+    pub(crate) fn take(&mut self, desk: u16, number: u16, parcel: Parcel<N>) -> Result<(), Unkept>
         ensures chapters { OnOk result (self.new.chapters ≡ self.old.chapters ++ parcel.chapters) }
         ensures sheaves { OnOk result (self.new.sheaves ≡ self.old.sheaves ++ parcel.sheaves) }
         ensures own { OnOk result (AllByRecursion (λ s. s.caller ≡ number) parcel.sheaves) }
+        ensures desk { OnOk result (number ≢ desk → parcel.chapters ≡ []) }
     {
         let Parcel { chapter, sheaf } = parcel;
         if let Some(chapter) = chapter {
+            if number != desk {
+                return Err(Unkept::Discord(Discord::Chapter(self.number)));
+            }
             self.join(chapter)?;
         }
         if let Some(sheaf) = sheaf {

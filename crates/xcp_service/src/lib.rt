@@ -5,7 +5,7 @@
 //! calls cut off, goes by the [`Post`] to a [`Collector`], whose [`Keeper`] takes it. At the end each member resigns: the keeper then has all
 //! receipts that this caller ever had.
 //!
-//! `specs/Keeping.antt` has what a keeper has settled, `specs/Parcels.antt` what goes by the post, `specs/Sheaves.antt` receipts that were
+//! `specs/Residents.antt` has a slave that stays, `specs/Keeping.antt` what a keeper has settled, `specs/Parcels.antt` what goes by the post, `specs/Sheaves.antt` receipts that were
 //! handed over, `specs/Calls.antt` a call that may cut chapters off.
 #![tactic(auto)]
 
@@ -19,6 +19,7 @@ mod noted;
 mod opening;
 mod parcel;
 mod post;
+mod resident;
 mod route;
 mod seated;
 mod waiting;
@@ -30,5 +31,6 @@ pub use keeper::{Keeper, Unkept};
 pub use member::Member;
 pub use opening::{Posting, Unrouted};
 pub use post::Post;
+pub use resident::Resident;
 pub use route::Route;
 pub use seated::{Seated, Shared};

@@ -13,12 +13,13 @@ use crate::collector::Collector;
 use crate::former::Former;
 use crate::parcel::Parcel;
 use crate::post::Post;
+use crate::resident::Resident;
 use crate::route::Route;
 use relay::{Giver, Tray};
 use std::alloc::Global;
 use std::marker::{Model, PhantomData};
 use std::sync::Wait;
-use xcp_locked::{Caller, Locked, LockedError, Name};
+use xcp_locked::{Caller, HasSlave, LockedError, Name};
 use xcp_packet::Packet;
 use xcp_scribe::Scribe;
 use xcp_slave::{Request, Told};
@@ -82,13 +83,13 @@ impl<N: Name, M: Route> Member<N, M> {
         &mut self,
         rt: &impl Wait,
         alloc: Global,
-        locked: &Locked<N>,
+        resident: &mut Resident<N, M>,
         post: &Post<N, M>,
     )
-        ensures { self.new ≡ self.old }
+        ensures { (self.new ≡ self.old) × (resident.new ≡ resident.old) }
     {
-        if self.chapter != locked.chapter() {
-            self.hand_rest_over(rt, alloc, locked, post);
+        if self.chapter != resident.locked().chapter() {
+            self.hand_rest_over(rt, alloc, resident, post);
         }
     }
 
@@ -97,13 +98,13 @@ impl<N: Name, M: Route> Member<N, M> {
         &mut self,
         rt: &impl Wait,
         alloc: Global,
-        locked: &Locked<N>,
+        resident: &mut Resident<N, M>,
         post: &Post<N, M>,
     )
-        ensures { self.new ≡ self.old }
+        ensures { (self.new ≡ self.old) × (resident.new ≡ resident.old) }
     {
         if self.caller.receipts.len() > 0 {
-            post.hand_over(rt, alloc, locked, &mut self.caller, &mut self.tray);
+            resident.hand_over(rt, alloc, post, &mut self.caller, &mut self.tray);
         }
     }
 
@@ -131,23 +132,24 @@ impl<N: Name, M: Route> Member<N, M> {
     /// Submits a request that is lent, as `Locked::submit_into` does.
     pub(crate) fn submit(
         &mut self,
-        locked: &mut Locked<N>,
+        resident: &mut Resident<N, M>,
         request: &Request,
         packet: &mut Packet,
     ) -> Result<Told, LockedError>
-        ensures answers { IfOk result (λ told. Answers locked.old.slave request.now
-            (answer_in told packet.new) locked.new.slave) }
-        ensures journal { IfOk result (λ told. locked.new.journal ≡ locked.old.journal
+        ensures answers { IfOk result (λ told. Answers resident.old.locked.slave request.now
+            (answer_in told packet.new) resident.new.locked.slave) }
+        ensures journal { IfOk result (λ told. resident.new.locked.journal ≡ resident.old.locked.journal
             ++ entry self.old.number request.now (answer_in told packet.new) ∷ []) }
         ensures caller { IfOk result (λ told. self.new ≡ accepting self.old
-            (receipt locked.old.chapter (length locked.old.journal) request.now (answer_in told packet.new))) }
-        ensures full { result ≡ Err LockedError.JournalFull ↔ (journal_limit ≤ length locked.old.journal) }
-        ensures err { OnErr result ((locked.new ≡ locked.old) × (self.new ≡ self.old)) }
-        ensures published { IfOk result (λ told. Publishes locked.old locked.new) }
-        ensures chapter { SameChapter locked.old locked.new }
+            (receipt resident.old.locked.chapter (length resident.old.locked.journal) request.now (answer_in told packet.new))) }
+        ensures full { result ≡ Err LockedError.JournalFull ↔ (journal_limit ≤ length resident.old.locked.journal) }
+        ensures err { OnErr result ((resident.new ≡ resident.old) × (self.new ≡ self.old)) }
+        ensures published { IfOk result (λ told. Publishes resident.old.locked resident.new.locked) }
+        ensures past { resident.new.past ≡ resident.old.past }
+        ensures chapter { SameChapter resident.old.locked resident.new.locked }
     {
-        let told = locked.submit_into(&mut self.caller, request, packet)?;
-        self.chapter = locked.chapter();
+        let told = resident.submit(&mut self.caller, request, packet)?;
+        self.chapter = resident.locked().chapter();
         Ok(told)
     }
 }

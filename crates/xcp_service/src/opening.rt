@@ -1,16 +1,18 @@
 //! How a post begins.
 ghost use Rattle.std.specs.Prelude.{◌≡◌, ◌+◌, [], IfOk};
 ghost use Rattle.xcp_service.specs.Parcels.{AreOpened};
+ghost use Rattle.xcp_service.specs.Residents.{IsUncut};
 
 use crate::collector::Collector;
 use crate::member::Member;
 use crate::parcel::Parcel;
 use crate::post::Post;
+use crate::resident::Resident;
 use crate::route::Route;
 use relay::{Giver, Relay, Taker};
 use std::alloc::{AllocError, Global};
 use std::marker::Model;
-use xcp_locked::{Caller, Name};
+use xcp_locked::{Caller, Locked, Name};
 use xcp_scribe::Scribe;
 
 /// A post that no type names yet.
@@ -35,6 +37,8 @@ impl<N: Name> Model for Unrouted<N> {
 #[derive(Drop)]
 pub struct Posting<N: Name, M: Route, S: Scribe> {
     pub post: Post<N, M>,
+    /// The slave, whose chapters go by this post.
+    pub resident: Resident<N, M>,
     /// The callers, as members of this post.
     pub members: Vec<Member<N, M>>,
     pub collector: Collector<N, M, S>,
@@ -47,16 +51,19 @@ impl<N: Name> Unrouted<N> {
         Ok(Unrouted { relay, taker })
     }
 
-    /// Opens it for all callers that an opening of a slave gives out, with a scribe that was given nothing yet.
+    /// Opens it for a slave that was just opened, and all its callers, with a scribe that was given nothing yet.
     pub fn open<M: Route, S: Scribe>(
         self,
         alloc: Global,
+        locked: Locked<N>,
         callers: Vec<Caller<N>>,
         scribe: S,
     ) -> Result<Posting<N, M, S>, AllocError>
         requires relay { self ≡ M.relay }
-        requires callers { AreOpened callers.items }
+        requires first { IsUncut N.layout locked }
+        requires callers { AreOpened N.parts callers.items }
         requires scribe { S.wrote scribe [] }
+        ensures slave { IfOk result (λ p. p.resident ≡ record { locked = locked; past = [] }) }
         ensures members { IfOk result (λ p. p.members.items ≡ callers.items) }
     {
         let Unrouted { relay, mut taker } = self;
@@ -66,10 +73,12 @@ impl<N: Name> Unrouted<N> {
             members.push(Member::new(caller, giver))?;
         }
         let chapters = hire(&relay, &mut taker)?;
+        let desk = chapters.tag();
         Ok(Posting {
-            post: Post::new(relay, chapters),
+            post: Post::new(relay),
+            resident: Resident::new(locked, chapters),
             members,
-            collector: Collector::new(alloc, taker, scribe),
+            collector: Collector::new(alloc, taker, desk, scribe),
         })
     }
 }

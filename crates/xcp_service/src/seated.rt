@@ -5,19 +5,20 @@ ghost use Rattle.xcp_locked.specs.Tasks.{Same};
 use crate::calling::call;
 use crate::member::Member;
 use crate::post::Post;
+use crate::resident::Resident;
 use crate::route::Route;
 use std::alloc::Global;
 use std::sync::atomic::AtomicBool;
 use std::sync::{Mutex, Wait};
 use xcp_framing::{Station, StationError};
-use xcp_locked::{Locked, LockedError, Name, wait_for_packets};
+use xcp_locked::{HasSlave, LockedError, Name, wait_for_packets};
 use xcp_packet::Packet;
 use xcp_slave::{Request, Told};
 
 /// A slave that stays, under its lock, and the post of its keeper.
 #[derive(Drop)]
 pub struct Shared<N: Name, M: Route> {
-    pub lock: Mutex<Locked<N>>,
+    pub lock: Mutex<Resident<N, M>>,
     pub post: Post<N, M>,
 }
 
@@ -102,7 +103,7 @@ impl<'a, N: Name, M: Route, R: Wait> Station for Seated<'a, N, M, R> {
         ensures kept { self.new ≡ self.old }
         ensures stays { Same self.old.member self.new.member }
     {
-        self.shared.lock.lock(self.rt).pending()
+        self.shared.lock.lock(self.rt).locked().pending()
     }
 
     /// Waits until packets wait in the shared slave's outbox, or `stop` is set, as `wait_for_packets` does.
@@ -110,6 +111,6 @@ impl<'a, N: Name, M: Route, R: Wait> Station for Seated<'a, N, M, R> {
         ensures kept { self.new ≡ self.old }
         ensures stays { Same self.old.member self.new.member }
     {
-        wait_for_packets(self.rt, &self.shared.lock, stop);
+        wait_for_packets::<N, Resident<N, M>, R>(self.rt, &self.shared.lock, stop);
     }
 }

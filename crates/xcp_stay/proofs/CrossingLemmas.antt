@@ -155,7 +155,7 @@ keeper_crosses N g l =
 collector_crosses : (N M S : RattleType) (g : Name.Ghosts N.Denot) (l : Ledger.Ghosts N.Denot) (h : Route.Ghosts M.Denot) (s : Scribe.Ghosts S.Denot) → IsSend S → IsSend (Collector.the_row N M S g l h s)
 collector_crosses N M S g l h s x =
     view_send (CollectorInside.the_row N M S g l h s) _ _ _ _
-    (struct_crosses (CollectorInside.the_type N M S g l h s) (keeper_crosses N g l, (search (sendable, crosses, taker.the_send, parcel_crosses) depth 20, (x, (search (sendable, crosses) depth 20, tt)))))
+    (struct_crosses (CollectorInside.the_type N M S g l h s) (keeper_crosses N g l, (search (sendable, crosses, taker.the_send, parcel_crosses) depth 20, (search sendable, (x, (search (sendable, crosses) depth 20, tt))))))
 
 performed_crosses : (N M S : RattleType) (g : Name.Ghosts N.Denot) (l : Ledger.Ghosts N.Denot) (h : Route.Ghosts M.Denot) (s : Scribe.Ghosts S.Denot) → IsSend S → IsSend (Performed.the_field N M S g l h s).row
 performed_crosses N M S g l h s x =

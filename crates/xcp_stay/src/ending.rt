@@ -1,5 +1,5 @@
 //! How a server that stays ends.
-ghost use Rattle.std.specs.Prelude.{◌≡◌, [], IfOk};
+ghost use Rattle.std.specs.Prelude.{◌≡◌, [], IfOk, IfSome};
 ghost use Rattle.xcp_locked.specs.Chapters.{AreJoined};
 ghost use Rattle.xcp_service.specs.Keeping.{AreKeptSettled};
 ghost use Rattle.xcp_service.specs.Parcels.{given_in};
@@ -10,7 +10,9 @@ use std::sync::Wait;
 use xcp_locked::{Discord, Locked, Name};
 use xcp_scribe::Scribe;
 use xcp_seats::{Outcome, Performed};
-use xcp_service::{Collector, Former, Keeper, Member, Post, Resigned, Route, Unkept, resign_all};
+use xcp_service::{
+    Collector, Former, Keeper, Member, Post, Resident, Resigned, Route, Unkept, resign_all,
+};
 
 /// Why a server that stays doesn't begin, or ends early.
 #[derive(Clone, Copy, Debug, PartialEq, Eq)]
@@ -90,12 +92,48 @@ pub(crate) fn gather<N: Name, M: Route, S: Scribe>(
     Ok(gathered)
 }
 
+/// All members hand over what they have at hand.
+fn hand_all_over<N: Name, M: Route, R: Wait>(
+    rt: &R,
+    alloc: Global,
+    resident: &mut Resident<N, M>,
+    post: &Post<N, M>,
+    members: &mut [Member<N, M>],
+)
+    ensures { resident.new ≡ resident.old }
+{
+    for member in members.iter_mut() {
+        member.hand_rest_over(rt, alloc, resident, post);
+    }
+}
+
+/// Cuts the open chapter off, and has all members hand over what they have at hand. `None` where there is no memory.
+fn close<N: Name, M: Route, R: Wait>(
+    rt: &R,
+    alloc: Global,
+    resident: Resident<N, M>,
+    post: &Post<N, M>,
+    members: &mut [Member<N, M>],
+) -> Option<Resident<N, M>>
+    ensures { IfSome result (λ r. (r.locked.journal ≡ []) × (r.locked.base ≡ r.locked.slave)) }
+{
+    let mut resident = resident;
+    if !resident.cut(rt, alloc, post) {
+        return None;
+    }
+    if !resident.clear(rt, post) {
+        return None;
+    }
+    hand_all_over(rt, alloc, &mut resident, post, members);
+    Some(resident)
+}
+
 /// Ends what so many members did: the open chapter is cut off, all hand over what they have at hand, the keeper takes what is left, and
 /// each member resigns. The error is the keeper's, or what it finds at last.
 pub(crate) fn conclude<N: Name, M: Route, S: Scribe, R: Wait>(
     rt: &R,
     alloc: Global,
-    locked: Locked<N>,
+    resident: Resident<N, M>,
     post: &Post<N, M>,
     gathered: Gathered<N, M, S>,
     count: usize,
@@ -113,15 +151,35 @@ pub(crate) fn conclude<N: Name, M: Route, S: Scribe, R: Wait>(
         return Err(StayError::Memory);
     };
     let collector = kept?;
-    let mut locked = locked;
     let mut members = members;
-    if !post.cut(rt, alloc, &mut locked) || !post.clear(rt) {
+    let Some(resident) = close(rt, alloc, resident, post, &mut members) else {
         return Err(StayError::Memory);
-    }
-    for member in members.iter_mut() {
-        member.hand_rest_over(rt, alloc, &locked, post);
-    }
-    let collector = collector.collect(rt, post)?;
+    };
+    let mut collector = collector.collect(rt, post)?;
+    let Some(locked) = resident.resign(post, &mut collector) else {
+        return Err(StayError::Memory);
+    };
+    settle(alloc, locked, post, collector, members, count, lost)
+}
+
+/// All members resign, and the keeper meets the slave, which has no open call.
+fn settle<N: Name, M: Route, S: Scribe>(
+    alloc: Global,
+    locked: Locked<N>,
+    post: &Post<N, M>,
+    collector: Collector<N, M, S>,
+    members: Vec<Member<N, M>>,
+    count: usize,
+    lost: u64,
+) -> Result<Stayed<N, S>, StayError>
+    requires closed { (locked.journal ≡ []) × (locked.base ≡ locked.slave) }
+    ensures joined { IfOk result (λ s. AreJoined N.layout s.keeper.chapters
+        s.locked.chapter s.locked.before s.locked.base) }
+    ensures settled { IfOk result (λ s. AreKeptSettled s.keeper) }
+    ensures closed { IfOk result (λ s. (s.locked.journal ≡ []) × (s.locked.base ≡ s.locked.slave)) }
+    ensures members { IfOk result (λ s. AreAllMembers count s.keeper s.members.items) }
+    ensures wrote { IfOk result (λ s. S.wrote s.scribe (given_in s.keeper.chapters)) }
+{
     let Resigned {
         keeper,
         scribe,

@@ -4,6 +4,7 @@ ghost use Rattle.std.specs.Vec.Iter.{into_iter_items};
 ghost use Rattle.xcp_locked.specs.Chapters.{AreJoined};
 ghost use Rattle.xcp_service.specs.Keeping.{AreKeptSettled};
 ghost use Rattle.xcp_service.specs.Parcels.{AreOpened, given_in};
+ghost use Rattle.xcp_service.specs.Residents.{IsUncut};
 ghost use Rattle.xcp_stay.specs.Stay.{AreAllMembers, IsKept};
 
 use crate::boxed::Boxed;
@@ -225,7 +226,8 @@ fn stay_by_post<
     watcher: &W,
 ) -> Result<Stayed<N, Boxed<S>>, StayError>
     requires relay { ready.unrouted ≡ M.relay }
-    requires opened { AreOpened ready.opening.callers.items }
+    requires first { IsUncut N.layout ready.opening.locked }
+    requires opened { AreOpened N.parts ready.opening.callers.items }
     requires callers { plan.tools + plan.tools + plan.tasks ≤ length ready.opening.callers.items }
     requires readers { plan.tasks ≤ 6 }
     requires scribe { S.wrote scribe.scribe.value [] }
@@ -249,12 +251,13 @@ fn stay_by_post<
     } = opening;
     let Posting {
         post,
+        resident,
         members,
         collector,
-    } = unrouted.open::<M, Boxed<S>>(alloc, callers, scribe)?;
+    } = unrouted.open::<M, Boxed<S>>(alloc, locked, callers, scribe)?;
     let doors = make_doors(alloc, plan.tools)?;
     let shared = Shared {
-        lock: Mutex::new(locked),
+        lock: Mutex::new(resident),
         post,
     };
     let hall = Hall::new();

@@ -1,5 +1,5 @@
 -- What a keeper took by its post.
-use Rattle.std.specs.Prelude.{◌≡◌, ℕ, List, [], ◌∷◌, ◌++◌}
+use Rattle.std.specs.Prelude.{◌≡◌, ◌≢◌, ℕ, List, [], ◌∷◌, ◌++◌}
 use Rattle.std.specs.List.{AllByRecursion}
 use Rattle.xcp_locked.specs.LockedSlave.{ChapterValue}
 use Rattle.xcp_locked.specs.Sheaves.{SheafValue}
@@ -20,8 +20,14 @@ sheaves_taken (x ∷ xs) = x.1.sheaves ++ sheaves_taken xs
 abbrev pub IsOfItsCaller : ℕ × ParcelValue → Type 0
 IsOfItsCaller x = AllByRecursion (λ (s : SheafValue). s.caller ≡ x.0) x.1.sheaves
 
--- A keeper has the chapters and sheaves that were taken, and each sheaf came under the number of its caller.
-pub record IsCollected (k : KeeperValue) (taken : List (ℕ × ParcelValue)) : Type 0 where
+-- its chapters came under this tag, if it has any
+abbrev pub IsOfItsDesk : ℕ → ℕ × ParcelValue → Type 0
+IsOfItsDesk desk x = x.0 ≢ desk → x.1.chapters ≡ []
+
+-- A keeper has the chapters and sheaves that were taken; each chapter came under the tag of the desk, and each sheaf under the number of its
+-- caller.
+pub record IsCollected (desk : ℕ) (k : KeeperValue) (taken : List (ℕ × ParcelValue)) : Type 0 where
   pub chapters : k.chapters ≡ chapters_taken taken
   pub sheaves : k.sheaves ≡ sheaves_taken taken
   pub callers : AllByRecursion IsOfItsCaller taken
+  pub only : AllByRecursion (IsOfItsDesk desk) taken

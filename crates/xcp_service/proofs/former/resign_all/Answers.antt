@@ -21,4 +21,5 @@ loop-member-preserved g c =
           (all_more (IsHandedOver c.resign.new.collector) at.all.items former
           (subst (λ (k : KeeperValue). AllByRecursion (IsHandedOver k) at.all.items) (sym same) at.invariant.1)
           (c.in-Some-resign.ensures.handed)),
+      same ∙ at.invariant.2,
     )

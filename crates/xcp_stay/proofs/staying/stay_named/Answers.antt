@@ -1,4 +1,6 @@
-use Rattle.std.proofs.Common.{[], ap, length, refl, subst, sym, ◌∙◌, arith}
+use Rattle.std.proofs.Common.{ℕ, [], ap, length, refl, subst, sym, ◌∙◌, arith}
+use Rattle.xcp_slave.specs.SlaveValue.{opening}
+use Rattle.xcp_locked.specs.Caller.{callers_of}
 use Rattle.xcp_locked.specs.Chapters.{AreJoined}
 use Rattle.xcp_locked.specs.LockedSlave.{LockedValue}
 use Rattle.xcp_memory.specs.Layout.{LayoutValue}
@@ -9,10 +11,12 @@ use Rattle.xcp_stay.proofs.staying.stay_named.Goals as goal
 pub stay_by_post-requires-after_bounds : goal.stay_by_post-requires-after_bounds
 stay_by_post-requires-after_bounds g c κs within =
     let given = c.in_ok-new.ensures.callers in
+    let named = given ∙ ap (λ (n : ℕ). callers_of c.args.unnamed.layout n) c.requires.name.1 in
     let opened = ap length given ∙ length-callers_of c.args.unnamed.layout c.args.unnamed.callers in
+    let at = c.in_ok-new.ensures.locked in
     let enough = c.requires.callers in
     let boxed = (c.in-Ok.ensures {u = tt}).ok in
-    (omega arith, (refl, ((c.args.unnamed.layout, c.args.unnamed.callers, given), (omega (arith, opened, enough), (c.requires.readers, subst (λ s. g.S.Scribe.wrote s []) (sym boxed) c.requires.scribe)))))
+    (omega arith, (refl, ((ap (λ (l : LockedValue). l.chapter) at, ap (λ (l : LockedValue). l.before) at, ap (λ (l : LockedValue). l.base) at ∙ ap opening c.requires.name.2), ((c.args.unnamed.layout, named), (omega (arith, opened, enough), (c.requires.readers, subst (λ s. g.S.Scribe.wrote s []) (sym boxed) c.requires.scribe))))))
 
 pub returns-clause-joined : goal.returns-clause-joined
 returns-clause-joined g c =

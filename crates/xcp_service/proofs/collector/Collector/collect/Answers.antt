@@ -1,4 +1,4 @@
-use Rattle.std.proofs.Common.{◌∙◌, ap, subst, sym}
+use Rattle.std.proofs.Common.{◌≡◌, ◌≢◌, ℕ, [], ◌∙◌, ap, subst, sym}
 use Rattle.relay.specs.Ends.{TakerValue}
 use Rattle.xcp_service.specs.Parcels.{ParcelValue, given_in}
 use Rattle.xcp_service.proofs.ParcelLemmas.{given_append, collected_more}
@@ -10,8 +10,9 @@ loop-parcel-preserved g c =
     let taken = c.in-Some-take.ensures.taken in
     let kept = c.in_ok-take.ensures in (
       ap (λ (t : TakerValue ParcelValue). t.relay) taken ∙ at.invariant.0,
-      collected_more at.keeper c.take-in-loop-parcel.new.self at.taker.taken c.take.new.taker.taken (c.in-Some-take.tag, c.in-Some-take.parcel) at.invariant.1
-          (ap (λ (t : TakerValue ParcelValue). t.taken) taken) kept.chapters kept.sheaves kept.own,
+      collected_more g.N.Ledger.parts at.keeper c.take-in-loop-parcel.new.self at.taker.taken c.take.new.taker.taken (c.in-Some-take.tag, c.in-Some-take.parcel) at.invariant.1
+          (ap (λ (t : TakerValue ParcelValue). t.taken) taken) kept.chapters kept.sheaves kept.own
+          (subst (λ (d : ℕ). c.in-Some-take.tag ≢ d → c.in-Some-take.parcel.chapters ≡ []) c.self.invariant.3 kept.desk),
       subst (g.S.Scribe.wrote c.write_down.new.scribe) (sym (ap given_in kept.chapters ∙ given_append at.keeper.chapters c.in-Some-take.parcel.chapters))
           (c.write_down.ensures (given_in at.keeper.chapters) at.invariant.2),
     )

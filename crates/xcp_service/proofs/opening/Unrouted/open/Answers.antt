@@ -1,9 +1,9 @@
-use Rattle.std.proofs.Common.{◌∙◌, List, ℕ, refl, ap, sym, subst}
+use Rattle.std.proofs.Common.{◌∙◌, List, ℕ, arith, length, refl, ap, sym, subst}
 use Rattle.std.specs.Vec.Iter.{into_iter_items}
 use Rattle.relay.specs.Ends.{TakerValue}
 use Rattle.xcp_locked.specs.Caller.{CallerValue}
 use Rattle.xcp_service.specs.Parcels.{AreNumbered, ParcelValue}
-use Rattle.xcp_service.proofs.ParcelLemmas.{numbered_callers}
+use Rattle.xcp_service.proofs.ParcelLemmas.{length-callers_of, numbered_callers}
 use Rattle.xcp_service.proofs.opening.Unrouted.open.Goals as goal
 
 pub loop-caller-init : goal.loop-caller-init
@@ -15,8 +15,9 @@ loop-caller-init g c =
       refl,
       c.new-members.ensures.items,
       subst (λ (n : ℕ). AreNumbered n (into_iter_items c.into_iter-caller-iterator.result)) (sym (ap (λ (t : TakerValue ParcelValue). t.givers) taker))
-          (subst (λ (l : List CallerValue). AreNumbered 0 l) (sym (items ∙ opened.2)) (numbered_callers opened.0 opened.1)),
+          (subst (λ (l : List CallerValue). AreNumbered 0 l) (sym (items ∙ opened.1)) (numbered_callers opened.0 g.N.Ledger.parts)),
       ap (λ (t : TakerValue ParcelValue). t.relay) taker ∙ relay,
       relay,
       ap (λ (t : TakerValue ParcelValue). t.taken) taker,
+      (let none = ap (λ (t : TakerValue ParcelValue). t.givers) taker in let many = ap length (items ∙ opened.1) ∙ length-callers_of opened.0 g.N.Ledger.parts in omega (arith, none, many)),
     )

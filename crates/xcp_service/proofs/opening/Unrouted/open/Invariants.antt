@@ -1,4 +1,4 @@
-use Rattle.std.specs.Prelude.{◌≡◌, ◌++◌, []}
+use Rattle.std.specs.Prelude.{◌≡◌, ◌+◌, ◌++◌, [], length}
 use Rattle.std.specs.Vec.Iter.{into_iter_items}
 use Rattle.xcp_service.specs.Parcels.{AreNumbered}
 use Rattle.xcp_service.proofs.opening.Unrouted.open.Given as goal
@@ -12,3 +12,4 @@ invariant-loop-caller g l =
     × (l.taker.relay ≡ g.M.Route.relay)
     × (l.relay ≡ g.M.Route.relay)
     × (l.taker.taken ≡ [])
+    × (l.taker.givers + length (into_iter_items rest) ≡ g.N.Ledger.parts)

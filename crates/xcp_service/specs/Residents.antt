@@ -1,0 +1,23 @@
+-- A slave that stays, with the chapters that were cut off it.
+use Rattle.std.specs.Prelude.{◌≡◌, List, [], ◌∷◌, ◌++◌}
+use Rattle.xcp_memory.specs.Layout.{LayoutValue}
+use Rattle.xcp_slave.specs.SlaveValue.{opening}
+use Rattle.xcp_locked.specs.Chapters.{AreJoined}
+use Rattle.xcp_locked.specs.LockedSlave.{ChapterValue, LockedValue, chapter_of, cut_off}
+
+-- The slave, with its open chapter, and all chapters that were ever cut off it, in order.
+pub record ResidentValue : Type 0 where
+  pub locked : LockedValue
+  pub past : List ChapterValue
+
+-- the open chapter was cut off, and is the last of those that were
+abbrev pub with_a_cut : ResidentValue → ResidentValue
+with_a_cut r = record { locked = cut_off r.locked; past = r.past ++ chapter_of r.locked ∷ [] }
+
+-- of a slave that was opened for this layout, nothing was cut off yet
+abbrev pub IsUncut : LayoutValue → LockedValue → Type 0
+IsUncut layout l = (l.chapter ≡ 0) × (l.before ≡ 0) × (l.base ≡ opening layout)
+
+-- From the opening of the layout the chapters that were cut off lead on to the open one, and are one run to its base.
+abbrev pub GoesOn : LayoutValue → ResidentValue → Type 0
+GoesOn layout r = AreJoined layout r.past r.locked.chapter r.locked.before r.locked.base

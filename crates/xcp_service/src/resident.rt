@@ -1,0 +1,184 @@
+//! A slave that stays.
+ghost use Rattle.std.specs.Prelude.{◌≡◌, ◌≤◌, ◌↔◌, ◌++◌, [], ◌∷◌, Err, IfOk, IfSome, MatchBool, OnErr, length};
+ghost use Rattle.xcp_slave.specs.AnswerInBytes.{answer_in};
+ghost use Rattle.xcp_slave.specs.Step.{Answers};
+ghost use Rattle.xcp_locked.specs.Caller.{accepting};
+ghost use Rattle.xcp_locked.specs.Journal.{entry, exchanges, journal_limit};
+ghost use Rattle.xcp_locked.specs.LockedSlave.{SameChapter};
+ghost use Rattle.xcp_locked.specs.PublishingCalls.{AreImagesFrom, Publishes};
+ghost use Rattle.xcp_locked.specs.Receipts.{receipt};
+ghost use Rattle.xcp_service.specs.Parcels.{chapters_put, parcel_of_sheaf};
+ghost use Rattle.xcp_service.specs.Residents.{GoesOn, IsUncut, with_a_cut};
+ghost use Rattle.xcp_service.specs.Sheaves.{sheaf_of};
+
+use crate::collector::Collector;
+use crate::parcel::Parcel;
+use crate::post::Post;
+use crate::route::Route;
+use relay::{Giver, Tray};
+use std::alloc::Global;
+use std::marker::{Model, PhantomData};
+use std::sync::Wait;
+use xcp_locked::{Caller, HasSlave, Locked, LockedError, Name, Reader};
+use xcp_packet::Packet;
+use xcp_scribe::Scribe;
+use xcp_slave::{Request, Told};
+
+/// A slave that stays, as it lies under its lock, with the chapters that were cut off it: those that were put into the post for its
+/// keeper. They are one run from the opening of the layout to the open chapter.
+#[derive(Drop)]
+pub struct Resident<N: Name, M: Route> {
+    locked: Locked<N>,
+    /// By which its chapters go to the keeper. What lies here is handed in before the next one is cut off, and before anybody hands
+    /// receipts over.
+    tray: Tray<Parcel<N>>,
+    of: PhantomData<M>,
+}
+
+impl<N: Name, M: Route> Model for Resident<N, M> {
+    ghost use Rattle.std.specs.Prelude.{◌≡◌};
+    ghost use Rattle.xcp_service.specs.Parcels.{chapters_put};
+    ghost use Rattle.xcp_service.specs.Residents.{GoesOn, ResidentValue};
+
+    ghost Value = { ResidentValue };
+
+    ghost view = { λ r. record { locked = r.locked; past = chapters_put r.tray.put } };
+
+    ghost invariant = { λ r. (r.tray.relay ≡ M.relay) × (r.tray.tag ≡ N.parts) × GoesOn N.layout (record { locked = r.locked; past = chapters_put r.tray.put }) };
+}
+
+impl<N: Name, M: Route> HasSlave<N> for Resident<N, M> {
+    fn locked(&self) -> &Locked<N>
+        ensures { result.now ≡ self.now.locked }
+    {
+        &self.locked
+    }
+}
+
+impl<N: Name, M: Route> Resident<N, M> {
+    /// A slave of which no chapter was cut off yet, with the giver of its chapters, whose tag is the one behind those of all callers.
+    pub(crate) fn new(locked: Locked<N>, chapters: Giver<Parcel<N>>) -> Resident<N, M>
+        requires first { IsUncut N.layout locked }
+        requires chapters { chapters ≡ record { relay = M.relay; tag = N.parts; given = [] } }
+        ensures { result ≡ record { locked = locked; past = [] } }
+    {
+        Resident {
+            locked,
+            tray: Tray::new(chapters),
+            of: PhantomData,
+        }
+    }
+
+    /// Hands in the chapter that could not be handed in when it was cut off, if there is one, and tells whether there is none now.
+    pub fn clear(&mut self, rt: &impl Wait, post: &Post<N, M>) -> bool
+        ensures { self.new ≡ self.old }
+    {
+        post.clear(rt, &mut self.tray)
+    }
+
+    /// Cuts the open chapter off, and puts it into the post for the keeper. `false` where there is no memory for it, or the chapter is
+    /// the last that there can be: nothing was cut off then.
+    pub fn cut(&mut self, rt: &impl Wait, alloc: Global, post: &Post<N, M>) -> bool
+        ensures { MatchBool result (self.new ≡ with_a_cut self.old) (self.new ≡ self.old) }
+    {
+        if !post.clear(rt, &mut self.tray) {
+            return false;
+        }
+        self.locked.audit();
+        let Ok(chapter) = self.locked.cut(alloc) else {
+            return false;
+        };
+        post.put_chapter(rt, &mut self.tray, chapter);
+        true
+    }
+
+    /// Puts the receipts that a caller has at hand into the post, behind the chapters that were cut off. `false` where there is no
+    /// memory for it: nothing was handed over then.
+    pub(crate) fn hand_over(
+        &mut self,
+        rt: &impl Wait,
+        alloc: Global,
+        post: &Post<N, M>,
+        caller: &mut Caller<N>,
+        tray: &mut Tray<Parcel<N>>,
+    ) -> bool
+        requires relay { tray.old.relay ≡ M.relay }
+        ensures handed { MatchBool result
+            ((caller.new ≡ record caller.old { receipts = [] })
+            × (tray.new.put ≡ tray.old.put ++ parcel_of_sheaf (sheaf_of self.old.locked caller.old) ∷ []))
+            ((caller.new ≡ caller.old) × (tray.new.put ≡ tray.old.put)) }
+        ensures same { (tray.new.relay ≡ tray.old.relay) × (tray.new.tag ≡ tray.old.tag) }
+        ensures slave { self.new ≡ self.old }
+    {
+        if !self.clear(rt, post) || !post.clear(rt, tray) {
+            return false;
+        }
+        let sheaf = self.locked.take_receipts(alloc, caller);
+        post.put_sheaf(rt, tray, sheaf);
+        true
+    }
+
+    /// Submits a request that is lent, as `Locked::submit_into` does.
+    pub(crate) fn submit(
+        &mut self,
+        caller: &mut Caller<N>,
+        request: &Request,
+        packet: &mut Packet,
+    ) -> Result<Told, LockedError>
+        ensures answers { IfOk result (λ told. Answers self.old.locked.slave request.now
+            (answer_in told packet.new) self.new.locked.slave) }
+        ensures journal { IfOk result (λ told. self.new.locked.journal ≡ self.old.locked.journal
+            ++ entry caller.old.number request.now (answer_in told packet.new) ∷ []) }
+        ensures caller { IfOk result (λ told. caller.new ≡ accepting caller.old
+            (receipt self.old.locked.chapter (length self.old.locked.journal) request.now (answer_in told packet.new))) }
+        ensures full { result ≡ Err LockedError.JournalFull ↔ (journal_limit ≤ length self.old.locked.journal) }
+        ensures err { OnErr result ((self.new ≡ self.old) × (caller.new ≡ caller.old)) }
+        ensures published { IfOk result (λ told. Publishes self.old.locked self.new.locked) }
+        ensures chapter { SameChapter self.old.locked self.new.locked }
+        ensures past { self.new.past ≡ self.old.past }
+    {
+        self.locked.submit_into(caller, request, packet)
+    }
+
+    /// Tells a reader all that was published, as `Locked::tell` does.
+    pub fn tell(&mut self, reader: &mut Reader<N>)
+        ensures seen { reader.new.seen ≡ self.old.locked.writer.publications }
+        ensures published { AreImagesFrom self.old.locked.first self.old.locked.base
+            (exchanges self.old.locked.journal) reader.new.seen }
+        ensures past { reader.new.past ≡ reader.old.seen ∷ reader.old.past }
+        ensures history { reader.new.history ≡ reader.old.history }
+        ensures held { reader.new.held ≡ reader.old.held }
+        ensures same { self.new ≡ self.old }
+        ensures same_reader { (reader.new.bank ≡ reader.old.bank) × (reader.new.place ≡ reader.old.place) }
+    {
+        self.locked.tell(reader);
+    }
+
+    /// Does nothing: its contract says what the type keeps. The chapters that were cut off are one run from the opening to the open one.
+    pub fn audit(&self)
+        ensures { GoesOn N.layout self.now }
+    {
+        let _ = &self.locked;
+    }
+
+    /// The slave, which is called no more, once the keeper took all chapters that were ever cut off it. `None` where one of them is still
+    /// on its way.
+    pub fn resign<S: Scribe>(
+        self,
+        post: &Post<N, M>,
+        collector: &mut Collector<N, M, S>,
+    ) -> Option<Locked<N>>
+        ensures slave { IfSome result (λ l. l ≡ self.locked) }
+        ensures cut { IfSome result (λ _. collector.new.chapters ≡ self.past) }
+        ensures same { collector.new ≡ collector.old }
+    {
+        let Resident { locked, tray, .. } = self;
+        let Ok(mut chapters) = tray.into_giver() else {
+            return None;
+        };
+        if !collector.meets_desk(post, &mut chapters) {
+            return None;
+        }
+        Some(locked)
+    }
+}
