@@ -64,7 +64,7 @@ fn came<N: Name>(
     let ran = ran?;
     let mut cut = Vec::new(alloc);
     for worker in ran.workers.iter() {
-        cut.push(lengths(alloc, &worker.chapters)?)?;
+        cut.push(lengths(alloc, worker.chapters.as_slice())?)?;
     }
     Ok((ran.fault, cut, locked.len(), locked.chapter()))
 }

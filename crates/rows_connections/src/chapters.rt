@@ -46,7 +46,7 @@ fn serve_named<N: Name + Send + Sync, I: Read + Send + Drop, R: Threads + Wait +
     requires callers { vec_len ends + tasks + vec_len ends ≤ unnamed.callers }
     requires readers { tasks ≤ 6 }
 {
-    let mut closing: Closing<N, I, Vec<u8>> = run_server(
+    let (mut closing, ()): (Closing<N, I, Vec<u8>>, ()) = run_server(
         rt,
         alloc,
         unnamed,
@@ -57,6 +57,7 @@ fn serve_named<N: Name + Send + Sync, I: Read + Send + Drop, R: Threads + Wait +
         1_000,
         100_000_000,
         &Open,
+        (),
     )?;
     exchange(&mut closing, exchanged);
     let settled = settle_all(&mut closing);

@@ -80,7 +80,7 @@ fn tasked<N: Name>(ran: &Ran<N>) -> Tasked {
         Some(worker) => (
             ran.fault,
             worker.caller.receipts.len(),
-            worker.chapters.len(),
+            worker.chapters.as_slice().len(),
         ),
         None => (ran.fault, 0, 0),
     }

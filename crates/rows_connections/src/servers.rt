@@ -87,8 +87,18 @@ fn served<
     requires callers { vec_len ends + tasks + vec_len ends ≤ unnamed.callers }
     requires readers { tasks ≤ 6 }
 {
-    let mut closing: Closing<N, I, Hole> = run_server(
-        rt, alloc, unnamed, ends, tasks, 2, 65_536, 1_000, PUMP_TURNS, gate,
+    let (mut closing, ()): (Closing<N, I, Hole>, ()) = run_server(
+        rt,
+        alloc,
+        unnamed,
+        ends,
+        tasks,
+        2,
+        65_536,
+        1_000,
+        PUMP_TURNS,
+        gate,
+        (),
     )?;
     alter(alloc, &mut closing, altered);
     let settled = settle_all(&mut closing);

@@ -74,8 +74,18 @@ fn told_named<N: Name + Send + Sync, R: Threads + Wait + Clock + Sync>(
     let written: Vec<u8> = Vec::new(alloc);
     let silent: &[u8] = &[];
     let ends = Vec::from_array(alloc, [(Watched::new(silent), Watched::new(written))])?;
-    let mut closing = run_server::<N, _, _, _, _>(
-        rt, alloc, unnamed, ends, 0, 1, 65_536, 1_000, 1_000_000, &Open,
+    let (mut closing, ()) = run_server::<N, _, _, _, _, _>(
+        rt,
+        alloc,
+        unnamed,
+        ends,
+        0,
+        1,
+        65_536,
+        1_000,
+        1_000_000,
+        &Open,
+        (),
     )?;
     raise(&mut closing, events);
     let report = conclude(&mut closing).ok().ok_or("a report")?;

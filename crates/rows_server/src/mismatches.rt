@@ -94,8 +94,18 @@ fn told_named<N: Name + Send + Sync, R: Threads + Wait + Clock + Sync>(
             (Watched::new(ASKED), Watched::new(other)),
         ],
     )?;
-    let mut closing = run_server::<N, _, _, _, _>(
-        rt, alloc, unnamed, ends, tasks, 2, chapter, 1_000, 1_000_000, &Open,
+    let (mut closing, ()) = run_server::<N, _, _, _, _, _>(
+        rt,
+        alloc,
+        unnamed,
+        ends,
+        tasks,
+        2,
+        chapter,
+        1_000,
+        1_000_000,
+        &Open,
+        (),
     )?;
     alter(alloc, &mut closing, altered);
     Ok(conclude(&mut closing))

@@ -172,7 +172,7 @@ fn serve_named<'a, N: Name + Send + Sync, G: Gate + Sync, R: Threads + Wait + Cl
     requires readers { tasks.0 ≤ 6 }
 {
     let (tasks, cycles) = tasks;
-    let mut closing: Closing<N, Asking<'a>, Checking<'a>> = run_server(
+    let (mut closing, ()): (Closing<N, Asking<'a>, Checking<'a>>, ()) = run_server(
         rt,
         alloc,
         unnamed,
@@ -183,6 +183,7 @@ fn serve_named<'a, N: Name + Send + Sync, G: Gate + Sync, R: Threads + Wait + Cl
         1_000,
         100_000_000,
         gate,
+        (),
     )?;
     let settled = settle_all(&mut closing);
     Ok((closing.ends, closing.fault, settled))

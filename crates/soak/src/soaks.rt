@@ -85,7 +85,7 @@ fn soak_named<N: Name + Send + Sync, R: Threads + Wait + Clock + Sync>(
 {
     let [one, other] = sides;
     let ends = Vec::from_array(alloc, [one.end(), other.end()])?;
-    let mut closing: Closing<N, Trickle<'_>, Counted<'_>> = run_server(
+    let (mut closing, ()): (Closing<N, Trickle<'_>, Counted<'_>>, ()) = run_server(
         rt,
         alloc,
         unnamed,
@@ -96,6 +96,7 @@ fn soak_named<N: Name + Send + Sync, R: Threads + Wait + Clock + Sync>(
         TURNS,
         PUMP_TURNS,
         &Yielding,
+        (),
     )?;
     let calls = closing.locked.len();
     let settled = settle_all(&mut closing) == Ok(calls);

@@ -5,6 +5,7 @@ ghost use Rattle.together.specs.private.ThreadRoom.{HasRoom};
 ghost use Rattle.together.specs.Works.{GivesEach};
 
 use crate::crews::{CrewHandles, join_crews, start_crews};
+use crate::meanwhile::{Meanwhile, Nothing};
 use crate::room::{Room, room_for};
 use crate::threads::{join_all, start_all};
 use crate::work::{Given, Work};
@@ -15,6 +16,9 @@ use std::thread::{PromisedHandle, Scope, Threads};
 
 /// What comes of crews and of single works, each at its place.
 type Results<X, Y, Z, T> = Result<(Vec<(X, Y, Z)>, Vec<T>), AllocError>;
+
+/// The same, and what comes of what is done meanwhile.
+type Outcomes<X, Y, Z, T, U> = Result<(Vec<(X, Y, Z)>, Vec<T>, U), AllocError>;
 
 /// Does each work in a thread of its own, all of them at the same time: none begins before all
 /// threads stand, and all are joined. Crews of three works are taken, which have something to do
@@ -36,6 +40,38 @@ pub fn run_crews<
     ensures crews { IfOk result (λ r. GivesEachCrew A.Work B.Work C.Work crews.items r.0.items) }
     ensures works { IfOk result (λ r. GivesEach W.Work works.items r.1.items) }
 {
+    let (crews, works, ()) = run_crews_and(rt, alloc, crews, works, Nothing)?;
+    Ok((crews, works))
+}
+
+/// Does each work in a thread of its own, as `run_crews` does, and something else meanwhile, in the
+/// thread that calls, once all of them have begun; the works are joined when that is done.
+///
+/// Where memory or a thread is refused the answer is `Err`, and nothing of it has begun; all of it is
+/// gone then.
+pub fn run_crews_and<
+    X: Send + Drop,
+    A: Work<X>,
+    Y: Send + Drop,
+    B: Work<Y>,
+    Z: Send + Drop,
+    C: Work<Z>,
+    T: Send + Drop,
+    W: Work<T>,
+    U: Drop,
+    M: Meanwhile<U>,
+    R: Threads + Wait + Sync,
+>(
+    rt: &R,
+    alloc: Global,
+    crews: Vec<(A, B, C)>,
+    works: Vec<W>,
+    meanwhile: M,
+) -> Outcomes<X, Y, Z, T, U>
+    ensures crews { IfOk result (λ r. GivesEachCrew A.Work B.Work C.Work crews.items r.0.items) }
+    ensures works { IfOk result (λ r. GivesEach W.Work works.items r.1.items) }
+    ensures meanwhile { IfOk result (λ r. M.gives meanwhile r.2) }
+{
     let first = room_for(alloc, crews.len())?;
     let second = room_for(alloc, works.len())?;
     let start = Mutex::new(false);
@@ -43,15 +79,16 @@ pub fn run_crews<
     thread::scope(
         thread::scope_env(),
         rt,
-        move |scope| -> Results<X, Y, Z, T>
+        move |scope| -> Outcomes<X, Y, Z, T, U>
             requires { HasRoom first (vec_len crews) × HasRoom second (vec_len works) }
             ensures { IfOk result (λ r. GivesEachCrew A.Work B.Work C.Work crews.items r.0.items
-                × GivesEach W.Work works.items r.1.items) }
-        { in_scope(scope, rt, signal, crews, first, works, second) },
+                × GivesEach W.Work works.items r.1.items × M.gives meanwhile r.2) }
+        { in_scope(scope, rt, signal, crews, first, works, second, meanwhile) },
     )
 }
 
-/// Makes all threads while it holds the start signal, lets them go, and joins them.
+/// Makes all threads while it holds the start signal, lets them go, does something else, and joins
+/// them.
 fn in_scope<
     's,
     E,
@@ -63,6 +100,8 @@ fn in_scope<
     C: Work<Z> + 's,
     T: Send + Drop + 's,
     W: Work<T> + 's,
+    U: Drop,
+    M: Meanwhile<U>,
     R: Threads + Wait + Sync + 's,
 >(
     scope: &'s Scope<'s, E>,
@@ -72,21 +111,26 @@ fn in_scope<
     first: Room<CrewHandles<X, A, Y, B, Z, C>, (X, Y, Z)>,
     works: Vec<W>,
     second: Room<PromisedHandle<T, Given<W>>, T>,
-) -> Results<X, Y, Z, T>
+    meanwhile: M,
+) -> Outcomes<X, Y, Z, T, U>
     requires { HasRoom first (vec_len crews) × HasRoom second (vec_len works) }
     ensures crews { IfOk result (λ r. GivesEachCrew A.Work B.Work C.Work crews.items r.0.items) }
     ensures works { IfOk result (λ r. GivesEach W.Work works.items r.1.items) }
+    ensures meanwhile { IfOk result (λ r. M.gives meanwhile r.2) }
 {
     let mut go = start.lock(rt);
     let (crewed, all) = start_crews(scope, rt, start, crews, first.handles);
     let (handles, both) = start_all(scope, rt, start, works, second.handles);
     *go = all && both;
     drop(go);
-    let done = join_crews(rt, crewed, first.results);
-    let rest = join_all(rt, handles, second.results);
     if all && both {
-        Ok((done, rest))
+        let did = meanwhile.run(rt);
+        let done = join_crews(rt, crewed, first.results);
+        let rest = join_all(rt, handles, second.results);
+        Ok((done, rest, did))
     } else {
+        let _none = join_crews(rt, crewed, first.results);
+        let _begun = join_all(rt, handles, second.results);
         Err(AllocError)
     }
 }

@@ -2,17 +2,19 @@
 //!
 //! A [`Work`] says what a thread does. [`run_both`] makes a thread for each work of two kinds, lets
 //! them begin together, and joins them all; [`run_crews`] does so for crews of three works, which have
-//! something to do with each other, and for single works. That threads run beside one another, and that none
+//! something to do with each other, and for single works, and [`run_crews_and`] does something else [`Meanwhile`]. That threads run beside one another, and that none
 //! begins before all stand, no clause can say; tests show it.
 #![tactic(auto)]
 
 mod both;
 mod crewing;
 mod crews;
+mod meanwhile;
 mod room;
 mod threads;
 mod work;
 
 pub use both::run_both;
-pub use crewing::run_crews;
+pub use crewing::{run_crews, run_crews_and};
+pub use meanwhile::Meanwhile;
 pub use work::{Given, Work};

@@ -3,6 +3,7 @@ pub mod JournalLemmas
 pub mod PairedListLemmas
 pub mod TaskPlanLemmas
 pub mod HasCutLemmas
+pub mod ExcerptLemmas
 pub mod PlacedExchangeLemmas
 pub mod PublicationLemmas
 pub mod PublicationLaws

@@ -1,14 +1,12 @@
 -- Tasks that ran, one by one.
 use Rattle.std.proofs.Common.{◌≡◌, ℕ, List, [], ◌∷◌, ◌++◌, refl, ap, ◌∙◌, subst}
 use Rattle.std.specs.Prelude.{Option, Some, None, is_none, true, unwrap_or}
-use Rattle.std.specs.declared.alloc.Global.{Global}
-use Rattle.std.specs.declared.vec.Vec.{Vec}
 use Rattle.xcp_memory.specs.Layout.{LayoutValue}
 use Rattle.xcp_locked.specs.declared.tasks.TaskError.{TaskError}
 use Rattle.xcp_locked.specs.declared.tasks.TaskError.TheVariants as faults
 use Rattle.xcp_locked.specs.declared.tasks.Done.{Done}
 use Rattle.xcp_locked.specs.declared.worker.Worker.{Worker}
-use Rattle.xcp_locked.specs.LockedSlave.{ChapterValue}
+use Rattle.xcp_locked.specs.Excerpts.{ChaptersValue, none_cut}
 use Rattle.xcp_locked.specs.TaskOutcome.{chapters_of, first_fault, or_else}
 use Rattle.xcp_locked.specs.Tasks.{IsOwn, Worked}
 use Rattle.xcp_locked.proofs.PairedListLemmas.{first_of}
@@ -48,7 +46,7 @@ pub none_left : {A : Type 0} (o : Option A) → ((x : A) → o ≡ Some x → �
 none_left None h = refl
 none_left (Some x) h = absurd (h x refl)
 
--- the first worker's chapters, or else an empty vector
-pub first_chapters : {N : Type 0} (workers : List (Worker N)) (none : Vec ChapterValue Global) → none.items ≡ [] → (unwrap_or (first_of (λ w. w.chapters) workers) none).items ≡ chapters_of workers
+-- the first worker's chapters, or else none
+pub first_chapters : {N : Type 0} (workers : List (Worker N)) (none : ChaptersValue) → none ≡ none_cut None → unwrap_or (first_of (λ w. w.chapters) workers) none ≡ chapters_of workers
 first_chapters [] none empty = empty
 first_chapters (w ∷ workers) none empty = refl

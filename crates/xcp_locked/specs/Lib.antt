@@ -1,5 +1,6 @@
 pub mod Caller
 pub mod Chapters
+pub mod Excerpts
 pub mod Journal
 pub mod LockedSlave
 pub mod FaultNumbers

@@ -6,7 +6,7 @@ use Rattle.xcp_locked.specs.declared.tasks.TaskError.{TaskError}
 use Rattle.xcp_locked.specs.declared.worker.Worker.{Worker}
 use Rattle.xcp_locked.specs.declared.tasks.Done.{Done}
 use Rattle.xcp_locked.specs.declared.tasks.Ran.{Ran}
-use Rattle.xcp_locked.specs.LockedSlave.{ChapterValue}
+use Rattle.xcp_locked.specs.Excerpts.{ChaptersValue, none_cut}
 use Rattle.xcp_locked.specs.PairedLists.{EachFrom}
 use Rattle.xcp_locked.specs.Tasks.{Worked}
 
@@ -36,9 +36,9 @@ first_fault [] = None
 first_fault (d ∷ more) = or_else d.fault (first_fault more)
 
 -- the chapters that the first worker has cut, or none where there is no worker
-abbrev pub chapters_of : {N : Type 0} → List (Worker N) → List ChapterValue
-chapters_of [] = []
-chapters_of (w ∷ more) = w.chapters.items
+abbrev pub chapters_of : {N : Type 0} → List (Worker N) → ChaptersValue
+chapters_of [] = none_cut None
+chapters_of (w ∷ more) = w.chapters
 
 -- One task for each worker, numbered from 0: all workers come back, each having done what its task has, and the fault is that
 -- of the least task number. `may_end` says that the gate may end a task.

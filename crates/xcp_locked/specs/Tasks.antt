@@ -1,5 +1,5 @@
 -- What a task submits.
-use Rattle.std.specs.Prelude.{◌≡◌, ◌≢◌, ◌≤◌, ◌+◌, ℕ, zero, suc, ◌%◌, Bool, true, List, [], ◌∷◌, ◌++◌, map, length, ◌==◌, if◌then◌else◌, replicate, Option, is_none, IfSome, All, ⊤}
+use Rattle.std.specs.Prelude.{◌≡◌, ◌≢◌, ◌≤◌, ◌+◌, ℕ, zero, suc, ◌%◌, Bool, true, false, List, [], ◌∷◌, ◌++◌, map, length, ◌==◌, if◌then◌else◌, replicate, Option, is_none, IfSome, All, ⊤}
 use Rattle.xcp_slave.specs.declared.Request.{Request}
 use Rattle.xcp_slave.specs.declared.Request.TheVariants as requests
 use Rattle.xcp_locked.specs.declared.receipt.Receipt.{Receipt}
@@ -9,6 +9,7 @@ use Rattle.xcp_locked.specs.declared.tasks.TaskError.{TaskError}
 use Rattle.xcp_locked.specs.declared.tasks.TaskError.TheVariants as faults
 use Rattle.xcp_locked.specs.declared.worker.Worker.{Worker}
 use Rattle.xcp_locked.specs.Caller.{CallerValue}
+use Rattle.xcp_locked.specs.Excerpts.{ChaptersValue, cuts_at_stores}
 use Rattle.xcp_locked.specs.LockedSlave.{ChapterValue}
 use Rattle.xcp_memory.specs.Layout.{LayoutValue}
 use Rattle.xcp_bank.specs.BankEnds.{ReaderEnd}
@@ -71,13 +72,14 @@ IsOwn may_end task faults.JournalFull = ⊤
 IsOwn may_end task (faults.GateSpent of) = (of ≡ task) × may_end
 
 -- What a task has cut in so many cycles stands behind what it had cut before: at most one chapter a cycle, each of at least so many
--- calls. Only task 0 cuts.
-pub record HasCut (cycles chapter task : ℕ) (old new : List ChapterValue) : Type 0 where
+-- calls, unless stores end chapters too. Only task 0 cuts. Excerpts go by the same way as before.
+pub record HasCut (cycles chapter task : ℕ) (old new : ChaptersValue) : Type 0 where
   pub more : List ChapterValue
-  pub new_is : new ≡ old ++ more
+  pub new_is : new.items ≡ old.items ++ more
   pub one_a_cycle : length more ≤ cycles
-  pub full : All (λ (c : ChapterValue). chapter ≤ length c.entries) more
+  pub full : cuts_at_stores old.way ≡ false → All (λ (c : ChapterValue). chapter ≤ length c.entries) more
   pub first_only : task ≢ 0 → more ≡ []
+  pub way : new.way ≡ old.way
 
 -- Of a cycle, the last one: the receipt of its event, behind which task 0 has that of its store, and an image that isn't older than
 -- the event.
@@ -98,5 +100,5 @@ pub record Worked {N : Type 0} (layout : LayoutValue) (may_end : Type 0) (cycles
   pub same : Same old.caller new.caller
   pub took : Took cycles (is_none fault) old.reader new.reader old.last new.last
   pub fresh : is_none fault ≡ true → (last : ℕ) → cycles ≡ last + 1 → IsFresh layout (duty old.caller task) last old.caller.number new.caller.receipts new.reader
-  pub cut : HasCut cycles chapter task old.chapters.items new.chapters.items
+  pub cut : HasCut cycles chapter task old.chapters new.chapters
   pub own : IfSome fault (IsOwn may_end task)

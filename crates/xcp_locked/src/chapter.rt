@@ -1,5 +1,5 @@
 //! A chapter of a journal, which was cut off.
-ghost use Rattle.std.specs.Prelude.{◌*◌, ◌≡◌, ◌↔◌, ◌⊎◌, ◌≤◌, Err, IfOk, IfErr, OnErr, MatchResult, false, length};
+ghost use Rattle.std.specs.Prelude.{◌*◌, ◌≡◌, ◌↔◌, ◌⊎◌, ◌≤◌, Err, IfOk, IfErr, OnErr, MatchResult, false, true, length};
 ghost use Rattle.std.specs.Arc.{arc_value};
 ghost use Rattle.xcp_slave.specs.Run.{Run};
 ghost use Rattle.xcp_locked.specs.Journal.{exchanges, journal_limit, last_chapter};
@@ -24,7 +24,7 @@ pub(crate) struct Cut {
     pub(crate) number: u64,
     pub(crate) before: u64,
     pub(crate) base: Arc<Slave>,
-    pub(crate) entries: Journal,
+    pub(crate) entries: Arc<Journal>,
     pub(crate) last: Arc<Slave>,
 }
 
@@ -34,7 +34,7 @@ impl Model for Cut {
 
     ghost Value = { ChapterValue };
 
-    ghost view = { λ c. record { number = c.number; before = c.before; base = arc_value c.base; entries = c.entries.entries; last = arc_value c.last } };
+    ghost view = { λ c. record { number = c.number; before = c.before; base = arc_value c.base; entries = (arc_value c.entries).entries; last = arc_value c.last } };
 }
 
 /// A chapter that was cut off: its calls are a run from its base to its last, and the calls before it
@@ -93,13 +93,19 @@ impl<N: Name> Locked<N> {
         let Ok(places) = publisher.room_anew(alloc) else {
             return Err(LockedError::Memory);
         };
-        publisher.turn(places);
+        let Ok(mut entries) = Arc::new(alloc, empty) else {
+            return Err(LockedError::Memory);
+        };
         let calls = journal.len() as u64;
+        if !exchange(&mut entries, journal) {
+            return Err(LockedError::Memory);
+        }
+        publisher.turn(places);
         let cut = Cut {
             number: *chapter,
             before: *before,
             base: mem::replace(base, next),
-            entries: mem::replace(journal, empty),
+            entries,
             last,
         };
         *before += calls;
@@ -108,6 +114,21 @@ impl<N: Name> Locked<N> {
             cut,
             of: PhantomData,
         })
+    }
+}
+
+/// Puts a journal into the place of another one, which nobody else owns, and that one into its place. `false` where somebody else owns
+/// it: nothing was changed then.
+fn exchange(place: &mut Arc<Journal>, journal: &mut Journal) -> bool
+    ensures done { result ≡ true → (arc_value place.new ≡ journal.old) × (journal.new ≡ arc_value place.old) }
+    ensures not { result ≡ false → (arc_value place.new ≡ arc_value place.old) × (journal.new ≡ journal.old) }
+{
+    match Arc::get_mut(place) {
+        Some(other) => {
+            mem::swap(other, journal);
+            true
+        }
+        None => false,
     }
 }
 

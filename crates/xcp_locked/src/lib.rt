@@ -7,7 +7,10 @@
 
 mod caller;
 mod chapter;
+mod chapters;
 mod errors;
+mod excerpt;
+mod excerpts;
 mod gate;
 mod holding;
 mod joining;
@@ -31,7 +34,10 @@ mod worker;
 
 pub use caller::Caller;
 pub use chapter::Chapter;
+pub use chapters::Chapters;
 pub use errors::LockedError;
+pub use excerpt::Excerpt;
+pub use excerpts::{Excerpts, Handing};
 pub use gate::Gate;
 pub use joining::{Discord, check_joined, settle_chapters};
 pub use laws::{

@@ -1,20 +1,19 @@
 //! Tasks of the controller: what each submits, cycle by cycle.
-ghost use Rattle.std.specs.Prelude.{◌≡◌, ◌<◌, ◌≤◌, ◌+◌, ℕ, List, [], ◌∷◌, IfNone, IfSome, MatchBool, OnSome, is_none, length, replicate, true, vec_capacity, vec_len};
+ghost use Rattle.std.specs.Prelude.{◌≡◌, ◌≤◌, ◌+◌, ℕ, List, [], ◌∷◌, IfErr, IfSome, MatchBool, MatchResult, is_none, length, replicate, true};
 ghost use Rattle.xcp_bank.specs.BankEnds.{HoldsNumber};
 ghost use Rattle.xcp_bank.specs.SeatKnowledge.{AllBegin};
 ghost use Rattle.xcp_locked.specs.FaultNumbers.{task_number};
 ghost use Rattle.xcp_locked.specs.TaskImages.{Took};
 ghost use Rattle.xcp_locked.specs.Tasks.{Grew, HasCut, IsFresh, IsOwn, Same, closing_of, duty, event_of};
-ghost use Rattle.xcp_locked.specs.private.Tasks.{Adds, CutsFull, IsTold, TookImage};
+ghost use Rattle.xcp_locked.specs.private.Tasks.{Adds, IsTold, TookImage};
 
-use crate::chapter::LAST_CHAPTER;
-use crate::{Caller, Chapter, Gate, Locked, LockedError, Name, Reader, Worker};
+use crate::{Caller, Gate, Locked, LockedError, Name, Reader, Worker};
 use arrayvec::ArrayVec;
 use std::alloc::{AllocError, Global};
 use std::sync::{Mutex, Wait};
 use thiserror::Error;
 use together::Work;
-use xcp_slave::Request;
+use xcp_slave::{Answer, Request};
 
 /// Why a task ended before its cycles were done.
 #[derive(Clone, Copy, Debug, Error, PartialEq, Eq, Drop)]
@@ -112,6 +111,7 @@ impl<'a, N: Name + Send + Sync, G: Gate + Sync> Work<Done<N>> for Task<'a, N, G>
             alloc,
         } = self;
         let fault = run_cycles(rt, alloc, lock, task, &mut worker, cycles, chapter, gate);
+        worker.chapters.close(rt);
         Done { worker, fault }
     }
 
@@ -142,7 +142,7 @@ fn run_cycles<N: Name, G: Gate>(
     ensures fresh { is_none result ≡ true → (last : ℕ) → cycles ≡ last + 1
         → IsFresh N.layout (duty worker.old.caller task) last worker.old.caller.number
         worker.new.caller.receipts worker.new.reader }
-    ensures cut { HasCut cycles chapter task worker.old.chapters.items worker.new.chapters.items }
+    ensures cut { HasCut cycles chapter task worker.old.chapters worker.new.chapters }
     ensures own { IfSome result (IsOwn G.may_end task) }
 {
     for n in 0..cycles {
@@ -174,7 +174,7 @@ fn cycle<N: Name, G: Gate>(
         worker.old.last worker.new.last }
     ensures fresh { is_none result ≡ true → IsFresh N.layout (duty worker.old.caller task) cycle
         worker.old.caller.number worker.new.caller.receipts worker.new.reader }
-    ensures cut { HasCut 1 chapter task worker.old.chapters.items worker.new.chapters.items }
+    ensures cut { HasCut 1 chapter task worker.old.chapters worker.new.chapters }
     ensures own { IfSome result (IsOwn G.may_end task) }
 {
     if !gate.before(task, cycle) {
@@ -185,10 +185,12 @@ fn cycle<N: Name, G: Gate>(
         return Some(fault);
     }
     take_image(&mut worker.reader, &mut worker.last);
-    if let Some(fault) = close(rt, lock, task, &mut worker.caller) {
-        return Some(fault);
-    }
-    if let Some(fault) = cut_full(rt, alloc, lock, task, chapter, &mut worker.chapters) {
+    let stored = match close(rt, lock, task, &mut worker.caller) {
+        Ok(stored) => stored,
+        Err(fault) => return Some(fault),
+    };
+    let chapters = &mut worker.chapters;
+    if let Some(fault) = chapters.cut_full(rt, alloc, lock, task, chapter, stored) {
         return Some(fault);
     }
     if !gate.after(task, cycle) {
@@ -274,91 +276,34 @@ fn take_image<N: Name>(reader: &mut Reader<N>, last: &mut [u8; 2040])
     reader.read(0, last);
 }
 
-/// Submits a request.
-fn step<N: Name>(
-    rt: &impl Wait,
-    lock: &Mutex<Locked<N>>,
-    caller: &mut Caller<N>,
-    request: Request,
-) -> Option<TaskError>
-    ensures adds { MatchBool (is_none result)
-        (Adds (request ∷ []) caller.old.receipts caller.new.receipts)
-        (caller.new.receipts ≡ caller.old.receipts) }
-    ensures same { Same caller.old caller.new }
-    ensures own { (task : ℕ) → IfSome result (IsOwn ⊥ task) }
-{
-    let _ = caller.reserve();
-    match lock.lock(rt).submit(caller, request) {
-        Ok(_) => None,
-        Err(error) => Some(TaskError::from(error)),
-    }
-}
-
-/// Of task 0, finishes a store.
+/// Of task 0, finishes a store, and tells whether pages were stored.
 fn close<N: Name>(
     rt: &impl Wait,
     lock: &Mutex<Locked<N>>,
     task: u8,
     caller: &mut Caller<N>,
-) -> Option<TaskError>
-    ensures adds { MatchBool (is_none result)
-        (Adds (closing_of (duty caller.old task)) caller.old.receipts caller.new.receipts)
-        (caller.new.receipts ≡ caller.old.receipts) }
+) -> Result<bool, TaskError>
+    ensures adds { MatchResult result
+        (λ _. Adds (closing_of (duty caller.old task)) caller.old.receipts caller.new.receipts)
+        (λ _. caller.new.receipts ≡ caller.old.receipts) }
     ensures same { Same caller.old caller.new }
-    ensures own { (task : ℕ) → IfSome result (IsOwn ⊥ task) }
+    ensures own { (task : ℕ) → IfErr result (IsOwn ⊥ task) }
 {
     if task != 0 {
-        return None;
+        return Ok(false);
     }
-    step(rt, lock, caller, Request::FinishStore)
+    // What grows is made before the lock is taken. Where there is no memory, submit says so.
+    let _ = caller.reserve();
+    match lock.lock(rt).submit(caller, Request::FinishStore) {
+        Ok(receipt) => Ok(stores(&receipt.answer)),
+        Err(error) => Err(TaskError::from(error)),
+    }
 }
 
-/// Of task 0, cuts the open chapter where it is full, under one hold of the lock. Room for it is made
-/// before.
-fn cut_full<N: Name>(
-    rt: &impl Wait,
-    alloc: Global,
-    lock: &Mutex<Locked<N>>,
-    task: u8,
-    chapter: u32,
-    chapters: &mut Vec<Chapter<N>>,
-) -> Option<TaskError>
-    ensures cut { HasCut 1 chapter task chapters.old.items chapters.new.items }
-    ensures fault { IfSome result (λ e. e ≡ TaskError.Memory) }
-    ensures uncut { OnSome result (chapters.new.items ≡ chapters.old.items) }
-{
-    if task > 0 {
-        return None;
-    }
-    if chapters.reserve(1).is_err() {
-        return Some(TaskError::Memory);
-    }
-    take_chapter(&mut lock.lock(rt), alloc, chapter, chapters)
-}
-
-/// Cuts the open chapter where it has so many calls, unless it is the last that there can be, and puts
-/// it behind the others, for which there is room.
-fn take_chapter<N: Name>(
-    locked: &mut Locked<N>,
-    alloc: Global,
-    chapter: u32,
-    chapters: &mut Vec<Chapter<N>>,
-) -> Option<TaskError>
-    requires { vec_len chapters.old < vec_capacity chapters.old }
-    ensures cut { IfNone result
-        (CutsFull chapter locked.old locked.new chapters.old.items chapters.new.items) }
-    ensures fault { IfSome result (λ e. e ≡ TaskError.Memory) }
-    ensures uncut { OnSome result
-        ((locked.new ≡ locked.old) × (chapters.new.items ≡ chapters.old.items)) }
-{
-    if locked.len() < u64::from(chapter) || locked.chapter() >= LAST_CHAPTER {
-        return None;
-    }
-    match locked.cut(alloc) {
-        Ok(cut) => {
-            chapters.push_reserved(cut);
-            None
-        }
-        Err(refused) => Some(TaskError::from(refused)),
+/// Whether this is the answer to a store of at least one page.
+fn stores(answer: &Answer) -> bool {
+    match answer {
+        Answer::Stored(segments) => *segments > 0,
+        _ => false,
     }
 }

@@ -1,7 +1,8 @@
 //! Who works in a task.
-ghost use Rattle.std.specs.Prelude.{◌≡◌, [], replicate};
+ghost use Rattle.std.specs.Prelude.{◌≡◌, None, replicate};
+ghost use Rattle.xcp_locked.specs.Excerpts.{HandsNone, none_cut, way_of};
 
-use crate::{Caller, Chapter, Name, Reader};
+use crate::{Caller, Chapters, Handing, Name, Reader};
 use std::alloc::Global;
 
 /// Who works: a caller, and a reader with the image that it read last, zeros before the first one.
@@ -11,7 +12,7 @@ pub struct Worker<N: Name> {
     pub reader: Reader<N>,
     pub last: [u8; 2040],
     /// The chapters that it has cut, in order.
-    pub chapters: Vec<Chapter<N>>,
+    pub chapters: Chapters<N>,
 }
 
 impl<N: Name> Worker<N> {
@@ -20,13 +21,29 @@ impl<N: Name> Worker<N> {
         ensures caller { result.caller ≡ caller }
         ensures reader { result.reader ≡ reader }
         ensures last { result.last ≡ replicate 2040 0 }
-        ensures chapters { result.chapters.items ≡ [] }
+        ensures chapters { result.chapters ≡ none_cut None }
+    {
+        Worker::handing_in(alloc, caller, reader, None)
+    }
+
+    /// The same. Excerpts of its chapters are handed in here, if they are anywhere.
+    pub fn handing_in(
+        alloc: Global,
+        caller: Caller<N>,
+        reader: Reader<N>,
+        handing: Option<Handing>,
+    ) -> Worker<N>
+        requires { HandsNone handing }
+        ensures caller { result.caller ≡ caller }
+        ensures reader { result.reader ≡ reader }
+        ensures last { result.last ≡ replicate 2040 0 }
+        ensures chapters { result.chapters ≡ none_cut (way_of handing) }
     {
         Worker {
             caller,
             reader,
             last: [0; 2040],
-            chapters: Vec::new(alloc),
+            chapters: Chapters::handed_in(alloc, handing),
         }
     }
 }

@@ -109,4 +109,8 @@ impl<F: Shelf> Scribe for Flashing<F> {
             self.failed = true;
         }
     }
+
+    fn wants_each_store(&self) -> bool {
+        true
+    }
 }

@@ -1,3 +1,4 @@
+pub mod WrittenChapterLemmas
 pub mod CommandCountLemmas
 pub mod ConnectionEndLaws
 pub mod ConnectionOutcomeLemmas

@@ -100,7 +100,7 @@ module _ {I O : Type 0} (remaining : I → Option (List ℕ)) (contents : O → 
     pub worked : EachFrom (WorkedAs layout may_end cycles chapter) 0 workers done
     pub hung_up : HungUp (first_fault done) r.fault (map (λ d. d.tool) closed ++ map (λ d. d.worker.caller) done ++ map (λ d. d.pump) closed ++ spare) r.callers.items r.locked.chapter r.locked.journal
     -- the chapters
-    pub chapters_are : r.chapters.items ≡ chapters_of (map (λ d. d.worker) done)
+    pub chapters_are : r.chapters.items ≡ (chapters_of (map (λ d. d.worker) done)).items
     -- the readers
     pub unused : List ReaderEnd
     pub lent : readers ≡ map (λ w. w.reader) workers ++ unused

@@ -4,3 +4,4 @@ pub mod DealtCallers
 pub mod PairedLists
 pub mod ServerOutcome
 pub mod ServerRoom
+pub mod WrittenChapters

@@ -1,11 +1,12 @@
 //! What a server gives back.
-ghost use Rattle.std.specs.Prelude.{◌≡◌, ◌<◌, ◌≤◌, ◌+◌, ◌++◌, [], IfErr, IfOk, true, length, map, sum_by, vec_capacity, vec_len};
+ghost use Rattle.std.specs.Prelude.{◌≡◌, ◌<◌, ◌≤◌, ◌+◌, ◌++◌, [], IfErr, IfOk, false, true, length, map, sum_by, vec_capacity, vec_len};
 ghost use Rattle.std.specs.Vec.Iter.{into_iter_items};
 ghost use Rattle.xcp_locked.specs.Caller.{accepted_by};
 ghost use Rattle.xcp_server.specs.private.ServerRoom.{IsEndedRoom, IsRoom};
 ghost use Rattle.xcp_server.specs.LastHangup.{HungUp};
 ghost use Rattle.xcp_server.specs.ServerOutcome.{SameClosing};
 ghost use Rattle.xcp_locked.specs.TaskOutcome.{chapters_of, first_fault};
+ghost use Rattle.xcp_locked.specs.Excerpts.{KeepsPace, way_of};
 ghost use Rattle.xcp_locked.specs.Journal.{exchanges};
 ghost use Rattle.xcp_slave.specs.Run.{Run};
 ghost use Rattle.xcp_locked.specs.LockedSlave.{IsReached};
@@ -18,8 +19,8 @@ use std::io::{Read, Write};
 use std::vec::IntoIter;
 use xcp_framing::{ServeError, Served};
 use xcp_locked::{
-    Caller, Chapter, Discord, Done, Locked, Name, Ran, Reader, TaskError, Worker, collect_workers,
-    settle_chapters,
+    Caller, Chapter, Discord, Done, Handing, Locked, Name, Ran, Reader, TaskError, Worker,
+    collect_workers, settle_chapters,
 };
 use xcp_slave::Request;
 
@@ -81,7 +82,7 @@ pub(crate) fn make_rooms<N: Name, I: Read + Drop, O: Write + Drop>(
 }
 
 /// Puts together what came of connections and tasks, for which there is room, and submits the last
-/// `Hangup`.
+/// `Hangup`; and gives back who handed excerpts of the chapters in.
 pub(crate) fn close_all<N: Name, I: Read + Drop, O: Write + Drop>(
     alloc: Global,
     locked: Locked<N>,
@@ -92,23 +93,25 @@ pub(crate) fn close_all<N: Name, I: Read + Drop, O: Write + Drop>(
     ended: Ended<N, I, O>,
     workers: Vec<Worker<N>>,
     readers: Vec<Reader<N>>,
-) -> Closing<N, I, O>
+) -> (Closing<N, I, O>, Option<Handing>)
     requires some { 0 < vec_len closed }
     requires ended { IsEndedRoom (vec_len closed + vec_len done + vec_len closed + length (into_iter_items spare))
         (vec_len closed) ended }
     requires workers { (workers.items ≡ []) × (vec_len done ≤ vec_capacity workers) }
     requires readers { (readers.items ≡ []) × (vec_len done + length (into_iter_items unused) ≤ vec_capacity readers) }
-    ensures hung_up { HungUp (first_fault done.items) result.fault
+    ensures hung_up { HungUp (first_fault done.items) result.0.fault
         (map (λ d. d.tool) closed.items ++ map (λ d. d.worker.caller) done.items
-        ++ map (λ d. d.pump) closed.items ++ into_iter_items spare) result.callers.items
-        result.locked.chapter result.locked.journal }
-    ensures ends { result.ends.items ≡ map (λ d. d.end) closed.items }
-    ensures left { result.left.items ≡ map (λ d. d.left) closed.items }
-    ensures readers { result.readers.items
+        ++ map (λ d. d.pump) closed.items ++ into_iter_items spare) result.0.callers.items
+        result.0.locked.chapter result.0.locked.journal }
+    ensures ends { result.0.ends.items ≡ map (λ d. d.end) closed.items }
+    ensures left { result.0.left.items ≡ map (λ d. d.left) closed.items }
+    ensures readers { result.0.readers.items
         ≡ map (λ d. d.worker.reader) done.items ++ into_iter_items unused }
-    ensures run { Run result.locked.base (exchanges result.locked.journal) result.locked.slave }
-    ensures reached { IsReached N.layout result.locked.before result.locked.base }
-    ensures chapters { result.chapters.items ≡ chapters_of (map (λ d. d.worker) done.items) }
+    ensures run { Run result.0.locked.base (exchanges result.0.locked.journal) result.0.locked.slave }
+    ensures reached { IsReached N.layout result.0.locked.before result.0.locked.base }
+    ensures chapters { result.0.chapters.items ≡ (chapters_of (map (λ d. d.worker) done.items)).items }
+    ensures way { way_of result.1 ≡ (chapters_of (map (λ d. d.worker) done.items)).way }
+    ensures pace { KeepsPace false result.1 result.0.chapters.items }
 {
     let ended = take_apart(closed, ended);
     let ran = collect_workers(done, workers);
@@ -125,22 +128,24 @@ fn put_together<N: Name, I: Read + Drop, O: Write + Drop>(
     spare: IntoIter<Caller<N>>,
     unused: IntoIter<Reader<N>>,
     readers: Vec<Reader<N>>,
-) -> Closing<N, I, O>
+) -> (Closing<N, I, O>, Option<Handing>)
     requires some { 0 < vec_len ended.callers }
     requires room { vec_len ended.callers + vec_len ran.workers + vec_len ended.pumps
         + length (into_iter_items spare) ≤ vec_capacity ended.callers }
     requires readers { (readers.items ≡ []) × (vec_len ran.workers + length (into_iter_items unused)
         ≤ vec_capacity readers) }
-    ensures hung_up { HungUp ran.fault result.fault
+    ensures hung_up { HungUp ran.fault result.0.fault
         (ended.callers.items ++ map (λ w. w.caller) ran.workers.items
-        ++ ended.pumps.items ++ into_iter_items spare) result.callers.items result.locked.chapter result.locked.journal }
-    ensures ends { result.ends.items ≡ ended.ends.items }
-    ensures left { result.left.items ≡ ended.left.items }
-    ensures readers { result.readers.items
+        ++ ended.pumps.items ++ into_iter_items spare) result.0.callers.items result.0.locked.chapter result.0.locked.journal }
+    ensures ends { result.0.ends.items ≡ ended.ends.items }
+    ensures left { result.0.left.items ≡ ended.left.items }
+    ensures readers { result.0.readers.items
         ≡ map (λ w. w.reader) ran.workers.items ++ into_iter_items unused }
-    ensures run { Run result.locked.base (exchanges result.locked.journal) result.locked.slave }
-    ensures reached { IsReached N.layout result.locked.before result.locked.base }
-    ensures chapters { result.chapters.items ≡ chapters_of ran.workers.items }
+    ensures run { Run result.0.locked.base (exchanges result.0.locked.journal) result.0.locked.slave }
+    ensures reached { IsReached N.layout result.0.locked.before result.0.locked.base }
+    ensures chapters { result.0.chapters.items ≡ (chapters_of ran.workers.items).items }
+    ensures way { way_of result.1 ≡ (chapters_of ran.workers.items).way }
+    ensures pace { KeepsPace false result.1 result.0.chapters.items }
 {
     let mut locked = locked;
     let (callers, readers, chapters) = dismiss(alloc, ran.workers, ended.callers, readers);
@@ -149,7 +154,8 @@ fn put_together<N: Name, I: Read + Drop, O: Write + Drop>(
     let readers = add_rest(unused, readers);
     let fault = hang_up(&mut locked, &mut callers, ran.fault);
     locked.audit();
-    Closing {
+    let (chapters, handing) = chapters.into_parts();
+    let closing = Closing {
         locked,
         chapters,
         callers,
@@ -157,7 +163,8 @@ fn put_together<N: Name, I: Read + Drop, O: Write + Drop>(
         ends: ended.ends,
         left: ended.left,
         fault,
-    }
+    };
+    (closing, handing)
 }
 
 /// The last `Hangup`, by the first caller.

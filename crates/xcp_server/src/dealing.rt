@@ -1,10 +1,12 @@
 //! Callers are dealt to connections and tasks, and gathered again.
-ghost use Rattle.std.specs.Prelude.{◌≡◌, ◌≤◌, ◌+◌, ◌++◌, [], All, IfOk, map, length, vec_len, vec_capacity};
+ghost use Rattle.std.specs.Prelude.{◌≡◌, ◌≤◌, ◌+◌, ◌++◌, [], All, IfOk, None, map, length, vec_len, vec_capacity};
 ghost use Rattle.std.specs.Vec.Iter.{into_iter_items, into_iter_len};
 ghost use Rattle.xcp_server.specs.private.DealtCallers.{Dealt};
 ghost use Rattle.xcp_locked.specs.PairedLists.{EachFrom};
 ghost use Rattle.xcp_locked.specs.TaskOutcome.{chapters_of};
 ghost use Rattle.xcp_server.specs.private.ServerOutcome.{IsConnectionOf};
+ghost use Rattle.xcp_locked.specs.Excerpts.{HandsNone, way_of};
+ghost use Rattle.xcp_server.specs.private.WrittenChapters.{first_way};
 
 use crate::hearing::Hearing;
 use crate::pumping::Pumping;
@@ -16,7 +18,9 @@ use std::sync::Mutex;
 use std::sync::atomic::AtomicBool;
 use std::vec::IntoIter;
 use xcp_framing::{ServeError, Served, Watched};
-use xcp_locked::{Caller, Chapter, Gate, Locked, Name, Reader, Task, Worker, number_tasks};
+use xcp_locked::{
+    Caller, Chapters, Gate, Handing, Locked, Name, Reader, Task, Worker, number_tasks,
+};
 use xcp_outlet::outlet;
 
 /// Connections and tasks that have not begun, and the callers and readers that have nothing to do.
@@ -38,8 +42,8 @@ pub struct Limits {
 }
 
 /// Deals the callers out: the first to the readers and writers, the next to so many tasks, the next
-/// to the connections' pumps. The first readers go to the tasks. Each connection has a stop of its
-/// own.
+/// to the connections' pumps. The first readers go to the tasks, and the first task hands its chapters'
+/// excerpts in, if they go anywhere. Each connection has a stop of its own.
 pub fn deal<'a, N: Name, G: Gate, I: Read + Drop, O: Write + Drop>(
     alloc: Global,
     lock: &'a Mutex<Locked<N>>,
@@ -52,17 +56,20 @@ pub fn deal<'a, N: Name, G: Gate, I: Read + Drop, O: Write + Drop>(
     cycles: u32,
     chapter: u32,
     limits: Limits,
+    handing: Option<Handing>,
 ) -> Result<Duties<'a, N, G, I, O>, AllocError>
     requires enough { vec_len ends + tasks + vec_len ends ≤ vec_len callers }
     requires few { (tasks ≤ 16) × (tasks ≤ vec_len readers) }
     requires stops { length stops.now ≡ vec_len ends }
-    ensures { IfOk result (λ d. Dealt limits.max_cto limits.turns limits.pump_turns cycles chapter tasks
+    requires handing { HandsNone handing × (tasks ≡ 0 → handing ≡ None) }
+    ensures dealt { IfOk result (λ d. Dealt limits.max_cto limits.turns limits.pump_turns cycles chapter tasks
         callers.items readers.items ends.items d) }
+    ensures way { IfOk result (λ d. first_way d.tasks.items ≡ way_of handing) }
 {
     let mut spare = callers.into_iter();
     let mut unused = readers.into_iter();
     let tools = next_callers(alloc, &mut spare, ends.len())?;
-    let workers = employ(alloc, &mut spare, &mut unused, tasks)?;
+    let workers = employ(alloc, &mut spare, &mut unused, tasks, handing)?;
     let connections = connect(alloc, lock, stops, ends, tools, &mut spare, limits)?;
     let tasks = number_tasks(alloc, lock, workers, cycles, chapter, gate)?;
     Ok(Duties {
@@ -170,22 +177,26 @@ fn connection<'a, N: Name, I: Read + Drop, O: Write + Drop>(
     Ok((hearing, pumping, sending))
 }
 
-/// So many workers, with the next callers and the next readers.
+/// So many workers, with the next callers and the next readers. The first one's chapters are handed in here, if they are anywhere.
 pub fn employ<N: Name>(
     alloc: Global,
     callers: &mut IntoIter<Caller<N>>,
     readers: &mut IntoIter<Reader<N>>,
     tasks: u8,
+    handing: Option<Handing>,
 ) -> Result<Vec<Worker<N>>, AllocError>
     requires callers { tasks ≤ length (into_iter_items callers.old) }
     requires readers { tasks ≤ length (into_iter_items readers.old) }
+    requires handing { HandsNone handing × (tasks ≡ 0 → handing ≡ None) }
     ensures count { IfOk result (λ ws. vec_len ws ≡ tasks) }
     ensures dealt { IfOk result (λ ws.
         map (λ w. w.caller) ws.items ++ into_iter_items callers.new ≡ into_iter_items callers.old) }
     ensures lent { IfOk result (λ ws.
         map (λ w. w.reader) ws.items ++ into_iter_items readers.new ≡ into_iter_items readers.old) }
     ensures fresh { IfOk result (λ ws. All (λ w. w.chapters.items ≡ []) ws.items) }
+    ensures way { IfOk result (λ ws. (chapters_of ws.items).way ≡ way_of handing) }
 {
+    let mut handing = handing;
     let mut workers = Vec::with_capacity(alloc, tasks as usize)?;
     for _task in 0..tasks {
         let Some(caller) = callers.next() else {
@@ -194,7 +205,7 @@ pub fn employ<N: Name>(
         let Some(reader) = readers.next() else {
             unreachable!()
         };
-        workers.push_reserved(Worker::new(alloc, caller, reader));
+        workers.push_reserved(Worker::handing_in(alloc, caller, reader, handing.take()));
     }
     Ok(workers)
 }
@@ -240,14 +251,14 @@ pub fn dismiss<N: Name>(
     workers: Vec<Worker<N>>,
     callers: Vec<Caller<N>>,
     readers: Vec<Reader<N>>,
-) -> (Vec<Caller<N>>, Vec<Reader<N>>, Vec<Chapter<N>>)
+) -> (Vec<Caller<N>>, Vec<Reader<N>>, Chapters<N>)
     requires callers { vec_len callers + vec_len workers ≤ vec_capacity callers }
     requires readers { vec_len readers + vec_len workers ≤ vec_capacity readers }
     ensures callers { result.0.items ≡ callers.items ++ map (λ w. w.caller) workers.items }
     ensures capacity { vec_capacity result.0 ≡ vec_capacity callers }
     ensures readers { result.1.items ≡ readers.items ++ map (λ w. w.reader) workers.items }
     ensures room { vec_capacity result.1 ≡ vec_capacity readers }
-    ensures chapters { result.2.items ≡ chapters_of workers.items }
+    ensures chapters { result.2 ≡ chapters_of workers.items }
 {
     let mut callers = callers;
     let mut readers = readers;
@@ -257,7 +268,7 @@ pub fn dismiss<N: Name>(
         readers.push_reserved(worker.reader);
         chapters = chapters.or(Some(worker.chapters));
     }
-    (callers, readers, chapters.unwrap_or(Vec::new(alloc)))
+    (callers, readers, chapters.unwrap_or(Chapters::new(alloc)))
 }
 
 /// Puts the callers, or the readers, that had nothing to do behind the others, for which there is

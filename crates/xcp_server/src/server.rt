@@ -1,5 +1,5 @@
 //! Connections and tasks of one slave, all at the same time.
-ghost use Rattle.std.specs.Prelude.{◌≡◌, ◌<◌, ◌≤◌, ◌+◌, IfOk, vec_len};
+ghost use Rattle.std.specs.Prelude.{◌≡◌, ◌<◌, ◌≤◌, ◌+◌, [], IfOk, None, vec_len};
 ghost use Rattle.xcp_bank.specs.BankEnds.{six_readers};
 ghost use Rattle.xcp_locked.specs.Caller.{callers_of};
 ghost use Rattle.xcp_server.specs.LastHangup.{EndsSession};
@@ -12,19 +12,24 @@ ghost use Rattle.xcp_slave.specs.Run.{Run};
 ghost use Rattle.xcp_slave.specs.SlaveValue.{opening};
 ghost use Rattle.xcp_server.specs.ServerOutcome.{Closes, CountTheirCommands, PartedAs};
 ghost use Rattle.xcp_server.specs.private.ServerRoom.{IsRoom};
+ghost use Rattle.xcp_server.specs.private.WrittenChapters.{relay_of, relay_to};
+ghost use Rattle.xcp_server.specs.Report.{given_in};
+ghost use Rattle.xcp_locked.specs.Excerpts.{HandsNone, way_of};
 
 use crate::closing::{Rooms, close_all, make_rooms};
 use crate::connection::close_each;
 use crate::dealing::{Duties, Limits, deal};
+use crate::recording::Writing;
 use crate::{Closing, Connection, Parted};
 use std::alloc::{AllocError, Global};
 use std::io::{Read, Write};
 use std::sync::atomic::AtomicBool;
 use std::sync::{Mutex, Wait};
 use std::thread::Threads;
-use together::run_crews;
+use together::run_crews_and;
 use xcp_framing::Watched;
-use xcp_locked::{Caller, Done, Gate, Locked, Name, Opening, Reader, Task, Unnamed};
+use xcp_locked::{Caller, Done, Gate, Handing, Locked, Name, Opening, Reader, Task, Unnamed};
+use xcp_scribe::Scribe;
 
 /// Opens a slave, serves each reader and writer by frames, and runs so many tasks, all at the same
 /// time; joins them all; and submits a last `Hangup` as the first caller. A task has a thread of its
@@ -32,7 +37,9 @@ use xcp_locked::{Caller, Done, Gate, Locked, Name, Opening, Reader, Task, Unname
 /// writes the answers and the data packets as they come. The first callers are those of the tools, the
 /// next those of the tasks, which also have the first readers, and the next those of the pumps. Each
 /// connection has at most `turns` reads, and is closed when it ends; its pump has `pump_turns`. Task 0
-/// cuts the open chapter from `chapter` calls on, 1 to 65,536.
+/// cuts the open chapter from `chapter` calls on, 1 to 65,536, and with each store where the scribe wants
+/// that. The scribe is given each chapter when it is cut, in the thread that calls; the open one it isn't
+/// given.
 ///
 /// Where memory or a thread is refused the answer is `Err`, and nobody has begun.
 pub fn run_server<
@@ -40,6 +47,7 @@ pub fn run_server<
     G: Gate + Sync,
     I: Read + Send + Drop,
     O: Write + Send + Drop,
+    S: Scribe,
     R: Threads + Wait + Sync,
 >(
     rt: &R,
@@ -52,21 +60,24 @@ pub fn run_server<
     turns: u32,
     pump_turns: u32,
     gate: &G,
-) -> Result<Closing<N, I, O>, AllocError>
+    scribe: S,
+) -> Result<(Closing<N, I, O>, S), AllocError>
     requires name { (unnamed.name ≡ N.name) × (unnamed.callers ≡ N.parts)
         × (unnamed.layout ≡ N.layout) × (unnamed.bank ≡ N.bank) }
     requires some { 0 < vec_len ends }
     requires callers { vec_len ends + tasks + vec_len ends ≤ unnamed.callers }
     requires readers { tasks ≤ 6 }
+    requires scribe { S.wrote scribe [] }
     ensures closes { IfOk result (λ r. Closes I.remaining O.contents unnamed.layout G.may_end
         unnamed.layout.max_cto turns cycles chapter tasks
         (callers_of unnamed.layout unnamed.callers)
-        (six_readers unnamed.bank (image_of (opening unnamed.layout))) ends.items r) }
-    ensures callers { IfOk result (λ r. vec_len r.callers ≡ unnamed.callers) }
-    ensures frames { IfOk result (λ r. CountTheirCommands r.ends.items r.callers.items) }
-    ensures hangup { IfOk result (λ r. EndsSession r.fault r.callers.items r.locked.chapter r.locked.journal) }
-    ensures run { IfOk result (λ r. Run r.locked.base (exchanges r.locked.journal) r.locked.slave) }
-    ensures reached { IfOk result (λ r. IsReached unnamed.layout r.locked.before r.locked.base) }
+        (six_readers unnamed.bank (image_of (opening unnamed.layout))) ends.items r.0) }
+    ensures callers { IfOk result (λ r. vec_len r.0.callers ≡ unnamed.callers) }
+    ensures frames { IfOk result (λ r. CountTheirCommands r.0.ends.items r.0.callers.items) }
+    ensures hangup { IfOk result (λ r. EndsSession r.0.fault r.0.callers.items r.0.locked.chapter r.0.locked.journal) }
+    ensures run { IfOk result (λ r. Run r.0.locked.base (exchanges r.0.locked.journal) r.0.locked.slave) }
+    ensures reached { IfOk result (λ r. IsReached unnamed.layout r.0.locked.before r.0.locked.base) }
+    ensures written { IfOk result (λ r. S.wrote r.1 (given_in r.0.chapters.items)) }
 {
     let limits = Limits {
         max_cto: unnamed.max_cto(),
@@ -74,33 +85,39 @@ pub fn run_server<
         pump_turns,
     };
     let opening = Locked::<N>::new(alloc, unnamed)?;
-    let ready = prepare(alloc, opening, ends, tasks)?;
+    let ready = prepare(alloc, opening, ends, tasks, scribe)?;
     Ok(run_ready(rt, alloc, ready, gate, tasks, cycles, chapter, limits)?)
 }
 
 /// A slave that is open, and all that a server needs before anybody begins.
 #[derive(Drop)]
-pub struct Ready<N: Name, I: Read + Drop, O: Write + Drop> {
+pub struct Ready<N: Name, I: Read + Drop, O: Write + Drop, S: Scribe> {
     locked: Locked<N>,
     callers: Vec<Caller<N>>,
     readers: Vec<Reader<N>>,
     ends: Vec<(Watched<I>, Watched<O>)>,
     rooms: Rooms<N, I, O>,
     stops: Vec<AtomicBool>,
+    handing: Option<Handing>,
+    writing: Writing<S>,
 }
 
 /// Makes all that takes memory.
-fn prepare<N: Name, I: Read + Drop, O: Write + Drop>(
+fn prepare<N: Name, I: Read + Drop, O: Write + Drop, S: Scribe>(
     alloc: Global,
     opening: Opening<N>,
     ends: Vec<(Watched<I>, Watched<O>)>,
     tasks: u8,
-) -> Result<Ready<N, I, O>, AllocError>
+    scribe: S,
+) -> Result<Ready<N, I, O, S>, AllocError>
+    requires scribe { S.wrote scribe [] }
     ensures callers { IfOk result (λ r. r.callers.items ≡ opening.callers.items) }
     ensures readers { IfOk result (λ r. r.readers.items ≡ opening.readers) }
     ensures ends { IfOk result (λ r. r.ends.items ≡ ends.items) }
     ensures rooms { IfOk result (λ r. IsRoom (vec_len r.callers) (vec_len r.ends) tasks (vec_len r.readers) r.rooms) }
     ensures stops { IfOk result (λ r. vec_len r.stops ≡ vec_len r.ends) }
+    ensures handing { IfOk result (λ r. HandsNone r.handing × (tasks ≡ 0 → r.handing ≡ None)) }
+    ensures relay { IfOk result (λ r. relay_of r.writing ≡ relay_to (way_of r.handing)) }
 {
     let Opening {
         locked,
@@ -110,6 +127,7 @@ fn prepare<N: Name, I: Read + Drop, O: Write + Drop>(
     let readers = Vec::from_array(alloc, readers)?;
     let stops = make_stops(alloc, ends.len())?;
     let rooms = make_rooms(alloc, callers.len(), ends.len(), tasks, readers.len())?;
+    let (handing, writing) = Writing::new(alloc, scribe, tasks)?;
     Ok(Ready {
         locked,
         callers,
@@ -117,6 +135,8 @@ fn prepare<N: Name, I: Read + Drop, O: Write + Drop>(
         ends,
         rooms,
         stops,
+        handing,
+        writing,
     })
 }
 
@@ -126,28 +146,32 @@ fn run_ready<
     G: Gate + Sync,
     I: Read + Send + Drop,
     O: Write + Send + Drop,
+    S: Scribe,
     R: Threads + Wait + Sync,
 >(
     rt: &R,
     alloc: Global,
-    ready: Ready<N, I, O>,
+    ready: Ready<N, I, O, S>,
     gate: &G,
     tasks: u8,
     cycles: u32,
     chapter: u32,
     limits: Limits,
-) -> Result<Closing<N, I, O>, AllocError>
+) -> Result<(Closing<N, I, O>, S), AllocError>
     requires some { 0 < vec_len ready.ends }
     requires enough { vec_len ready.ends + tasks + vec_len ready.ends ≤ vec_len ready.callers }
     requires few { (tasks ≤ 16) × (tasks ≤ vec_len ready.readers) }
     requires rooms { IsRoom (vec_len ready.callers) (vec_len ready.ends) tasks (vec_len ready.readers) ready.rooms }
     requires stops { vec_len ready.stops ≡ vec_len ready.ends }
+    requires handing { HandsNone ready.handing × (tasks ≡ 0 → ready.handing ≡ None) }
+    requires relay { relay_of ready.writing ≡ relay_to (way_of ready.handing) }
     ensures closes { IfOk result (λ r. Closes I.remaining O.contents N.layout G.may_end
         limits.max_cto limits.turns cycles chapter tasks
-        ready.callers.items ready.readers.items ready.ends.items r) }
-    ensures callers { IfOk result (λ r. vec_len r.callers ≡ vec_len ready.callers) }
-    ensures run { IfOk result (λ r. Run r.locked.base (exchanges r.locked.journal) r.locked.slave) }
-    ensures reached { IfOk result (λ r. IsReached N.layout r.locked.before r.locked.base) }
+        ready.callers.items ready.readers.items ready.ends.items r.0) }
+    ensures callers { IfOk result (λ r. vec_len r.0.callers ≡ vec_len ready.callers) }
+    ensures run { IfOk result (λ r. Run r.0.locked.base (exchanges r.0.locked.journal) r.0.locked.slave) }
+    ensures reached { IfOk result (λ r. IsReached N.layout r.0.locked.before r.0.locked.base) }
+    ensures written { IfOk result (λ r. S.wrote r.1 (given_in r.0.chapters.items)) }
 {
     let Ready {
         locked,
@@ -156,6 +180,8 @@ fn run_ready<
         ends,
         rooms,
         stops,
+        handing,
+        writing,
     } = ready;
     let lock = Mutex::new(locked);
     let Duties {
@@ -164,11 +190,11 @@ fn run_ready<
         spare,
         unused,
     } = deal(
-        alloc, &lock, gate, &stops, callers, readers, ends, tasks, cycles, chapter, limits,
+        alloc, &lock, gate, &stops, callers, readers, ends, tasks, cycles, chapter, limits, handing,
     )?;
-    let (parted, done) = run_all(rt, alloc, connections, tasks)?;
+    let (parted, done, writing) = run_all(rt, alloc, connections, tasks, writing)?;
     let closed = close_each(parted, rooms.closed);
-    Ok(close_all(
+    let (closing, handing) = close_all(
         alloc,
         lock.into_inner(),
         closed,
@@ -178,7 +204,9 @@ fn run_ready<
         rooms.ended,
         rooms.workers,
         rooms.readers,
-    ))
+    );
+    let scribe = writing.finish(rt, handing, &closing.chapters);
+    Ok((closing, scribe))
 }
 
 /// A stop for each connection, which its reading sets when it ends.
@@ -192,26 +220,30 @@ fn make_stops(alloc: Global, count: usize) -> Result<Vec<AtomicBool>, AllocError
     Ok(stops)
 }
 
-/// What comes of connections and of tasks, each at its place.
-type Results<N, I, O> = Result<(Vec<Parted<N, I, O>>, Vec<Done<N>>), AllocError>;
+/// What comes of connections and of tasks, each at its place, and of a scribe.
+type Results<N, I, O, S> = Result<(Vec<Parted<N, I, O>>, Vec<Done<N>>, Writing<S>), AllocError>;
 
-/// Runs connections and tasks, each part of a connection and each task in a thread of its own.
+/// Runs connections and tasks, each part of a connection and each task in a thread of its own, and
+/// writes chapters down meanwhile.
 fn run_all<
     'a,
     N: Name + Send + Sync,
     G: Gate + Sync,
     I: Read + Send + Drop,
     O: Write + Send + Drop,
+    S: Scribe,
     R: Threads + Wait + Sync,
 >(
     rt: &R,
     alloc: Global,
     connections: Vec<Connection<'a, N, I, O>>,
     tasks: Vec<Task<'a, N, G>>,
-) -> Results<N, I, O>
+    writing: Writing<S>,
+) -> Results<N, I, O, S>
     ensures parted { IfOk result (λ r.
         EachFrom (PartedAs I.remaining O.contents) 0 connections.entry.items r.0.items) }
     ensures worked { IfOk result (λ r. EachFrom (DoneAs N.layout G.may_end) 0 tasks.entry.items r.1.items) }
+    ensures writing { IfOk result (λ r. relay_of r.2 ≡ relay_of writing) }
 {
-    run_crews(rt, alloc, connections, tasks)
+    run_crews_and(rt, alloc, connections, tasks, writing)
 }

@@ -2,7 +2,7 @@
 ghost use Rattle.std.specs.Prelude.{◌≡◌, ◌<◌, ◌≤◌, ◌+◌, [], MatchResult, vec_len};
 ghost use Rattle.xcp_server.specs.Report.{IsServed};
 
-use crate::recording::write_down;
+use crate::recording::write_open;
 use crate::report::{Ending, conclude};
 use crate::server::run_server;
 use crate::timetable::Timetable;
@@ -28,7 +28,8 @@ const PUMP_TURNS: u32 = 4_000_000_000;
 /// joins them, ends the session, settles all callers for each chapter and tells how many chapters and
 /// calls there were, or which chapter doesn't follow the one before it, or which caller's receipts
 /// aren't the journal's. A task begins its cycle n once n of its periods, in nanoseconds, have passed
-/// since the call. The scribe is given all chapters at the end, in order. `Memory`, and no other
+/// since the call. The scribe is given each chapter when it is cut, in order, and the open one at the end;
+/// with each store a chapter ends where it wants that. `Memory`, and no other
 /// fault, is the call's own: it comes where memory or a thread is refused, before anybody has begun.
 pub fn serve_ends<
     I: Read + Send + Drop,
@@ -86,13 +87,13 @@ fn serve_named<
         cycles chapter tasks unnamed.callers unnamed.bank ends.items) (λ f. f ≡ Fault.Memory) }
 {
     let gate = Timetable::new(rt, periods);
-    let Ok(mut closing) = run_server::<N, _, _, _, _>(
-        rt, alloc, unnamed, ends, tasks, cycles, chapter, TURNS, PUMP_TURNS, &gate,
+    let Ok((mut closing, scribe)) = run_server::<N, _, _, _, S, _>(
+        rt, alloc, unnamed, ends, tasks, cycles, chapter, TURNS, PUMP_TURNS, &gate, scribe,
     ) else {
         return Err(Fault::Memory);
     };
     let told = conclude(&mut closing);
-    let scribe = write_down(scribe, &closing.chapters, &closing.locked);
+    let scribe = write_open(scribe, &closing.locked);
     let journal = closing.locked.into_journal();
     let left = closing.left;
     Ok(Ending {

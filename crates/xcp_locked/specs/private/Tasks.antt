@@ -1,5 +1,5 @@
 -- What a cycle adds, and what it cuts.
-use Rattle.std.specs.Prelude.{◌≡◌, ◌<◌, ◌≤◌, ◌⊎◌, ℕ, List, [], ◌∷◌, ◌++◌, length}
+use Rattle.std.specs.Prelude.{◌≡◌, ◌<◌, ◌≤◌, ℕ, List, [], ◌∷◌, ◌++◌, Option, Some, None, length}
 use Rattle.xcp_slave.specs.declared.Request.{Request}
 use Rattle.xcp_locked.specs.declared.receipt.Receipt.{Receipt}
 use Rattle.xcp_locked.specs.Journal.{entry, exchanges, last_chapter}
@@ -21,11 +21,10 @@ Adds requests old new = (more : List Receipt) × (requests_of more ≡ requests)
 abbrev pub IsFull : ℕ → LockedValue → Type 0
 IsFull chapter l = (chapter ≤ length l.journal) × (l.chapter < last_chapter)
 
--- a full chapter was cut off, and stands behind the others; of one that is not full nothing was done
-abbrev pub CutsFull : ℕ → LockedValue → LockedValue → List ChapterValue → List ChapterValue → Type 0
-CutsFull chapter old new before after =
-    (IsFull chapter old × (new ≡ cut_off old) × (after ≡ before ++ chapter_of old ∷ []))
-    ⊎ (¬ (IsFull chapter old) × (new ≡ old) × (after ≡ before))
+-- A full chapter was cut off; of one that is not full nothing was done.
+abbrev pub CutsFull : ℕ → LockedValue → LockedValue → Option ChapterValue → Type 0
+CutsFull chapter old new None = ¬ (IsFull chapter old) × (new ≡ old)
+CutsFull chapter old new (Some cut) = IsFull chapter old × (new ≡ cut_off old) × (cut ≡ chapter_of old)
 
 -- A reader took the current image, and read all of it.
 pub record TookImage (old new : ReaderEnd) (image : List ℕ) : Type 0 where

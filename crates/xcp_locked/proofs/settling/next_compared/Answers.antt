@@ -1,5 +1,5 @@
-use Rattle.std.proofs.Common.{◌≡◌, ℕ, List, [], ◌+◌, Bool, ◌∙◌, sym, ap, length, refl, arith}
-use Rattle.xcp_locked.specs.SettledReceipts.{compared, receipts_for}
+use Rattle.std.proofs.Common.{◌∙◌, sym, ap, length, refl, arith}
+use Rattle.xcp_locked.specs.SettledReceipts.{compared}
 use Rattle.xcp_locked.proofs.ComparedReceiptLemmas.{comes_next, none_left, passes_over}
 use Rattle.xcp_locked.proofs.settling.next_compared.Goals as goal
 

@@ -1,4 +1,4 @@
-use Rattle.std.proofs.Common.{◌≡◌, ◌+◌, ◌∙◌, Option, ap, length, subst, sym, arith}
+use Rattle.std.proofs.Common.{◌∙◌, Option, ap, length, subst, sym, arith}
 use Rattle.xcp_locked.specs.SettledReceipts.{receipts_for}
 use Rattle.xcp_locked.proofs.TallyLemmas.{meets, wrong, too_many}
 use Rattle.xcp_locked.proofs.ComparedReceiptLemmas.{IsAt, at_next, more_left, stands}

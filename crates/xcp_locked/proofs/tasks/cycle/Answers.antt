@@ -19,8 +19,8 @@ returns-in-Some-clause-grew g c old n is gr =
     let e : c.raise.new.caller.receipts ≡ c.args.worker.now.caller.receipts = search rules in
     subst (λ (z : List Receipt). Grew p (n + 1) false old z) (sym e) (nothing_done p n old _ gr)
 
-pub returns-in-Some-close-clause-grew : goal.returns-in-Some-close-clause-grew
-returns-in-Some-close-clause-grew g c old n is gr =
+pub returns-in-Err-clause-grew : goal.returns-in-Err-clause-grew
+returns-in-Err-clause-grew g c old n is gr =
     let p : Duty = duty c.args.worker.now.caller c.args.task in
     let k : ℕ = c.args.cycle in
     let a : Adds (event_of p k ∷ []) c.args.worker.now.caller.receipts c.raise.new.caller.receipts = search rules in
@@ -56,8 +56,8 @@ returns-clause-grew g c old n is gr =
 pub returns-in-Some-clause-own : goal.returns-in-Some-clause-own
 returns-in-Some-clause-own g c = own_anyway g.G.Gate.may_end c.args.task _ (c.in-Some.ensures.own c.args.task)
 
-pub returns-in-Some-close-clause-own : goal.returns-in-Some-close-clause-own
-returns-in-Some-close-clause-own g c = own_anyway g.G.Gate.may_end c.args.task _ (c.in-Some-close.ensures.own c.args.task)
+pub returns-in-Err-clause-own : goal.returns-in-Err-clause-own
+returns-in-Err-clause-own g c = own_anyway g.G.Gate.may_end c.args.task _ (c.in-Err.ensures.own c.args.task)
 
 pub returns-then-not-before-clause-took : goal.returns-then-not-before-clause-took
 returns-then-not-before-clause-took g c = took_nothing 1 false _ _ (λ e. absurd (true≢false (sym e)))
@@ -67,8 +67,8 @@ returns-in-Some-clause-took g c =
     let e : c.raise.new.reader ≡ c.args.worker.now.reader = search rules in
     subst (λ (r : ReaderEnd). Took 1 false c.args.worker.now.reader r c.args.worker.now.last c.args.worker.now.last) (sym e) (took_nothing 1 false _ _ (λ n. absurd (true≢false (sym n))))
 
-pub returns-in-Some-close-clause-took : goal.returns-in-Some-close-clause-took
-returns-in-Some-close-clause-took g c =
+pub returns-in-Err-clause-took : goal.returns-in-Err-clause-took
+returns-in-Err-clause-took g c =
     let t : IsTold g.N.Name.layout c.args.worker.now.caller.number (event_of (duty c.args.worker.now.caller c.args.task) c.args.cycle) c.args.worker.now.caller.receipts c.raise.new.caller.receipts c.args.worker.now.reader c.raise.new.reader = search rules in
     took_it false _ _ _ _ (took_told _ _ _ _ _ _ _ _ _ _ t c.take_image.ensures.seen c.take_image.ensures.took)
 
@@ -100,5 +100,5 @@ returns-then-not-before-clause-cut g c = cut_nothing 1 _ _ _ _ refl
 pub returns-in-Some-clause-cut : goal.returns-in-Some-clause-cut
 returns-in-Some-clause-cut g c = cut_nothing 1 _ _ _ _ refl
 
-pub returns-in-Some-close-clause-cut : goal.returns-in-Some-close-clause-cut
-returns-in-Some-close-clause-cut g c = cut_nothing 1 _ _ _ _ refl
+pub returns-in-Err-clause-cut : goal.returns-in-Err-clause-cut
+returns-in-Err-clause-cut g c = cut_nothing 1 _ _ _ _ refl

@@ -8,5 +8,5 @@ invariant-loop-n g l =
     Grew (duty l.fn.worker.caller l.task) l.n true l.fn.worker.caller.receipts l.worker.caller.receipts
     × Same l.fn.worker.caller l.worker.caller
     × Took l.n true l.fn.worker.reader l.worker.reader l.fn.worker.last l.worker.last
-    × HasCut l.n l.chapter l.task l.fn.worker.chapters.items l.worker.chapters.items
+    × HasCut l.n l.chapter l.task l.fn.worker.chapters l.worker.chapters
     × ((last : ℕ) → l.n ≡ last + 1 → IsFresh g.N.Name.layout (duty l.fn.worker.caller l.task) last l.fn.worker.caller.number l.worker.caller.receipts l.worker.reader)

@@ -2,6 +2,7 @@ use Rattle.std.proofs.Common.{rules, ◌≡◌, ◌++◌, length, map, vec_len, 
 use Rattle.std.specs.Vec.Iter.{into_iter_items}
 use Rattle.xcp_locked.proofs.PairedListLemmas.{in_three_turns}
 use Rattle.xcp_server.proofs.ServerOutcomeLemmas.{left_behind, length_map}
+use Rattle.xcp_server.proofs.WrittenChapterLemmas.{first_way_of}
 use Rattle.xcp_server.proofs.dealing.deal.Goals as goal
 
 pub next_callers-requires : goal.next_callers-requires
@@ -48,8 +49,11 @@ connect-requires-clause-pumps g c =
     let enough = c.requires.enough in
     omega (arith, callers, all, tools, rest, count, workers, hired, more, tasks, ends, enough)
 
-pub returns : goal.returns
-returns g c = record {
+pub returns-clause-way : goal.returns-clause-way
+returns-clause-way g c = first_way_of c.args.cycles c.args.chapter 0 c.in_ok-workers.workers.items c.in_ok-tasks.tasks.items c.in_ok-tasks.ensures ∙ c.in_ok-workers.ensures.way
+
+pub returns-clause-dealt : goal.returns-clause-dealt
+returns-clause-dealt g c = record {
   connections = c.in_ok-connections.ensures.each;
   workers = c.in_ok-workers.workers.items;
   hired = search rules;

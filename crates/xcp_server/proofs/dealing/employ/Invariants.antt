@@ -1,5 +1,7 @@
 use Rattle.std.specs.Prelude.{◌≡◌, ◌+◌, ◌≤◌, ◌++◌, [], All, map, length, vec_len, vec_capacity}
 use Rattle.std.specs.Vec.Iter.{into_iter_items}
+use Rattle.xcp_locked.specs.Excerpts.{HandsNone, way_of}
+use Rattle.xcp_server.proofs.WrittenChapterLemmas.{GoesTo}
 use Rattle.xcp_server.proofs.dealing.employ.Given as goal
 
 abbrev pub invariant-loop-task : goal.invariant-loop-task
@@ -11,3 +13,5 @@ invariant-loop-task g l =
     × (map (λ w. w.reader) l.workers.items ++ into_iter_items l.readers ≡ into_iter_items l.fn.readers)
     × (l.tasks ≤ l._task + length (into_iter_items l.readers))
     × All (λ w. w.chapters.items ≡ []) l.workers.items
+    × HandsNone l.handing
+    × GoesTo (way_of l.fn.handing) (way_of l.handing) l.workers.items

@@ -7,26 +7,26 @@ use Rattle.xcp_locked.proofs.PairedListLemmas.{each_of}
 use Rattle.xcp_locked.proofs.TaskPlanLemmas.{if_ok}
 use Rattle.xcp_server.proofs.server.run_all.Goals as goal
 
-pub run_crews-requires-send-X : goal.run_crews-requires-send-X
-run_crews-requires-send-X g c κs within = search (sendable, crosses, heard_crosses) depth 12
+pub run_crews_and-requires-send-X : goal.run_crews_and-requires-send-X
+run_crews_and-requires-send-X g c κs within = search (sendable, crosses, heard_crosses) depth 12
 
-pub run_crews-requires-send-A : goal.run_crews-requires-send-A
-run_crews-requires-send-A g c κs within = search (sendable, crosses, hearing_crosses) depth 12
+pub run_crews_and-requires-send-A : goal.run_crews_and-requires-send-A
+run_crews_and-requires-send-A g c κs within = search (sendable, crosses, hearing_crosses) depth 12
 
-pub run_crews-requires-send-Y : goal.run_crews-requires-send-Y
-run_crews-requires-send-Y g c κs within = search (sendable, crosses, pumped_crosses) depth 12
+pub run_crews_and-requires-send-Y : goal.run_crews_and-requires-send-Y
+run_crews_and-requires-send-Y g c κs within = search (sendable, crosses, pumped_crosses) depth 12
 
-pub run_crews-requires-send-B : goal.run_crews-requires-send-B
-run_crews-requires-send-B g c κs within = search (sendable, crosses, pumping_crosses) depth 12
+pub run_crews_and-requires-send-B : goal.run_crews_and-requires-send-B
+run_crews_and-requires-send-B g c κs within = search (sendable, crosses, pumping_crosses) depth 12
 
-pub run_crews-requires-send-Z : goal.run_crews-requires-send-Z
-run_crews-requires-send-Z g c κs within = search (sendable, crosses, wrote_crosses) depth 12
+pub run_crews_and-requires-send-Z : goal.run_crews_and-requires-send-Z
+run_crews_and-requires-send-Z g c κs within = search (sendable, crosses, wrote_crosses) depth 12
 
-pub run_crews-requires-send-C : goal.run_crews-requires-send-C
-run_crews-requires-send-C g c κs within = search (sendable, crosses, sending_crosses) depth 12
+pub run_crews_and-requires-send-C : goal.run_crews_and-requires-send-C
+run_crews_and-requires-send-C g c κs within = search (sendable, crosses, sending_crosses) depth 12
 
 pub returns-clause-parted : goal.returns-clause-parted
-returns-clause-parted g c = if_ok c.run_crews.result (λ r h. each_of (λ k d. CameOf g.I.Read.remaining g.O.Write.contents k d) 0 c.args.connections.items r.0.items h.all (λ i x y low. let gave = h.each i x y low in record { heard = gave.first; pumped = gave.second; wrote = gave.third })) c.run_crews.ensures.crews
+returns-clause-parted g c = if_ok c.run_crews_and.result (λ r h. each_of (λ k d. CameOf g.I.Read.remaining g.O.Write.contents k d) 0 c.args.connections.items r.0.items h.all (λ i x y low. let gave = h.each i x y low in record { heard = gave.first; pumped = gave.second; wrote = gave.third })) c.run_crews_and.ensures.crews
 
 pub returns-clause-worked : goal.returns-clause-worked
-returns-clause-worked g c = if_ok c.run_crews.result (λ r h. each_of (λ t d. Worked g.N.Name.layout g.G.Gate.may_end t.cycles t.chapter t.task t.worker d.worker d.fault) 0 c.args.tasks.items r.1.items h.all h.each) c.run_crews.ensures.works
+returns-clause-worked g c = if_ok c.run_crews_and.result (λ r h. each_of (λ t d. Worked g.N.Name.layout g.G.Gate.may_end t.cycles t.chapter t.task t.worker d.worker d.fault) 0 c.args.tasks.items r.1.items h.all h.each) c.run_crews_and.ensures.works

@@ -1,4 +1,4 @@
-use Rattle.std.proofs.Common.{rules, ◌≡◌, length, map, vec_len, ◌∙◌, arith}
+use Rattle.std.proofs.Common.{rules, ◌≡◌, length, map, vec_len, ap, sym, ◌∙◌, arith}
 use Rattle.std.specs.Vec.Iter.{into_iter_items}
 use Rattle.xcp_server.specs.private.ConnectionOutcome.{ClosedAs}
 use Rattle.xcp_server.specs.private.DealtCallers.{Dealt}
@@ -6,6 +6,8 @@ use Rattle.xcp_locked.specs.TaskOutcome.{DoneAs}
 use Rattle.xcp_server.specs.ServerOutcome.{PartedAs}
 use Rattle.xcp_locked.proofs.PairedListLemmas.{each_length}
 use Rattle.xcp_server.proofs.ServerOutcomeLemmas.{all_come_back, all_served, all_there, all_worked, as_many_connections, as_many_pumps, as_many_readers, as_many_tasks, as_many_tools, back_in_order, one_outlet_each, room_for_fewer}
+use Rattle.xcp_server.specs.private.WrittenChapters.{relay_to}
+use Rattle.xcp_server.proofs.WrittenChapterLemmas.{way_back}
 use Rattle.xcp_server.proofs.server.run_ready.Goals as goal
 
 pub close_each-closed-requires-clause-room : goal.close_each-closed-requires-clause-room
@@ -13,27 +15,27 @@ close_each-closed-requires-clause-room g c =
     let ends : vec_len c.args.ready.ends ≡ length c.args.ready.ends.items = search rules in
     let parted : vec_len c.in_ok-parted.parted ≡ length c.in_ok-parted.parted.items = search rules in
     let all = each_length (PartedAs g.I.Read.remaining g.O.Write.contents) 0 c.in_ok-connections.field-0.connections.items c.in_ok-parted.parted.items c.in_ok-parted.ensures.parted in
-    let connected = as_many_connections _ _ _ _ _ _ _ _ _ _ c.in_ok-connections.ensures in
+    let connected = as_many_connections _ _ _ _ _ _ _ _ _ _ c.in_ok-connections.ensures.dealt in
     let room = c.requires.rooms.for_closed in
     (c.requires.rooms.none_closed, omega (arith, ends, parted, all, connected, room))
 
 pub close_each-closed-requires-clause-one : goal.close_each-closed-requires-clause-one
 close_each-closed-requires-clause-one g c =
-    let deal = c.in_ok-connections.ensures in
+    let deal = c.in_ok-connections.ensures.dealt in
     one_outlet_each g.I.Read.remaining g.O.Write.contents _ _ _ 0 c.args.ready.ends.items c.in_ok-connections.field-0.connections.items c.in_ok-parted.parted.items deal.connections c.in_ok-parted.ensures.parted
 
-pub close_all-requires-clause-some : goal.close_all-requires-clause-some
-close_all-requires-clause-some g c =
+pub close_all-closing-requires-clause-some : goal.close_all-closing-requires-clause-some
+close_all-closing-requires-clause-some g c =
     let ends : vec_len c.args.ready.ends ≡ length c.args.ready.ends.items = search rules in
     let closed : vec_len c.close_each-closed.result ≡ length c.close_each-closed.result.items = search rules in
     let put = each_length ClosedAs 0 c.in_ok-parted.parted.items c.close_each-closed.result.items c.close_each-closed.ensures in
     let all = each_length (PartedAs g.I.Read.remaining g.O.Write.contents) 0 c.in_ok-connections.field-0.connections.items c.in_ok-parted.parted.items c.in_ok-parted.ensures.parted in
-    let connected = as_many_connections _ _ _ _ _ _ _ _ _ _ c.in_ok-connections.ensures in
+    let connected = as_many_connections _ _ _ _ _ _ _ _ _ _ c.in_ok-connections.ensures.dealt in
     let some = c.requires.some in
     omega (arith, ends, closed, put, all, connected, some)
 
-pub close_all-requires-clause-ended : goal.close_all-requires-clause-ended
-close_all-requires-clause-ended g c =
+pub close_all-closing-requires-clause-ended : goal.close_all-closing-requires-clause-ended
+close_all-closing-requires-clause-ended g c =
     let callers = c.args.ready.callers.ok.0 in
     let ends = c.args.ready.ends.ok.0 in
     let closed : vec_len c.close_each-closed.result ≡ length c.close_each-closed.result.items = search rules in
@@ -42,26 +44,26 @@ close_all-requires-clause-ended g c =
     let put = each_length ClosedAs 0 c.in_ok-parted.parted.items c.close_each-closed.result.items c.close_each-closed.ensures in
     let all = each_length (PartedAs g.I.Read.remaining g.O.Write.contents) 0 d.connections.items c.in_ok-parted.parted.items c.in_ok-parted.ensures.parted in
     let tasks = each_length (DoneAs g.N.Name.layout g.G.Gate.may_end) 0 d.tasks.items c.in_ok-parted.done.items c.in_ok-parted.ensures.worked in
-    let connected = as_many_connections _ _ _ _ _ _ _ _ _ _ c.in_ok-connections.ensures in
-    let there = all_there _ _ _ _ _ _ _ _ _ _ c.in_ok-connections.ensures c.close_each-closed.result.items c.in_ok-parted.done.items (put ∙ all) tasks in
+    let connected = as_many_connections _ _ _ _ _ _ _ _ _ _ c.in_ok-connections.ensures.dealt in
+    let there = all_there _ _ _ _ _ _ _ _ _ _ c.in_ok-connections.ensures.dealt c.close_each-closed.result.items c.in_ok-parted.done.items (put ∙ all) tasks in
     room_for_fewer _ _ _ _ c.args.ready.rooms.ended (omega (arith, callers, closed, done, there)) (omega (arith, ends, closed, put, all, connected)) c.requires.rooms.for_ended
 
-pub close_all-requires-clause-workers : goal.close_all-requires-clause-workers
-close_all-requires-clause-workers g c =
+pub close_all-closing-requires-clause-workers : goal.close_all-closing-requires-clause-workers
+close_all-closing-requires-clause-workers g c =
     let done : vec_len c.in_ok-parted.done ≡ length c.in_ok-parted.done.items = search rules in
     let d = c.in_ok-connections.field-0 in
     let tasks = each_length (DoneAs g.N.Name.layout g.G.Gate.may_end) 0 d.tasks.items c.in_ok-parted.done.items c.in_ok-parted.ensures.worked in
-    let hired = as_many_tasks _ _ _ _ _ _ _ _ _ _ c.in_ok-connections.ensures in
+    let hired = as_many_tasks _ _ _ _ _ _ _ _ _ _ c.in_ok-connections.ensures.dealt in
     let room = c.requires.rooms.for_workers in
     (c.requires.rooms.no_worker, omega (arith, done, tasks, hired, room))
 
-pub close_all-requires-clause-readers : goal.close_all-requires-clause-readers
-close_all-requires-clause-readers g c =
+pub close_all-closing-requires-clause-readers : goal.close_all-closing-requires-clause-readers
+close_all-closing-requires-clause-readers g c =
     let done : vec_len c.in_ok-parted.done ≡ length c.in_ok-parted.done.items = search rules in
     let d = c.in_ok-connections.field-0 in
     let tasks = each_length (DoneAs g.N.Name.layout g.G.Gate.may_end) 0 d.tasks.items c.in_ok-parted.done.items c.in_ok-parted.ensures.worked in
-    let hired = as_many_tasks _ _ _ _ _ _ _ _ _ _ c.in_ok-connections.ensures in
-    let lent = as_many_readers _ _ _ _ _ _ _ _ _ _ c.in_ok-connections.ensures in
+    let hired = as_many_tasks _ _ _ _ _ _ _ _ _ _ c.in_ok-connections.ensures.dealt in
+    let lent = as_many_readers _ _ _ _ _ _ _ _ _ _ c.in_ok-connections.ensures.dealt in
     let readers = c.args.ready.readers.ok.0 in
     let room = c.requires.rooms.for_readers in
     (c.requires.rooms.no_reader, omega (arith, done, tasks, hired, lent, readers, room))
@@ -79,7 +81,7 @@ returns-clause-closes g c =
     let closed = c.close_each-closed.result.items in
     let done = c.in_ok-parted.done.items in
     let came = c.in_ok-parted.ensures in
-    let deal : Dealt m turns pumps c.args.cycles c.args.chapter c.args.tasks opened readers ends d = c.in_ok-connections.ensures in
+    let deal : Dealt m turns pumps c.args.cycles c.args.chapter c.args.tasks opened readers ends d = c.in_ok-connections.ensures.dealt in
     record {
       tools = map (λ k. k.0.caller) d.connections.items;
       connected = as_many_tools m turns pumps c.args.cycles c.args.chapter c.args.tasks opened readers ends d deal;
@@ -92,24 +94,31 @@ returns-clause-closes g c =
       dealt = deal.in_order;
       closed = closed;
       served = all_served m turns pumps c.args.cycles c.args.chapter c.args.tasks opened readers ends d deal g.I.Read.remaining g.O.Write.contents parted closed came.parted c.close_each-closed.ensures;
-      ends_are = c.close_all.ensures.ends;
-      left_is = c.close_all.ensures.left;
+      ends_are = c.close_all-closing.ensures.ends;
+      left_is = c.close_all-closing.ensures.left;
       done = done;
       worked = all_worked m turns pumps c.args.cycles c.args.chapter c.args.tasks opened readers ends d deal g.N.Name.layout g.G.Gate.may_end done came.worked;
-      hung_up = c.close_all.ensures.hung_up;
-      chapters_are = c.close_all.ensures.chapters;
+      hung_up = c.close_all-closing.ensures.hung_up;
+      chapters_are = c.close_all-closing.ensures.chapters;
       unused = into_iter_items d.unused;
       lent = deal.readers_in_order;
-      readers_back = c.close_all.ensures.readers;
+      readers_back = c.close_all-closing.ensures.readers;
     }
 
 pub returns-clause-callers : goal.returns-clause-callers
 returns-clause-callers g c =
-    let back : vec_len c.close_all.result.callers ≡ length c.close_all.result.callers.items = search rules in
+    let back : vec_len c.close_all-closing.result.0.callers ≡ length c.close_all-closing.result.0.callers.items = search rules in
     let given : length c.args.ready.callers.items ≡ vec_len c.args.ready.callers = search rules in
     let d = c.in_ok-connections.field-0 in
     let put = each_length ClosedAs 0 c.in_ok-parted.parted.items c.close_each-closed.result.items c.close_each-closed.ensures in
     let all = each_length (PartedAs g.I.Read.remaining g.O.Write.contents) 0 d.connections.items c.in_ok-parted.parted.items c.in_ok-parted.ensures.parted in
     let tasks = each_length (DoneAs g.N.Name.layout g.G.Gate.may_end) 0 d.tasks.items c.in_ok-parted.done.items c.in_ok-parted.ensures.worked in
-    let there = back_in_order _ _ _ _ _ _ _ _ _ _ c.in_ok-connections.ensures c.close_each-closed.result.items c.in_ok-parted.done.items (put ∙ all) tasks in
-    back ∙ (all_come_back _ _ _ _ _ _ c.close_all.ensures.hung_up ∙ (there ∙ given))
+    let there = back_in_order _ _ _ _ _ _ _ _ _ _ c.in_ok-connections.ensures.dealt c.close_each-closed.result.items c.in_ok-parted.done.items (put ∙ all) tasks in
+    back ∙ (all_come_back _ _ _ _ _ _ c.close_all-closing.ensures.hung_up ∙ (there ∙ given))
+
+pub finish-scribe-requires-clause-relay : goal.finish-scribe-requires-clause-relay
+finish-scribe-requires-clause-relay g c =
+    let d = c.in_ok-connections.field-0 in
+    let back = way_back g.N.Name.layout g.G.Gate.may_end 0 d.tasks.items c.in_ok-parted.done.items c.in_ok-parted.ensures.worked in
+    let way = c.close_all-closing.ensures.way ∙ (back ∙ c.in_ok-connections.ensures.way) in
+    c.in_ok-parted.ensures.writing ∙ (c.requires.relay ∙ ap relay_to (sym way))

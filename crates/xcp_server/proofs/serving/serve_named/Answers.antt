@@ -1,7 +1,7 @@
-use Rattle.std.proofs.Common.{◌≡◌, List, ◌∷◌, [], ◌++◌, ap, subst, sym, ◌∙◌}
+use Rattle.std.proofs.Common.{◌≡◌, ◌∷◌, [], ◌++◌, ap, subst, sym, ◌∙◌}
 use Rattle.std.specs.Prelude.{MatchResult}
 use Rattle.xcp_memory.specs.Layout.{LayoutValue}
-use Rattle.xcp_locked.specs.LockedSlave.{ChapterValue, LockedValue}
+use Rattle.xcp_locked.specs.LockedSlave.{LockedValue}
 use Rattle.xcp_server.specs.Report.{IsMismatch, IsReport, given_in, given_open}
 use Rattle.xcp_server.proofs.serving.serve_named.Goals as goal
 
@@ -11,9 +11,7 @@ returns g c =
     let same = c.conclude-told.ensures.same in
     let told = subst (λ (l : LayoutValue). MatchResult c.conclude-told.result (IsReport l closing) (IsMismatch l closing)) (sym c.requires.name.2) c.conclude-told.ensures.told in
     let journal : c.into_journal-journal.result.entries ≡ closing.locked.journal = c.into_journal-journal.ensures ∙ ap (λ l. l.journal) same.locked in
-    let chapters : c.deref.result.now ≡ closing.chapters.items = c.deref.ensures.value ∙ ap (λ v. v.items) same.chapters in
-    let written = subst (λ (cs : List ChapterValue). g.S.Scribe.wrote c.write_down-scribe.result (given_in cs ++ given_open closing.locked ∷ [])) chapters
-    (subst (λ (l : LockedValue). g.S.Scribe.wrote c.write_down-scribe.result (given_in c.deref.result.now ++ given_open l ∷ [])) same.locked c.write_down-scribe.ensures) in
+    let written = subst (λ (l : LockedValue). g.S.Scribe.wrote c.write_open-scribe.result (given_in closing.chapters.items ++ given_open l ∷ [])) same.locked (c.write_open-scribe.ensures (given_in closing.chapters.items) c.in-Ok.ensures.written) in
     record {
       served = record {
         closing = closing;

@@ -8,7 +8,8 @@ use Rattle.xcp_locked.proofs.locked.Locked.cut.Goals as goal
 
 pub invariant_of-self-2 : goal.invariant_of-self-2
 invariant_of-self-2 g c =
-    let none : c.replace-2.new.dest.entries ≡ [] = ap (λ j. j.entries) c.replace-2.ensures.after ∙ c.in-Ok-with_room_of.ensures.0 in
+    let exchanged = c.exchange.ensures.done c.if-not-exchange.false in
+    let none : c.exchange.new.journal.entries ≡ [] = ap (λ j. j.entries) exchanged.1 ∙ (ap (λ j. j.entries) c.in-Ok-new.ensures.ok ∙ c.in-Ok-with_room_of.ensures.0) in
     let empty = ap length none in
     let is : c.self.inside.slave ≡ arc_value c.replace.new.dest = sym (ap arc_value c.replace.ensures.after ∙ (c.in-Ok-try_clone.ensures ∙ c.in-Ok.ensures)) in
     let count : c.len-calls.result ≡ length c.self.inside.journal.entries = c.len-calls.ensures in
@@ -17,11 +18,11 @@ invariant_of-self-2 g c =
     let few = c.self.invariant.2 in
     let low = c.self.invariant.6 in
     let first = c.turn.ensures.first in (
-      run_first (arc_value c.replace.new.dest) c.self.inside.slave c.replace-2.new.dest.entries none is,
+      run_first (arc_value c.replace.new.dest) c.self.inside.slave c.exchange.new.journal.entries none is,
       omega (arith, empty, count, total),
       omega (arith, empty),
       c.self.invariant.3,
-      kept_cut g.N.Name.bank (arc_value c.self.inside.base) c.self.inside.slave (arc_value c.replace.new.dest) _ c.replace-2.new.dest.entries c.self.inside.publisher c.turn.new.self c.self.invariant.0 c.self.invariant.4 (record { writer = c.turn.ensures.writer; first = c.turn.ensures.first; places = c.turn.ensures.places; last = c.turn.ensures.last }) none is,
+      kept_cut g.N.Name.bank (arc_value c.self.inside.base) c.self.inside.slave (arc_value c.replace.new.dest) _ c.exchange.new.journal.entries c.self.inside.publisher c.turn.new.self c.self.invariant.0 c.self.invariant.4 (record { writer = c.turn.ensures.writer; first = c.turn.ensures.first; places = c.turn.ensures.places; last = c.turn.ensures.last }) none is,
       subst (λ (n : ℕ). IsReached g.N.Name.layout (c.self.inside.before + n) (arc_value c.replace.new.dest)) (sym count) (subst (λ (v : SlaveValue). IsReached g.N.Name.layout (c.self.inside.before + length c.self.inside.journal.entries) v) is reached),
       omega (arith, count, few, low),
       (let more = c.if-self-ge-LAST_CHAPTER.false in omega (arith, more)),

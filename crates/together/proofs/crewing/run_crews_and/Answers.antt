@@ -1,6 +1,6 @@
 use Rattle.std.proofs.Common.{rules, vec_len}
 use Rattle.together.specs.private.ThreadRoom.{HasRoom}
-use Rattle.together.proofs.crewing.run_crews.Goals as goal
+use Rattle.together.proofs.crewing.run_crews_and.Goals as goal
 
 pub scoped-requires : goal.scoped-requires
 scoped-requires g c =
