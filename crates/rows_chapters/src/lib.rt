@@ -7,6 +7,8 @@ mod calls;
 #[cfg(test)]
 mod cuts;
 #[cfg(test)]
+mod excerpts;
+#[cfg(test)]
 mod joins;
 #[cfg(test)]
 mod readers;
