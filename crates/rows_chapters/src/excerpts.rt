@@ -2,15 +2,14 @@
 ghost use Rattle.std.specs.Prelude.{◌≡◌};
 
 use crate::calls::{Asked, Call, submit_all};
+use crate::tasks::lengths;
 use fixtures::{Open, unnamed};
 use std::alloc::Global;
 use std::marker::Brand;
 use std::sync::{Mutex, Wait};
 use std::test::Fail;
 use std::thread::Threads;
-use xcp_locked::{
-    Caller, Chapter, Excerpts, Locked, Name, Opening, TaskError, Unnamed, Worker, run_tasks,
-};
+use xcp_locked::{Caller, Excerpts, Locked, Name, Opening, TaskError, Unnamed, Worker, run_tasks};
 
 // CONNECT, FREEZE for the segment, and the request to store it.
 const WANTED: [Call; 3] = [
@@ -29,14 +28,6 @@ struct Plan {
 
 // The tasks' fault, how many calls the chapters have that the task has cut, and how many the excerpts have.
 type Came = (Option<TaskError>, Vec<u64>, Vec<u64>);
-
-fn lengths<N: Name>(alloc: Global, chapters: &[Chapter<N>]) -> Result<Vec<u64>, Fail> {
-    let mut lengths = Vec::new(alloc);
-    for chapter in chapters {
-        lengths.push(chapter.len())?;
-    }
-    Ok(lengths)
-}
 
 // How many calls each excerpt has that comes.
 fn taken(rt: &impl Wait, alloc: Global, excerpts: Excerpts) -> Result<Vec<u64>, Fail> {

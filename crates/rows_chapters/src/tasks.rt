@@ -10,7 +10,7 @@ use std::thread::Threads;
 use xcp_locked::{Chapter, Locked, Name, Opening, Ran, TaskError, Unnamed, run_tasks};
 
 // How many calls each of these chapters has.
-fn lengths<N: Name>(alloc: Global, chapters: &[Chapter<N>]) -> Result<Vec<u64>, Fail> {
+pub fn lengths<N: Name>(alloc: Global, chapters: &[Chapter<N>]) -> Result<Vec<u64>, Fail> {
     let mut lengths = Vec::new(alloc);
     for chapter in chapters {
         lengths.push(chapter.len())?;
