@@ -1,44 +1,34 @@
-//! Room for the first thread's stack.
+//! The first thread's stack.
 ghost use Rattle.std.specs.Prelude.{◌<◌};
 
 use std::alloc::Global;
-use xcp_program::Fault;
 
-/// What serving takes of the stack below what calls `deepen`, with some to spare, in bytes: a server that ends with its tools.
-const SERVING: usize = 96 * 1024;
+/// As deep a stack as anything here takes below `main`, with some to spare, in bytes.
+const DEEPEST: usize = 248 * 1024;
 
-/// The same of a server that stays.
-const STAYING: usize = 200 * 1024;
+/// What is asked for before: the stack, and what the system takes beside it.
+const ROOM: usize = 400 * 1024;
 
-/// Whether the address space has room for as deep a stack as anything here takes, and for what grows before it is there.
-pub fn has_room(alloc: Global) -> bool {
-    Vec::<u8>::with_capacity(alloc, 2 * STAYING).is_ok()
-}
-
-/// Has the system give the first thread as deep a stack as serving takes, so that it needn't grow when tools are there: where it can't, the
-/// system ends a program by a signal. `Memory` where the address space has no room for it. The word is any.
-pub fn deepen(alloc: Global, word: &str, stays: bool) -> Result<(), Fault> {
-    if !has_room(alloc) {
-        return Err(Fault::Memory);
-    }
-    let told = if stays {
-        touch::<STAYING>(word)
-    } else {
-        touch::<SERVING>(word)
-    };
-    if told > 1 {
-        return Err(Fault::Memory);
-    }
-    Ok(())
-}
-
-/// Writes to all of so deep a stack. What it answers hangs on the word, which keeps the compiler from leaving the writing out.
+/// Has the system give the first thread all the stack that anything here takes, so that it needn't grow later: where it can't, the system
+/// ends a program by a signal. `false` where the address space has no room for it.
 #[inline(never)]
-fn touch<const BYTES: usize>(word: &str) -> u8
+pub fn deepen(alloc: Global) -> bool {
+    let Ok(room) = Vec::<u8>::with_capacity(alloc, ROOM) else {
+        return false;
+    };
+    let word = room.capacity();
+    // The stack grows into what goes back to the system here.
+    drop(room);
+    touch::<DEEPEST>(word)
+}
+
+/// Writes to all of so deep a stack. What it answers hangs on the word, which keeps the compiler from leaving the writing out; it is true.
+#[inline(never)]
+fn touch<const BYTES: usize>(word: usize) -> bool
     requires { 0 < BYTES }
 {
     let mut stack = [0; BYTES];
-    let place = word.len() % BYTES;
+    let place = word % BYTES;
     stack[place] = 1;
-    stack[BYTES - 1 - place]
+    stack[BYTES - 1 - place] <= 1
 }
