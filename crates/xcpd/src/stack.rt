@@ -1,5 +1,4 @@
 //! The first thread's stack.
-ghost use Rattle.std.specs.Prelude.{◌<◌};
 
 use std::alloc::Global;
 
@@ -19,16 +18,14 @@ pub fn deepen(alloc: Global) -> bool {
     let word = room.capacity();
     // The stack grows into what goes back to the system here.
     drop(room);
-    touch::<DEEPEST>(word)
+    touch(word)
 }
 
-/// Writes to all of so deep a stack. What it answers hangs on the word, which keeps the compiler from leaving the writing out; it is true.
+/// Writes to all of that stack. What it answers hangs on the word, which keeps the compiler from leaving the writing out; it is true.
 #[inline(never)]
-fn touch<const BYTES: usize>(word: usize) -> bool
-    requires { 0 < BYTES }
-{
-    let mut stack = [0; BYTES];
-    let place = word % BYTES;
+fn touch(word: usize) -> bool {
+    let mut stack = [0u8; DEEPEST];
+    let place = word % DEEPEST;
     stack[place] = 1;
-    stack[BYTES - 1 - place] <= 1
+    stack[DEEPEST - 1 - place] <= 1
 }
