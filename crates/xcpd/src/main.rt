@@ -17,7 +17,7 @@ ghost use Rattle.xcp_scribe.specs.Scribing.{HasBegun};
 use crate::audit::audit_by;
 use crate::flash::{Kept, begin_with, fault_of, stored_in};
 use crate::journal::{Written, journal_at, print_recorded};
-use crate::stack::deepen;
+use crate::stack::{deepen, has_room};
 use crate::stay::{Staying, patience, stay_by};
 use std::fs::File;
 use std::io;
@@ -124,6 +124,7 @@ fn admit(
     requires { (1 ≤ tools) × (tools ≤ 2) × (tasks ≤ 6) }
     ensures { IfOk result (λ r. (vec_len r.3 ≡ tools) × (r.0.callers ≡ tools + tasks + tools) × HasBegun r.2.first × KeepsNone r.2.second) }
 {
+    deepen(rt.alloc(), path)?;
     let text = text_of(rt, path)?;
     let (layout, kept) = begin_with(rt, text.as_str(), flash)?;
     let periods = periods_of(&layout, pace, period);
@@ -321,9 +322,9 @@ fn obey_words<R: Threads + Wait + Clock + Copy + Send + Sync + 'static>(
     }
 }
 
-/// The system gives the first thread some stack before it begins. Where there is no room for all of it, nothing that needs more begins.
+/// The system gives the first thread some stack before it begins. Where there is no room for more, nothing that needs more begins.
 fn main(rt: HostRuntime) -> ExitCode {
-    if deepen(rt.alloc()) {
+    if has_room(rt.alloc()) {
         obey_words(&rt, &rt)
     } else {
         end(&rt, Some(Fault::Memory))

@@ -4,6 +4,7 @@ ghost use Rattle.std.specs.Prelude.{◌≡◌, ◌≤◌};
 use crate::flash::{Kept, begin_with};
 use crate::journal::{Written, journal_at};
 use crate::log::Log;
+use crate::stack::deepen;
 use crate::{print_counts, print_written, text_of};
 use std::net::TcpListener;
 use std::sync::{Arc, Wait};
@@ -56,6 +57,7 @@ pub fn stay_by<R: Threads + Wait + Clock + Copy + Send + Sync + 'static>(
 ) -> Result<(), Fault>
     requires { (1 ≤ staying.tools) × (staying.tools ≤ 4) × (staying.tasks ≤ 6) }
 {
+    deepen(rt.alloc(), path)?;
     let text = text_of(rt, path)?;
     let (layout, kept) = begin_with(rt, text.as_str(), flash)?;
     let plan = staying.plan(&layout);
