@@ -48,7 +48,7 @@ class Calibrator:
 
     def __init__(self, soak):
         self.soak, self.layout, self.segments = soak, soak.layout, soak.layout.segments
-        self.random, self.trips, self.samples, self.joins = Random(1), 0, 0, 0
+        self.random, self.trips, self.samples, self.joins, self.stores = Random(1), 0, 0, 0, 0
         self.sampled = self.segments[-1]  # its first two bytes, on the controller's page, are in each data packet
         self.contents = deque(maxlen=500)  # what these were
         self.running, self.tool = False, None
@@ -170,6 +170,7 @@ class Calibrator:
             if it.frozen:
                 it.pages[0][:] = it.content(XCP)
         self.note()
+        self.stores += 1
         self.tool.expect(b"\xf9\x01\x00\x00", DONE)
         until = time.monotonic() + 10
         while (self.tool.ask_for(b"\xfd") or b"\0\1")[1] & 1:
