@@ -23,6 +23,7 @@ use Rattle.xcp_server.specs.ConnectionOutcome.{Attended, HeardFor, PumpedFor, Wr
 use Rattle.xcp_locked.specs.Caller.{CallerValue}
 use Rattle.xcp_server.specs.LastHangup.{HungUp}
 use Rattle.xcp_locked.specs.PairedLists.{EachFrom}
+use Rattle.xcp_locked.specs.Excerpts.{cuts_at_stores}
 use Rattle.xcp_locked.specs.TaskOutcome.{WorkedAs, chapters_of, first_fault}
 
 -- nothing of what a server left has changed
@@ -89,6 +90,7 @@ module _ {I O : Type 0} (remaining : I → Option (List ℕ)) (contents : O → 
     pub workers : List (Worker N)
     pub hired : length workers ≡ tasks
     pub fresh : All (λ (w : Worker N). w.chapters.items ≡ []) workers
+    pub full : cuts_at_stores (chapters_of workers).way ≡ false
     pub dealt : opened ≡ tools ++ map (λ w. w.caller) workers ++ pumps ++ spare
     -- the connections
     pub closed : List (Closed N I O)

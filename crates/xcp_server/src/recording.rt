@@ -1,6 +1,6 @@
 //! What a server did, written down.
 ghost use Rattle.std.specs.Prelude.{◌≡◌, ◌≤◌, ◌++◌, [], ◌∷◌, List, Some, None, IfOk, false, length, map, take};
-ghost use Rattle.xcp_locked.specs.Excerpts.{HandsNone, KeepsPace, way_of};
+ghost use Rattle.xcp_locked.specs.Excerpts.{HandsNone, KeepsPace, cuts_at_stores, way_of};
 ghost use Rattle.xcp_scribe.specs.Given.{Given};
 ghost use Rattle.xcp_server.specs.Report.{given_in, given_open};
 ghost use Rattle.xcp_server.specs.private.WrittenChapters.{given_of, relay_of, relay_to};
@@ -43,12 +43,13 @@ impl<S: Scribe> Writing<S> {
         ensures none { IfOk result (λ r. HandsNone r.0) }
         ensures relay { IfOk result (λ r. relay_of r.1 ≡ relay_to (way_of r.0)) }
         ensures idle { tasks ≡ 0 → IfOk result (λ r. r.0 ≡ None) }
+        ensures full { IfOk result (λ r. cuts_at_stores (way_of r.0) ≡ false) }
     {
         if tasks == 0 {
             let excerpts = None;
             return Ok((None, Writing { excerpts, scribe }));
         }
-        let (handing, excerpts) = Excerpts::new(alloc, scribe.wants_each_store())?;
+        let (handing, excerpts) = Excerpts::new(alloc, false)?;
         let excerpts = Some(excerpts);
         Ok((Some(handing), Writing { excerpts, scribe }))
     }

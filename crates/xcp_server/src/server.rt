@@ -1,5 +1,5 @@
 //! Connections and tasks of one slave, all at the same time.
-ghost use Rattle.std.specs.Prelude.{◌≡◌, ◌<◌, ◌≤◌, ◌+◌, [], IfOk, None, vec_len};
+ghost use Rattle.std.specs.Prelude.{◌≡◌, ◌<◌, ◌≤◌, ◌+◌, [], IfOk, None, false, vec_len};
 ghost use Rattle.xcp_bank.specs.BankEnds.{six_readers};
 ghost use Rattle.xcp_locked.specs.Caller.{callers_of};
 ghost use Rattle.xcp_server.specs.LastHangup.{EndsSession};
@@ -14,7 +14,7 @@ ghost use Rattle.xcp_server.specs.ServerOutcome.{Closes, CountTheirCommands, Par
 ghost use Rattle.xcp_server.specs.private.ServerRoom.{IsRoom};
 ghost use Rattle.xcp_server.specs.private.WrittenChapters.{relay_of, relay_to};
 ghost use Rattle.xcp_server.specs.Report.{given_in};
-ghost use Rattle.xcp_locked.specs.Excerpts.{HandsNone, way_of};
+ghost use Rattle.xcp_locked.specs.Excerpts.{HandsNone, cuts_at_stores, way_of};
 
 use crate::closing::{Rooms, close_all, make_rooms};
 use crate::connection::close_each;
@@ -37,8 +37,7 @@ use xcp_scribe::Scribe;
 /// writes the answers and the data packets as they come. The first callers are those of the tools, the
 /// next those of the tasks, which also have the first readers, and the next those of the pumps. Each
 /// connection has at most `turns` reads, and is closed when it ends; its pump has `pump_turns`. Task 0
-/// cuts the open chapter from `chapter` calls on, 1 to 65,536, and with each store where the scribe wants
-/// that. The scribe is given each chapter when it is cut, in the thread that calls; the open one it isn't
+/// cuts the open chapter from `chapter` calls on, 1 to 65,536. The scribe is given each chapter when it is cut, in the thread that calls; the open one it isn't
 /// given.
 ///
 /// Where memory or a thread is refused the answer is `Err`, and nobody has begun.
@@ -118,6 +117,7 @@ fn prepare<N: Name, I: Read + Drop, O: Write + Drop, S: Scribe>(
     ensures stops { IfOk result (λ r. vec_len r.stops ≡ vec_len r.ends) }
     ensures handing { IfOk result (λ r. HandsNone r.handing × (tasks ≡ 0 → r.handing ≡ None)) }
     ensures relay { IfOk result (λ r. relay_of r.writing ≡ relay_to (way_of r.handing)) }
+    ensures full { IfOk result (λ r. cuts_at_stores (way_of r.handing) ≡ false) }
 {
     let Opening {
         locked,
@@ -165,6 +165,7 @@ fn run_ready<
     requires stops { vec_len ready.stops ≡ vec_len ready.ends }
     requires handing { HandsNone ready.handing × (tasks ≡ 0 → ready.handing ≡ None) }
     requires relay { relay_of ready.writing ≡ relay_to (way_of ready.handing) }
+    requires full { cuts_at_stores (way_of ready.handing) ≡ false }
     ensures closes { IfOk result (λ r. Closes I.remaining O.contents N.layout G.may_end
         limits.max_cto limits.turns cycles chapter tasks
         ready.callers.items ready.readers.items ready.ends.items r.0) }

@@ -28,8 +28,8 @@ const PUMP_TURNS: u32 = 4_000_000_000;
 /// joins them, ends the session, settles all callers for each chapter and tells how many chapters and
 /// calls there were, or which chapter doesn't follow the one before it, or which caller's receipts
 /// aren't the journal's. A task begins its cycle n once n of its periods, in nanoseconds, have passed
-/// since the call. The scribe is given each chapter when it is cut, in order, and the open one at the end;
-/// with each store a chapter ends where it wants that. `Memory`, and no other
+/// since the call. The scribe is given each chapter when it is cut, in order, and the open one at the end.
+/// `Memory`, and no other
 /// fault, is the call's own: it comes where memory or a thread is refused, before anybody has begun.
 pub fn serve_ends<
     I: Read + Send + Drop,

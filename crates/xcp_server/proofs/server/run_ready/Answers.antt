@@ -1,4 +1,6 @@
-use Rattle.std.proofs.Common.{rules, ◌≡◌, length, map, vec_len, ap, sym, ◌∙◌, arith}
+use Rattle.std.proofs.Common.{rules, ◌≡◌, false, length, map, vec_len, ap, subst, sym, ◌∙◌, arith}
+use Rattle.std.specs.Prelude.{Option}
+use Rattle.xcp_locked.specs.Excerpts.{Way, cuts_at_stores}
 use Rattle.std.specs.Vec.Iter.{into_iter_items}
 use Rattle.xcp_server.specs.private.ConnectionOutcome.{ClosedAs}
 use Rattle.xcp_server.specs.private.DealtCallers.{Dealt}
@@ -7,7 +9,7 @@ use Rattle.xcp_server.specs.ServerOutcome.{PartedAs}
 use Rattle.xcp_locked.proofs.PairedListLemmas.{each_length}
 use Rattle.xcp_server.proofs.ServerOutcomeLemmas.{all_come_back, all_served, all_there, all_worked, as_many_connections, as_many_pumps, as_many_readers, as_many_tasks, as_many_tools, back_in_order, one_outlet_each, room_for_fewer}
 use Rattle.xcp_server.specs.private.WrittenChapters.{relay_to}
-use Rattle.xcp_server.proofs.WrittenChapterLemmas.{way_back}
+use Rattle.xcp_server.proofs.WrittenChapterLemmas.{first_way_of, way_back}
 use Rattle.xcp_server.proofs.server.run_ready.Goals as goal
 
 pub close_each-closed-requires-clause-room : goal.close_each-closed-requires-clause-room
@@ -91,6 +93,7 @@ returns-clause-closes g c =
       workers = deal.workers;
       hired = deal.hired;
       fresh = deal.fresh;
+      full = subst (λ (w : Option Way). cuts_at_stores w ≡ false) (sym c.in_ok-connections.ensures.way ∙ first_way_of c.args.cycles c.args.chapter 0 deal.workers d.tasks.items deal.numbered) c.requires.full;
       dealt = deal.in_order;
       closed = closed;
       served = all_served m turns pumps c.args.cycles c.args.chapter c.args.tasks opened readers ends d deal g.I.Read.remaining g.O.Write.contents parted closed came.parted c.close_each-closed.ensures;
