@@ -54,6 +54,7 @@ fn serve_named<N: Name + Send + Sync, I: Read + Send + Drop, R: Threads + Wait +
         tasks,
         cycles,
         1,
+        false,
         1_000,
         100_000_000,
         &Open,

@@ -95,6 +95,7 @@ fn served<
         tasks,
         2,
         65_536,
+        false,
         1_000,
         PUMP_TURNS,
         gate,

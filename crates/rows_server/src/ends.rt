@@ -44,7 +44,7 @@ fn ended<R: Threads + Wait + Clock + Sync>(
     let ends = Vec::from_array(alloc, [(Watched::new(sent), Watched::new(writer))])?;
     let written: Written = Recording::new(alloc, Vec::new(alloc), [7; 32])?;
     let ending = serve_ends(
-        rt, alloc, unnamed, ends, tasks, cycles, chapter, periods, written,
+        rt, alloc, unnamed, ends, tasks, cycles, chapter, false, periods, written,
     )
     .ok()
     .ok_or("an end")?;
@@ -132,9 +132,11 @@ fn one_fails<R: Threads + Wait + Clock + Sync>(
     ends.push((Watched::new(given(2)), Watched::new(Hole { room: 1_000 })))?;
     ends.push((Watched::new(given(good_reads)), Watched::new(Hole { room })))?;
     let written: Option<Written> = None;
-    let ending = serve_ends(rt, alloc, unnamed, ends, 0, 1, 65_536, [0; 6], written)
-        .ok()
-        .ok_or("an end")?;
+    let ending = serve_ends(
+        rt, alloc, unnamed, ends, 0, 1, 65_536, false, [0; 6], written,
+    )
+    .ok()
+    .ok_or("an end")?;
     Ok(ending.told.ok().ok_or("a report")?)
 }
 
@@ -170,7 +172,10 @@ fn short<R: Threads + Wait + Clock + Sync>(rt: &R, alloc: Global) -> Option<Resu
     let end = (Watched::new(CONNECT), Watched::new(Hole { room: 1_000 }));
     let ends = Vec::from_array(alloc, [end]).ok()?;
     let written: Option<Written> = None;
-    let ending = serve_ends(rt, alloc, unnamed, ends, 1, 100, 65_536, [0; 6], written).ok()?;
+    let ending = serve_ends(
+        rt, alloc, unnamed, ends, 1, 100, 65_536, false, [0; 6], written,
+    )
+    .ok()?;
     Some(ending.told)
 }
 

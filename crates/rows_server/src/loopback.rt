@@ -39,10 +39,12 @@ fn serve_one<R: Threads + Wait + Clock + Sync>(
     let unnamed = small(alloc, 4)?;
     let ends = accept_tools(alloc, listener, 1).ok()?;
     let written: Option<Recording<Vec<u8>>> = None;
-    serve_ends(rt, alloc, unnamed, ends, 2, 2, 65_536, [0; 6], written)
-        .ok()?
-        .told
-        .ok()
+    serve_ends(
+        rt, alloc, unnamed, ends, 2, 2, 65_536, false, [0; 6], written,
+    )
+    .ok()?
+    .told
+    .ok()
 }
 
 #[test]

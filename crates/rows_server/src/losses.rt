@@ -82,6 +82,7 @@ fn told_named<N: Name + Send + Sync, R: Threads + Wait + Clock + Sync>(
         0,
         1,
         65_536,
+        false,
         1_000,
         1_000_000,
         &Open,

@@ -102,6 +102,7 @@ fn told_named<N: Name + Send + Sync, R: Threads + Wait + Clock + Sync>(
         tasks,
         2,
         chapter,
+        false,
         1_000,
         1_000_000,
         &Open,

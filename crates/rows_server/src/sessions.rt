@@ -180,6 +180,7 @@ fn serve_named<'a, N: Name + Send + Sync, G: Gate + Sync, R: Threads + Wait + Cl
         tasks,
         cycles,
         65_536,
+        false,
         1_000,
         100_000_000,
         gate,

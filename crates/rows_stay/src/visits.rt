@@ -29,10 +29,6 @@ impl Scribe for Counting {
     fn write(&mut self, _calls: Entries<'_>, _last: &Slave) {
         self.0 = self.0.wrapping_add(1);
     }
-
-    fn wants_each_store(&self) -> bool {
-        false
-    }
 }
 
 // Connects, and whether CONNECT is answered so many times by frames that are numbered from 0.

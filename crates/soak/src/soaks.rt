@@ -93,6 +93,7 @@ fn soak_named<N: Name + Send + Sync, R: Threads + Wait + Clock + Sync>(
         6,
         plan.cycles,
         CHAPTER,
+        false,
         TURNS,
         PUMP_TURNS,
         &Yielding,

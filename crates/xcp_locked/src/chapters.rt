@@ -1,5 +1,5 @@
 //! The chapters that a task has cut.
-ghost use Rattle.std.specs.Prelude.{◌≡◌, ◌<◌, ◌++◌, [], ◌∷◌, IfOk, IfErr, IfSome, MatchBool, MatchOption, None, OnErr, OnSome, Some, false, vec_capacity, vec_len};
+ghost use Rattle.std.specs.Prelude.{◌≡◌, ◌<◌, ◌++◌, [], ◌∷◌, IfOk, IfErr, IfSome, MatchBool, MatchOption, None, OnErr, OnSome, Some, false, true, vec_capacity, vec_len};
 ghost use Rattle.xcp_locked.specs.Excerpts.{HandsNone, KeepsPace, cuts_at_stores, excerpt_of, none_cut, way_of};
 ghost use Rattle.xcp_locked.specs.Tasks.{HasCut};
 ghost use Rattle.xcp_locked.specs.private.Tasks.{CutsFull};
@@ -80,7 +80,8 @@ impl<N: Name> Chapters<N> {
 
     /// From how many calls on the open chapter is cut: `chapter`, or 1 where pages were stored and that ends a chapter.
     fn least(&self, chapter: u32, stored: bool) -> u32
-        ensures { cuts_at_stores self.now.way ≡ false → result ≡ chapter }
+        ensures full { cuts_at_stores self.now.way ≡ false → result ≡ chapter }
+        ensures stored { cuts_at_stores self.now.way ≡ true → stored ≡ true → result ≡ 1 }
     {
         match &self.handing {
             Some(handing) if stored && handing.each_store() => 1,

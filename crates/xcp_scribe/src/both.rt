@@ -19,8 +19,4 @@ impl<A: Scribe, B: Scribe> Scribe for Both<A, B> {
         self.first.write(calls, last);
         self.second.write(again, last);
     }
-
-    fn wants_each_store(&self) -> bool {
-        self.first.wants_each_store() || self.second.wants_each_store()
-    }
 }

@@ -109,8 +109,4 @@ impl<F: Shelf> Scribe for Flashing<F> {
             self.failed = true;
         }
     }
-
-    fn wants_each_store(&self) -> bool {
-        true
-    }
 }

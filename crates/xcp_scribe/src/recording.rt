@@ -88,8 +88,4 @@ impl<W: Write + Drop> Scribe for Recording<W> {
     fn write(&mut self, calls: Entries<'_>, _last: &Slave) {
         self.put(calls);
     }
-
-    fn wants_each_store(&self) -> bool {
-        false
-    }
 }

@@ -16,9 +16,6 @@ pub trait Scribe: Drop {
         requires { length calls ≤ most_calls }
         ensures { (given : List Given) → wrote self.old given
             → wrote self.new (given ++ record { calls = calls.entry; last = last.now } ∷ []) };
-
-    /// Whether it wants the chapter to end with each store, so that what was stored is written down at once.
-    fn wants_each_store(&self) -> bool;
 }
 
 /// Nobody writes anything down.
@@ -26,10 +23,6 @@ impl Scribe for () {
     ghost wrote = { λ _ _. ⊤ };
 
     fn write(&mut self, _calls: Entries<'_>, _last: &Slave) {}
-
-    fn wants_each_store(&self) -> bool {
-        false
-    }
 }
 
 /// Without a scribe nothing is written down.
@@ -39,13 +32,6 @@ impl<S: Scribe> Scribe for Option<S> {
     fn write(&mut self, calls: Entries<'_>, last: &Slave) {
         if let Some(scribe) = self {
             scribe.write(calls, last);
-        }
-    }
-
-    fn wants_each_store(&self) -> bool {
-        match self {
-            Some(scribe) => scribe.wants_each_store(),
-            None => false,
         }
     }
 }

@@ -98,9 +98,9 @@ given_open l = record { calls = l.journal; last = l.slave }
 -- A server's work was done on a slave of this layout, by tasks that no gate ended, and this is what it gives back: what is told of
 -- the work, the journal of its open chapter, which is a run from where the chapter begins, its connections as the work left them, and the
 -- scribe, which was given all chapters, in order, the open one last.
-pub record IsServed {I O S : Type 0} (N : Type 0) (remaining : I → Option (List ℕ)) (contents : O → Option (List ℕ)) (wrote : S → List Given → Type 0) (layout : LayoutValue) (turns cycles chapter tasks callers : ℕ) (bank : BankId) (ends : List (Watched I × Watched O)) (ending : Ending I O S) : Type 0 where
+pub record IsServed {I O S : Type 0} (N : Type 0) (remaining : I → Option (List ℕ)) (contents : O → Option (List ℕ)) (wrote : S → List Given → Type 0) (layout : LayoutValue) (turns cycles chapter : ℕ) (each_store : Bool) (tasks callers : ℕ) (bank : BankId) (ends : List (Watched I × Watched O)) (ending : Ending I O S) : Type 0 where
   pub closing : Closing N I O
-  pub closes : Closes remaining contents layout ⊥ layout.max_cto turns cycles chapter tasks (callers_of layout callers) (six_readers bank (image_of (opening layout))) ends closing
+  pub closes : Closes remaining contents layout ⊥ layout.max_cto turns cycles chapter each_store tasks (callers_of layout callers) (six_readers bank (image_of (opening layout))) ends closing
   pub frames : CountTheirCommands closing.ends.items closing.callers.items
   pub hangup : EndsSession closing.fault closing.callers.items closing.locked.chapter closing.locked.journal
   pub run : Run closing.locked.base (exchanges closing.locked.journal) closing.locked.slave

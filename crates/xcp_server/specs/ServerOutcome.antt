@@ -1,5 +1,5 @@
 -- Connections, tasks and the callers that are dealt to them.
-use Rattle.std.specs.Prelude.{◌≡◌, ℕ, Bool, true, false, List, [], ◌++◌, map, length, Option, Some, Result, Ok, All}
+use Rattle.std.specs.Prelude.{◌≡◌, ◌<◌, ℕ, Bool, true, false, List, [], ◌++◌, map, length, Option, Some, Result, Ok, All}
 use Rattle.std.specs.List.{count_by, slice_get}
 use Rattle.xcp_slave.specs.declared.Request.{Request}
 use Rattle.xcp_slave.specs.declared.Request.TheVariants as requests
@@ -78,9 +78,9 @@ module _ {I O : Type 0} (remaining : I → Option (List ℕ)) (contents : O → 
 
   -- A server's work, for the callers that were opened: the first of them served the connections, the next did the tasks' work,
   -- the next the connections' pumps, and all come back in order, the first one after a last Hangup. The readers that were opened
-  -- come back too: the first of them as the tasks left them. The chapters are those that task 0 has cut. `may_end` says that the
+  -- come back too: the first of them as the tasks left them. The chapters are those that task 0 has cut, with `each_store` behind stores too. `may_end` says that the
   -- gate may end a task.
-  pub record Closes {N : Type 0} (layout : LayoutValue) (may_end : Type 0) (m turns cycles chapter tasks : ℕ) (opened : List CallerValue) (readers : List ReaderEnd) (ends : List (Watched I × Watched O)) (r : Closing N I O) : Type 0 where
+  pub record Closes {N : Type 0} (layout : LayoutValue) (may_end : Type 0) (m turns cycles chapter : ℕ) (each_store : Bool) (tasks : ℕ) (opened : List CallerValue) (readers : List ReaderEnd) (ends : List (Watched I × Watched O)) (r : Closing N I O) : Type 0 where
     -- the callers
     pub tools : List CallerValue
     pub connected : length tools ≡ length ends
@@ -90,7 +90,7 @@ module _ {I O : Type 0} (remaining : I → Option (List ℕ)) (contents : O → 
     pub workers : List (Worker N)
     pub hired : length workers ≡ tasks
     pub fresh : All (λ (w : Worker N). w.chapters.items ≡ []) workers
-    pub full : cuts_at_stores (chapters_of workers).way ≡ false
+    pub stores : 0 < tasks → cuts_at_stores (chapters_of workers).way ≡ each_store
     pub dealt : opened ≡ tools ++ map (λ w. w.caller) workers ++ pumps ++ spare
     -- the connections
     pub closed : List (Closed N I O)

@@ -1,5 +1,5 @@
 //! What a server did, written down.
-ghost use Rattle.std.specs.Prelude.{◌≡◌, ◌≤◌, ◌++◌, [], ◌∷◌, List, Some, None, IfOk, false, length, map, take};
+ghost use Rattle.std.specs.Prelude.{◌≡◌, ◌<◌, ◌≤◌, ◌++◌, [], ◌∷◌, List, Some, None, IfOk, false, length, map, take};
 ghost use Rattle.xcp_locked.specs.Excerpts.{HandsNone, KeepsPace, cuts_at_stores, way_of};
 ghost use Rattle.xcp_scribe.specs.Given.{Given};
 ghost use Rattle.xcp_server.specs.Report.{given_in, given_open};
@@ -33,23 +33,25 @@ impl<S: Scribe> Model for Writing<S> {
 }
 
 impl<S: Scribe> Writing<S> {
-    /// A scribe that was given nothing yet, and who hands excerpts in to it, if there is a task.
+    /// A scribe that was given nothing yet, and who hands excerpts in to it, if there is a task; with `each_store` a store ends a
+    /// chapter.
     pub fn new(
         alloc: Global,
         scribe: S,
         tasks: u8,
+        each_store: bool,
     ) -> Result<(Option<Handing>, Writing<S>), AllocError>
         requires scribe { S.wrote scribe [] }
         ensures none { IfOk result (λ r. HandsNone r.0) }
         ensures relay { IfOk result (λ r. relay_of r.1 ≡ relay_to (way_of r.0)) }
         ensures idle { tasks ≡ 0 → IfOk result (λ r. r.0 ≡ None) }
-        ensures full { IfOk result (λ r. cuts_at_stores (way_of r.0) ≡ false) }
+        ensures stores { 0 < tasks → IfOk result (λ r. cuts_at_stores (way_of r.0) ≡ each_store) }
     {
         if tasks == 0 {
             let excerpts = None;
             return Ok((None, Writing { excerpts, scribe }));
         }
-        let (handing, excerpts) = Excerpts::new(alloc, false)?;
+        let (handing, excerpts) = Excerpts::new(alloc, each_store)?;
         let excerpts = Some(excerpts);
         Ok((Some(handing), Writing { excerpts, scribe }))
     }

@@ -1,5 +1,5 @@
 //! Connections and tasks of one slave, all at the same time.
-ghost use Rattle.std.specs.Prelude.{◌≡◌, ◌<◌, ◌≤◌, ◌+◌, [], IfOk, None, false, vec_len};
+ghost use Rattle.std.specs.Prelude.{◌≡◌, ◌<◌, ◌≤◌, ◌+◌, [], IfOk, None, vec_len};
 ghost use Rattle.xcp_bank.specs.BankEnds.{six_readers};
 ghost use Rattle.xcp_locked.specs.Caller.{callers_of};
 ghost use Rattle.xcp_server.specs.LastHangup.{EndsSession};
@@ -37,8 +37,8 @@ use xcp_scribe::Scribe;
 /// writes the answers and the data packets as they come. The first callers are those of the tools, the
 /// next those of the tasks, which also have the first readers, and the next those of the pumps. Each
 /// connection has at most `turns` reads, and is closed when it ends; its pump has `pump_turns`. Task 0
-/// cuts the open chapter from `chapter` calls on, 1 to 65,536. The scribe is given each chapter when it is cut, in the thread that calls; the open one it isn't
-/// given.
+/// cuts the open chapter from `chapter` calls on, 1 to 65,536, and with `each_store` behind each store of pages too. The scribe is given
+/// each chapter when it is cut, in the thread that calls; the open one it isn't given.
 ///
 /// Where memory or a thread is refused the answer is `Err`, and nobody has begun.
 pub fn run_server<
@@ -56,6 +56,7 @@ pub fn run_server<
     tasks: u8,
     cycles: u32,
     chapter: u32,
+    each_store: bool,
     turns: u32,
     pump_turns: u32,
     gate: &G,
@@ -68,7 +69,7 @@ pub fn run_server<
     requires readers { tasks ≤ 6 }
     requires scribe { S.wrote scribe [] }
     ensures closes { IfOk result (λ r. Closes I.remaining O.contents unnamed.layout G.may_end
-        unnamed.layout.max_cto turns cycles chapter tasks
+        unnamed.layout.max_cto turns cycles chapter each_store tasks
         (callers_of unnamed.layout unnamed.callers)
         (six_readers unnamed.bank (image_of (opening unnamed.layout))) ends.items r.0) }
     ensures callers { IfOk result (λ r. vec_len r.0.callers ≡ unnamed.callers) }
@@ -84,8 +85,10 @@ pub fn run_server<
         pump_turns,
     };
     let opening = Locked::<N>::new(alloc, unnamed)?;
-    let ready = prepare(alloc, opening, ends, tasks, scribe)?;
-    Ok(run_ready(rt, alloc, ready, gate, tasks, cycles, chapter, limits)?)
+    let ready = prepare(alloc, opening, ends, tasks, each_store, scribe)?;
+    Ok(run_ready(
+        rt, alloc, ready, gate, tasks, cycles, chapter, each_store, limits,
+    )?)
 }
 
 /// A slave that is open, and all that a server needs before anybody begins.
@@ -107,6 +110,7 @@ fn prepare<N: Name, I: Read + Drop, O: Write + Drop, S: Scribe>(
     opening: Opening<N>,
     ends: Vec<(Watched<I>, Watched<O>)>,
     tasks: u8,
+    each_store: bool,
     scribe: S,
 ) -> Result<Ready<N, I, O, S>, AllocError>
     requires scribe { S.wrote scribe [] }
@@ -117,7 +121,7 @@ fn prepare<N: Name, I: Read + Drop, O: Write + Drop, S: Scribe>(
     ensures stops { IfOk result (λ r. vec_len r.stops ≡ vec_len r.ends) }
     ensures handing { IfOk result (λ r. HandsNone r.handing × (tasks ≡ 0 → r.handing ≡ None)) }
     ensures relay { IfOk result (λ r. relay_of r.writing ≡ relay_to (way_of r.handing)) }
-    ensures full { IfOk result (λ r. cuts_at_stores (way_of r.handing) ≡ false) }
+    ensures stores { 0 < tasks → IfOk result (λ r. cuts_at_stores (way_of r.handing) ≡ each_store) }
 {
     let Opening {
         locked,
@@ -127,7 +131,7 @@ fn prepare<N: Name, I: Read + Drop, O: Write + Drop, S: Scribe>(
     let readers = Vec::from_array(alloc, readers)?;
     let stops = make_stops(alloc, ends.len())?;
     let rooms = make_rooms(alloc, callers.len(), ends.len(), tasks, readers.len())?;
-    let (handing, writing) = Writing::new(alloc, scribe, tasks)?;
+    let (handing, writing) = Writing::new(alloc, scribe, tasks, each_store)?;
     Ok(Ready {
         locked,
         callers,
@@ -156,6 +160,7 @@ fn run_ready<
     tasks: u8,
     cycles: u32,
     chapter: u32,
+    each_store: bool,
     limits: Limits,
 ) -> Result<(Closing<N, I, O>, S), AllocError>
     requires some { 0 < vec_len ready.ends }
@@ -165,9 +170,9 @@ fn run_ready<
     requires stops { vec_len ready.stops ≡ vec_len ready.ends }
     requires handing { HandsNone ready.handing × (tasks ≡ 0 → ready.handing ≡ None) }
     requires relay { relay_of ready.writing ≡ relay_to (way_of ready.handing) }
-    requires full { cuts_at_stores (way_of ready.handing) ≡ false }
+    requires stores { 0 < tasks → cuts_at_stores (way_of ready.handing) ≡ each_store }
     ensures closes { IfOk result (λ r. Closes I.remaining O.contents N.layout G.may_end
-        limits.max_cto limits.turns cycles chapter tasks
+        limits.max_cto limits.turns cycles chapter each_store tasks
         ready.callers.items ready.readers.items ready.ends.items r.0) }
     ensures callers { IfOk result (λ r. vec_len r.0.callers ≡ vec_len ready.callers) }
     ensures run { IfOk result (λ r. Run r.0.locked.base (exchanges r.0.locked.journal) r.0.locked.slave) }

@@ -28,9 +28,9 @@ const PUMP_TURNS: u32 = 4_000_000_000;
 /// joins them, ends the session, settles all callers for each chapter and tells how many chapters and
 /// calls there were, or which chapter doesn't follow the one before it, or which caller's receipts
 /// aren't the journal's. A task begins its cycle n once n of its periods, in nanoseconds, have passed
-/// since the call. The scribe is given each chapter when it is cut, in order, and the open one at the end.
-/// `Memory`, and no other
-/// fault, is the call's own: it comes where memory or a thread is refused, before anybody has begun.
+/// since the call. With `each_store` a store of pages ends a chapter too. The scribe is given each chapter when it is cut, in order, and the
+/// open one at the end. `Memory`, and no other fault, is the call's own: it comes where memory or a thread is refused, before anybody has
+/// begun.
 pub fn serve_ends<
     I: Read + Send + Drop,
     O: Write + Send + Drop,
@@ -44,6 +44,7 @@ pub fn serve_ends<
     tasks: u8,
     cycles: u32,
     chapter: u32,
+    each_store: bool,
     periods: [u64; 6],
     scribe: S,
 ) -> Result<Ending<I, O, S>, Fault>
@@ -52,10 +53,10 @@ pub fn serve_ends<
     requires readers { tasks ≤ 6 }
     requires scribe { S.wrote scribe [] }
     ensures served { MatchResult result (IsServed Brand I.remaining O.contents S.wrote unnamed.layout 1000000
-        cycles chapter tasks unnamed.callers unnamed.bank ends.items) (λ f. f ≡ Fault.Memory) }
+        cycles chapter each_store tasks unnamed.callers unnamed.bank ends.items) (λ f. f ≡ Fault.Memory) }
 {
     serve_named::<Brand, I, O, S, R>(
-        rt, alloc, unnamed, ends, tasks, cycles, chapter, periods, scribe,
+        rt, alloc, unnamed, ends, tasks, cycles, chapter, each_store, periods, scribe,
     )
 }
 
@@ -74,6 +75,7 @@ fn serve_named<
     tasks: u8,
     cycles: u32,
     chapter: u32,
+    each_store: bool,
     periods: [u64; 6],
     scribe: S,
 ) -> Result<Ending<I, O, S>, Fault>
@@ -84,11 +86,12 @@ fn serve_named<
     requires readers { tasks ≤ 6 }
     requires scribe { S.wrote scribe [] }
     ensures served { MatchResult result (IsServed N I.remaining O.contents S.wrote unnamed.layout 1000000
-        cycles chapter tasks unnamed.callers unnamed.bank ends.items) (λ f. f ≡ Fault.Memory) }
+        cycles chapter each_store tasks unnamed.callers unnamed.bank ends.items) (λ f. f ≡ Fault.Memory) }
 {
     let gate = Timetable::new(rt, periods);
     let Ok((mut closing, scribe)) = run_server::<N, _, _, _, S, _>(
-        rt, alloc, unnamed, ends, tasks, cycles, chapter, TURNS, PUMP_TURNS, &gate, scribe,
+        rt, alloc, unnamed, ends, tasks, cycles, chapter, each_store, TURNS, PUMP_TURNS, &gate,
+        scribe,
     ) else {
         return Err(Fault::Memory);
     };

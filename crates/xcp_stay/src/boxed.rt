@@ -17,8 +17,4 @@ impl<S: Scribe> Scribe for Boxed<S> {
     fn write(&mut self, calls: Entries<'_>, last: &Slave) {
         self.scribe.as_mut().write(calls, last);
     }
-
-    fn wants_each_store(&self) -> bool {
-        self.scribe.wants_each_store()
-    }
 }

@@ -223,6 +223,7 @@ fn serve_by<R: Threads + Wait + Clock + Sync>(
         tasks,
         cycles,
         chapter,
+        flash.is_some(),
         periods,
         scribe,
     )?;

@@ -1,4 +1,4 @@
-use Rattle.std.proofs.Common.{rules, ◌≡◌, false, length, map, vec_len, ap, subst, sym, ◌∙◌, arith}
+use Rattle.std.proofs.Common.{rules, ◌≡◌, length, map, vec_len, ap, subst, sym, ◌∙◌, arith}
 use Rattle.std.specs.Prelude.{Option}
 use Rattle.xcp_locked.specs.Excerpts.{Way, cuts_at_stores}
 use Rattle.std.specs.Vec.Iter.{into_iter_items}
@@ -93,7 +93,7 @@ returns-clause-closes g c =
       workers = deal.workers;
       hired = deal.hired;
       fresh = deal.fresh;
-      full = subst (λ (w : Option Way). cuts_at_stores w ≡ false) (sym c.in_ok-connections.ensures.way ∙ first_way_of c.args.cycles c.args.chapter 0 deal.workers d.tasks.items deal.numbered) c.requires.full;
+      stores = λ some. subst (λ (w : Option Way). cuts_at_stores w ≡ c.args.each_store) (sym c.in_ok-connections.ensures.way ∙ first_way_of c.args.cycles c.args.chapter 0 deal.workers d.tasks.items deal.numbered) (c.requires.stores some);
       dealt = deal.in_order;
       closed = closed;
       served = all_served m turns pumps c.args.cycles c.args.chapter c.args.tasks opened readers ends d deal g.I.Read.remaining g.O.Write.contents parted closed came.parted c.close_each-closed.ensures;

@@ -11,4 +11,4 @@ returns-clause-cut g c =
     let way : way_of c.put.new.handing ≡ c.args.self.now.way = search rules in
     let is : c.in-Ok-Some.field-0 ≡ Some cut = search rules in
     let took = c.in-Ok-Some.ensures {u = tt} in
-    cut_one c.args.chapter c.args.task c.args.self.now _ cut (omega (arith, not_other)) items way (λ never. enough_calls c.args.chapter _ _ _ _ cut is (c.least-least.ensures never) took.cut)
+    cut_one c.args.chapter c.args.task c.args.self.now _ cut (omega (arith, not_other)) items way (λ never. enough_calls c.args.chapter _ _ _ _ cut is (c.least-least.ensures.full never) took.cut)
