@@ -34,9 +34,9 @@ impl Write for Failing {
 // A sender of three short packets, of which the data end's is in the middle, and of both end marks.
 fn short_sender<R: Wait>(rt: &R, alloc: Global) -> Result<SendEnd, AllocError> {
     let (mut replies, mut data, sender) = outlet(alloc)?;
-    let _ = replies.put_replies(rt, batch(alloc, REPLY, &[0]));
-    let _ = data.put_data(rt, batch(alloc, DATA, &[0]));
-    let _ = replies.put_replies(rt, batch(alloc, REPLY, &[1]));
+    let _ = replies.put(rt, batch(alloc, REPLY, &[0]));
+    let _ = data.put(rt, batch(alloc, DATA, &[0]));
+    let _ = replies.put(rt, batch(alloc, REPLY, &[1]));
     let _ = replies.finish(rt);
     let _ = data.finish(rt);
     Ok(sender)
@@ -52,7 +52,7 @@ fn long_sender<R: Wait>(rt: &R, alloc: Global) -> Result<SendEnd, AllocError> {
         }
         let mut batch = Batch::new(alloc);
         let _ = batch.push(&packet);
-        let _ = replies.put_replies(rt, batch);
+        let _ = replies.put(rt, batch);
     }
     let _ = replies.finish(rt);
     let _ = data.finish(rt);
@@ -154,10 +154,7 @@ fn put_many<R: Wait>(rt: &R, alloc: Global, replies: ReplyEnd, data: DataEnd) ->
     let mut replies = replies;
     let mut put = true;
     for number in 0..200 {
-        put = put
-            && replies
-                .put_replies(rt, batch(alloc, REPLY, &[number]))
-                .is_ok();
+        put = put && replies.put(rt, batch(alloc, REPLY, &[number])).is_ok();
     }
     let _ = replies.finish(rt);
     let _ = data.finish(rt);
@@ -192,8 +189,8 @@ fn packets_are_taken_behind_a_failed_write(rt: HostRuntime) {
 // A sender of a packet of each end, and of the data end's mark.
 fn unmarked_sender<R: Wait>(rt: &R, alloc: Global) -> Result<SendEnd, AllocError> {
     let (mut replies, mut data, sender) = outlet(alloc)?;
-    let _ = replies.put_replies(rt, batch(alloc, REPLY, &[0]));
-    let _ = data.put_data(rt, batch(alloc, DATA, &[0]));
+    let _ = replies.put(rt, batch(alloc, REPLY, &[0]));
+    let _ = data.put(rt, batch(alloc, DATA, &[0]));
     let _ = data.finish(rt);
     Ok(sender)
 }
@@ -210,7 +207,7 @@ fn an_end_without_its_mark_is_a_cut(rt: HostRuntime) {
 // A sender of a packet without any mark.
 fn dropped_sender<R: Wait>(rt: &R, alloc: Global) -> Result<SendEnd, AllocError> {
     let (mut replies, _data, sender) = outlet(alloc)?;
-    let _ = replies.put_replies(rt, batch(alloc, REPLY, &[0]));
+    let _ = replies.put(rt, batch(alloc, REPLY, &[0]));
     Ok(sender)
 }
 
@@ -225,8 +222,8 @@ fn a_failed_write_is_told_before_a_cut(rt: HostRuntime) {
 
 // Whether both ends have their packets back.
 fn come_back<R: Wait>(rt: &R, alloc: Global, replies: &mut ReplyEnd, data: &mut DataEnd) -> bool {
-    let reply = replies.put_replies(rt, batch(alloc, REPLY, &[7, 9]));
-    let sample = data.put_data(rt, batch(alloc, DATA, &[8]));
+    let reply = replies.put(rt, batch(alloc, REPLY, &[7, 9]));
+    let sample = data.put(rt, batch(alloc, DATA, &[8]));
     match (reply, sample) {
         (Err(reply), Err(sample)) => {
             is_batch(&reply, REPLY, &[7, 9]) && is_batch(&sample, DATA, &[8])

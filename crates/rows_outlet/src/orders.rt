@@ -17,7 +17,7 @@ fn put_replies<R: Wait>(rt: &R, alloc: Global, end: ReplyEnd) -> Put
 {
     let mut end = end;
     for number in 0..PACKETS {
-        if end.put_replies(rt, batch(alloc, REPLY, &[number])).is_err() {
+        if end.put(rt, batch(alloc, REPLY, &[number])).is_err() {
             break;
         }
     }
@@ -31,7 +31,7 @@ fn put_data<R: Wait>(rt: &R, alloc: Global, end: DataEnd) -> Put
     for four in 0..PACKETS / 4 {
         let first = four * 4;
         let numbers = [first, first + 1, first + 2, first + 3];
-        if end.put_data(rt, batch(alloc, DATA, &numbers)).is_err() {
+        if end.put(rt, batch(alloc, DATA, &numbers)).is_err() {
             break;
         }
     }

@@ -5,7 +5,7 @@ use crate::packets::{DATA, REPLY, batch, is_batch};
 use std::alloc::{AllocError, Global};
 use std::sync::Wait;
 use xcp_framing::{Batch, End, Watched};
-use xcp_outlet::{DataEnd, PutData, PutReplies, ReplyEnd, SendEnd, SendError, outlet};
+use xcp_outlet::{DataEnd, ReplyEnd, SendEnd, SendError, WaitingEnd, outlet};
 
 // Puts two packets by the trait alone, together or one by one: whether none came back.
 fn put_two<E: End>(end: &mut E, kind: u8, together: bool) -> bool {
@@ -35,8 +35,8 @@ const TWO_OF_EACH: &[u8] = &[
 
 // Puts two packets of each end by the trait alone, and both marks: whether none came back.
 fn put_all<R: Wait>(rt: &R, replies: ReplyEnd, data: DataEnd) -> bool {
-    let mut replies = PutReplies::new(rt, replies);
-    let mut data = PutData::new(rt, data);
+    let mut replies = WaitingEnd::new(rt, replies);
+    let mut data = WaitingEnd::new(rt, data);
     let put = put_two(&mut replies, REPLY, true) && put_two(&mut data, DATA, false);
     let _ = replies.into_end().finish(rt);
     let _ = data.into_end().finish(rt);
@@ -68,8 +68,8 @@ fn lent_ends_put_as_their_own(rt: HostRuntime) {
 
 // Whether both ends hand their batches back, by the trait alone.
 fn hand_back<R: Wait>(rt: &R, alloc: Global, replies: ReplyEnd, data: DataEnd) -> bool {
-    let mut replies = PutReplies::new(rt, replies);
-    let mut data = PutData::new(rt, data);
+    let mut replies = WaitingEnd::new(rt, replies);
+    let mut data = WaitingEnd::new(rt, data);
     let reply = back_of(&mut replies, batch(alloc, REPLY, &[7]));
     let sample = back_of(&mut data, batch(alloc, DATA, &[8, 9]));
     match (reply, sample) {
@@ -114,8 +114,8 @@ fn ends_that_never_began_meet(rt: HostRuntime) {
 // A sender of a packet of each end, of which one puts its mark, and the other gives up.
 fn half_sender<R: Wait>(rt: &R, alloc: Global) -> Result<SendEnd, AllocError> {
     let (mut replies, mut data, sender) = outlet(alloc)?;
-    let _ = replies.put_replies(rt, batch(alloc, REPLY, &[0]));
-    let _ = data.put_data(rt, batch(alloc, DATA, &[0]));
+    let _ = replies.put(rt, batch(alloc, REPLY, &[0]));
+    let _ = data.put(rt, batch(alloc, DATA, &[0]));
     drop(replies.finish(rt));
     drop(data.give_up());
     Ok(sender)

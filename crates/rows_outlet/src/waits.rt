@@ -53,11 +53,11 @@ fn put_by_turns<R: Wait + Clock>(
 ) -> bool {
     let mut replies = replies;
     let mut data = data;
-    let _ = replies.put_replies(rt, batch(alloc, REPLY, &[0]));
+    let _ = replies.put(rt, batch(alloc, REPLY, &[0]));
     let first = is_written(rt, written, 7);
-    let _ = data.put_data(rt, batch(alloc, DATA, &[0]));
+    let _ = data.put(rt, batch(alloc, DATA, &[0]));
     let second = is_written(rt, written, 14);
-    let _ = replies.put_replies(rt, batch(alloc, REPLY, &[1]));
+    let _ = replies.put(rt, batch(alloc, REPLY, &[1]));
     let third = is_written(rt, written, 21);
     let _ = replies.finish(rt);
     let _ = data.finish(rt);

@@ -1,135 +1,33 @@
 //! The two ends that put.
-ghost use Rattle.std.specs.Prelude.{◌≡◌, ◌++◌, true, false, MatchResult};
+ghost use Rattle.std.specs.Prelude.{◌≡◌, ◌++◌, false, MatchResult};
 
 use crate::message::Message;
 use crate::opening::{Sender, Token};
 use crate::put::Put;
 use crate::rule::Puts;
+use crate::side::{Data, Replies, Side};
 use std::alloc::Global;
-use std::marker::Model;
+use std::marker::{Model, PhantomData};
 use std::sync::Wait;
 use xcp_framing::Batch;
 
 /// The end that puts replies.
-#[derive(Drop)]
-pub struct ReplyEnd {
-    pub(crate) end: End,
-}
-
-impl Model for ReplyEnd {
-    ghost use Rattle.std.specs.Prelude.{◌≡◌, false};
-    ghost use Rattle.xcp_outlet.specs.OutletEnds.{EndSeen};
-
-    ghost Value = { EndSeen };
-
-    ghost view = { λ e. e.end };
-
-    ghost invariant = { λ e. e.end.side ≡ false };
-}
-
-impl ReplyEnd {
-    /// What gives memory for batches.
-    pub(crate) fn alloc(&self) -> Global {
-        self.end.alloc
-    }
-
-    /// Puts the packets of a batch behind those that were put before. It waits while the channel is
-    /// full. Where the send fails it has put none of them, and the batch comes back.
-    pub fn put_replies<R: Wait>(&mut self, rt: &R, batch: Batch) -> Result<(), Batch>
-        ensures same { (self.new.outlet ≡ self.old.outlet) × (self.new.side ≡ self.old.side) }
-        ensures put { MatchResult result
-            (λ _. self.new.put ≡ self.old.put ++ batch)
-            (λ back. (back ≡ batch) × (self.new.put ≡ self.old.put)) }
-    {
-        self.end.put(rt, batch)
-    }
-
-    /// Puts the end mark, and puts no more. It waits while the channel is full.
-    pub fn finish<R: Wait>(self, rt: &R) -> Put
-        ensures outlet { result.outlet ≡ self.outlet }
-        ensures side { result.side ≡ false }
-        ensures put { result.put ≡ self.put }
-    {
-        self.end.finish(rt)
-    }
-
-    /// Puts no more, and no end mark, as where the end's thread never began. It waits for nothing.
-    /// A sender that runs has what was put, and waits for more until the answer is dropped.
-    pub fn give_up(self) -> Put
-        ensures outlet { result.outlet ≡ self.outlet }
-        ensures side { result.side ≡ false }
-        ensures put { result.put ≡ self.put }
-        ensures unmarked { result.ended ≡ false }
-    {
-        self.end.give_up()
-    }
-}
+pub type ReplyEnd = PutEnd<Replies>;
 
 /// The end that puts data packets.
-#[derive(Drop)]
-pub struct DataEnd {
-    pub(crate) end: End,
-}
-
-impl Model for DataEnd {
-    ghost use Rattle.std.specs.Prelude.{◌≡◌, true};
-    ghost use Rattle.xcp_outlet.specs.OutletEnds.{EndSeen};
-
-    ghost Value = { EndSeen };
-
-    ghost view = { λ e. e.end };
-
-    ghost invariant = { λ e. e.end.side ≡ true };
-}
-
-impl DataEnd {
-    /// What gives memory for batches.
-    pub(crate) fn alloc(&self) -> Global {
-        self.end.alloc
-    }
-
-    /// Puts the packets of a batch behind those that were put before. It waits while the channel is
-    /// full. Where the send fails it has put none of them, and the batch comes back.
-    pub fn put_data<R: Wait>(&mut self, rt: &R, batch: Batch) -> Result<(), Batch>
-        ensures same { (self.new.outlet ≡ self.old.outlet) × (self.new.side ≡ self.old.side) }
-        ensures put { MatchResult result
-            (λ _. self.new.put ≡ self.old.put ++ batch)
-            (λ back. (back ≡ batch) × (self.new.put ≡ self.old.put)) }
-    {
-        self.end.put(rt, batch)
-    }
-
-    /// Puts the end mark, and puts no more. It waits while the channel is full.
-    pub fn finish<R: Wait>(self, rt: &R) -> Put
-        ensures outlet { result.outlet ≡ self.outlet }
-        ensures side { result.side ≡ true }
-        ensures put { result.put ≡ self.put }
-    {
-        self.end.finish(rt)
-    }
-
-    /// Puts no more, and no end mark, as where the end's thread never began. It waits for nothing.
-    /// A sender that runs has what was put, and waits for more until the answer is dropped.
-    pub fn give_up(self) -> Put
-        ensures outlet { result.outlet ≡ self.outlet }
-        ensures side { result.side ≡ true }
-        ensures put { result.put ≡ self.put }
-        ensures unmarked { result.ended ≡ false }
-    {
-        self.end.give_up()
-    }
-}
+pub type DataEnd = PutEnd<Data>;
 
 /// One of the two ends that put, with the pass that knows what it has put.
 #[derive(Drop)]
-pub(crate) struct End {
+pub struct PutEnd<S: Side> {
     pub(crate) is_data: bool,
     pub(crate) sender: Sender,
     pub(crate) pass: Token,
     pub(crate) alloc: Global,
+    pub(crate) of: PhantomData<S>,
 }
 
-impl Model for End {
+impl<S: Side> Model for PutEnd<S> {
     ghost use Rattle.std.specs.Prelude.{◌≡◌, false};
     ghost use Rattle.crossbeam_channel.specs.Claims.{IsSeatAt};
     ghost use Rattle.crossbeam_channel.specs.Ends.{sends_on};
@@ -143,12 +41,19 @@ impl Model for End {
     ghost view = { λ e. end_of e.is_data e.pass };
 
     ghost invariant = { λ e. IsSeatAt (sends_on e.sender) e.pass
-        × (knows e.pass ≡ one_half e.is_data (half (end_of e.is_data e.pass).put false)) };
+        × (knows e.pass ≡ one_half e.is_data (half (end_of e.is_data e.pass).put false))
+        × (e.is_data ≡ S.is_data) };
 }
 
-impl End {
-    /// Puts the packets of a batch, or gives it back.
-    fn put<R: Wait>(&mut self, rt: &R, batch: Batch) -> Result<(), Batch>
+impl<S: Side> PutEnd<S> {
+    /// What gives memory for batches.
+    pub(crate) fn alloc(&self) -> Global {
+        self.alloc
+    }
+
+    /// Puts the packets of a batch behind those that were put before. It waits while the channel is
+    /// full. Where the send fails it has put none of them, and the batch comes back.
+    pub fn put<R: Wait>(&mut self, rt: &R, batch: Batch) -> Result<(), Batch>
         ensures same { (self.new.outlet ≡ self.old.outlet) × (self.new.side ≡ self.old.side) }
         ensures put { MatchResult result
             (λ _. self.new.put ≡ self.old.put ++ batch)
@@ -167,16 +72,17 @@ impl End {
         }
     }
 
-    /// Puts the end mark.
-    fn finish<R: Wait>(self, rt: &R) -> Put
-        ensures { (result.outlet ≡ self.outlet) × (result.side ≡ self.side)
-            × (result.put ≡ self.put) }
+    /// Puts the end mark, and puts no more. It waits while the channel is full.
+    pub fn finish<R: Wait>(self, rt: &R) -> Put
+        ensures outlet { result.outlet ≡ self.outlet }
+        ensures side { result.side ≡ S.is_data }
+        ensures put { result.put ≡ self.put }
     {
-        let End {
+        let PutEnd {
             is_data,
             sender,
             mut pass,
-            alloc: _,
+            ..
         } = self;
         let message = Message {
             from_data: is_data,
@@ -191,16 +97,19 @@ impl End {
         }
     }
 
-    /// Puts nothing more.
-    fn give_up(self) -> Put
-        ensures { (result.outlet ≡ self.outlet) × (result.side ≡ self.side)
-            × (result.put ≡ self.put) × (result.ended ≡ false) }
+    /// Puts no more, and no end mark, as where the end's thread never began. It waits for nothing.
+    /// A sender that runs has what was put, and waits for more until the answer is dropped.
+    pub fn give_up(self) -> Put
+        ensures outlet { result.outlet ≡ self.outlet }
+        ensures side { result.side ≡ S.is_data }
+        ensures put { result.put ≡ self.put }
+        ensures unmarked { result.ended ≡ false }
     {
-        let End {
+        let PutEnd {
             is_data,
             sender,
             pass,
-            alloc: _,
+            ..
         } = self;
         Put {
             is_data,

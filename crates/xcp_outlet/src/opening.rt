@@ -1,13 +1,15 @@
 //! A new outlet.
 ghost use Rattle.std.specs.Prelude.{◌≡◌, [], true, false, IfOk};
 
-use crate::end::{DataEnd, End, ReplyEnd};
+use crate::end::{DataEnd, PutEnd, ReplyEnd};
 use crate::intake::{Intake, SendEnd};
 use crate::message::Message;
-use crate::rule::{Data, Replies, Routes};
+use crate::rule::Routes;
+use crate::side::{Data, Replies};
 use crate::view::View;
 use crossbeam_channel::{Pass, RuledReceiver, RuledSender, bounded_with};
 use std::alloc::{AllocError, Global};
+use std::marker::PhantomData;
 
 /// What an end knows of the channel.
 pub(crate) type Token = Pass<Message, View>;
@@ -32,21 +34,19 @@ pub fn outlet(alloc: Global) -> Result<(ReplyEnd, DataEnd, SendEnd), AllocError>
     let replies = sender.another::<Replies>(&mut pass);
     let data = sender.another::<Data>(&mut pass);
     Ok((
-        ReplyEnd {
-            end: End {
-                is_data: false,
-                sender,
-                pass: replies,
-                alloc,
-            },
+        PutEnd {
+            is_data: false,
+            sender,
+            pass: replies,
+            alloc,
+            of: PhantomData,
         },
-        DataEnd {
-            end: End {
-                is_data: true,
-                sender: other,
-                pass: data,
-                alloc,
-            },
+        PutEnd {
+            is_data: true,
+            sender: other,
+            pass: data,
+            alloc,
+            of: PhantomData,
         },
         SendEnd {
             intake: Intake { receiver, pass },

@@ -19,7 +19,7 @@ use std::time::Duration;
 use together::Work;
 use xcp_framing::{ServeError, Served, Watched, serve_by};
 use xcp_locked::{HasSlave, Name};
-use xcp_outlet::{DataEnd, PutReplies, Sent, outlet};
+use xcp_outlet::{DataEnd, Replies, Sent, WaitingEnd, outlet};
 use xcp_service::{Member, Route, Seated, Shared};
 
 /// The most reads of one passage; a connection has as many passages as it needs.
@@ -143,7 +143,7 @@ impl<'a, N: Name, M: Route, W> Seat<'a, N, M, W> {
             return Err(ServeError::Memory);
         }
         let pumps = self.pump.send(rt, samples).is_ok();
-        let mut replies = PutReplies::new(rt, replies);
+        let mut replies = WaitingEnd::new(rt, replies);
         let heard = self.hear_passages(rt, station, &mut replies, reader);
         self.shared.lock.lock(rt).locked().stop(&self.door.stop);
         let _replies = replies.into_end().finish(rt);
@@ -169,7 +169,7 @@ impl<'a, N: Name, M: Route, W> Seat<'a, N, M, W> {
         &self,
         rt: &R,
         station: &mut Seated<'_, N, M, R>,
-        replies: &mut PutReplies<'_, R>,
+        replies: &mut WaitingEnd<'_, Replies, R>,
         reader: TcpStream,
     ) -> Result<Served, ServeError>
         ensures { Same station.old.member station.new.member }

@@ -8,7 +8,7 @@ use std::sync::atomic::{AtomicBool, Ordering};
 use together::Work;
 use xcp_framing::{ServeError, pump};
 use xcp_locked::Name;
-use xcp_outlet::{DataEnd, Put, PutData};
+use xcp_outlet::{DataEnd, Put, WaitingEnd};
 use xcp_service::{Member, Route, Seated, Shared};
 
 /// The most turns of one call of `pump`. Behind it the next call goes on.
@@ -73,7 +73,7 @@ fn pump_connection<N: Name, M: Route, R: Wait>(
 ) -> Pumped
     ensures { Same station.old.member station.new.member }
 {
-    let mut samples = PutData::new(rt, samples);
+    let mut samples = WaitingEnd::new(rt, samples);
     let mut count: u64 = 0;
     let mut end = Ok(0);
     for _turns in rt.forever() {

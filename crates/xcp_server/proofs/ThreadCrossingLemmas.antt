@@ -20,8 +20,7 @@ use Rattle.xcp_server.specs.contracts.pumping.Pumped as Pumped
 use Rattle.xcp_server.specs.contracts.pumping.Pumping as Pumping
 use Rattle.xcp_server.specs.contracts.sending.Sending as Sending
 use Rattle.xcp_server.specs.contracts.sending.Wrote as Wrote
-use Rattle.xcp_outlet.proofs.end.DataEnd.TheSendSync as samples
-use Rattle.xcp_outlet.proofs.end.ReplyEnd.TheSendSync as replies
+use Rattle.xcp_outlet.proofs.end.PutEnd.TheSendSync as ends
 use Rattle.xcp_outlet.proofs.intake.SendEnd.TheSendSync as sender
 use Rattle.xcp_outlet.proofs.put.Put.TheSendSync as put
 use Rattle.xcp_outlet.proofs.sending.Sent.TheSendSync as sent
@@ -54,13 +53,13 @@ wrote_crosses O = struct_crosses (Wrote.the_type O) (sent.the_field_send, (searc
 pub hearing_crosses : (κ : NamedLft) (N I : RattleType) (g : Name.Ghosts N.Denot) (l : Ledger.Ghosts N.Denot) → IsSend I → IsSend (Hearing.the_row κ N I g l)
 hearing_crosses κ N I g l i =
     struct_crosses (Hearing.the_type κ N I g l)
-    (search (sendable, crosses, locked.the_send) depth 20, (caller.the_send N g l, (watched_crosses I i, (replies.the_send, (search (sendable, crosses) depth 20, (search (sendable, crosses) depth 20, (search sendable, (search sendable, tt))))))))
+    (search (sendable, crosses, locked.the_send) depth 20, (caller.the_send N g l, (watched_crosses I i, (search (sendable, crosses, ends.the_send) depth 20, (search (sendable, crosses) depth 20, (search (sendable, crosses) depth 20, (search sendable, (search sendable, tt))))))))
 
 -- a connection's pump may cross to another thread
 pub pumping_crosses : (κ : NamedLft) (N : RattleType) (g : Name.Ghosts N.Denot) (l : Ledger.Ghosts N.Denot) → IsSend (Pumping.the_row κ N g l)
 pumping_crosses κ N g l =
     struct_crosses (Pumping.the_type κ N g l)
-    (search (sendable, crosses, locked.the_send) depth 20, (caller.the_send N g l, (samples.the_send, (search (sendable, crosses) depth 20, (search sendable, tt)))))
+    (search (sendable, crosses, locked.the_send) depth 20, (caller.the_send N g l, (search (sendable, crosses, ends.the_send) depth 20, (search (sendable, crosses) depth 20, (search sendable, tt)))))
 
 -- a connection's sending may cross to another thread, where its writer may
 pub sending_crosses : (O : RattleType) → IsSend O → IsSend (Sending.the_row O)

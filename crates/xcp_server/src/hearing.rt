@@ -8,7 +8,7 @@ use std::sync::{Mutex, Wait};
 use together::Work;
 use xcp_framing::{ServeError, Served, Watched, serve_by};
 use xcp_locked::{Caller, Locked, Name, Tool};
-use xcp_outlet::{Put, PutReplies, ReplyEnd};
+use xcp_outlet::{Put, ReplyEnd, WaitingEnd};
 
 /// The part of a connection that reads frames, submits their commands and puts the packets of the
 /// answers. When it ends, it sets `stop` for the pump.
@@ -51,7 +51,7 @@ impl<'a, N: Name + Send + Sync, I: Read + Send + Drop> Work<Heard<N, I>> for Hea
             turns,
         } = self;
         let mut tool = Tool::new(rt, lock, caller);
-        let mut replies = PutReplies::new(rt, replies);
+        let mut replies = WaitingEnd::new(rt, replies);
         let end = serve_by(alloc, &mut reader, &mut replies, &mut tool, max_cto, turns);
         lock.lock(rt).stop(stop);
         let put = replies.into_end().finish(rt);

@@ -5,7 +5,7 @@ use std::sync::{Mutex, Wait};
 use together::Work;
 use xcp_framing::{ServeError, pump};
 use xcp_locked::{Caller, Locked, Name, Tool};
-use xcp_outlet::{DataEnd, Put, PutData};
+use xcp_outlet::{DataEnd, Put, WaitingEnd};
 
 /// The part of a connection that drains the packets which wait, and waits where none do, until it sees `stop` or its
 /// turns are spent.
@@ -40,7 +40,7 @@ impl<'a, N: Name + Send + Sync> Work<Pumped<N>> for Pumping<'a, N> {
             turns,
         } = self;
         let mut tool = Tool::new(rt, lock, caller);
-        let mut samples = PutData::new(rt, samples);
+        let mut samples = WaitingEnd::new(rt, samples);
         let end = pump(&mut tool, &mut samples, stop, turns);
         let put = samples.into_end().finish(rt);
         Pumped {

@@ -21,7 +21,7 @@ use Rattle.xcp_locked.proofs.reader.Reader.TheSendSync as reader
 use Rattle.xcp_locked.proofs.sheaf.Sheaf.TheSendSync as sheaf
 use Rattle.xcp_locked.specs.contracts.chapter.Chapter as Chapter
 use Rattle.xcp_locked.specs.contracts.sheaf.Sheaf as Sheaf
-use Rattle.xcp_outlet.proofs.end.DataEnd.TheSendSync as samples
+use Rattle.xcp_outlet.proofs.end.PutEnd.TheSendSync as ends
 use Rattle.xcp_outlet.proofs.intake.SendEnd.TheSendSync as outgoing
 use Rattle.xcp_outlet.proofs.sending.Sent.TheSendSync as sent
 use Rattle.xcp_scribe.specs.declared.scribe.Scribe as Scribe
@@ -95,7 +95,7 @@ sending_crosses = struct_crosses Sending.the_type (search (sendable, crosses, re
 pub pumper_crosses : (κ : NamedLft) (N M : RattleType) (g : Name.Ghosts N.Denot) (l : Ledger.Ghosts N.Denot) (h : Route.Ghosts M.Denot) → IsSend (Pumper.the_row κ N M g l h)
 pumper_crosses κ N M g l h =
     struct_crosses (Pumper.the_type κ N M g l h)
-    (search (sendable, crosses, shared.the_sync) depth 20, (search (sendable, crosses) depth 20, (member_crosses N M g l h, (search (sendable, crosses) depth 20, (search (sendable, crosses, receiver.the_send, samples.the_send) depth 20, (search (sendable, crosses, sender.the_send, pumped.the_send) depth 20, tt))))))
+    (search (sendable, crosses, shared.the_sync) depth 20, (search (sendable, crosses) depth 20, (member_crosses N M g l h, (search (sendable, crosses) depth 20, (search (sendable, crosses, receiver.the_send, ends.the_send) depth 20, (search (sendable, crosses, sender.the_send, pumped.the_send) depth 20, tt))))))
 
 -- a seat's hearer, where who is told of its tools may be shared
 seat_crosses : (κ : NamedLft) (N M W : RattleType) (g : Name.Ghosts N.Denot) (l : Ledger.Ghosts N.Denot) (h : Route.Ghosts M.Denot) → IsSync W → IsSend (Seat.the_field κ N M W g l h).row
@@ -121,7 +121,7 @@ seat_crosses κ N M W g l h w =
                       (
                         search (sendable, crosses) depth 20,
                         (
-                          search (sendable, crosses, sender.the_send, samples.the_send) depth 20,
+                          search (sendable, crosses, sender.the_send, ends.the_send) depth 20,
                           (
                             search (sendable, crosses, receiver.the_send, pumped.the_send) depth 20,
                             (search (sendable, crosses, sender.the_send, outgoing.the_send, watched_crosses, closing.the_send) depth 20, (search (sendable, crosses, receiver.the_send, sent.the_send) depth 20, tt)),
