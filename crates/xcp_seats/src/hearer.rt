@@ -147,18 +147,26 @@ impl<'a, N: Name, M: Route, W> Seat<'a, N, M, W> {
         let heard = self.hear_passages(rt, station, &mut replies, reader);
         self.shared.lock.lock(rt).locked().stop(&self.door.stop);
         let _replies = replies.into_end().finish(rt);
+        let rest = self.wait_for_others(rt, pumps);
+        let served = heard?;
+        rest?;
+        Ok(served)
+    }
+
+    /// Waits for the other two parts of the seat, and answers how they ended: by the fault of the pump, else by `Write` where the sender
+    /// has one. `Memory` where one of them didn't begin.
+    fn wait_for_others<R: Wait>(&self, rt: &R, pumps: bool) -> Result<(), ServeError> {
         let pumped = if pumps {
             self.pumped.recv(rt).ok()
         } else {
             None
         };
         let sent = self.sent.recv(rt).ok();
-        let served = heard?;
         match (pumped, sent) {
             (Some(pumped), Some(sent)) => {
                 pumped.end?;
                 sent.count.map_err(|_| ServeError::Write)?;
-                Ok(served)
+                Ok(())
             }
             _ => Err(ServeError::Memory),
         }

@@ -4,13 +4,14 @@ use crate::door::Door;
 use crate::hall::Hall;
 use crate::halt::Halt;
 use crate::hearer::{Hearer, Seat};
-use crate::pumper::Pumper;
-use crate::sender::Sending;
-use crossbeam_channel::bounded;
+use crate::pumper::{Pumped, Pumper};
+use crate::sender::{Outgoing, Sending};
+use crossbeam_channel::{Receiver, Sender, bounded};
 use std::alloc::{AllocError, Global};
 use std::net::TcpListener;
 use std::time::Duration;
 use xcp_locked::Name;
+use xcp_outlet::{DataEnd, Sent};
 use xcp_service::{Member, Route, Shared};
 
 /// The three parts of a seat.
@@ -26,6 +27,24 @@ pub struct Place<'a, W> {
     pub halt: &'a Halt,
     pub hall: &'a Hall,
     pub watcher: &'a W,
+}
+
+/// The channels between the parts of a seat: what each connection begins with for its pump and for its sender, and what comes of these.
+#[derive(Drop)]
+struct Lines {
+    samples: (Sender<DataEnd>, Receiver<DataEnd>),
+    pumped: (Sender<Pumped>, Receiver<Pumped>),
+    outgoing: (Sender<Outgoing>, Receiver<Outgoing>),
+    sent: (Sender<Sent>, Receiver<Sent>),
+}
+
+fn make_lines(alloc: Global) -> Result<Lines, AllocError> {
+    Ok(Lines {
+        samples: bounded(alloc, 1)?,
+        pumped: bounded(alloc, 1)?,
+        outgoing: bounded(alloc, 1)?,
+        sent: bounded(alloc, 1)?,
+    })
 }
 
 /// A seat with a member for the tools and one for the pump. The listener's socket is shared.
@@ -46,10 +65,12 @@ pub fn make_seat<'a, N: Name, M: Route, W>(
         hall,
         watcher,
     } = place;
-    let (samples, begins) = bounded(alloc, 1)?;
-    let (ends, pumped) = bounded(alloc, 1)?;
-    let (outgoing, begun) = bounded(alloc, 1)?;
-    let (ended, sent) = bounded(alloc, 1)?;
+    let Lines {
+        samples: (samples, begins),
+        pumped: (ends, pumped),
+        outgoing: (outgoing, begun),
+        sent: (ended, sent),
+    } = make_lines(alloc)?;
     let hearer = Hearer {
         member: tool,
         seat: Seat {

@@ -67,12 +67,7 @@ impl<N: Name> Unrouted<N> {
         ensures members { IfOk result (λ p. p.members.items ≡ callers.items) }
     {
         let Unrouted { relay, mut taker } = self;
-        let mut members = Vec::new(alloc);
-        for caller in callers {
-            let giver = hire(&relay, &mut taker)?;
-            members.push(Member::new(caller, giver))?;
-        }
-        let chapters = hire(&relay, &mut taker)?;
+        let (members, chapters) = hire_all(alloc, &relay, &mut taker, callers)?;
         let desk = chapters.tag();
         Ok(Posting {
             post: Post::new(relay),
@@ -81,6 +76,29 @@ impl<N: Name> Unrouted<N> {
             collector: Collector::new(alloc, taker, desk, scribe),
         })
     }
+}
+
+/// The callers as members, with the first tags, and a giver of chapters, with the tag behind theirs.
+fn hire_all<N: Name, M: Route>(
+    alloc: Global,
+    relay: &Relay<Parcel<N>>,
+    taker: &mut Taker<Parcel<N>>,
+    callers: Vec<Caller<N>>,
+) -> Result<(Vec<Member<N, M>>, Giver<Parcel<N>>), AllocError>
+    requires relay { relay.now ≡ M.relay }
+    requires first { taker.old ≡ record { relay = relay.now; givers = 0; taken = [] } }
+    requires callers { AreOpened N.parts callers.items }
+    ensures members { IfOk result (λ r. r.0.items ≡ callers.items) }
+    ensures chapters { IfOk result (λ r. r.1 ≡ record { relay = M.relay; tag = N.parts; given = [] }) }
+    ensures taker { IfOk result (λ _. (taker.new.relay ≡ M.relay) × (taker.new.taken ≡ [])) }
+{
+    let mut members = Vec::new(alloc);
+    for caller in callers {
+        let giver = hire(relay, taker)?;
+        members.push(Member::new(caller, giver))?;
+    }
+    let chapters = hire(relay, taker)?;
+    Ok((members, chapters))
 }
 
 /// One more giver, with the next tag. There are fewer callers than a relay may have givers.

@@ -1,5 +1,5 @@
 //! How a server that stays ends.
-ghost use Rattle.std.specs.Prelude.{◌≡◌, [], IfOk, IfSome};
+ghost use Rattle.std.specs.Prelude.{◌≡◌, [], IfOk, true};
 ghost use Rattle.xcp_locked.specs.Chapters.{AreJoined};
 ghost use Rattle.xcp_service.specs.Keeping.{AreKeptSettled};
 ghost use Rattle.xcp_service.specs.Parcels.{given_in};
@@ -68,6 +68,44 @@ pub(crate) struct Gathered<N: Name, M: Route, S: Scribe> {
     pub kept: Option<Result<Collector<N, M, S>, Unkept>>,
 }
 
+impl<N: Name, M: Route, S: Scribe> Gathered<N, M, S> {
+    /// One member more. `false` where there is no memory.
+    fn add(&mut self, member: Member<N, M>) -> bool {
+        self.members.push(member).is_ok()
+    }
+
+    /// What came of a duty. `false` where there is no memory.
+    fn take(&mut self, performed: Performed<N, M, S>) -> bool {
+        match performed {
+            Performed::Task(member) => self.add(member),
+            Performed::Kept(kept) => {
+                self.kept = Some(kept);
+                true
+            }
+            Performed::Warded => true,
+        }
+    }
+
+    /// The members of the seats. `false` where there is no memory for all.
+    fn take_seats(&mut self, seats: Vec<(Member<N, M>, Member<N, M>, ())>) -> bool {
+        let mut fit = true;
+        for (tool, pump, ()) in seats {
+            fit &= self.add(tool);
+            fit &= self.add(pump);
+        }
+        fit
+    }
+
+    /// What came of the duties. `false` where there is no memory for all.
+    fn take_duties(&mut self, duties: Vec<Outcome<N, M, S>>) -> bool {
+        let mut fit = true;
+        for Outcome(performed) in duties {
+            fit &= self.take(performed);
+        }
+        fit
+    }
+}
+
 /// Gathers what came of the seats and of the duties beside them.
 pub(crate) fn gather<N: Name, M: Route, S: Scribe>(
     alloc: Global,
@@ -78,18 +116,13 @@ pub(crate) fn gather<N: Name, M: Route, S: Scribe>(
         members: Vec::new(alloc),
         kept: None,
     };
-    for (tool, pump, ()) in seats {
-        gathered.members.push(tool)?;
-        gathered.members.push(pump)?;
+    let seated = gathered.take_seats(seats);
+    let performed = gathered.take_duties(duties);
+    if seated && performed {
+        Ok(gathered)
+    } else {
+        Err(AllocError)
     }
-    for Outcome(duty) in duties {
-        match duty {
-            Performed::Task(member) => gathered.members.push(member)?,
-            Performed::Kept(kept) => gathered.kept = Some(kept),
-            Performed::Warded => {}
-        }
-    }
-    Ok(gathered)
 }
 
 /// All members hand over what they have at hand.
@@ -107,25 +140,25 @@ fn hand_all_over<N: Name, M: Route, R: Wait>(
     }
 }
 
-/// Cuts the open chapter off, and has all members hand over what they have at hand. `None` where there is no memory.
+/// Cuts the open chapter off, and has all members hand over what they have at hand. `false` where there is no memory.
 fn close<N: Name, M: Route, R: Wait>(
     rt: &R,
     alloc: Global,
-    resident: Resident<N, M>,
+    resident: &mut Resident<N, M>,
     post: &Post<N, M>,
     members: &mut [Member<N, M>],
-) -> Option<Resident<N, M>>
-    ensures { IfSome result (λ r. (r.locked.journal ≡ []) × (r.locked.base ≡ r.locked.slave)) }
+) -> bool
+    ensures { result ≡ true → (resident.new.locked.journal ≡ [])
+        × (resident.new.locked.base ≡ resident.new.locked.slave) }
 {
-    let mut resident = resident;
     if !resident.cut(rt, alloc, post) {
-        return None;
+        return false;
     }
     if !resident.clear(rt, post) {
-        return None;
+        return false;
     }
-    hand_all_over(rt, alloc, &mut resident, post, members);
-    Some(resident)
+    hand_all_over(rt, alloc, resident, post, members);
+    true
 }
 
 /// Ends what so many members did: the open chapter is cut off, all hand over what they have at hand, the keeper takes what is left, and
@@ -147,19 +180,43 @@ pub(crate) fn conclude<N: Name, M: Route, S: Scribe, R: Wait>(
     ensures wrote { IfOk result (λ s. S.wrote s.scribe (given_in s.keeper.chapters)) }
 {
     let Gathered { members, kept } = gathered;
-    let Some(kept) = kept else {
-        return Err(StayError::Memory);
-    };
-    let collector = kept?;
+    let collector = collector_of(kept)?;
     let mut members = members;
-    let Some(resident) = close(rt, alloc, resident, post, &mut members) else {
+    let (locked, collector) = take_rest(rt, alloc, resident, post, collector, &mut members)?;
+    settle(alloc, locked, post, collector, members, count, lost)
+}
+
+/// The keeper with its end of the post, if it has ended well.
+fn collector_of<N: Name, M: Route, S: Scribe>(
+    kept: Option<Result<Collector<N, M, S>, Unkept>>,
+) -> Result<Collector<N, M, S>, StayError> {
+    match kept {
+        Some(kept) => Ok(kept?),
+        None => Err(StayError::Memory),
+    }
+}
+
+/// The open chapter is cut off, all members hand over what they have at hand, and the keeper takes what is left. The slave makes no more
+/// calls.
+fn take_rest<N: Name, M: Route, S: Scribe, R: Wait>(
+    rt: &R,
+    alloc: Global,
+    resident: Resident<N, M>,
+    post: &Post<N, M>,
+    collector: Collector<N, M, S>,
+    members: &mut [Member<N, M>],
+) -> Result<(Locked<N>, Collector<N, M, S>), StayError>
+    ensures { IfOk result (λ r. (r.0.journal ≡ []) × (r.0.base ≡ r.0.slave)) }
+{
+    let mut resident = resident;
+    if !close(rt, alloc, &mut resident, post, members) {
         return Err(StayError::Memory);
-    };
+    }
     let mut collector = collector.collect(rt, post)?;
     let Some(locked) = resident.resign(post, &mut collector) else {
         return Err(StayError::Memory);
     };
-    settle(alloc, locked, post, collector, members, count, lost)
+    Ok((locked, collector))
 }
 
 /// All members resign, and the keeper meets the slave, which has no open call.

@@ -172,15 +172,16 @@ pub fn stay_named<
     ensures wrote { IfOk result (λ s. S.wrote s.scribe (given_in s.keeper.chapters)) }
 {
     let max_cto = unnamed.max_cto();
-    let ready = Ready {
-        opening: Locked::<N>::new(alloc, unnamed)?,
-        unrouted: Unrouted::new(alloc)?,
-        max_cto,
-    };
     let Ok(scribe) = Box::new(alloc, scribe) else {
         return Err(StayError::Memory);
     };
     let boxed = Boxed { scribe };
+    let unrouted = Unrouted::new(alloc)?;
+    let ready = Ready {
+        opening: Locked::<N>::new(alloc, unnamed)?,
+        unrouted,
+        max_cto,
+    };
     let stayed = stay_by_post::<N, Brand, S, W, R>(
         rt, alloc, ready, listener, plan, boxed, halt, watcher,
     )?;
@@ -244,6 +245,7 @@ fn stay_by_post<
         unrouted,
         max_cto,
     } = ready;
+    let doors = make_doors(alloc, plan.tools)?;
     let Opening {
         locked,
         callers,
@@ -255,7 +257,6 @@ fn stay_by_post<
         members,
         collector,
     } = unrouted.open::<M, Boxed<S>>(alloc, locked, callers, scribe)?;
-    let doors = make_doors(alloc, plan.tools)?;
     let shared = Shared {
         lock: Mutex::new(resident),
         post,
@@ -368,14 +369,14 @@ fn make_seats<'a, N: Name, M: Route, C, W>(
 {
     let mut seats = Vec::with_capacity(alloc, plan.tools as usize)?;
     for number in 0..plan.tools {
+        let Ok(shared) = listener.try_clone() else {
+            return Err(StayError::Listener);
+        };
         let Some(tool) = members.next() else {
             unreachable!()
         };
         let Some(pump) = members.next() else {
             unreachable!()
-        };
-        let Ok(shared) = listener.try_clone() else {
-            return Err(StayError::Listener);
         };
         let place = Place {
             number,

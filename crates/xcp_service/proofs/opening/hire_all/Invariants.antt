@@ -1,7 +1,7 @@
 use Rattle.std.specs.Prelude.{◌≡◌, ◌+◌, ◌++◌, [], length}
 use Rattle.std.specs.Vec.Iter.{into_iter_items}
 use Rattle.xcp_service.specs.Parcels.{AreNumbered}
-use Rattle.xcp_service.proofs.opening.Unrouted.open.Given as goal
+use Rattle.xcp_service.proofs.opening.hire_all.Given as goal
 
 abbrev pub invariant-loop-caller : goal.invariant-loop-caller
 invariant-loop-caller g l =
@@ -10,6 +10,5 @@ invariant-loop-caller g l =
     × (l.members.items ≡ l.yielded)
     × AreNumbered l.taker.givers (into_iter_items rest)
     × (l.taker.relay ≡ g.M.Route.relay)
-    × (l.relay ≡ g.M.Route.relay)
     × (l.taker.taken ≡ [])
     × (l.taker.givers + length (into_iter_items rest) ≡ g.N.Ledger.parts)

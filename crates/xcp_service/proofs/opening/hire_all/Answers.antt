@@ -4,20 +4,18 @@ use Rattle.relay.specs.Ends.{TakerValue}
 use Rattle.xcp_locked.specs.Caller.{CallerValue}
 use Rattle.xcp_service.specs.Parcels.{AreNumbered, ParcelValue}
 use Rattle.xcp_service.proofs.ParcelLemmas.{length-callers_of, numbered_callers}
-use Rattle.xcp_service.proofs.opening.Unrouted.open.Goals as goal
+use Rattle.xcp_service.proofs.opening.hire_all.Goals as goal
 
 pub loop-caller-init : goal.loop-caller-init
 loop-caller-init g c =
-    let taker = c.self.invariant in
-    let relay = c.self.view_is ∙ c.requires.relay in
+    let taker = c.requires.first in
     let opened = c.requires.callers in
     let items = c.into_iter-caller-iterator.ensures.into_iter_gives.0 in (
       refl,
       c.new-members.ensures.items,
       subst (λ (n : ℕ). AreNumbered n (into_iter_items c.into_iter-caller-iterator.result)) (sym (ap (λ (t : TakerValue ParcelValue). t.givers) taker))
           (subst (λ (l : List CallerValue). AreNumbered 0 l) (sym (items ∙ opened.1)) (numbered_callers opened.0 g.N.Ledger.parts)),
-      ap (λ (t : TakerValue ParcelValue). t.relay) taker ∙ relay,
-      relay,
+      ap (λ (t : TakerValue ParcelValue). t.relay) taker ∙ c.requires.relay,
       ap (λ (t : TakerValue ParcelValue). t.taken) taker,
       (let none = ap (λ (t : TakerValue ParcelValue). t.givers) taker in let many = ap length (items ∙ opened.1) ∙ length-callers_of opened.0 g.N.Ledger.parts in omega (arith, none, many)),
     )
