@@ -3,7 +3,7 @@ use crate::bench::{Part, TURNS};
 use std::sync::Wait;
 use xcp_locked::Name;
 use xcp_packet::Packet;
-use xcp_slave::Request;
+use xcp_slave::Asked;
 
 /// Measures lambda on the reference page, on the working page that it corrects by that, and on the reference page
 /// again.
@@ -37,6 +37,6 @@ fn ask<N: Name>(rt: &impl Wait, part: &mut Part<N>, command: &[u8]) -> Packet {
     let _ = packet.try_extend_from_slice(command);
     let mut answer = Packet::new();
     let (locked, _engine) = &mut *part.bench.lock.lock(rt);
-    let _told = locked.submit_into(&mut part.caller, &Request::Command(packet), &mut answer);
+    let _told = locked.submit_into(&mut part.caller, Asked::Command(&packet), &mut answer);
     answer
 }

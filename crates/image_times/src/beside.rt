@@ -205,7 +205,7 @@ fn round<C: Clock, S: Station>(
 
 fn ask<S: Station>(tool: &mut S, request: &Request) -> io::Result<()> {
     let mut packet = Packet::new();
-    match tool.submit_into(request, &mut packet) {
+    match tool.submit_into(request.asked(), &mut packet) {
         Ok(_) => Ok(()),
         Err(_) => Err(io::Error::from(io::ErrorKind::OutOfMemory)),
     }

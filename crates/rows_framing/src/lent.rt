@@ -4,7 +4,7 @@ use crate::holding::hold;
 use crate::stations::Pending;
 use arrayvec::ArrayVec;
 use std::alloc::Global;
-use xcp_framing::{Desk, LentCommand, Station, StationError, told_of};
+use xcp_framing::{Desk, Station, StationError, told_of};
 use xcp_packet::{Packet, Train, Width};
 use xcp_slave::{Answer, Request};
 
@@ -150,7 +150,8 @@ static SCRIPT: [(Asks, Gives); 15] = [
 /// The answer in a packet that is lent, or the refusal.
 fn lent<S: Station>(station: &mut S, asks: Asks) -> Result<Answer, StationError> {
     let mut packet = bytes(&[7; 255]);
-    let told = station.submit_into(&request(asks), &mut packet)?;
+    let request = request(asks);
+    let told = station.submit_into(request.asked(), &mut packet)?;
     Ok(told.with(packet))
 }
 
@@ -238,18 +239,4 @@ fn first_wrong_drained(alloc: Global) -> (Option<usize>, usize) {
 #[test]
 fn a_station_that_is_lent_packets_gives_answers(rt: HostRuntime) {
     assert!(rt; first_wrong_drained(rt.alloc()) == (None, 4));
-}
-
-/// Whether a lent command has the packet that was last put into it, and `fill` gives what its closure does.
-fn is_filled() -> bool {
-    let mut command = LentCommand::new();
-    let empty = *command.request() == request(Asks::Command(&[]));
-    command.fill(|packet| *packet = bytes(&[0xFF, 0]));
-    let length = command.fill(|packet| packet.len());
-    empty && length == 2 && command.into_request() == request(Asks::Command(&[0xFF, 0]))
-}
-
-#[test]
-fn a_command_is_filled_in_place(rt: HostRuntime) {
-    assert!(rt; is_filled());
 }

@@ -5,7 +5,7 @@ use std::cell::Cell;
 use std::io::{self, Read, Write};
 use xcp_framing::{Station, StationError};
 use xcp_packet::Packet;
-use xcp_slave::{Request, Told};
+use xcp_slave::{Asked, Told};
 
 /// What has happened to the streams and the station of one test.
 #[derive(Drop)]
@@ -133,13 +133,9 @@ impl<S: Station> Station for Noting<'_, S> {
 
     ghost refuses = { λ s request e. S.refuses s.station request e };
 
-    fn submit_into(
-        &mut self,
-        request: &Request,
-        packet: &mut Packet,
-    ) -> Result<Told, StationError> {
+    fn submit_into(&mut self, asked: Asked<'_>, packet: &mut Packet) -> Result<Told, StationError> {
         self.order.note();
-        self.station.submit_into(request, packet)
+        self.station.submit_into(asked, packet)
     }
 
     fn pending(&mut self) -> u8 {

@@ -7,7 +7,7 @@ use std::marker::Model;
 use std::sync::atomic::AtomicBool;
 use xcp_framing::{Desk, Station, StationError, told_of};
 use xcp_packet::{Packet, Train, Width};
-use xcp_slave::{Answer, Exchange, Request, Told};
+use xcp_slave::{Answer, Asked, Exchange, Told};
 
 /// A desk that takes so many requests, and then refuses all with one error: a full journal is told
 /// only there.
@@ -29,15 +29,11 @@ impl Station for Refusing {
 
     ghost refuses = { λ s request e. (e ≡ refusals.Memory) ⊎ ((s.takes ≡ 0) × (e ≡ s.error)) };
 
-    fn submit_into(
-        &mut self,
-        request: &Request,
-        packet: &mut Packet,
-    ) -> Result<Told, StationError> {
+    fn submit_into(&mut self, asked: Asked<'_>, packet: &mut Packet) -> Result<Told, StationError> {
         if self.takes == 0 {
             return Err(self.error);
         }
-        let told = self.desk.submit_into(request, packet)?;
+        let told = self.desk.submit_into(asked, packet)?;
         self.takes -= 1;
         Ok(told)
     }
@@ -74,17 +70,13 @@ impl Station for Pending {
 
     ghost refuses = { λ s request e. e ≡ refusals.Memory };
 
-    fn submit_into(
-        &mut self,
-        request: &Request,
-        packet: &mut Packet,
-    ) -> Result<Told, StationError> {
+    fn submit_into(&mut self, asked: Asked<'_>, packet: &mut Packet) -> Result<Told, StationError> {
         if self.exchanges.reserve(1).is_err() {
             return Err(StationError::Memory);
         }
-        let answer = match request {
-            Request::Drain if self.packets > 0 => Answer::Packets(train(self.blocks)),
-            Request::Drain => Answer::Nothing,
+        let answer = match asked {
+            Asked::Drain if self.packets > 0 => Answer::Packets(train(self.blocks)),
+            Asked::Drain => Answer::Nothing,
             _ => Answer::Silent,
         };
         if let Answer::Packets(_) = &answer {
@@ -92,7 +84,7 @@ impl Station for Pending {
         }
         let told = told_of(&answer, packet);
         self.exchanges.push_reserved(Exchange {
-            request: request.copy(),
+            request: asked.request(),
             answer,
         });
         Ok(told)

@@ -14,7 +14,7 @@ use xcp_scribe::Recording;
 use xcp_service::{
     Collector, Member, Post, Posting, Resident, Resigned, Route, Unkept, Unrouted, call, resign_all,
 };
-use xcp_slave::Request;
+use xcp_slave::Asked;
 
 // What two members do once each has called twice.
 #[derive(Clone, Copy, PartialEq)]
@@ -53,7 +53,7 @@ fn call_twice<N: Name, M: Route>(
                 resident,
                 post,
                 member,
-                &Request::Drain,
+                Asked::Drain,
                 &mut Packet::new(),
             );
         }

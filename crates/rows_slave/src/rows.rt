@@ -121,8 +121,9 @@ fn told(slave: &mut Slave, question: &str) -> Option<Answer> {
     if question == "image" {
         image(slave)
     } else {
+        let request = request(question)?;
         let mut packet = lent()?;
-        let told = slave.submit_into(&request(question)?, &mut packet);
+        let told = slave.answer(request.asked(), &mut packet);
         Some(told.with(packet))
     }
 }

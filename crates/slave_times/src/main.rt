@@ -46,7 +46,7 @@ fn requests_of(alloc: Global, text: &str) -> io::Result<Vec<Request>> {
 // (Neither is inlined, so that a tool can count the instructions of each row.)
 #[inline(never)]
 fn answer(slave: &mut Slave, request: &Request, packet: &mut Packet) -> Told {
-    slave.submit_into(request, packet)
+    slave.answer(request.asked(), packet)
 }
 
 #[inline(never)]

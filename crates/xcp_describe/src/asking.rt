@@ -5,7 +5,7 @@ ghost use Rattle.xcp_packet.specs.PlainSpelling.{OnePacket};
 use std::alloc::{AllocError, Global};
 use xcp_memory::Layout;
 use xcp_packet::{Command, Order, Packet, encode_command};
-use xcp_slave::{Request, Slave, Told};
+use xcp_slave::{Slave, Told};
 
 /// The first byte of a positive response.
 const POSITIVE: u8 = 0xFF;
@@ -77,7 +77,7 @@ impl Asked {
         let mut answer = Packet::new();
         let told = self
             .slave
-            .submit_into(&Request::Command(packet), &mut answer);
+            .answer(xcp_slave::Asked::Command(&packet), &mut answer);
         (told, answer)
     }
 

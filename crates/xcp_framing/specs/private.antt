@@ -3,7 +3,6 @@ pub mod AnsweredStream
 pub mod FramerInput
 pub mod FrameOutput
 pub mod FramesAnswered
-pub mod LentRequests
 pub mod Pump
 pub mod PutOutput
 pub mod Serve

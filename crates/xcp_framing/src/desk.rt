@@ -3,13 +3,14 @@ ghost use Rattle.std.specs.Prelude.{◌≡◌, [], ◌∷◌, ◌++◌, IfOk, On
 ghost use Rattle.xcp_slave.specs.Run.{Run};
 ghost use Rattle.xcp_slave.specs.Step.{Answers};
 ghost use Rattle.xcp_slave.specs.AnswerInBytes.{answer_in};
+ghost use Rattle.xcp_slave.specs.AskedRequest.{IsShort, request_asked};
 ghost use Rattle.xcp_slave.specs.SlaveValue.{layout_of, opening};
 
 use crate::{Station, StationError};
 use std::alloc::Global;
 use std::marker::Model;
 use xcp_packet::Packet;
-use xcp_slave::{Answer, Request, Slave, Told};
+use xcp_slave::{Answer, Asked, Request, Slave, Told};
 use xcp_trace::Trace;
 
 /// A slave with all the exchanges that it has had. They are a run of the slave, from the opening
@@ -80,13 +81,14 @@ impl Station for Desk {
 
     ghost refuses = { λ d request e. e ≡ refusals.Memory };
 
-    /// Answers a request that is lent. The one refusal is `Memory`, which comes before anything is
+    /// Answers a request whose bytes are lent. The one refusal is `Memory`, which comes before anything is
     /// executed.
-    fn submit_into(&mut self, request: &Request, packet: &mut Packet) -> Result<Told, StationError>
+    fn submit_into(&mut self, asked: Asked<'_>, packet: &mut Packet) -> Result<Told, StationError>
+        requires { IsShort asked }
         ensures answers { IfOk result (λ told.
-            Answers self.old.slave request.now (answer_in told packet.new) self.new.slave) }
+            Answers self.old.slave (request_asked asked.entry) (answer_in told packet.new) self.new.slave) }
         ensures ok { IfOk result (λ told. self.new.exchanges ≡ self.old.exchanges
-            ++ record { request = request.now; answer = answer_in told packet.new } ∷ []) }
+            ++ record { request = request_asked asked.entry; answer = answer_in told packet.new } ∷ []) }
         ensures err { OnErr result (self.new ≡ self.old) }
         ensures memory { IfErr result (λ e. e ≡ StationError.Memory) }
         ensures layout { layout_of self.new.slave ≡ layout_of self.old.slave }
@@ -94,8 +96,8 @@ impl Station for Desk {
         if self.trace.reserve().is_err() {
             return Err(StationError::Memory);
         }
-        let told = self.slave.submit_into(request, packet);
-        self.trace.push_told(request, &told, packet);
+        let told = self.slave.answer(asked, packet);
+        self.trace.push_told(asked, &told, packet);
         Ok(told)
     }
 
@@ -118,7 +120,7 @@ impl Station for Desk {
         ensures layout { layout_of self.new.slave ≡ layout_of self.old.slave }
     {
         let mut packet = Packet::new();
-        let told = self.submit_into(&request, &mut packet)?;
+        let told = self.submit_into(request.asked(), &mut packet)?;
         Ok(told.with(packet))
     }
 }

@@ -2,8 +2,7 @@
 //!
 //! A [`Station`] takes requests one by one; a [`Desk`] is one that executes them on its slave and
 //! stores the exchanges. [`serve`] answers commands in frames through a station, and a [`Framer`]
-//! finds the packets of a stream that comes in pieces. A [`LentCommand`] is filled with one packet
-//! after another. All run over any reader and writer. A reader or writer stands in a [`Watched`],
+//! finds the packets of a stream that comes in pieces. All run over any reader and writer. A reader or writer stands in a [`Watched`],
 //! so that contracts can say that a fault came of a call that failed.
 //!
 //! `specs/Wire.antt` has the frames of a stream, `specs/Serve.antt` what serving promises.
@@ -16,7 +15,6 @@ mod frame_writer;
 mod framer;
 mod gathering;
 mod law;
-mod lent;
 mod passage;
 mod pumping;
 mod serving;
@@ -32,7 +30,6 @@ pub use desk::Desk;
 pub use end::End;
 pub use framer::{Brought, Cut, Fed, Framer, Got};
 pub use law::a_desk_is_never_full;
-pub use lent::LentCommand;
 pub use pumping::pump;
 pub use serving::{ServeError, Served, serve};
 pub use serving_by::serve_by;

@@ -7,9 +7,9 @@ ghost use Rattle.xcp_framing.specs.private.Serve.{most_packets};
 ghost use Rattle.xcp_framing.specs.private.ServeParts.{EndsPiece};
 ghost use Rattle.xcp_framing.specs.private.AnsweredStream.{Stand, Streams, outcome};
 
-use crate::lent::LentCommand;
 use crate::{Brought, Framer, ServeError, Served, Watched};
 use std::io::Read;
+use xcp_packet::Packet;
 
 /// The most bytes that one read takes.
 pub(crate) const READ_SIZE: usize = 512;
@@ -31,9 +31,9 @@ pub(crate) trait Answerer<S, K, O> {
     /// What handing on does.
     ghost hands: { Result (Unit {0}) ServeError → K → O → K → O → Type 0 };
 
-    /// Answers a command that is lent. The packets of the answer may be held back.
+    /// Answers a command packet that is lent. The packets of the answer may be held back.
     fn answer(
-        command: &LentCommand,
+        command: &Packet,
         station: &mut S,
         state: &mut K,
         out: &mut O,
@@ -61,7 +61,7 @@ pub(crate) trait Answerer<S, K, O> {
 fn answer_piece<A: Answerer<S, K, O>, S, K, O>(
     framer: &mut Framer,
     piece: &[u8],
-    command: &mut LentCommand,
+    command: &mut Packet,
     station: &mut S,
     state: &mut K,
     out: &mut O,
@@ -89,7 +89,7 @@ fn answer_piece<A: Answerer<S, K, O>, S, K, O>(
 {
     let mut used = 0;
     loop {
-        let cut = command.cut(framer, &piece[used..]);
+        let cut = framer.feed_into(&piece[used..], command);
         used += cut.used;
         match cut.brought {
             Brought::More => return Ok(()),
@@ -142,7 +142,7 @@ pub(crate) fn answer_stream<A: Answerer<S, K, O>, S, K, O, R: Read>(
     ensures turns { result ≡ Err ServeError.TurnsSpent → reader.new.calls ≡ reader.old.calls + turns }
 {
     let mut framer = Framer::new(max_cto);
-    let mut command = LentCommand::new();
+    let mut command = Packet::new();
     let mut count = 0;
     for _turn in 0..turns {
         let Ok(length) = reader.read(buffer) else {

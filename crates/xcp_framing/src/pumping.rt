@@ -10,7 +10,7 @@ use crate::gathering::{gather_told, hand_on, make_room};
 use crate::{Batch, End, ServeError, Station};
 use std::sync::atomic::{AtomicBool, Ordering};
 use xcp_packet::Packet;
-use xcp_slave::Request;
+use xcp_slave::Asked;
 
 /// Submits one `Drain`, and puts its packets into a batch, for which there is room before. `Ok` is
 /// the number of packets.
@@ -30,7 +30,7 @@ fn pump_one<S: Station, E: End>(
 {
     make_room(batch, end)?;
     let mut packet = Packet::new();
-    let told = station.submit_into(&Request::Drain, &mut packet)?;
+    let told = station.submit_into(Asked::Drain, &mut packet)?;
     gather_told(batch, end.alloc(), told, &packet)
 }
 

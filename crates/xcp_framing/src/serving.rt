@@ -12,14 +12,13 @@ ghost use Rattle.xcp_framing.specs.ServeParts.{IsInterruption};
 ghost use Rattle.xcp_framing.specs.private.ServeParts.{Grows, DrainsSoFar};
 
 use crate::frame_writer::FrameWriter;
-use crate::lent::{Lent, LentCommand};
 use crate::passage::{Answerer, READ_SIZE, answer_stream};
 use crate::{Station, StationError, Watched};
 use std::alloc::Global;
 use std::io::{Read, Write};
 use thiserror::Error;
 use xcp_packet::{Packet, Width};
-use xcp_slave::Told;
+use xcp_slave::{Asked, Told};
 
 /// The most Drains behind a command.
 const DRAINS: u8 = 64;
@@ -170,7 +169,7 @@ fn drain<W: Write, S: Station>(
     station: &mut S,
     writer: &mut Watched<W>,
     sender: &mut FrameWriter,
-    lent: &mut Lent,
+    packet: &mut Packet,
 ) -> Result<(), ServeError>
     requires { sender.old.sent + most_train * most_drains < 2 ^ 64 }
     ensures drains { Grows result (DrainsSoFar result)
@@ -187,22 +186,22 @@ fn drain<W: Write, S: Station>(
         (S.exchanges station.old) station.new) }
 {
     for _drain in 0..DRAINS {
-        let told = station.submit_into(lent.drain.request(), &mut lent.packet)?;
+        let told = station.submit_into(Asked::Drain, packet)?;
         if !has_packets(&told) {
             return Ok(());
         }
-        send_told(&told, &lent.packet, writer, sender)?;
+        send_told(&told, packet, writer, sender)?;
     }
     Ok(())
 }
 
 /// Submits the command that is lent, sends the packets of the answer, and drains the station.
 fn exchange<W: Write, S: Station>(
-    command: &LentCommand,
+    command: &Packet,
     station: &mut S,
     writer: &mut Watched<W>,
     sender: &mut FrameWriter,
-    lent: &mut Lent,
+    packet: &mut Packet,
 ) -> Result<(), ServeError>
     requires { sender.old.sent + most_packets < 2 ^ 64 }
     ensures answers { Grows result (AnswersSoFar result (command.now.items ∷ []))
@@ -219,16 +218,16 @@ fn exchange<W: Write, S: Station>(
         Refused S.exchanges S.refuses e (AsksNext (command.now.items ∷ []))
         (S.exchanges station.old) station.new) }
 {
-    let told = station.submit_into(command.request(), &mut lent.packet)?;
-    send_told(&told, &lent.packet, writer, sender)?;
-    drain(station, writer, sender, lent)
+    let told = station.submit_into(Asked::Command(command.as_slice()), packet)?;
+    send_told(&told, packet, writer, sender)?;
+    drain(station, writer, sender, packet)
 }
 
-/// What is kept from packet to packet where the answers go into frames.
+/// What is kept from packet to packet where the answers go into frames: the frames, and a packet to lend.
 #[derive(Drop)]
 struct Sending {
     frames: FrameWriter,
-    lent: Lent,
+    packet: Packet,
 }
 
 /// A packet is answered by its command and the Drains behind it, in frames that are gathered.
@@ -246,12 +245,18 @@ impl<S: Station, W: Write> Answerer<S, Sending, Watched<W>> for InFrames {
     ghost hands = { HandsFramesOn (λ k. k.frames) (λ o. W.contents o.inner) (λ o. o.failures) };
 
     fn answer(
-        command: &LentCommand,
+        command: &Packet,
         station: &mut S,
         state: &mut Sending,
         writer: &mut Watched<W>,
     ) -> Result<(), ServeError> {
-        exchange(command, station, writer, &mut state.frames, &mut state.lent)
+        exchange(
+            command,
+            station,
+            writer,
+            &mut state.frames,
+            &mut state.packet,
+        )
     }
 
     fn hand_on(state: &mut Sending, writer: &mut Watched<W>) -> Result<(), ServeError> {
@@ -315,7 +320,7 @@ pub fn serve<R: Read, W: Write, S: Station>(
     };
     let mut state = Sending {
         frames,
-        lent: Lent::new(),
+        packet: Packet::new(),
     };
     answer_stream::<InFrames, S, Sending, Watched<W>, R>(
         reader,

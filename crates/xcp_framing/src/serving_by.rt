@@ -5,12 +5,12 @@ ghost use Rattle.xcp_framing.specs.ServeRefusal.{OnRefusal, Refused};
 ghost use Rattle.xcp_framing.specs.ServeBy.{CommandNext, ServesBy};
 
 use crate::gathering::{gather_told, hand_on, make_room};
-use crate::lent::LentCommand;
 use crate::passage::{Answerer, READ_SIZE, answer_stream};
 use crate::{Batch, End, ServeError, Served, Station, StationError, Watched};
 use std::alloc::Global;
 use std::io::Read;
 use xcp_packet::Packet;
+use xcp_slave::Asked;
 
 /// How many packets the answers had, and those of them that aren't put yet.
 #[derive(Drop)]
@@ -36,14 +36,14 @@ impl<S: Station, E: End> Answerer<S, Putting, E> for ByCommand {
     ghost hands = { HandsBatchOn E.put_so_far E.same (λ k. k.sent) (λ k. k.batch) };
 
     fn answer(
-        command: &LentCommand,
+        command: &Packet,
         station: &mut S,
         state: &mut Putting,
         end: &mut E,
     ) -> Result<(), ServeError> {
         make_room(&mut state.batch, end)?;
         let mut reply = Packet::new();
-        let told = station.submit_into(command.request(), &mut reply)?;
+        let told = station.submit_into(Asked::Command(command.as_slice()), &mut reply)?;
         state.sent += gather_told(&mut state.batch, end.alloc(), told, &reply)?;
         Ok(())
     }

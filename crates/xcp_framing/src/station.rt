@@ -3,12 +3,13 @@ ghost use Rattle.std.specs.Prelude.{◌≡◌, [], ◌∷◌, ◌++◌, List, If
 ghost use Rattle.xcp_slave.specs.declared.Exchange.{Exchange};
 ghost use Rattle.xcp_slave.specs.declared.Request.{Request};
 ghost use Rattle.xcp_slave.specs.AnswerInBytes.{answer_in};
+ghost use Rattle.xcp_slave.specs.AskedRequest.{IsShort, request_asked};
 ghost use Rattle.xcp_framing.specs.declared.station.StationError.{StationError};
 
 use std::sync::atomic::AtomicBool;
 use thiserror::Error;
 use xcp_packet::{Packet, Train};
-use xcp_slave::{Answer, Request, Told};
+use xcp_slave::{Answer, Asked, Request, Told};
 
 /// Why a station did not take a request. Nothing was executed, and nothing changed.
 #[derive(Clone, Copy, Debug, Error, PartialEq, Eq, Drop)]
@@ -46,14 +47,15 @@ pub trait Station {
     /// What a refusal may mean: in this state it may refuse this request with this error.
     ghost refuses: { Self → Request → StationError → Type 0 };
 
-    /// Answers a request that is lent, and has this exchange from then on. The answer's packet, or the
-    /// data bytes of its block, stand in the lent packet, which has any bytes otherwise. After an
+    /// Answers a request whose bytes are lent, and has this exchange from then on. The answer's packet, or
+    /// the data bytes of its block, stand in the lent packet, which has any bytes otherwise. After an
     /// `Err` the station is as it was.
-    fn submit_into(&mut self, request: &Request, packet: &mut Packet) -> Result<Told, StationError>
+    fn submit_into(&mut self, asked: Asked<'_>, packet: &mut Packet) -> Result<Told, StationError>
+        requires { IsShort asked }
         ensures ok { IfOk result (λ told. exchanges self.new ≡ exchanges self.old
-            ++ record { request = request.now; answer = answer_in told packet.new } ∷ []) }
+            ++ record { request = request_asked asked.entry; answer = answer_in told packet.new } ∷ []) }
         ensures err { OnErr result (self.new ≡ self.old) }
-        ensures refused { IfErr result (λ e. refuses self.new request.now e) }
+        ensures refused { IfErr result (λ e. refuses self.new (request_asked asked.entry) e) }
         ensures stays { same self.old self.new };
 
     /// How many packets wait for a `Drain`, where the station can tell. It is no exchange, and
@@ -79,7 +81,7 @@ pub trait Station {
         ensures stays { same self.old self.new }
     {
         let mut packet = Packet::new();
-        let told = self.submit_into(&request, &mut packet)?;
+        let told = self.submit_into(request.asked(), &mut packet)?;
         Ok(told.with(packet))
     }
 

@@ -4,6 +4,7 @@ ghost use Rattle.xcp_memory.specs.EcuImage.{ecu_image};
 ghost use Rattle.xcp_slave.specs.Run.{Run};
 ghost use Rattle.xcp_slave.specs.Step.{Answers};
 ghost use Rattle.xcp_slave.specs.AnswerInBytes.{answer_in};
+ghost use Rattle.xcp_slave.specs.AskedRequest.{IsShort, request_asked};
 ghost use Rattle.xcp_slave.specs.declared.Answer.{Answer};
 ghost use Rattle.xcp_slave.specs.SlaveValue.{SlaveValue, layout_of, opening};
 ghost use Rattle.xcp_locked.specs.Caller.{accepting};
@@ -26,7 +27,7 @@ use std::sync::ledger::Book;
 use std::sync::{Arc, Condvar};
 use xcp_controller::keeps_image;
 use xcp_packet::Packet;
-use xcp_slave::{Request, Slave, Told};
+use xcp_slave::{Asked, Request, Slave, Told};
 use xcp_trace::{Entries, Journal};
 
 /// The most entries of a journal.
@@ -96,7 +97,7 @@ impl<N: Name> Locked<N> {
         let at = self.len();
         let chapter = self.chapter;
         let mut packet = Packet::new();
-        let told = self.submit_into(caller, &request, &mut packet)?;
+        let told = self.submit_into(caller, request.asked(), &mut packet)?;
         Ok(Receipt {
             chapter,
             at,
@@ -105,20 +106,21 @@ impl<N: Name> Locked<N> {
         })
     }
 
-    /// Executes a request that is lent, as `submit` does. The answer's packet, or the data bytes of its
+    /// Executes a request whose bytes are lent, as `submit` does. The answer's packet, or the data bytes of its
     /// block, stand in the lent packet, which has any bytes otherwise.
     pub fn submit_into(
         &mut self,
         caller: &mut Caller<N>,
-        request: &Request,
+        asked: Asked<'_>,
         packet: &mut Packet,
     ) -> Result<Told, LockedError>
-        ensures answers { IfOk result (λ told. Answers self.old.slave request.now
+        requires { IsShort asked }
+        ensures answers { IfOk result (λ told. Answers self.old.slave (request_asked asked.entry)
             (answer_in told packet.new) self.new.slave) }
         ensures journal { IfOk result (λ told. self.new.journal ≡ self.old.journal
-            ++ entry caller.old.number request.now (answer_in told packet.new) ∷ []) }
+            ++ entry caller.old.number (request_asked asked.entry) (answer_in told packet.new) ∷ []) }
         ensures caller { IfOk result (λ told. caller.new ≡ accepting caller.old
-            (receipt self.old.chapter (length self.old.journal) request.now (answer_in told packet.new))) }
+            (receipt self.old.chapter (length self.old.journal) (request_asked asked.entry) (answer_in told packet.new))) }
         ensures published { IfOk result (λ told. Publishes self.old self.new) }
         ensures full { result ≡ Err LockedError.JournalFull
             ↔ (journal_limit ≤ length self.old.journal) }
@@ -153,14 +155,14 @@ impl<N: Name> Locked<N> {
         book.audit(share);
         let at = journal.len() as u64;
         let before = slave.pending();
-        let told = execute(slave, journal, publisher, *number, request, packet, at + 1);
+        let told = execute(slave, journal, publisher, *number, asked, packet, at + 1);
         book.add(share, 1);
         *accepted += 1;
         let place = Place {
             chapter: *chapter,
             at,
         };
-        receipts.push_told(place, request, &told, packet);
+        receipts.push_told(place, asked, &told, packet);
         tell_waiting(waits, before, slave.pending());
         Ok(told)
     }
@@ -296,33 +298,34 @@ fn execute(
     journal: &mut Journal,
     publisher: &mut Publisher,
     caller: u8,
-    request: &Request,
+    asked: Asked<'_>,
     packet: &mut Packet,
     place: u64,
 ) -> Told
+    requires short { IsShort asked }
     requires room { room_for_any_entry ≤ journal.old.room }
     requires room_for_place { vec_len publisher.old.places < vec_capacity publisher.old.places }
     requires last { publisher.old.last ≡ image_of slave.old }
-    ensures answers { Answers slave.old request.now (answer_in result packet.new) slave.new }
+    ensures answers { Answers slave.old (request_asked asked.entry) (answer_in result packet.new) slave.new }
     ensures journal { journal.new.entries ≡ journal.old.entries
-        ++ entry caller request.now (answer_in result packet.new) ∷ [] }
+        ++ entry caller (request_asked asked.entry) (answer_in result packet.new) ∷ [] }
     ensures offers { Offers place (image_of slave.new) publisher.old publisher.new }
 {
-    let told = slave.submit_into(request, packet);
-    publish(publisher, slave, request, place);
-    journal.push_told(caller, request, &told, packet);
+    let told = slave.answer(asked, packet);
+    publish(publisher, slave, asked, place);
+    journal.push_told(caller, asked, &told, packet);
     told
 }
 
 /// Publishes the image that the slave has after this request, if it isn't the one published last. A
 /// request that never changes the image costs nothing.
-fn publish(publisher: &mut Publisher, slave: &Slave, request: &Request, place: u64)
+fn publish(publisher: &mut Publisher, slave: &Slave, asked: Asked<'_>, place: u64)
     requires room { vec_len publisher.old.places < vec_capacity publisher.old.places }
     requires last { (before : SlaveValue) × (answer : Answer)
-        × Answers before request.now answer slave.now × (publisher.old.last ≡ image_of before) }
+        × Answers before (request_asked asked) answer slave.now × (publisher.old.last ≡ image_of before) }
     ensures { Offers place (image_of slave.now) publisher.old publisher.new }
 {
-    if keeps_image(request.asked()) {
+    if keeps_image(asked) {
         return;
     }
     publisher.offer(slave, place);

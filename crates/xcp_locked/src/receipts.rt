@@ -1,6 +1,7 @@
 //! A caller's receipts, on a tape.
 ghost use Rattle.std.specs.Prelude.{◌≡◌, ◌≢◌, ◌≤◌, ◌<◌, ◌++◌, [], ◌∷◌, length, OnOk, OnErr, MatchBool, MatchOption, slice_get};
 ghost use Rattle.xcp_slave.specs.AnswerInBytes.{answer_in};
+ghost use Rattle.xcp_slave.specs.AskedRequest.{IsShort, request_asked};
 ghost use Rattle.xcp_trace.specs.ExchangeSpelling.{room_for_any};
 ghost use Rattle.xcp_locked.specs.Receipts.{receipt, receipt_of};
 
@@ -8,7 +9,7 @@ use crate::Receipt;
 use std::alloc::{AllocError, Global};
 use std::marker::Model;
 use xcp_packet::Packet;
-use xcp_slave::{Request, Told};
+use xcp_slave::{Asked, Told};
 use xcp_trace::{Exchanges, LentEntry, LentExchange, Trace};
 
 /// Where a call stands: its chapter and its place there, both counted from 0.
@@ -79,22 +80,17 @@ impl Receipts {
         Ok(())
     }
 
-    /// Puts the receipt of a call behind the others, for which room was made. The answer's packet, or the
-    /// data bytes of its block, stand in the lent one. It takes no memory.
-    pub(crate) fn push_told(
-        &mut self,
-        place: Place,
-        request: &Request,
-        told: &Told,
-        packet: &Packet,
-    )
+    /// Puts the receipt of a call behind the others, for which room was made. The request's bytes are lent,
+    /// and the answer's packet, or the data bytes of its block, stand in the lent one. It takes no memory.
+    pub(crate) fn push_told(&mut self, place: Place, asked: Asked<'_>, told: &Told, packet: &Packet)
+        requires short { IsShort asked }
         requires place { 0 < self.old.places }
         requires bytes { room_for_any ≤ self.old.bytes }
-        ensures { self.new.list ≡ self.old.list ++ receipt place.chapter place.at request.now
+        ensures { self.new.list ≡ self.old.list ++ receipt place.chapter place.at (request_asked asked.entry)
             (answer_in told.now packet.now) ∷ [] }
     {
         self.places.push_reserved(place);
-        self.exchanges.push_told(request, told, packet);
+        self.exchanges.push_told(asked, told, packet);
     }
 
     /// The receipt at an index from 0 on, if there is one. It passes over those before it.

@@ -7,7 +7,7 @@ use std::sync::atomic::AtomicBool;
 use std::sync::{Mutex, Wait};
 use xcp_framing::{Station, StationError};
 use xcp_packet::Packet;
-use xcp_slave::{Request, Told};
+use xcp_slave::{Asked, Told};
 
 /// A caller of a slave that others share, as a station. Its exchanges are its caller's receipts.
 /// A submit waits for the lock.
@@ -50,17 +50,13 @@ impl<'a, N: Name, R: Wait> Station for Tool<'a, N, R> {
 
     ghost refuses = { λ t request e. MayRefuse e };
 
-    fn submit_into(
-        &mut self,
-        request: &Request,
-        packet: &mut Packet,
-    ) -> Result<Told, StationError> {
+    fn submit_into(&mut self, asked: Asked<'_>, packet: &mut Packet) -> Result<Told, StationError> {
         // What grows is made before the lock is taken. Where there is no memory, submit says so.
         let _ = self.caller.reserve();
         let submitted = self
             .lock
             .lock(self.rt)
-            .submit_into(&mut self.caller, request, packet);
+            .submit_into(&mut self.caller, asked, packet);
         match submitted {
             Ok(told) => Ok(told),
             Err(LockedError::Memory) => Err(StationError::Memory),

@@ -4,7 +4,7 @@ ghost use Rattle.xcp_packet.specs.private.DecodeByCode.{Reads};
 ghost use Rattle.xcp_packet.specs.Decoding.{Refused};
 ghost use Rattle.xcp_packet.specs.CommandSpelling.{spells};
 
-use crate::{Command, Data, Order, Refuse, commands};
+use crate::{Command, Data, Order, Refuse, commands, parameter};
 
 fn data_from(bytes: &[u8], place: usize) -> Data
     requires fits { length bytes.now ≤ 255 }
@@ -16,29 +16,14 @@ fn data_from(bytes: &[u8], place: usize) -> Data
     data
 }
 
-macro_rules! parameter {
-    ($bytes:ident $order:ident byte $place:literal) => {
-        $bytes[$place]
-    };
-    ($bytes:ident $order:ident word $place:literal) => {
-        $order.word_at($bytes, $place)
-    };
-    ($bytes:ident $order:ident double $place:literal) => {
-        $order.double_at($bytes, $place)
-    };
-    ($bytes:ident $order:ident data $place:literal) => {
-        data_from($bytes, $place)
-    };
-}
-
 macro_rules! read_by_code {
-    ([$bytes:ident $order:ident $code:ident] $($variant:ident $value:literal $least:literal { $($name:ident: $kind:ident $place:literal),* })*) => {
+    ([$bytes:ident $order:ident $code:ident] $($variant:ident $handler:ident $value:literal $least:literal { $($name:ident: $kind:ident $place:literal),* })*) => {
         match $code {
             $($value => {
                 if $bytes.len() < $least {
                     return Err(Refuse::Short);
                 }
-                Ok(Command::$variant { $($name: parameter!($bytes $order $kind $place)),* })
+                Ok(Command::$variant { $($name: parameter!(data_from $bytes $order $kind $place)),* })
             })*
             _ => Err(Refuse::Unknown),
         }

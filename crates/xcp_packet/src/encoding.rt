@@ -91,7 +91,7 @@ macro_rules! put {
 }
 
 macro_rules! write_by_variant {
-    ([$command:ident $order:ident] $($variant:ident $value:literal $least:literal { $($name:ident: $kind:ident $place:literal),* })*) => {
+    ([$command:ident $order:ident] $($variant:ident $handler:ident $value:literal $least:literal { $($name:ident: $kind:ident $place:literal),* })*) => {
         match $command {
             $(Command::$variant { $($name),* } => {
                 let mut packet = started($value);

@@ -176,6 +176,8 @@ read_as_it_stands most line said is fine =
 pub faulty_in : (parsed : Parsed) (slot : Slot) → line_in parsed slot ≡ Faulty → parsed ≡ parseds.Faulty
 faulty_in parseds.Skip slot h = absurd (cc)
 faulty_in parseds.Command slot h = absurd (cc)
-faulty_in parseds.Event slot h = absurd (cc)
-faulty_in (parseds.Word word) slot h = absurd (cc)
+faulty_in (parseds.Event channel) slot h = absurd (cc)
+faulty_in parseds.Drain slot h = absurd (cc)
+faulty_in parseds.FinishStore slot h = absurd (cc)
+faulty_in parseds.Hangup slot h = absurd (cc)
 faulty_in parseds.Faulty slot h = refl

@@ -1,5 +1,4 @@
 -- Words that contracts of private functions and invariants cite. No contract of a public function needs them.
 pub mod HexDigits
-pub mod LentRequests
 pub mod LineInSlot
 pub mod LineReading

@@ -11,7 +11,6 @@ mod answer_text;
 mod digits;
 mod fault;
 mod law;
-mod lent;
 mod line;
 mod liner;
 mod parsing;

@@ -5,8 +5,7 @@ ghost use Rattle.xcp_script.specs.private.LineInSlot.{line_in};
 
 use crate::Line;
 use crate::digits::{GREATEST_VALUE, digit_value};
-use crate::lent::Word;
-use crate::slot::{Parsed, Slot};
+use crate::slot::{Parsed, SIGNAL_BYTES, Slot};
 use arrayvec::ArrayVec;
 
 /// The most bytes of a line, without its line feed and the carriage return before that.
@@ -25,7 +24,7 @@ pub fn parse_line(max_cto: u8, line: &[u8]) -> Line
     slot.with(parsed)
 }
 
-/// What a line says, as `parse_line` has it. A command or an event stands in the slot then.
+/// What a line says, as `parse_line` has it. The bytes of a command or of an event stand in the slot then.
 #[tactic(auto, unfolding(crate::specs::ScriptLine::meaning))]
 pub(crate) fn parse_into(max_cto: u8, line: &[u8], slot: &mut Slot) -> Parsed
     ensures { line_in result slot.new ≡ meaning max_cto line.now }
@@ -47,13 +46,13 @@ fn parse_request(max_cto: u8, line: &[u8], slot: &mut Slot) -> Parsed
     ensures { line_in result slot.new ≡ meaning max_cto line.now }
 {
     if line == b"drain".as_slice() {
-        return Parsed::Word(Word::Drain);
+        return Parsed::Drain;
     }
     if line == b"store".as_slice() {
-        return Parsed::Word(Word::FinishStore);
+        return Parsed::FinishStore;
     }
     if line == b"hangup".as_slice() {
-        return Parsed::Word(Word::Hangup);
+        return Parsed::Hangup;
     }
     match line.strip_prefix(b"event ") {
         Some(text) => parse_event(text, slot),
@@ -80,14 +79,14 @@ fn first_space(text: &[u8]) -> Option<usize>
     text.iter().position(|byte| *byte == b' ')
 }
 
-/// Reads an event's signals straight into the slot's event.
+/// Reads an event's signals straight into the slot.
 fn read_event(channel: u16, digits: &[u8], slot: &mut Slot) -> Parsed
     ensures { line_in result slot.new ≡ event_with (Some channel) (hex_bytes 64 digits.now) }
 {
-    if !slot.event.read(channel, digits) {
+    if !read_hex(SIGNAL_BYTES, digits, &mut slot.signals) {
         return Parsed::Faulty;
     }
-    Parsed::Event
+    Parsed::Event(channel)
 }
 
 /// What a line says that is a command packet, if anything.
@@ -128,14 +127,11 @@ fn parse_spaced(max_cto: u8, line: &[u8], slot: &mut Slot) -> Parsed
     read_command(max_cto, digits.as_slice(), slot)
 }
 
-/// Reads a command packet straight into the slot's command.
+/// Reads a command packet straight into the slot.
 fn read_command(max_cto: u8, digits: &[u8], slot: &mut Slot) -> Parsed
     ensures { line_in result slot.new ≡ command_with (hex_bytes max_cto digits.now) }
 {
-    let read = slot
-        .command
-        .fill(|packet| read_hex(max_cto as usize, digits, packet));
-    if !read {
+    if !read_hex(max_cto as usize, digits, &mut slot.command) {
         return Parsed::Faulty;
     }
     Parsed::Command
@@ -144,11 +140,7 @@ fn read_command(max_cto: u8, digits: &[u8], slot: &mut Slot) -> Parsed
 /// Reads the bytes that hex digits write, if they are 1 to `most` bytes. If they are not, any may
 /// stand there.
 #[tactic(auto, unfolding(crate::specs::ScriptLine::hex_bytes))]
-pub(crate) fn read_hex<const N: usize>(
-    most: usize,
-    digits: &[u8],
-    read: &mut ArrayVec<u8, N>,
-) -> bool
+fn read_hex<const N: usize>(most: usize, digits: &[u8], read: &mut ArrayVec<u8, N>) -> bool
     requires bounded { most ≤ 255 }
     requires room { most ≤ N }
     ensures { MatchBool result (hex_bytes most digits.now ≡ Some read.new.items)

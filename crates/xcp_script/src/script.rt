@@ -1,5 +1,6 @@
 //! The lines of a script, answered as their bytes come.
 ghost use Rattle.std.specs.Prelude.{◌≡◌, ◌≢◌, ◌≤◌, ◌<◌, ◌+◌, ◌^◌, ◌++◌, ◌∷◌, [], ℕ, List, Some, None, true, false, OnOk, OnErr, IfErr, length};
+ghost use Rattle.xcp_slave.specs.AskedRequest.{IsShort, request_asked};
 ghost use Rattle.xcp_slave.specs.declared.Request.{Request};
 ghost use Rattle.xcp_slave.specs.Run.{requests_of};
 ghost use Rattle.xcp_slave.specs.SlaveValue.{layout_of};
@@ -16,7 +17,7 @@ use crate::parsing::parse_into;
 use crate::slot::{Parsed, Slot};
 use xcp_framing::{Desk, Station};
 use xcp_packet::Packet;
-use xcp_slave::Request;
+use xcp_slave::Asked;
 
 /// Why a line has no answer.
 #[derive(Clone, Copy, Debug, PartialEq, Eq, Drop)]
@@ -163,32 +164,42 @@ fn answer_line(
         → IsFront text (answers_text desk.old.exchanges) → IsFront text (answers_text desk.new.exchanges) }
     ensures layout { layout_of desk.new.slave ≡ layout_of desk.old.slave }
 {
-    match parse_into(max_cto, line, slot) {
+    let parsed = parse_into(max_cto, line, slot);
+    let Slot {
+        command,
+        signals,
+        packet,
+    } = slot;
+    match parsed {
         Parsed::Skip => Ok(()),
         Parsed::Faulty => Err(LineError::Faulty),
-        Parsed::Command => answer_request(desk, slot.command.request(), &mut slot.packet, texts),
-        Parsed::Event => answer_request(desk, slot.event.request(), &mut slot.packet, texts),
-        Parsed::Word(word) => {
-            answer_request(desk, slot.words.request(word), &mut slot.packet, texts)
+        Parsed::Command => answer_request(desk, Asked::Command(command.as_slice()), packet, texts),
+        Parsed::Event(channel) => {
+            let asked = Asked::Event(channel, signals.as_slice());
+            answer_request(desk, asked, packet, texts)
         }
+        Parsed::Drain => answer_request(desk, Asked::Drain, packet, texts),
+        Parsed::FinishStore => answer_request(desk, Asked::FinishStore, packet, texts),
+        Parsed::Hangup => answer_request(desk, Asked::Hangup, packet, texts),
     }
 }
 
 /// Submits a request to the desk, and appends the line of its answer.
 fn answer_request(
     desk: &mut Desk,
-    request: &Request,
+    request: Asked<'_>,
     packet: &mut Packet,
     texts: &mut Vec<u8>,
 ) -> Result<(), LineError>
+    requires { IsShort request }
     ensures asked { OnOk result (requests_of desk.new.exchanges
-        ≡ requests_of desk.old.exchanges ++ request.now ∷ []) }
+        ≡ requests_of desk.old.exchanges ++ request_asked request.entry ∷ []) }
     ensures error { IfErr result (λ e. e ≡ LineError.Memory) }
     ensures memory { OnErr result ((later : List Request)
         → IsFront (requests_of desk.new.exchanges)
-        (requests_of desk.old.exchanges ++ request.now ∷ later)) }
+        (requests_of desk.old.exchanges ++ request_asked request.entry ∷ later)) }
     ensures short { OnErr result ((later : List Request)
-        → ShortOf (requests_of desk.old.exchanges ++ request.now ∷ later)
+        → ShortOf (requests_of desk.old.exchanges ++ request_asked request.entry ∷ later)
         desk.old.exchanges desk.new.exchanges) }
     ensures told { OnOk result ((before : List ℕ)
         → before ++ texts.old.items ≡ answers_text desk.old.exchanges

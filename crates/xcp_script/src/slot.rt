@@ -1,42 +1,48 @@
-//! What is lent for each line of a script.
+//! What a line of a script says, and where the bytes of its request stand.
 ghost use Rattle.std.specs.Prelude.{◌≡◌};
 ghost use Rattle.xcp_script.specs.private.LineInSlot.{line_in};
 
 use crate::Line;
-use crate::lent::{LentEvent, LentWords, Word};
-use xcp_framing::LentCommand;
+use arrayvec::ArrayVec;
 use xcp_packet::Packet;
+use xcp_slave::Request;
+
+/// The most bytes of an event's signals.
+pub(crate) const SIGNAL_BYTES: usize = 64;
 
 /// What a line says, beside the slot that was lent to it.
-#[derive(Clone, Copy, Debug, PartialEq, Eq)]
+#[derive(Clone, Copy)]
 pub(crate) enum Parsed {
     /// Nothing.
     Skip,
-    /// The slot's command.
+    /// The slot's command packet.
     Command,
-    /// The slot's event.
-    Event,
-    /// A request that is a word alone.
-    Word(Word),
+    /// An event on this channel, with the slot's signals.
+    Event(u16),
+    /// `drain`.
+    Drain,
+    /// `store`.
+    FinishStore,
+    /// `hangup`.
+    Hangup,
     /// No request.
     Faulty,
 }
 
-/// Requests and a packet in which those of a line stand, so that none is made anew for it.
+/// Room for the bytes of a line's request, and for the packet of its answer, so that none is made anew for
+/// it.
 #[derive(Drop)]
 pub(crate) struct Slot {
-    pub(crate) command: LentCommand,
-    pub(crate) event: LentEvent,
-    pub(crate) words: LentWords,
+    pub(crate) command: Packet,
+    pub(crate) signals: ArrayVec<u8, SIGNAL_BYTES>,
     pub(crate) packet: Packet,
 }
 
 impl Slot {
     pub(crate) fn new() -> Slot {
         Slot {
-            command: LentCommand::new(),
-            event: LentEvent::new(),
-            words: LentWords::new(),
+            command: Packet::new(),
+            signals: ArrayVec::new(),
             packet: Packet::new(),
         }
     }
@@ -45,17 +51,13 @@ impl Slot {
     pub(crate) fn with(self, parsed: Parsed) -> Line
         ensures { result ≡ line_in parsed self }
     {
-        let Slot {
-            command,
-            event,
-            words: _,
-            packet: _,
-        } = self;
         match parsed {
             Parsed::Skip => Line::Skip,
-            Parsed::Command => Line::Ask(command.into_request()),
-            Parsed::Event => Line::Ask(event.into_request()),
-            Parsed::Word(word) => Line::Ask(word.request()),
+            Parsed::Command => Line::Ask(Request::Command(self.command)),
+            Parsed::Event(channel) => Line::Ask(Request::Event(channel, self.signals)),
+            Parsed::Drain => Line::Ask(Request::Drain),
+            Parsed::FinishStore => Line::Ask(Request::FinishStore),
+            Parsed::Hangup => Line::Ask(Request::Hangup),
             Parsed::Faulty => Line::Faulty,
         }
     }

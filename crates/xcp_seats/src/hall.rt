@@ -7,7 +7,7 @@ use xcp_framing::Station;
 use xcp_locked::Name;
 use xcp_packet::Packet;
 use xcp_service::{Route, Seated};
-use xcp_slave::Request;
+use xcp_slave::Asked;
 
 /// How many tools are connected. The last one that goes ends the session.
 #[derive(Drop)]
@@ -38,7 +38,7 @@ impl Hall {
         *present = present.saturating_sub(1);
         if *present == 0 {
             let mut packet = Packet::new();
-            let _ = station.submit_into(&Request::Hangup, &mut packet);
+            let _ = station.submit_into(Asked::Hangup, &mut packet);
         }
     }
 }

@@ -10,7 +10,7 @@ use std::time::Clock;
 use xcp_locked::{Name, Reader, event};
 use xcp_packet::Packet;
 use xcp_service::{Member, Route, Shared, call};
-use xcp_slave::{Request, Told};
+use xcp_slave::{Asked, Told};
 
 /// A task: its number, its member, its reader, and the image that it read last. Its cycles have no end.
 #[derive(Drop)]
@@ -55,7 +55,7 @@ impl<'a, N: Name, M: Route, C: Clock> Ticker<'a, N, M, C> {
             reader.acquire();
             reader.read(0, &mut image);
             if task == 0 {
-                step(rt, alloc, shared, &mut member, Request::FinishStore);
+                store(rt, alloc, shared, &mut member);
             }
             cycle = cycle.wrapping_add(1);
         }
@@ -84,20 +84,19 @@ fn raise<N: Name, M: Route>(
         &mut resident,
         &shared.post,
         member,
-        &request,
+        request.asked(),
         &mut packet,
     );
     resident.tell(reader);
     matches!(told, Ok(Told::Overrun))
 }
 
-/// Submits a request. Where there is no memory for it, it is lost.
-fn step<N: Name, M: Route>(
+/// Submits that what SET_REQUEST asked for is stored. Where there is no memory for it, it is lost.
+fn store<N: Name, M: Route>(
     rt: &impl Wait,
     alloc: Global,
     shared: &Shared<N, M>,
     member: &mut Member<N, M>,
-    request: Request,
 ) {
     let mut packet = Packet::new();
     member.reserve();
@@ -107,7 +106,7 @@ fn step<N: Name, M: Route>(
         &mut shared.lock.lock(rt),
         &shared.post,
         member,
-        &request,
+        Asked::FinishStore,
         &mut packet,
     );
 }

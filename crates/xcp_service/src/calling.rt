@@ -1,6 +1,7 @@
 //! One call of a slave that stays.
 ghost use Rattle.std.specs.Prelude.{◌≡◌, ◌≢◌, ◌≤◌, ◌<◌, ℕ, Err, IfOk, OnErr, false, length, true};
 ghost use Rattle.xcp_slave.specs.AnswerInBytes.{answer_in};
+ghost use Rattle.xcp_slave.specs.AskedRequest.{IsShort, request_asked};
 ghost use Rattle.xcp_locked.specs.Caller.{accepting};
 ghost use Rattle.xcp_locked.specs.Journal.{journal_limit};
 ghost use Rattle.xcp_locked.specs.Receipts.{receipt};
@@ -14,12 +15,12 @@ use std::alloc::Global;
 use std::sync::Wait;
 use xcp_locked::{HasSlave, JOURNAL, LockedError, Name};
 use xcp_packet::Packet;
-use xcp_slave::{Request, Told};
+use xcp_slave::{Asked, Told};
 
 /// From how many calls on the open chapter is cut off.
 pub const CHAPTER: u64 = 16_384;
 
-/// Submits a request that is lent, under the lock that the slave is lent from. Where this fills the open chapter, or stores a
+/// Submits a request whose bytes are lent, under the lock that the slave is lent from. Where this fills the open chapter, or stores a
 /// segment's pages, cuts the chapter off under the same hold, so that the keeper has what was stored at once; where there was no
 /// memory for a full one, the next call does. What the member has at hand of chapters that were
 /// cut off it hands over. `JournalFull` comes only where the open chapter had 65,536 calls before, since there was never memory to
@@ -30,12 +31,13 @@ pub fn call<N: Name, M: Route>(
     resident: &mut Resident<N, M>,
     post: &Post<N, M>,
     member: &mut Member<N, M>,
-    request: &Request,
+    asked: Asked<'_>,
     packet: &mut Packet,
 ) -> Result<Told, LockedError>
-    ensures calls { IfOk result (λ told. Calls member.old.number request.now (answer_in told packet.new) resident.old resident.new) }
+    requires { IsShort asked }
+    ensures calls { IfOk result (λ told. Calls member.old.number (request_asked asked.entry) (answer_in told packet.new) resident.old resident.new) }
     ensures member { IfOk result (λ told. (chapter at : ℕ)
-        × (member.new ≡ accepting member.old (receipt chapter at request.now (answer_in told packet.new)))) }
+        × (member.new ≡ accepting member.old (receipt chapter at (request_asked asked.entry) (answer_in told packet.new)))) }
     ensures full { result ≡ Err LockedError.JournalFull → journal_limit ≤ length resident.old.locked.journal }
     ensures err { OnErr result ((member.new ≡ member.old) × ExecutesNothing resident.old resident.new) }
 {
@@ -43,7 +45,7 @@ pub fn call<N: Name, M: Route>(
         resident.cut(rt, alloc, post);
     }
     member.hand_over(rt, alloc, resident, post);
-    let told = member.submit(resident, request, packet)?;
+    let told = member.submit(resident, asked, packet)?;
     if ends_chapter(resident.locked().len(), &told) {
         resident.cut(rt, alloc, post);
     }

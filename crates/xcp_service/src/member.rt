@@ -1,6 +1,7 @@
 //! A caller of a slave that stays.
 ghost use Rattle.std.specs.Prelude.{◌≡◌, ◌≤◌, ◌↔◌, ◌++◌, [], ◌∷◌, Err, IfOk, IfSome, OnErr, length};
 ghost use Rattle.xcp_slave.specs.AnswerInBytes.{answer_in};
+ghost use Rattle.xcp_slave.specs.AskedRequest.{IsShort, request_asked};
 ghost use Rattle.xcp_slave.specs.Step.{Answers};
 ghost use Rattle.xcp_locked.specs.Caller.{accepting};
 ghost use Rattle.xcp_locked.specs.Journal.{entry, journal_limit};
@@ -22,7 +23,7 @@ use std::sync::Wait;
 use xcp_locked::{Caller, HasSlave, LockedError, Name};
 use xcp_packet::Packet;
 use xcp_scribe::Scribe;
-use xcp_slave::{Request, Told};
+use xcp_slave::{Asked, Told};
 
 /// A caller that hands its receipts over, chapter by chapter. Contracts see it as a caller that has all receipts it ever had:
 /// those that it handed over, and those at hand.
@@ -129,26 +130,27 @@ impl<N: Name, M: Route> Member<N, M> {
         Some(Former { caller, giver })
     }
 
-    /// Submits a request that is lent, as `Locked::submit_into` does.
+    /// Submits a request whose bytes are lent, as `Locked::submit_into` does.
     pub(crate) fn submit(
         &mut self,
         resident: &mut Resident<N, M>,
-        request: &Request,
+        asked: Asked<'_>,
         packet: &mut Packet,
     ) -> Result<Told, LockedError>
-        ensures answers { IfOk result (λ told. Answers resident.old.locked.slave request.now
+        requires { IsShort asked }
+        ensures answers { IfOk result (λ told. Answers resident.old.locked.slave (request_asked asked.entry)
             (answer_in told packet.new) resident.new.locked.slave) }
         ensures journal { IfOk result (λ told. resident.new.locked.journal ≡ resident.old.locked.journal
-            ++ entry self.old.number request.now (answer_in told packet.new) ∷ []) }
+            ++ entry self.old.number (request_asked asked.entry) (answer_in told packet.new) ∷ []) }
         ensures caller { IfOk result (λ told. self.new ≡ accepting self.old
-            (receipt resident.old.locked.chapter (length resident.old.locked.journal) request.now (answer_in told packet.new))) }
+            (receipt resident.old.locked.chapter (length resident.old.locked.journal) (request_asked asked.entry) (answer_in told packet.new))) }
         ensures full { result ≡ Err LockedError.JournalFull ↔ (journal_limit ≤ length resident.old.locked.journal) }
         ensures err { OnErr result ((resident.new ≡ resident.old) × (self.new ≡ self.old)) }
         ensures published { IfOk result (λ told. Publishes resident.old.locked resident.new.locked) }
         ensures past { resident.new.past ≡ resident.old.past }
         ensures chapter { SameChapter resident.old.locked resident.new.locked }
     {
-        let told = resident.submit(&mut self.caller, request, packet)?;
+        let told = resident.submit(&mut self.caller, asked, packet)?;
         self.chapter = resident.locked().chapter();
         Ok(told)
     }

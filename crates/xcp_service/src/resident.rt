@@ -1,6 +1,7 @@
 //! A slave that stays.
 ghost use Rattle.std.specs.Prelude.{◌≡◌, ◌≤◌, ◌↔◌, ◌++◌, [], ◌∷◌, Err, IfOk, IfSome, MatchBool, OnErr, length};
 ghost use Rattle.xcp_slave.specs.AnswerInBytes.{answer_in};
+ghost use Rattle.xcp_slave.specs.AskedRequest.{IsShort, request_asked};
 ghost use Rattle.xcp_slave.specs.Step.{Answers};
 ghost use Rattle.xcp_locked.specs.Caller.{accepting};
 ghost use Rattle.xcp_locked.specs.Journal.{entry, exchanges, journal_limit};
@@ -22,7 +23,7 @@ use std::sync::Wait;
 use xcp_locked::{Caller, HasSlave, Locked, LockedError, Name, Reader};
 use xcp_packet::Packet;
 use xcp_scribe::Scribe;
-use xcp_slave::{Request, Told};
+use xcp_slave::{Asked, Told};
 
 /// A slave that stays, as it lies under its lock, with the chapters that were cut off it: those that were put into the post for its
 /// keeper. They are one run from the opening of the layout to the open chapter.
@@ -118,26 +119,27 @@ impl<N: Name, M: Route> Resident<N, M> {
         true
     }
 
-    /// Submits a request that is lent, as `Locked::submit_into` does.
+    /// Submits a request whose bytes are lent, as `Locked::submit_into` does.
     pub(crate) fn submit(
         &mut self,
         caller: &mut Caller<N>,
-        request: &Request,
+        asked: Asked<'_>,
         packet: &mut Packet,
     ) -> Result<Told, LockedError>
-        ensures answers { IfOk result (λ told. Answers self.old.locked.slave request.now
+        requires { IsShort asked }
+        ensures answers { IfOk result (λ told. Answers self.old.locked.slave (request_asked asked.entry)
             (answer_in told packet.new) self.new.locked.slave) }
         ensures journal { IfOk result (λ told. self.new.locked.journal ≡ self.old.locked.journal
-            ++ entry caller.old.number request.now (answer_in told packet.new) ∷ []) }
+            ++ entry caller.old.number (request_asked asked.entry) (answer_in told packet.new) ∷ []) }
         ensures caller { IfOk result (λ told. caller.new ≡ accepting caller.old
-            (receipt self.old.locked.chapter (length self.old.locked.journal) request.now (answer_in told packet.new))) }
+            (receipt self.old.locked.chapter (length self.old.locked.journal) (request_asked asked.entry) (answer_in told packet.new))) }
         ensures full { result ≡ Err LockedError.JournalFull ↔ (journal_limit ≤ length self.old.locked.journal) }
         ensures err { OnErr result ((self.new ≡ self.old) × (caller.new ≡ caller.old)) }
         ensures published { IfOk result (λ told. Publishes self.old.locked self.new.locked) }
         ensures chapter { SameChapter self.old.locked self.new.locked }
         ensures past { self.new.past ≡ self.old.past }
     {
-        self.locked.submit_into(caller, request, packet)
+        self.locked.submit_into(caller, asked, packet)
     }
 
     /// Tells a reader all that was published, as `Locked::tell` does.

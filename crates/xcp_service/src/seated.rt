@@ -13,7 +13,7 @@ use std::sync::{Mutex, Wait};
 use xcp_framing::{Station, StationError};
 use xcp_locked::{HasSlave, LockedError, Name, wait_for_packets};
 use xcp_packet::Packet;
-use xcp_slave::{Request, Told};
+use xcp_slave::{Asked, Told};
 
 /// A slave that stays, under its lock, and the post of its keeper.
 #[derive(Drop)]
@@ -74,11 +74,7 @@ impl<'a, N: Name, M: Route, R: Wait> Station for Seated<'a, N, M, R> {
 
     ghost refuses = { λ t request e. MayRefuse e };
 
-    fn submit_into(
-        &mut self,
-        request: &Request,
-        packet: &mut Packet,
-    ) -> Result<Told, StationError> {
+    fn submit_into(&mut self, asked: Asked<'_>, packet: &mut Packet) -> Result<Told, StationError> {
         self.shared.post.wait_for_keeper(self.rt);
         // What grows is made before the lock is taken. Where there is no memory, submit says so.
         self.member.reserve();
@@ -88,7 +84,7 @@ impl<'a, N: Name, M: Route, R: Wait> Station for Seated<'a, N, M, R> {
             &mut self.shared.lock.lock(self.rt),
             &self.shared.post,
             &mut self.member,
-            request,
+            asked,
             packet,
         );
         match called {

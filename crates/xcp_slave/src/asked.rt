@@ -1,4 +1,9 @@
 //! What a slave is asked, where its bytes are lent.
+ghost use Rattle.std.specs.Prelude.{◌≡◌};
+ghost use Rattle.xcp_slave.specs.AskedRequest.{IsShort, request_asked};
+
+use crate::Request;
+use crate::packet::taken;
 
 /// A request whose bytes stand elsewhere, as in the buffer that they were read into.
 #[derive(Clone, Copy, Debug, PartialEq, Eq)]
@@ -13,4 +18,20 @@ pub enum Asked<'a> {
     FinishStore,
     /// The tool's connection is gone: the session ends.
     Hangup,
+}
+
+impl Asked<'_> {
+    /// The same request, with bytes of its own.
+    pub fn request(self) -> Request
+        requires { IsShort self }
+        ensures { result ≡ request_asked self.entry }
+    {
+        match self {
+            Asked::Command(bytes) => Request::Command(taken(bytes)),
+            Asked::Event(channel, signals) => Request::Event(channel, taken(signals)),
+            Asked::Drain => Request::Drain,
+            Asked::FinishStore => Request::FinishStore,
+            Asked::Hangup => Request::Hangup,
+        }
+    }
 }

@@ -1,7 +1,6 @@
 //! The XCP slave: one request, one answer, by one step relation.
 //!
-//! A [`Slave`] is driven by [`Slave::answer`] alone, or by [`Slave::submit_into`] and [`Slave::submit`], which stand over
-//! it. `specs/Step.antt` says what each request does to it; `specs/Rows.antt` has the row of each
+//! A [`Slave`] is driven by [`Slave::answer`] alone, or by [`Slave::submit`], which stands over it. `specs/Step.antt` says what each request does to it; `specs/Rows.antt` has the row of each
 //! command.
 #![tactic(auto)]
 

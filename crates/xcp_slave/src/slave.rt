@@ -29,7 +29,9 @@ use std::alloc::{AllocError, Global};
 use std::marker::Model;
 use xcp_daq::Daq;
 use xcp_memory::{Layout, Pages};
-use xcp_packet::{Code, Fault, Order, Packet, Reply, Sent, commands, write_done, write_reply};
+use xcp_packet::{
+    Code, Fault, Order, Packet, Reply, Sent, commands, parameter, write_done, write_reply,
+};
 use xcp_transfer::{Mta, Transfer};
 
 /// The code of CONNECT, the one command that is heeded while nobody is connected.
@@ -60,127 +62,6 @@ impl Model for Slave {
     ghost view = { λ s. record { connected = s.connected; transfer = s.transfer; daq = s.daq; outbox = s.outbox; store = s.store } };
 }
 
-// The handler of each command.
-macro_rules! handle {
-    ($slave:ident $packet:ident Connect $mode:ident) => {
-        $slave.connect($mode, $packet)
-    };
-    ($slave:ident $packet:ident Disconnect) => {
-        $slave.disconnect($packet)
-    };
-    ($slave:ident $packet:ident GetStatus) => {
-        $slave.get_status($packet)
-    };
-    ($slave:ident $packet:ident Synch) => {
-        $slave.synch($packet)
-    };
-    ($slave:ident $packet:ident GetCommModeInfo) => {
-        $slave.get_comm_mode_info($packet)
-    };
-    ($slave:ident $packet:ident GetId $kind:ident) => {
-        $slave.get_id($kind, $packet)
-    };
-    ($slave:ident $packet:ident SetMta $extension:ident $address:ident) => {
-        $slave.set_mta($extension, $address, $packet)
-    };
-    ($slave:ident $packet:ident Upload $n:ident) => {
-        $slave.upload($n, $packet)
-    };
-    ($slave:ident $packet:ident ShortUpload $n:ident $extension:ident $address:ident) => {
-        $slave.short_upload($n, $extension, $address, $packet)
-    };
-    ($slave:ident $packet:ident BuildChecksum $size:ident) => {
-        $slave.build_checksum($size, $packet)
-    };
-    ($slave:ident $packet:ident Download $n:ident $bytes:ident) => {
-        $slave.download($n, $bytes, $packet)
-    };
-    ($slave:ident $packet:ident DownloadNext $remaining:ident $bytes:ident) => {
-        $slave.download_next($remaining, $bytes, $packet)
-    };
-    ($slave:ident $packet:ident DownloadMax $bytes:ident) => {
-        $slave.download_max($bytes, $packet)
-    };
-    ($slave:ident $packet:ident ShortDownload $n:ident $extension:ident $address:ident $bytes:ident) => {
-        $slave.short_download($n, $extension, $address, $bytes, $packet)
-    };
-    ($slave:ident $packet:ident ModifyBits $s:ident $ma:ident $mx:ident) => {
-        $slave.modify_bits($s, $ma, $mx, $packet)
-    };
-    ($slave:ident $packet:ident SetCalPage $mode:ident $segment:ident $page:ident) => {
-        $slave.set_cal_page($mode, $segment, $page, $packet)
-    };
-    ($slave:ident $packet:ident GetCalPage $mode:ident $segment:ident) => {
-        $slave.get_cal_page($mode, $segment, $packet)
-    };
-    ($slave:ident $packet:ident GetPagProcessorInfo) => {
-        $slave.get_pag_processor_info($packet)
-    };
-    ($slave:ident $packet:ident GetSegmentInfo $mode:ident $segment:ident $info:ident $mapping:ident) => {
-        $slave.get_segment_info($mode, $segment, $info, $mapping, $packet)
-    };
-    ($slave:ident $packet:ident GetPageInfo $segment:ident $page:ident) => {
-        $slave.get_page_info($segment, $page, $packet)
-    };
-    ($slave:ident $packet:ident SetSegmentMode $mode:ident $segment:ident) => {
-        $slave.set_segment_mode($mode, $segment, $packet)
-    };
-    ($slave:ident $packet:ident GetSegmentMode $segment:ident) => {
-        $slave.get_segment_mode($segment, $packet)
-    };
-    ($slave:ident $packet:ident CopyCalPage $source:ident $source_page:ident $target:ident $target_page:ident) => {
-        $slave.copy_cal_page($source, $source_page, $target, $target_page, $packet)
-    };
-    ($slave:ident $packet:ident SetRequest $mode:ident $id:ident) => {
-        $slave.set_request($mode, $id, $packet)
-    };
-    ($slave:ident $packet:ident ClearDaqList $list:ident) => {
-        $slave.clear_daq_list($list, $packet)
-    };
-    ($slave:ident $packet:ident SetDaqPtr $list:ident $odt:ident $entry:ident) => {
-        $slave.set_daq_ptr($list, $odt, $entry, $packet)
-    };
-    ($slave:ident $packet:ident WriteDaq $offset:ident $size:ident $extension:ident $address:ident) => {
-        $slave.write_daq($offset, $size, $extension, $address, $packet)
-    };
-    ($slave:ident $packet:ident SetDaqListMode $mode:ident $list:ident $event:ident $prescaler:ident $priority:ident) => {
-        $slave.set_daq_list_mode($mode, $list, $event, $prescaler, $priority, $packet)
-    };
-    ($slave:ident $packet:ident GetDaqListMode $list:ident) => {
-        $slave.get_daq_list_mode($list, $packet)
-    };
-    ($slave:ident $packet:ident StartStopDaqList $mode:ident $list:ident) => {
-        $slave.start_stop_daq_list($mode, $list, $packet)
-    };
-    ($slave:ident $packet:ident StartStopSynch $mode:ident) => {
-        $slave.start_stop_synch($mode, $packet)
-    };
-    ($slave:ident $packet:ident ReadDaq) => {
-        $slave.read_daq($packet)
-    };
-    ($slave:ident $packet:ident GetDaqProcessorInfo) => {
-        $slave.get_daq_processor_info($packet)
-    };
-    ($slave:ident $packet:ident GetDaqResolutionInfo) => {
-        $slave.get_daq_resolution_info($packet)
-    };
-    ($slave:ident $packet:ident GetDaqEventInfo $channel:ident) => {
-        $slave.get_daq_event_info($channel, $packet)
-    };
-    ($slave:ident $packet:ident FreeDaq) => {
-        $slave.free_daq($packet)
-    };
-    ($slave:ident $packet:ident AllocDaq $count:ident) => {
-        $slave.alloc_daq($count, $packet)
-    };
-    ($slave:ident $packet:ident AllocOdt $list:ident $count:ident) => {
-        $slave.alloc_odt($list, $count, $packet)
-    };
-    ($slave:ident $packet:ident AllocOdtEntry $list:ident $odt:ident $count:ident) => {
-        $slave.alloc_odt_entry($list, $odt, $count, $packet)
-    };
-}
-
 /// The bytes from a place on.
 fn from_place(bytes: &[u8], place: usize) -> &[u8]
     requires { place ≤ length bytes.now }
@@ -189,34 +70,18 @@ fn from_place(bytes: &[u8], place: usize) -> &[u8]
     &bytes[place..]
 }
 
-// A parameter of a command, as it stands in the packet.
-macro_rules! parameter {
-    ($bytes:ident $order:ident byte $place:literal) => {
-        $bytes[$place]
-    };
-    ($bytes:ident $order:ident word $place:literal) => {
-        $order.word_at($bytes, $place)
-    };
-    ($bytes:ident $order:ident double $place:literal) => {
-        $order.double_at($bytes, $place)
-    };
-    ($bytes:ident $order:ident data $place:literal) => {
-        from_place($bytes, $place)
-    };
-}
-
-// What is done with a packet, by its code. The parameters are read where they stand: no command is made of them, which would
-// take room for the data of the longest.
+// What is done with a packet, by its code: the handler that the list of commands names gets the parameters. They are read
+// where they stand: no command is made of them, which would take room for the data of the longest.
 macro_rules! dispatch {
-    ([$slave:ident $bytes:ident $order:ident $packet:ident] $($variant:ident $value:literal $least:literal { $($name:ident: $kind:ident $place:literal),* })*) => {
+    ([$slave:ident $bytes:ident $order:ident $packet:ident] $($variant:ident $handler:ident $value:literal $least:literal { $($name:ident: $kind:ident $place:literal),* })*) => {
         match $bytes[0] {
             $($value => {
                 if $bytes.len() < $least {
                     return $slave.refuse(Code::CmdSyntax);
                 }
                 $slave.find($value);
-                $(let $name = parameter!($bytes $order $kind $place);)*
-                handle!($slave $packet $variant $($name)*)
+                $(let $name = parameter!(from_place $bytes $order $kind $place);)*
+                $slave.$handler($($name,)* $packet)
             })*
             _ => $slave.refuse(Code::CmdUnknown),
         }
@@ -327,20 +192,13 @@ impl Slave {
         ensures { Answers self.old request.now result self.new }
     {
         let mut packet = Packet::new();
-        let told = self.submit_into(request, &mut packet);
+        let told = self.answer(request.asked(), &mut packet);
         told.with(packet)
     }
 
-    /// Executes one request, as `submit` does. Where the answer is a packet, its bytes stand in the
-    /// packet that is lent, and where it is a block, the block's data bytes; with any other answer the
-    /// lent packet may have any bytes.
-    pub fn submit_into(&mut self, request: &Request, packet: &mut Packet) -> Told
-        ensures { Answers self.old request.now (answer_in result packet.new) self.new }
-    {
-        self.answer(request.asked(), packet)
-    }
-
-    /// Executes one request whose bytes are lent, as `submit_into` does.
+    /// Executes one request whose bytes are lent, as `submit` does. If the answer is a packet, its bytes
+    /// stand in the packet that is lent, and if it is a block, the block's data bytes; with any other
+    /// answer the lent packet may have any bytes.
     pub fn answer(&mut self, asked: Asked<'_>, packet: &mut Packet) -> Told
         requires { IsShort asked }
         ensures { Answers self.old (request_asked asked.entry) (answer_in result packet.new) self.new }

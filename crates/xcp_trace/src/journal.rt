@@ -1,6 +1,7 @@
 //! Exchanges with the callers that asked.
 ghost use Rattle.std.specs.Prelude.{◌≡◌, ◌≤◌, ◌++◌, ◌∷◌, [], length, IfOk, OnOk, OnErr, MatchOption, slice_get};
 ghost use Rattle.xcp_slave.specs.AnswerInBytes.{answer_in};
+ghost use Rattle.xcp_slave.specs.AskedRequest.{IsShort, request_asked};
 ghost use Rattle.xcp_trace.specs.EntryBytes.{SpellEntries};
 ghost use Rattle.xcp_trace.specs.EntrySpelling.{IsEntryString, entry_in, room_for_any_entry};
 
@@ -9,7 +10,7 @@ use crate::{LentEntry, Strings, Tape};
 use std::alloc::{AllocError, Global};
 use std::marker::Model;
 use xcp_packet::Packet;
-use xcp_slave::{Answer, Exchange, Request, Told};
+use xcp_slave::{Answer, Asked, Exchange, Request, Told};
 
 /// The bytes before an exchange's string: the caller's number.
 pub(crate) const CALLER_BYTES: usize = 1;
@@ -84,16 +85,17 @@ impl Journal {
             .push(&[caller], &spelled.head, spelled.asked, spelled.told);
     }
 
-    /// Puts an entry behind the others, as `push` does. The answer's packet, or the data bytes of its
-    /// block, stand in the lent one.
-    pub fn push_told(&mut self, caller: u8, request: &Request, told: &Told, packet: &Packet)
-        requires { room_for_any_entry ≤ self.old.room }
+    /// Puts an entry behind the others, as `push` does. The request's bytes are lent, and the answer's
+    /// packet, or the data bytes of its block, stand in the lent one.
+    pub fn push_told(&mut self, caller: u8, asked: Asked<'_>, told: &Told, packet: &Packet)
+        requires room { room_for_any_entry ≤ self.old.room }
+        requires short { IsShort asked }
         ensures { self.new.entries ≡ self.old.entries ++ record {
           caller = caller;
-          exchange = record { request = request.now; answer = answer_in told.now packet.now };
+          exchange = record { request = request_asked asked.entry; answer = answer_in told.now packet.now };
         } ∷ [] }
     {
-        let parts = spell_told(request, told, packet);
+        let parts = spell_told(asked, told, packet);
         self.tape
             .push(&[caller], &parts.head, parts.asked, parts.told);
     }

@@ -2,11 +2,12 @@
 ghost use Rattle.std.specs.Prelude.{◌≡◌, ◌≤◌, ◌<◌, ◌++◌, length};
 ghost use Rattle.xcp_slave.specs.declared.Answer.{Answer};
 ghost use Rattle.xcp_slave.specs.AnswerInBytes.{answer_in};
+ghost use Rattle.xcp_slave.specs.AskedRequest.{IsShort, request_asked};
 ghost use Rattle.xcp_trace.specs.ExchangeSpelling.{IsExchangeString, answer_of, exchange_in, request_bytes, request_channel, request_of, request_tag};
 
 use arrayvec::ArrayVec;
 use xcp_packet::{Packet, Train, Width};
-use xcp_slave::{Answer, Exchange, Request, Told};
+use xcp_slave::{Answer, Asked, Exchange, Request, Told};
 
 /// The bytes of a head: the request's tag and its channel, the answer's tag and its number, and the
 /// length of the request's bytes.
@@ -38,27 +39,29 @@ pub(crate) fn spell<'a>(request: &'a Request, answer: &'a Answer) -> Spelled<'a>
     ensures told { length result.told.now ≤ PACKET_BYTES }
 {
     let (kind, count, told) = answer_parts(answer);
-    spell_parts(request, kind, count, told)
+    spell_parts(request.asked(), kind, count, told)
 }
 
 /// The string of an exchange, from its request and from what was told beside a lent packet.
-pub(crate) fn spell_told<'a>(request: &'a Request, told: &Told, packet: &'a Packet) -> Spelled<'a>
+pub(crate) fn spell_told<'a>(asked: Asked<'a>, told: &Told, packet: &'a Packet) -> Spelled<'a>
+    requires { IsShort asked }
     ensures string { exchange_in (result.head ++ result.asked.now ++ result.told.now)
-        ≡ record { request = request.now; answer = answer_in told.now packet.now } }
+        ≡ record { request = request_asked asked.entry; answer = answer_in told.now packet.now } }
     ensures fits { IsExchangeString (result.head ++ result.asked.now ++ result.told.now) }
     ensures asked { length result.asked.now ≤ PACKET_BYTES }
     ensures told { length result.told.now ≤ PACKET_BYTES }
 {
     let (kind, count, bytes) = told_parts(told, packet);
-    spell_parts(request, kind, count, bytes)
+    spell_parts(asked, kind, count, bytes)
 }
 
 /// The string of an exchange, from its request and the parts of its answer.
-fn spell_parts<'a>(request: &'a Request, kind: u8, count: u8, told: &'a [u8]) -> Spelled<'a>
+fn spell_parts<'a>(request: Asked<'a>, kind: u8, count: u8, told: &'a [u8]) -> Spelled<'a>
+    requires asked { IsShort request }
     requires short { length told.now ≤ PACKET_BYTES }
     requires width { 9 < kind → (7 ≤ count) × (count ≤ 254) }
     ensures string { exchange_in (result.head ++ result.asked.now ++ result.told.now)
-        ≡ record { request = request.now; answer = answer_of kind count told.now } }
+        ≡ record { request = request_asked request.entry; answer = answer_of kind count told.now } }
     ensures fits { IsExchangeString (result.head ++ result.asked.now ++ result.told.now) }
     ensures asked { length result.asked.now ≤ PACKET_BYTES }
     ensures told { length result.told.now ≤ PACKET_BYTES }
@@ -86,20 +89,21 @@ pub(crate) fn read_exchange(string: &[u8]) -> Exchange
 }
 
 /// The tag of a request, its channel and its bytes.
-fn request_parts(request: &Request) -> (u8, u16, &[u8])
-    ensures tag { result.0 ≡ request_tag request.now }
-    ensures channel { result.1 ≡ request_channel request.now }
+fn request_parts(request: Asked<'_>) -> (u8, u16, &[u8])
+    requires { IsShort request }
+    ensures tag { result.0 ≡ request_tag (request_asked request.entry) }
+    ensures channel { result.1 ≡ request_channel (request_asked request.entry) }
     ensures word { result.1 < 65536 }
-    ensures bytes { result.2.now ≡ request_bytes request.now }
+    ensures bytes { result.2.now ≡ request_bytes (request_asked request.entry) }
     ensures short { length result.2.now ≤ 255 }
     ensures signals { result.0 ≡ 1 → length result.2.now ≤ 64 }
 {
     match request {
-        Request::Command(packet) => (0, 0, packet.as_slice()),
-        Request::Event(channel, signals) => (1, *channel, signals.as_slice()),
-        Request::Drain => (2, 0, &[]),
-        Request::FinishStore => (3, 0, &[]),
-        Request::Hangup => (4, 0, &[]),
+        Asked::Command(packet) => (0, 0, packet),
+        Asked::Event(channel, signals) => (1, channel, signals),
+        Asked::Drain => (2, 0, &[]),
+        Asked::FinishStore => (3, 0, &[]),
+        Asked::Hangup => (4, 0, &[]),
     }
 }
 

@@ -1,6 +1,7 @@
 //! The exchanges that a slave has had.
 ghost use Rattle.std.specs.Prelude.{◌≡◌, ◌≤◌, ◌++◌, ◌∷◌, [], length, OnOk, OnErr, MatchOption, slice_get};
 ghost use Rattle.xcp_slave.specs.AnswerInBytes.{answer_in};
+ghost use Rattle.xcp_slave.specs.AskedRequest.{IsShort, request_asked};
 ghost use Rattle.xcp_trace.specs.ExchangeSpelling.{room_for_any};
 
 use crate::spelling::{EXCHANGE_BYTES, read_exchange, spell, spell_told};
@@ -8,7 +9,7 @@ use crate::{LentExchange, Strings, Tape};
 use std::alloc::{AllocError, Global};
 use std::marker::Model;
 use xcp_packet::Packet;
-use xcp_slave::{Answer, Exchange, Request, Told};
+use xcp_slave::{Answer, Asked, Exchange, Request, Told};
 
 /// Exchanges, in the order in which they were had.
 #[derive(Drop)]
@@ -65,14 +66,15 @@ impl Trace {
             .push(&[], &spelled.head, spelled.asked, spelled.told);
     }
 
-    /// Puts an exchange behind the others, as `push` does. The answer's packet, or the data bytes of its
-    /// block, stand in the lent one.
-    pub fn push_told(&mut self, request: &Request, told: &Told, packet: &Packet)
-        requires { room_for_any ≤ self.old.room }
+    /// Puts an exchange behind the others, as `push` does. The request's bytes are lent, and the answer's
+    /// packet, or the data bytes of its block, stand in the lent one.
+    pub fn push_told(&mut self, asked: Asked<'_>, told: &Told, packet: &Packet)
+        requires room { room_for_any ≤ self.old.room }
+        requires short { IsShort asked }
         ensures { self.new.exchanges ≡ self.old.exchanges
-            ++ record { request = request.now; answer = answer_in told.now packet.now } ∷ [] }
+            ++ record { request = request_asked asked.entry; answer = answer_in told.now packet.now } ∷ [] }
     {
-        let spelled = spell_told(request, told, packet);
+        let spelled = spell_told(asked, told, packet);
         self.tape
             .push(&[], &spelled.head, spelled.asked, spelled.told);
     }

@@ -18,7 +18,7 @@ returns-in_err-told-clause-answers g c =
     rw (passed_on c.from_residual-in_err-told.result (refused_with c.in_err-told.field-0.0) c.from_residual-in_err-told.ensures.1)
     (puts_behind _ _ _ _ _ _ _ g.met.S.Station.same_trans g.met.E.End.same_trans _ _ _ _ (record { station = c.args.station.now; state = record { sent = c.args.state.now.sent; batch = c.make_room.new.batch }; out = c.make_room.new.end }) _
     (room_made _ _ _ _ _ _ _ g.met.S.Station.same_refl _ _ refl c.in_ok-make_room.ensures.moves c.make_room.ensures.same refl)
-    (one_refused _ _ _ _ _ _ _ g.met.S.Station.same_refl g.met.E.End.same_refl c.in_err-told.field-0.0 c.args.command.now.items _ _ c.in_err-told.ensures.err refl refl (rw (c.request.ensures) at c.in_err-told.ensures.refused)))
+    (one_refused _ _ _ _ _ _ _ g.met.S.Station.same_refl g.met.E.End.same_refl c.in_err-told.field-0.0 c.args.command.now.items _ _ c.in_err-told.ensures.err refl refl (rw (c.as_slice.ensures.value) at c.in_err-told.ensures.refused)))
 
 pub returns-in_err-state-clause-answers : goal.returns-in_err-state-clause-answers
 returns-in_err-state-clause-answers g c =
@@ -26,4 +26,4 @@ returns-in_err-state-clause-answers g c =
     rw (passed_on c.from_residual-in_err-state.result c.in_err-state.field-0.0 c.from_residual-in_err-state.ensures.1, c.in_err-state.ensures.err)
     (puts_behind _ _ _ _ _ _ _ g.met.S.Station.same_trans g.met.E.End.same_trans _ _ _ _ (record { station = c.args.station.now; state = record { sent = c.args.state.now.sent; batch = c.make_room.new.batch }; out = c.make_room.new.end }) _
     (room_made _ _ _ _ _ _ _ g.met.S.Station.same_refl _ _ refl c.in_ok-make_room.ensures.moves c.make_room.ensures.same refl)
-    (one_lost _ _ _ _ _ _ _ x c.args.command.now.items _ _ refl (rw (c.request.ensures) at c.in_ok-told.ensures.ok) refl c.in_err-state.ensures.back.0 c.in_err-state.ensures.back.1 c.submit_into.ensures.stays (g.met.E.End.same_refl _)))
+    (one_lost _ _ _ _ _ _ _ x c.args.command.now.items _ _ refl (rw (c.as_slice.ensures.value) at c.in_ok-told.ensures.ok) refl c.in_err-state.ensures.back.0 c.in_err-state.ensures.back.1 c.submit_into.ensures.stays (g.met.E.End.same_refl _)))
