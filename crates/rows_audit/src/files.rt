@@ -99,8 +99,9 @@ fn push_call(
 ) -> Result<(), AllocError> {
     journal.reserve()?;
     let request = request(number);
-    let answer = slave.submit(&request);
-    journal.push(caller, &request, &answer);
+    let mut packet = ArrayVec::new();
+    let told = slave.answer(request.asked(), &mut packet);
+    journal.push(caller, request.asked(), &told, &packet);
     Ok(())
 }
 

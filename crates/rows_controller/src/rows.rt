@@ -5,7 +5,7 @@ use arrayvec::ArrayVec;
 use xcp_bank::{IMAGE_BYTES, Reader, Taken};
 use xcp_controller::Controller;
 use xcp_packet::Packet;
-use xcp_slave::{Asked, Request, Told};
+use xcp_slave::{Asked, Cut, Request, Told};
 
 /// What is asked.
 #[derive(Clone, Copy)]
@@ -34,7 +34,7 @@ pub enum Said {
 impl Said {
     fn told(&self) -> Told {
         match self {
-            Said::Packet(_) => Told::Packet,
+            Said::Packet(_) => Told::Packets(Cut::Whole),
             Said::Silent => Told::Silent,
             Said::Sampled(count) => Told::Sampled(*count),
             Said::NoChannel => Told::NoChannel,
@@ -154,7 +154,7 @@ pub fn asks(controller: &mut Controller, command: &[u8]) -> bool {
         return false;
     }
     let told = controller.answer(Asked::Command(command));
-    told == Told::Packet && controller.packet().first() == Some(&0xFF)
+    told == Told::Packets(Cut::Whole) && controller.packet().first() == Some(&0xFF)
 }
 
 /// The first row, counted from 0, that isn't answered as it says, or behind which the reader takes another

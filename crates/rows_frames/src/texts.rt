@@ -3,7 +3,7 @@ use crate::holding::hold;
 use std::alloc::Global;
 use xcp_packet::{Packet, Width};
 use xcp_script::push_text;
-use xcp_slave::Told;
+use xcp_slave::{Cut, Told};
 
 /// Whether an answer has this text, where FF 0A B0 01 05 06 07 08 are its packet if it is one, and its
 /// bytes if it is a block.
@@ -17,9 +17,15 @@ fn is_told(alloc: Global, told: Told, wanted: &[u8]) -> bool {
 fn first_wrong(alloc: Global) -> Option<usize> {
     let rows: [(Told, &[u8]); 14] = [
         (Told::Silent, b"-\n"),
-        (Told::Packet, b"FF0AB00105060708\n"),
-        (Told::Block(Width::new(7)), b"FFFF0AB001050607 FF08\n"),
-        (Told::Block(Width::new(8)), b"FFFF0AB00105060708\n"),
+        (Told::Packets(Cut::Whole), b"FF0AB00105060708\n"),
+        (
+            Told::Packets(Cut::Block(Width::new(7))),
+            b"FFFF0AB001050607 FF08\n",
+        ),
+        (
+            Told::Packets(Cut::Block(Width::new(8))),
+            b"FFFF0AB00105060708\n",
+        ),
         (Told::Sampled(0), b"sampled 0\n"),
         (Told::Sampled(64), b"sampled 64\n"),
         (Told::Sampled(205), b"sampled 205\n"),

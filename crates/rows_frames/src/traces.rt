@@ -66,7 +66,9 @@ fn traced(alloc: Global) -> Result<Trace, AllocError> {
     let mut trace = Trace::new(alloc);
     for number in 0..EXCHANGES {
         trace.reserve()?;
-        trace.push(&request(number), &answer(number));
+        let mut packet = Packet::new();
+        let told = answer(number).lay(&mut packet);
+        trace.push(request(number).asked(), &told, &packet);
     }
     Ok(trace)
 }
@@ -96,7 +98,9 @@ fn entered(alloc: Global) -> Result<Journal, AllocError> {
     let mut journal = Journal::new(alloc);
     for number in 0..EXCHANGES {
         journal.reserve()?;
-        journal.push(243 + number, &request(number), &answer(number));
+        let mut packet = Packet::new();
+        let told = answer(number).lay(&mut packet);
+        journal.push(243 + number, request(number).asked(), &told, &packet);
     }
     Ok(journal)
 }

@@ -4,7 +4,7 @@ use crate::holding::hold;
 use crate::stations::Pending;
 use arrayvec::ArrayVec;
 use std::alloc::Global;
-use xcp_framing::{Desk, Station, StationError, told_of};
+use xcp_framing::{Desk, Station, StationError};
 use xcp_packet::{Packet, Train, Width};
 use xcp_slave::{Answer, Request};
 
@@ -95,7 +95,7 @@ static ANSWERS: [Gives; 15] = [
 /// Whether an answer that is laid into a packet is read out of it again.
 fn is_laid(gives: Gives) -> bool {
     let mut packet = bytes(&[7; 255]);
-    let told = told_of(&answer(gives), &mut packet);
+    let told = answer(gives).lay(&mut packet);
     told.with(packet) == answer(gives)
 }
 

@@ -5,7 +5,7 @@ ghost use Rattle.xcp_framing.specs.declared.station.StationError.TheVariants as 
 
 use std::marker::Model;
 use std::sync::atomic::AtomicBool;
-use xcp_framing::{Desk, Station, StationError, told_of};
+use xcp_framing::{Desk, Station, StationError};
 use xcp_packet::{Packet, Train, Width};
 use xcp_slave::{Answer, Asked, Exchange, Told};
 
@@ -82,7 +82,7 @@ impl Station for Pending {
         if let Answer::Packets(_) = &answer {
             self.packets -= 1;
         }
-        let told = told_of(&answer, packet);
+        let told = answer.lay(packet);
         self.exchanges.push_reserved(Exchange {
             request: asked.request(),
             answer,

@@ -4,7 +4,7 @@ use crate::slaves::slave;
 use crate::streams::{LAYOUT, Pieces, append, recorder};
 use std::alloc::{AllocError, Global};
 use xcp_framing::Watched;
-use xcp_packet::Train;
+use xcp_packet::{Packet, Train};
 use xcp_record::{Silent, audit};
 use xcp_slave::{Answer, Request};
 use xcp_trace::Journal;
@@ -55,7 +55,9 @@ fn calls(alloc: Global) -> Result<Journal, AllocError> {
     let mut journal = Journal::new(alloc);
     for caller in 0..3 {
         journal.reserve()?;
-        journal.push(caller, &request(caller), &answer(caller));
+        let mut packet = Packet::new();
+        let told = answer(caller).lay(&mut packet);
+        journal.push(caller, request(caller).asked(), &told, &packet);
     }
     Ok(journal)
 }

@@ -3,7 +3,7 @@
 use arrayvec::ArrayVec;
 use std::alloc::{AllocError, Global};
 use xcp_memory::{EventPart, Layout, Parts, SegmentPart};
-use xcp_packet::Order;
+use xcp_packet::{Order, Packet};
 use xcp_slave::{Request, Slave};
 use xcp_trace::Journal;
 
@@ -77,8 +77,9 @@ fn request(number: u8) -> Request {
 fn push_call(journal: &mut Journal, slave: &mut Slave, number: u8) -> Result<(), AllocError> {
     journal.reserve()?;
     let request = request(number);
-    let answer = slave.submit(&request);
-    journal.push(number % 3, &request, &answer);
+    let mut packet = Packet::new();
+    let told = slave.answer(request.asked(), &mut packet);
+    journal.push(number % 3, request.asked(), &told, &packet);
     Ok(())
 }
 

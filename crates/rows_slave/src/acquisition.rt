@@ -1,6 +1,6 @@
 //! Rows of the commands of acquisition lists, and of events.
 use crate::layouts::{Kind, USUAL, connected};
-use crate::rows::{all_hold, hold, hold_again, hold_on_new};
+use crate::rows::{hold, hold_again, hold_around, hold_on_new};
 use std::alloc::Global;
 use std::test::Fail;
 
@@ -8,8 +8,7 @@ use std::test::Fail;
 fn hold_behind_64(alloc: Global, rows: &[&str; 3]) -> Result<(), Fail> {
     let [opening, event, rest] = *rows;
     let mut slave = connected(alloc, USUAL)?;
-    hold_again(&mut slave, opening, 64, event)?;
-    all_hold(&mut slave, rest)
+    hold_around(&mut slave, opening, 64, event, rest)
 }
 
 static NO_ROOM: [&str; 3] = [

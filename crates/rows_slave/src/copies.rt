@@ -1,5 +1,8 @@
-//! Requests and answers are copied.
+//! Requests are copied, and answers are laid into a packet that is lent.
 use crate::rows::{answer, request};
+use std::test::Fail;
+use xcp_packet::Packet;
+use xcp_slave::Answer;
 
 static REQUESTS: [&str; 5] = ["F5 04", "event 201 01 02 03", "drain", "store", "hangup"];
 
@@ -24,19 +27,40 @@ static ANSWERS: [&str; 11] = [
     "later",
 ];
 
-fn answer_is_copied(text: &str) -> bool {
+/// The same answer, by way of a packet.
+fn laid(answer: &Answer) -> Answer {
+    let mut packet = Packet::new();
+    let told = answer.lay(&mut packet);
+    told.with(packet)
+}
+
+fn is_laid(text: &str) -> bool {
     match answer(text) {
-        Some(answer) => answer.copy() == answer && answer.copy().same(&answer),
+        Some(answer) => laid(&answer) == answer && laid(&answer).same(&answer),
         None => false,
     }
 }
 
-#[test]
-fn requests_and_answers_are_copied(rt: HostRuntime) {
+fn requests_are_copied() -> Result<(), Fail> {
     for text in &REQUESTS {
-        assert!(rt; is_copied(text), "{text}");
+        if !is_copied(text) {
+            return Err(Fail::new(*text));
+        }
     }
+    Ok(())
+}
+
+fn answers_are_laid() -> Result<(), Fail> {
     for text in &ANSWERS {
-        assert!(rt; answer_is_copied(text), "{text}");
+        if !is_laid(text) {
+            return Err(Fail::new(*text));
+        }
     }
+    Ok(())
+}
+
+#[test]
+fn requests_are_copied_and_answers_laid(_rt: HostRuntime) -> Result<(), Fail> {
+    requests_are_copied()?;
+    answers_are_laid()
 }

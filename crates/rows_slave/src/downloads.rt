@@ -1,6 +1,6 @@
 //! Downloads of as many bytes as one may name.
 use crate::layouts::{Kind, USUAL, connected};
-use crate::rows::{answer, first_wrong, hold_on};
+use crate::rows::{adds_data, answer, first_wrong, hold_on, packet_of};
 use std::alloc::Global;
 use std::test::Fail;
 use xcp_packet::{Packet, Train};
@@ -17,6 +17,32 @@ fn falling() -> [u8; 255] {
     bytes
 }
 
+/// Adds a packet's code and number of bytes, and bytes, if there is room.
+fn adds_part(packet: &mut Packet, code: u8, left: u8, part: &[u8]) -> bool {
+    packet.try_push(code).is_ok()
+        && packet.try_push(left).is_ok()
+        && packet.try_extend_from_slice(part).is_ok()
+}
+
+fn is_answered(slave: &mut Slave, packet: Packet, said: &str) -> bool {
+    match answer(said) {
+        Some(said) => slave.submit(&Request::Command(packet)) == said,
+        None => false,
+    }
+}
+
+/// Whether a packet of a DOWNLOAD is answered by silence, or by FF where it has all bytes that are left.
+fn takes(slave: &mut Slave, code: u8, left: u8, part: &[u8]) -> bool {
+    let said = if part.len() == usize::from(left) {
+        "FF"
+    } else {
+        "-"
+    };
+    let mut packet = Packet::new();
+    let fits = adds_part(&mut packet, code, left, part);
+    is_answered(slave, packet, said) && fits
+}
+
 /// How many packets a DOWNLOAD of so many of these bytes takes, so many bytes in each but the last, if all
 /// others are answered by silence, and the last one by FF.
 fn downloaded(slave: &mut Slave, room: usize, n: u8) -> Option<u8> {
@@ -24,51 +50,40 @@ fn downloaded(slave: &mut Slave, room: usize, n: u8) -> Option<u8> {
         return None;
     }
     let bytes = falling();
-    let mut code = 0xF0;
     let mut left = n;
     let mut packets = 0u8;
     for part in bytes.get(..usize::from(n))?.chunks(room) {
-        let mut packet = Packet::new();
-        packet.try_push(code).ok()?;
-        packet.try_push(left).ok()?;
-        packet.try_extend_from_slice(part).ok()?;
-        left = left.checked_sub(u8::try_from(part.len()).ok()?)?;
-        let said = if left == 0 { "FF" } else { "-" };
-        if Some(slave.submit(&Request::Command(packet))) != answer(said) {
+        let code = if packets == 0 { 0xF0 } else { 0xEF };
+        if !takes(slave, code, left, part) {
             return None;
         }
-        code = 0xEF;
+        left = left.checked_sub(u8::try_from(part.len()).ok()?)?;
         packets = packets.wrapping_add(1);
     }
     Some(packets)
 }
 
-/// The bytes behind the FF of each packet.
-fn data(train: &Train) -> Option<Packet> {
-    let mut data = Packet::new();
+/// Adds the bytes behind the FF of each packet.
+fn adds_all(data: &mut Packet, train: &Train) -> bool {
     for i in 0..train.count() {
         let packet = train.at(i);
-        let (first, rest) = packet.split_first()?;
-        if *first != 0xFF {
-            return None;
+        if packet.first() != Some(&0xFF) || !adds_data(data, &packet) {
+            return false;
         }
-        data.try_extend_from_slice(rest).ok()?;
     }
-    Some(data)
+    true
+}
+
+/// Whether the packets have the first so many bytes.
+fn has_data(train: &Train, n: u8) -> bool {
+    let mut data = Packet::new();
+    adds_all(&mut data, train) && Some(data.as_slice()) == falling().get(..usize::from(n))
 }
 
 /// Whether an UPLOAD of so many bytes gives these bytes.
 fn is_read_back(slave: &mut Slave, n: u8) -> bool {
-    let mut upload = Packet::new();
-    if upload.try_extend_from_slice(&[0xF5, n]).is_err() {
-        return false;
-    }
-    let Answer::Packets(train) = slave.submit(&Request::Command(upload)) else {
-        return false;
-    };
-    let bytes = falling();
-    match (data(&train), bytes.get(..usize::from(n))) {
-        (Some(data), Some(bytes)) => data.as_slice() == bytes,
+    match slave.submit(&Request::Command(packet_of(&[0xF5, n]))) {
+        Answer::Packets(train) => has_data(&train, n),
         _ => false,
     }
 }
@@ -93,8 +108,11 @@ fn came(slave: &mut Slave, room: usize, n: u8) -> Option<u8> {
     Some(packets)
 }
 
-/// MAX_CTO, data bytes of a full packet, bytes, and packets: eight are the most of a block.
-static LENGTHS: [(i64, usize, u8, u8); 9] = [
+/// MAX_CTO, data bytes of a full packet, bytes, and packets.
+type Row = (i64, usize, u8, u8);
+
+/// Eight packets are the most of a block.
+static LENGTHS: [Row; 9] = [
     (8, 6, 6, 1),
     (8, 6, 7, 2),
     (8, 6, 48, 8),
@@ -115,11 +133,15 @@ fn long(max_cto: i64) -> Kind {
     }
 }
 
+fn is_so(alloc: Global, (max_cto, room, n, packets): &Row) -> Result<bool, Fail> {
+    let mut slave = connected(alloc, long(*max_cto))?;
+    Ok(came(&mut slave, *room, *n) == Some(*packets))
+}
+
 /// Whether all of them come so.
 fn all_lengths_are_so(alloc: Global) -> Result<(), Fail> {
-    for (number, (max_cto, room, n, packets)) in LENGTHS.iter().enumerate() {
-        let found = came(&mut connected(alloc, long(*max_cto))?, *room, *n);
-        if found != Some(*packets) {
+    for (number, row) in LENGTHS.iter().enumerate() {
+        if !is_so(alloc, row)? {
             return Err(Fail::new(number));
         }
     }

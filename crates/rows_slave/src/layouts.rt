@@ -1,8 +1,9 @@
 //! The slaves that the rows are about.
+use crate::rows::packet_of;
 use std::alloc::{AllocError, Global};
 use std::test::Fail;
 use xcp_memory::{EventPart, Layout, Parts, SegmentPart};
-use xcp_packet::{Order, Packet};
+use xcp_packet::Order;
 use xcp_slave::{Request, Slave};
 
 /// What differs from one slave's layout to another's.
@@ -29,72 +30,85 @@ pub const USUAL: Kind = Kind {
     third: false,
 };
 
-/// So many bytes, which count from 0.
-fn counted(alloc: Global, length: u8) -> Result<Vec<u8>, AllocError> {
-    let mut bytes = Vec::new(alloc);
-    for byte in 0..length {
-        bytes.push(byte)?;
+/// Bytes that count from 0.
+fn counted() -> [u8; 255] {
+    let mut bytes = [0; 255];
+    let mut next = 0u8;
+    for byte in bytes.iter_mut() {
+        *byte = next;
+        next = next.wrapping_add(1);
     }
-    Ok(bytes)
+    bytes
 }
 
-/// Segment 0 with so many pages and bytes, segment 1 with two pages, and there may be a segment 2 with two.
-fn segments(
+fn add_segment(
+    parts: &mut Parts,
     alloc: Global,
+    address: i64,
+    bytes: &[u8],
     pages: i64,
-    length: u8,
-    third: bool,
-) -> Result<Vec<SegmentPart>, AllocError> {
-    let mut segments = Vec::new(alloc);
-    segments.push(SegmentPart {
-        address: 0x1000,
-        bytes: counted(alloc, length)?,
+) -> Result<(), AllocError> {
+    let bytes = bytes.to_vec(alloc)?;
+    parts.segments.push(SegmentPart {
+        address,
+        bytes,
         pages,
     })?;
-    segments.push(SegmentPart {
-        address: 0x2000,
-        bytes: [0xAA; 8].to_vec(alloc)?,
-        pages: 2,
-    })?;
-    if third {
-        segments.push(SegmentPart {
-            address: 0x3000,
-            bytes: [0xBB; 4].to_vec(alloc)?,
-            pages: 2,
-        })?;
-    }
-    Ok(segments)
+    Ok(())
 }
 
-/// The event channel `10ms`.
-fn events(alloc: Global) -> Result<Vec<EventPart>, AllocError> {
-    let mut events = Vec::new(alloc);
-    events.push(EventPart {
-        name: b"10ms".to_vec(alloc)?,
+/// Adds the event channel `10ms`.
+fn add_event(parts: &mut Parts, alloc: Global) -> Result<(), AllocError> {
+    let name = b"10ms".to_vec(alloc)?;
+    parts.events.push(EventPart {
+        name,
         cycle: 10,
         unit: 6,
         priority: 0,
     })?;
-    Ok(events)
+    Ok(())
+}
+
+/// Adds what a layout has of its own memory.
+fn add(parts: &mut Parts, alloc: Global, kind: Kind) -> Result<(), AllocError> {
+    parts.id.extend_from_slice(b"ECU1")?;
+    let first = counted();
+    add_segment(
+        parts,
+        alloc,
+        0x1000,
+        &first[..usize::from(kind.length)],
+        kind.pages,
+    )?;
+    add_segment(parts, alloc, 0x2000, &[0xAA; 8], 2)?;
+    if kind.third {
+        add_segment(parts, alloc, 0x3000, &[0xBB; 4], 2)?;
+    }
+    add_event(parts, alloc)
+}
+
+fn parts(alloc: Global, kind: Kind) -> Result<Parts, AllocError> {
+    let mut parts = Parts {
+        id: Vec::new(alloc),
+        max_cto: kind.max_cto,
+        max_dto: kind.max_dto,
+        checksum: kind.checksum,
+        order: kind.order,
+        segments: Vec::new(alloc),
+        signals_address: 0x8000,
+        signals_length: 8,
+        events: Vec::new(alloc),
+    };
+    match add(&mut parts, alloc, kind) {
+        Ok(()) => Ok(parts),
+        Err(error) => Err(error),
+    }
 }
 
 /// The identification `ECU1`, 00, 01 and so on at 0x1000, eight bytes AA at 0x2000, four bytes BB at 0x3000
 /// where there is a segment 2, 8 bytes of signals at 0x8000, and the event channel `10ms`.
 fn layout(alloc: Global, kind: Kind) -> Result<Layout, Fail> {
-    let id = b"ECU1".to_vec(alloc)?;
-    let segments = segments(alloc, kind.pages, kind.length, kind.third)?;
-    let events = events(alloc)?;
-    Ok(Layout::new(Parts {
-        id,
-        max_cto: kind.max_cto,
-        max_dto: kind.max_dto,
-        checksum: kind.checksum,
-        order: kind.order,
-        segments,
-        signals_address: 0x8000,
-        signals_length: 8,
-        events,
-    })?)
+    Ok(Layout::new(parts(alloc, kind)?)?)
 }
 
 /// A slave that was just made.
@@ -105,8 +119,6 @@ pub(crate) fn slave(alloc: Global, kind: Kind) -> Result<Slave, Fail> {
 /// A slave behind CONNECT.
 pub(crate) fn connected(alloc: Global, kind: Kind) -> Result<Slave, Fail> {
     let mut slave = slave(alloc, kind)?;
-    let mut connect = Packet::new();
-    let _ = connect.try_extend_from_slice(&[0xFF, 0]);
-    let _ = slave.submit(&Request::Command(connect));
+    let _ = slave.submit(&Request::Command(packet_of(&[0xFF, 0])));
     Ok(slave)
 }

@@ -1,31 +1,53 @@
 //! Command packets of one byte.
 use crate::layouts::{USUAL, connected};
-use crate::rows::{answer, hold};
+use crate::rows::{answer, hold, packet_of, so};
 use std::alloc::Global;
 use std::test::Fail;
-use xcp_packet::Packet;
 use xcp_slave::{Answer, Request};
 
 /// What a packet of one byte is answered behind CONNECT.
 fn told(alloc: Global, first: u8) -> Result<Answer, Fail> {
-    let mut packet = Packet::new();
-    let _ = packet.try_push(first);
-    Ok(connected(alloc, USUAL)?.submit(&Request::Command(packet)))
+    let mut slave = connected(alloc, USUAL)?;
+    Ok(slave.submit(&Request::Command(packet_of(&[first]))))
 }
 
-/// How many of the 256 packets of one byte are answered FE 20, and how many FE 21.
-fn refused(alloc: Global) -> Result<(u32, u32), Fail> {
-    let mut unknown = 0u32;
-    let mut short = 0u32;
-    for first in 0..=255u8 {
-        let told = Some(told(alloc, first)?);
-        if told == answer("FE 20") {
-            unknown = unknown.wrapping_add(1);
-        } else if told == answer("FE 21") {
-            short = short.wrapping_add(1);
-        }
+fn is(told: &Answer, said: &str) -> bool {
+    match answer(said) {
+        Some(said) => *told == said,
+        None => false,
     }
-    Ok((unknown, short))
+}
+
+/// How many packets are answered FE 20, and how many FE 21.
+#[derive(Clone, Copy)]
+struct Refused {
+    unknown: u32,
+    short: u32,
+}
+
+fn count(alloc: Global, first: u8, refused: &mut Refused) -> Result<(), Fail> {
+    let told = told(alloc, first)?;
+    if is(&told, "FE 20") {
+        refused.unknown = refused.unknown.wrapping_add(1);
+    } else if is(&told, "FE 21") {
+        refused.short = refused.short.wrapping_add(1);
+    }
+    Ok(())
+}
+
+/// Whether of the 256 packets of one byte so many are refused.
+fn refused_are_counted(alloc: Global) -> Result<(), Fail> {
+    let mut refused = Refused {
+        unknown: 0,
+        short: 0,
+    };
+    for first in 0..=255u8 {
+        count(alloc, first, &mut refused)?;
+    }
+    so(
+        refused.unknown == 217 && refused.short == 30,
+        "other packets of one byte are refused",
+    )
 }
 
 /// The nine that are executed, each by a slave of its own.
@@ -50,6 +72,6 @@ fn all_hold_alone(alloc: Global) -> Result<(), Fail> {
 
 #[test]
 fn packets_of_one_byte(rt: HostRuntime) -> Result<(), Fail> {
-    assert!(rt; refused(rt.alloc())? == (217, 30));
+    refused_are_counted(rt.alloc())?;
     all_hold_alone(rt.alloc())
 }

@@ -8,29 +8,53 @@ use std::test::Fail;
 use xcp_packet::{Packet, Train, Width};
 use xcp_slave::{Answer, Request, Slave};
 
-/// The bytes of a text, if all its words are bytes.
-pub(crate) fn bytes<const N: usize>(text: &str) -> Option<ArrayVec<u8, N>> {
-    let mut bytes = ArrayVec::new();
+/// Adds the bytes of a text, if all its words are bytes and there is room.
+fn adds<const N: usize>(bytes: &mut ArrayVec<u8, N>, text: &str) -> bool {
     for word in text.split_whitespace() {
-        let byte = u8::from_str_radix(word, 16).ok()?;
-        bytes.try_push(byte).ok()?;
+        match u8::from_str_radix(word, 16) {
+            Ok(byte) if bytes.try_push(byte).is_ok() => {}
+            _ => return false,
+        }
     }
-    Some(bytes)
+    true
+}
+
+/// The bytes of a text, if all its words are bytes.
+fn bytes<const N: usize>(text: &str) -> Option<ArrayVec<u8, N>> {
+    let mut bytes = ArrayVec::new();
+    if adds(&mut bytes, text) {
+        Some(bytes)
+    } else {
+        None
+    }
+}
+
+fn command(text: &str) -> Option<Request> {
+    match bytes(text) {
+        Some(packet) => Some(Request::Command(packet)),
+        None => None,
+    }
+}
+
+fn event(text: &str) -> Option<Request> {
+    let (channel, signals) = text.split_once(' ')?;
+    let channel = u16::from_str_radix(channel, 16).ok()?;
+    match bytes(signals) {
+        Some(signals) => Some(Request::Event(channel, signals)),
+        None => None,
+    }
 }
 
 pub(crate) fn request(text: &str) -> Option<Request> {
     match text {
-        "drain" => return Some(Request::Drain),
-        "store" => return Some(Request::FinishStore),
-        "hangup" => return Some(Request::Hangup),
-        _ => {}
+        "drain" => Some(Request::Drain),
+        "store" => Some(Request::FinishStore),
+        "hangup" => Some(Request::Hangup),
+        _ => match text.strip_prefix("event ") {
+            Some(rest) => event(rest),
+            None => command(text),
+        },
     }
-    let Some(event) = text.strip_prefix("event ") else {
-        return Some(Request::Command(bytes(text)?));
-    };
-    let (channel, signals) = event.split_once(' ')?;
-    let channel = u16::from_str_radix(channel, 16).ok()?;
-    Some(Request::Event(channel, bytes(signals)?))
 }
 
 fn counted(text: &str) -> Option<Answer> {
@@ -43,22 +67,53 @@ fn counted(text: &str) -> Option<Answer> {
     }
 }
 
+/// Adds the bytes behind a packet's first one, if it has that and there is room.
+pub(crate) fn adds_data(data: &mut Packet, packet: &[u8]) -> bool {
+    match packet.split_first() {
+        Some((_, rest)) => data.try_extend_from_slice(rest).is_ok(),
+        None => false,
+    }
+}
+
+fn adds_part(data: &mut Packet, part: &str) -> bool {
+    match bytes::<255>(part) {
+        Some(packet) => adds_data(data, &packet),
+        None => false,
+    }
+}
+
+fn adds_all(data: &mut Packet, text: &str) -> bool {
+    for part in text.split('|') {
+        if !adds_part(data, part) {
+            return false;
+        }
+    }
+    true
+}
+
 /// The bytes of a block's packets, without the first one of each.
 fn joined(text: &str) -> Option<Packet> {
     let mut data = Packet::new();
-    for part in text.split('|') {
-        let packet: Packet = bytes(part)?;
-        let (_, rest) = packet.split_first()?;
-        data.try_extend_from_slice(rest).ok()?;
+    if adds_all(&mut data, text) {
+        Some(data)
+    } else {
+        None
     }
-    Some(data)
+}
+
+/// Whether this is the packet of that number, if there are so many.
+fn is_at(train: &Train, number: u8, part: &str) -> bool {
+    match bytes::<255>(part) {
+        Some(packet) => number < train.count() && train.at(number) == packet,
+        None => false,
+    }
 }
 
 /// Whether the packets are those of the text, in order.
 fn are(train: &Train, text: &str) -> bool {
     let mut count = 0u8;
     for part in text.split('|') {
-        if count >= train.count() || Some(train.at(count)) != bytes(part) {
+        if count == 255 || !is_at(train, count, part) {
             return false;
         }
         count += 1;
@@ -66,17 +121,42 @@ fn are(train: &Train, text: &str) -> bool {
     count == train.count()
 }
 
-/// The packets of an answer, if they are one packet or those of a block.
-fn packets(text: &str) -> Option<Train> {
-    let Some((first, _)) = text.split_once('|') else {
-        return Some(Train::one(bytes(text)?));
-    };
-    let first: Packet = bytes(first)?;
-    if first.len() < 8 {
+fn checked(train: Train, text: &str) -> Option<Train> {
+    if are(&train, text) { Some(train) } else { None }
+}
+
+/// The packets of a block, of which a full one has so many bytes.
+fn block(text: &str, full: usize) -> Option<Train> {
+    if full < 8 || full > 255 {
         return None;
     }
-    let train = Train::cut(&joined(text)?, Width::new(first.len() as u8 - 1));
-    if are(&train, text) { Some(train) } else { None }
+    match joined(text) {
+        Some(data) => checked(Train::cut(&data, Width::new(full as u8 - 1)), text),
+        None => None,
+    }
+}
+
+/// How many bytes a text of bytes has.
+fn length(text: &str) -> usize {
+    match bytes::<255>(text) {
+        Some(packet) => packet.len(),
+        None => 0,
+    }
+}
+
+fn one(text: &str) -> Option<Train> {
+    match bytes(text) {
+        Some(packet) => Some(Train::one(packet)),
+        None => None,
+    }
+}
+
+/// The packets of an answer, if they are one packet or those of a block.
+fn packets(text: &str) -> Option<Train> {
+    match text.split_once('|') {
+        Some((first, _)) => block(text, length(first)),
+        None => one(text),
+    }
 }
 
 pub(crate) fn answer(text: &str) -> Option<Answer> {
@@ -96,35 +176,40 @@ pub(crate) fn answer(text: &str) -> Option<Answer> {
     }
 }
 
+/// A packet of these bytes.
+pub(crate) fn packet_of(bytes: &[u8]) -> Packet {
+    let mut packet = Packet::new();
+    let _ = packet.try_extend_from_slice(bytes);
+    packet
+}
+
 /// The controller's image of 24 bytes, if all is 0 behind them.
 fn image(slave: &Slave) -> Option<Answer> {
     let mut image = [0xFF; 2040];
     slave.image(&mut image);
     let (bytes, rest) = image.split_at(24);
-    if !rest.iter().all(|byte| *byte == 0) {
-        return None;
+    if rest == [0; 2016].as_slice() {
+        Some(Answer::Packets(Train::one(packet_of(bytes))))
+    } else {
+        None
     }
-    let mut packet = Packet::new();
-    packet.try_extend_from_slice(bytes).ok()?;
-    Some(Answer::Packets(Train::one(packet)))
 }
 
-/// A packet to lend, full of bytes that no answer may have.
-fn lent() -> Option<Packet> {
-    let mut packet = Packet::new();
-    packet.try_extend_from_slice(&[0xEE; 255]).ok()?;
-    Some(packet)
+/// What a request is answered, with a packet lent that is full of bytes that no answer may have.
+fn answered(slave: &mut Slave, request: &Request) -> Answer {
+    let mut packet = packet_of(&[0xEE; 255]);
+    let told = slave.answer(request.asked(), &mut packet);
+    told.with(packet)
 }
 
 /// What is answered; none where the question has no meaning.
 fn told(slave: &mut Slave, question: &str) -> Option<Answer> {
     if question == "image" {
-        image(slave)
-    } else {
-        let request = request(question)?;
-        let mut packet = lent()?;
-        let told = slave.answer(request.asked(), &mut packet);
-        Some(told.with(packet))
+        return image(slave);
+    }
+    match request(question) {
+        Some(request) => Some(answered(slave, &request)),
+        None => None,
     }
 }
 
@@ -175,6 +260,23 @@ pub(crate) fn all_hold(slave: &mut Slave, rows: &str) -> Result<(), Fail> {
     }
 }
 
+/// The row of a table, counted from 0, that isn't so.
+#[derive(Debug, Drop)]
+pub struct WrongRow(pub usize);
+
+/// Fails with the row that was found wrong.
+pub(crate) fn none_is_wrong(wrong: Option<usize>) -> Result<(), Fail> {
+    match wrong {
+        None => Ok(()),
+        Some(row) => Err(WrongRow(row).into()),
+    }
+}
+
+/// Fails with these words where it isn't so.
+pub(crate) fn so(holds: bool, words: &str) -> Result<(), Fail> {
+    if holds { Ok(()) } else { Err(Fail::new(words)) }
+}
+
 /// Whether a slave that was just made answers so.
 pub(crate) fn hold_on_new(alloc: Global, kind: Kind, rows: &str) -> Result<(), Fail> {
     all_hold(&mut slave(alloc, kind)?, rows)
@@ -202,4 +304,16 @@ pub(crate) fn hold_again(
         all_hold(slave, again)?;
     }
     Ok(())
+}
+
+/// The same, and yet others behind them.
+pub(crate) fn hold_around(
+    slave: &mut Slave,
+    rows: &str,
+    times: u32,
+    again: &str,
+    behind: &str,
+) -> Result<(), Fail> {
+    hold_again(slave, rows, times, again)?;
+    all_hold(slave, behind)
 }

@@ -1,6 +1,6 @@
 //! The reader of rows hides no failure.
 use crate::layouts::{USUAL, connected};
-use crate::rows::{answer, first_wrong};
+use crate::rows::{answer, first_wrong, none_is_wrong, so};
 use std::alloc::Global;
 use std::test::Fail;
 use xcp_slave::Answer;
@@ -27,12 +27,15 @@ static TEXTS: [(&str, Option<u32>); 18] = [
     ("event 1 00 > no channel", None),
 ];
 
+fn is_found(alloc: Global, text: &str, wrong: Option<u32>) -> Result<(), Fail> {
+    let mut slave = connected(alloc, USUAL)?;
+    so(first_wrong(&mut slave, text) == wrong, text)
+}
+
 /// Whether in each text the wrong line is found.
 fn all_are_found(alloc: Global) -> Result<(), Fail> {
     for (text, wrong) in &TEXTS {
-        if first_wrong(&mut connected(alloc, USUAL)?, text) != *wrong {
-            return Err(Fail::new(*text));
-        }
+        is_found(alloc, text, *wrong)?;
     }
     Ok(())
 }
@@ -42,19 +45,25 @@ fn wrong_rows_are_found(rt: HostRuntime) -> Result<(), Fail> {
     all_are_found(rt.alloc())
 }
 
-fn means(text: &str, answer_meant: Option<Answer>) -> bool {
-    answer(text) == answer_meant
+fn means(text: &str, answer_meant: &Answer) -> bool {
+    match answer(text) {
+        Some(answer) => answer == *answer_meant,
+        None => false,
+    }
+}
+
+fn words_mean_answers() -> bool {
+    means("sampled 3", &Answer::Sampled(3))
+        && means("stored 2", &Answer::Stored(2))
+        && means("overrun", &Answer::Overrun)
+        && means("later", &Answer::Later)
+        && answer("sampled").is_none()
+        && answer("sampled 256").is_none()
 }
 
 #[test]
-fn answers_have_words(rt: HostRuntime) {
-    let sampled = means("sampled 3", Some(Answer::Sampled(3)));
-    let stored = means("stored 2", Some(Answer::Stored(2)));
-    let overrun = means("overrun", Some(Answer::Overrun));
-    let later = means("later", Some(Answer::Later));
-    let uncounted = means("sampled", None);
-    let too_many = means("sampled 256", None);
-    assert!(rt; [sampled, stored, overrun, later, uncounted, too_many] == [true; 6]);
+fn answers_have_words(_rt: HostRuntime) -> Result<(), Fail> {
+    so(words_mean_answers(), "a word means another answer")
 }
 
 /// Texts of several packets, and whether one answer may have them.
@@ -80,6 +89,6 @@ fn first_wrong_train() -> Option<usize> {
 }
 
 #[test]
-fn packets_but_the_last_are_full(rt: HostRuntime) {
-    assert_eq!(rt; first_wrong_train(), None);
+fn packets_but_the_last_are_full(_rt: HostRuntime) -> Result<(), Fail> {
+    none_is_wrong(first_wrong_train())
 }

@@ -1,6 +1,6 @@
 //! A slave that is copied is the same one, until one of both is asked something.
 use crate::layouts::{Kind, USUAL, slave};
-use crate::rows::request;
+use crate::rows::{request, so};
 use std::alloc::Global;
 use std::test::Fail;
 use xcp_slave::{Request, Slave};
@@ -42,15 +42,17 @@ fn goes_along(slave: &mut Slave, copy: &mut Slave, request: &Request) -> bool {
 
 /// Whether a new copy is so with the request of this line.
 fn follows(alloc: Global, slave: &mut Slave, line: &str) -> Result<bool, Fail> {
-    let mut copy = slave.copy(alloc)?;
-    Ok(match request(line) {
-        Some(request) => goes_along(slave, &mut copy, &request),
-        None => false,
-    })
+    match request(line) {
+        Some(request) => {
+            let mut copy = slave.copy(alloc)?;
+            Ok(goes_along(slave, &mut copy, &request))
+        }
+        None => Ok(false),
+    }
 }
 
-/// The number of the first line whose change a copy doesn't show, if there is one, and how many lines were shown.
-fn first_hidden(alloc: Global, slave: &mut Slave, lines: &str) -> Result<(Option<u32>, u32), Fail> {
+/// How many lines there are, if a copy shows the change of each.
+fn shown(alloc: Global, slave: &mut Slave, lines: &str) -> Result<u32, Fail> {
     let mut shown = 0u32;
     for line in lines.lines() {
         let line = line.trim();
@@ -58,11 +60,11 @@ fn first_hidden(alloc: Global, slave: &mut Slave, lines: &str) -> Result<(Option
             continue;
         }
         if !follows(alloc, slave, line)? {
-            return Ok((Some(shown), shown));
+            return Err(Fail::new(line));
         }
         shown = shown.wrapping_add(1);
     }
-    Ok((None, shown))
+    Ok(shown)
 }
 
 /// A segment of 64 bytes.
@@ -71,13 +73,16 @@ const LONG: Kind = Kind {
     ..USUAL
 };
 
-/// The same of a slave that was just made.
-fn first_hidden_of_new(alloc: Global) -> Result<(Option<u32>, u32), Fail> {
-    first_hidden(alloc, &mut slave(alloc, LONG)?, CHANGES)
+/// Whether all of them are shown of a slave that was just made.
+fn all_are_shown(alloc: Global) -> Result<(), Fail> {
+    let mut slave = slave(alloc, LONG)?;
+    so(
+        shown(alloc, &mut slave, CHANGES)? == 20,
+        "there are 20 changes",
+    )
 }
 
 #[test]
 fn a_copy_is_the_same_until_one_changes(rt: HostRuntime) -> Result<(), Fail> {
-    assert!(rt; first_hidden_of_new(rt.alloc())? == (None, 20));
-    Ok(())
+    all_are_shown(rt.alloc())
 }

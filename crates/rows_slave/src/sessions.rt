@@ -1,6 +1,6 @@
 //! Rows of the begin and the end of a session.
 use crate::layouts::{Kind, USUAL, slave};
-use crate::rows::{hold, hold_on_new};
+use crate::rows::{hold, hold_on_new, so};
 use std::alloc::Global;
 use std::test::Fail;
 use xcp_packet::Order;
@@ -10,9 +10,10 @@ fn limits_of(slave: &Slave) -> (u8, u8) {
     (slave.max_cto(), slave.layout().max_dto())
 }
 
-/// MAX_CTO and MAX_DTO of a slave.
-fn limits(alloc: Global) -> Result<(u8, u8), Fail> {
-    Ok(limits_of(&slave(alloc, USUAL)?))
+/// Whether MAX_CTO and MAX_DTO of a slave are told.
+fn limits_are_told(alloc: Global) -> Result<(), Fail> {
+    let slave = slave(alloc, USUAL)?;
+    so(limits_of(&slave) == (32, 64), "a slave has other limits")
 }
 
 #[test]
@@ -26,7 +27,7 @@ fn a_slave_that_is_not_connected_heeds_a_whole_connect_alone(rt: HostRuntime) ->
         F5 04 > -
         FF 00 > FF 05 C0 20 40 00 01 01
     ";
-    assert!(rt; limits(rt.alloc())? == (32, 64));
+    limits_are_told(rt.alloc())?;
     hold_on_new(rt.alloc(), USUAL, rows)
 }
 

@@ -1,6 +1,6 @@
 //! Rows of the commands that freeze segments and have their pages stored.
 use crate::layouts::{Kind, USUAL, connected};
-use crate::rows::{all_hold, hold, hold_again, hold_on};
+use crate::rows::{hold, hold_around, hold_on};
 use std::alloc::Global;
 use std::test::Fail;
 
@@ -148,8 +148,7 @@ const STORE: &str = "
 /// Whether a slave answers so whose outbox has all 64 packets that it takes.
 fn hold_behind_64(alloc: Global, rest: &str) -> Result<(), Fail> {
     let mut slave = connected(alloc, USUAL)?;
-    hold_again(&mut slave, STORE, 63, STORE)?;
-    all_hold(&mut slave, rest)
+    hold_around(&mut slave, STORE, 63, STORE, rest)
 }
 
 #[test]

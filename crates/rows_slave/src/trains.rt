@@ -1,6 +1,6 @@
 //! Uploads whose bytes go over several packets.
 use crate::layouts::{Kind, USUAL, connected};
-use crate::rows::{bytes, first_wrong, hold_on};
+use crate::rows::{first_wrong, hold_on, packet_of};
 use std::alloc::Global;
 use std::test::Fail;
 use xcp_packet::Train;
@@ -32,23 +32,33 @@ fn an_upload_in_three_packets(rt: HostRuntime) -> Result<(), Fail> {
     hold_on(rt.alloc(), NARROW, rows)
 }
 
+/// The byte behind those of a packet, if it has an FF and bytes behind it that count from this one on.
+fn counted(packet: &[u8], first: u8) -> Option<u8> {
+    let (code, data) = packet.split_first()?;
+    let mut next = first;
+    for byte in data {
+        if *code != 0xFF || *byte != next {
+            return None;
+        }
+        next = next.wrapping_add(1);
+    }
+    Some(next)
+}
+
 /// How many packets there are, how many bytes the last one has, and how many bytes all have behind an
 /// FF, if these count from 0.
 fn measured(train: &Train) -> Option<(u8, usize, u8)> {
     let mut last = 0;
-    let mut next = 0u8;
+    let mut next = Some(0);
     for i in 0..train.count() {
         let packet = train.at(i);
-        let (first, data) = packet.split_first()?;
-        for byte in data {
-            if *first != 0xFF || *byte != next {
-                return None;
-            }
-            next = next.wrapping_add(1);
-        }
         last = packet.len();
+        next = match next {
+            Some(first) => counted(&packet, first),
+            None => None,
+        };
     }
-    Some((train.count(), last, next))
+    Some((train.count(), last, next?))
 }
 
 /// What an UPLOAD of so many bytes is answered at the segment's start.
@@ -56,16 +66,16 @@ fn uploaded(slave: &mut Slave, n: u8) -> Option<(u8, usize, u8)> {
     if first_wrong(slave, "F6 00 00 00 00 10 00 00 > FF").is_some() {
         return None;
     }
-    let mut upload = bytes("F5")?;
-    upload.try_push(n).ok()?;
-    match slave.submit(&Request::Command(upload)) {
+    match slave.submit(&Request::Command(packet_of(&[0xF5, n]))) {
         Answer::Packets(train) => measured(&train),
         _ => None,
     }
 }
 
 /// MAX_CTO, bytes, packets, and bytes of the last packet.
-static LENGTHS: [(i64, u8, u8, usize); 12] = [
+type Row = (i64, u8, u8, usize);
+
+static LENGTHS: [Row; 12] = [
     (8, 1, 1, 2),
     (8, 7, 1, 8),
     (8, 8, 2, 2),
@@ -80,16 +90,21 @@ static LENGTHS: [(i64, u8, u8, usize); 12] = [
     (255, 255, 2, 2),
 ];
 
-/// Whether a slave with a segment of 255 bytes tells all of them so.
+/// Whether a slave with a segment of 255 bytes tells one of them so.
+fn is_so(alloc: Global, (max_cto, n, packets, last): &Row) -> Result<bool, Fail> {
+    let kind = Kind {
+        max_cto: *max_cto,
+        length: 255,
+        ..USUAL
+    };
+    let mut slave = connected(alloc, kind)?;
+    Ok(uploaded(&mut slave, *n) == Some((*packets, *last, *n)))
+}
+
+/// Whether it does all of them.
 fn all_lengths_are_so(alloc: Global) -> Result<(), Fail> {
-    for (number, (max_cto, n, packets, last)) in LENGTHS.iter().enumerate() {
-        let kind = Kind {
-            max_cto: *max_cto,
-            length: 255,
-            ..USUAL
-        };
-        let found = uploaded(&mut connected(alloc, kind)?, *n);
-        if found != Some((*packets, *last, *n)) {
+    for (number, row) in LENGTHS.iter().enumerate() {
+        if !is_so(alloc, row)? {
             return Err(Fail::new(number));
         }
     }

@@ -9,7 +9,7 @@ use std::{env, fs, io};
 use xcp_config::read_layout;
 use xcp_packet::Packet;
 use xcp_script::{Line, parse_line};
-use xcp_slave::{Request, Slave, Told};
+use xcp_slave::{Cut, Request, Slave, Told};
 
 const TURNS: u32 = 2000;
 
@@ -67,7 +67,7 @@ fn begun(rt: &HostRuntime, path: &str) -> io::Result<Slave> {
     let mut packet = Packet::new();
     for request in &requests_of(rt.alloc(), BEGIN)? {
         let told = answer(&mut slave, request, &mut packet);
-        if told != Told::Packet || packet.first() != Some(&0xFF) {
+        if told != Told::Packets(Cut::Whole) || packet.first() != Some(&0xFF) {
             return Err(InvalidData.into());
         }
     }

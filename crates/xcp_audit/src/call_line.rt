@@ -4,7 +4,6 @@ ghost use Rattle.hex.specs.Hex.{encode_upper};
 ghost use Rattle.xcp_audit.specs.CallLine.{line_of, words_asked};
 
 use std::alloc::AllocError;
-use xcp_framing::told_of;
 use xcp_packet::Packet;
 use xcp_script::push_text;
 use xcp_slave::Request;
@@ -21,7 +20,7 @@ pub(crate) fn push_line(text: &mut Vec<u8>, call: &Entry) -> Result<(), AllocErr
     push_request(text, &call.exchange.request)?;
     text.push(b'\t')?;
     let mut packet = Packet::new();
-    let told = told_of(&call.exchange.answer, &mut packet);
+    let told = call.exchange.answer.lay(&mut packet);
     push_text(text, told, &packet)
 }
 

@@ -1,8 +1,8 @@
 -- What an answer tells a C program.
 use Rattle.std.specs.Prelude.{◌≡◌, ◌⊎◌, ◌<◌, ◌==◌, ℕ, List, [], ◌∷◌, length, take, Option, Some, None, if◌then◌else◌}
 use Rattle.xcp_packet.specs.PacketTrains.{packets_in}
-use Rattle.xcp_slave.specs.declared.answer.Answer.{Answer}
-use Rattle.xcp_slave.specs.declared.answer.Answer.TheVariants as answers
+use Rattle.xcp_slave.specs.Outcomes.{Answer}
+use Rattle.xcp_slave.specs.declared.Outcome.TheVariants as answers
 use Rattle.xcp_c.specs.declared.answer.XcpAnswer.{XcpAnswer}
 
 -- how many data bytes each packet of a block has but the last; 0 says that it is no block

@@ -4,7 +4,7 @@ use Rattle.arrayvec.specs.ArrayVec.{ArrayVec}
 use Rattle.xcp_bank.specs.BankEnds.{HeldDoes}
 use Rattle.xcp_controller.specs.ControllerValue.{ControllerValue, Publishes}
 use Rattle.xcp_slave.specs.Step.{Answers}
-use Rattle.xcp_slave.specs.declared.answer.Answer.{Answer}
+use Rattle.xcp_slave.specs.Outcomes.{Answer}
 use Rattle.xcp_slave.specs.declared.request.Request.{Request}
 use Rattle.xcp_slave.specs.declared.request.Request.TheVariants as requests
 use Rattle.xcp_c.specs.Answered.{IsTold}

@@ -5,7 +5,7 @@ ghost use Rattle.xcp_slave.specs.AnswerInBytes.{answer_in};
 ghost use Rattle.xcp_c.specs.Answered.{IsTold, HasNoWidth, packets_told};
 
 use xcp_packet::{Packet, Train, Width};
-use xcp_slave::Told;
+use xcp_slave::{Cut, Told};
 
 /// The number that says that there are packets for the tool.
 const PACKETS: u8 = 1;
@@ -48,19 +48,19 @@ impl XcpAnswer {
         self.width = 0;
         self.length = 0;
         self.count = 0;
-        match told {
+        match &told {
             Told::Silent => self.told = 0,
-            Told::Packet => self.tell_packets(packet, 0, 1),
-            Told::Block(width) => {
-                let count = Train::cut(packet, width).count();
+            Told::Packets(Cut::Whole) => self.tell_packets(packet, 0, 1),
+            Told::Packets(Cut::Block(width)) => {
+                let count = Train::cut(packet, *width).count();
                 self.tell_packets(packet, width.bytes(), count);
             }
-            Told::Sampled(count) => self.tell_count(2, count),
+            Told::Sampled(count) => self.tell_count(2, *count),
             Told::Overrun => self.told = 3,
             Told::NoChannel => self.told = 4,
             Told::BadSignals => self.told = 5,
             Told::Nothing => self.told = 6,
-            Told::Stored(count) => self.tell_count(7, count),
+            Told::Stored(count) => self.tell_count(7, *count),
             Told::NoStore => self.told = 8,
             Told::Later => self.told = 9,
         }

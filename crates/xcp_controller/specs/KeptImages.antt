@@ -1,7 +1,7 @@
 -- Requests that leave the controller's image as it is.
 use Rattle.std.specs.Prelude.{◌≡◌}
 use Rattle.xcp_slave.specs.declared.Request.{Request}
-use Rattle.xcp_slave.specs.declared.Answer.{Answer}
+use Rattle.xcp_slave.specs.Outcomes.{Answer}
 use Rattle.xcp_slave.specs.Step.{Answers}
 use Rattle.xcp_slave.specs.SlaveValue.{SlaveValue}
 use Rattle.xcp_controller.specs.ControllerValue.{image_of}

@@ -5,15 +5,15 @@ ghost use Rattle.xcp_slave.specs.AnswerInBytes.{answer_in};
 ghost use Rattle.xcp_slave.specs.AskedRequest.{IsShort, request_asked};
 ghost use Rattle.xcp_slave.specs.SlaveValue.{SlaveValue, layout_of, opening};
 ghost use Rattle.xcp_slave.specs.Step.{Answers};
-ghost use Rattle.xcp_slave.specs.declared.answer.Answer.{Answer};
+ghost use Rattle.xcp_slave.specs.Outcomes.{Answer};
 ghost use Rattle.xcp_controller.specs.ControllerValue.{IsPublished, Publishes, image_of};
 ghost use Rattle.xcp_controller.specs.private.Offers.{Offers};
 
 use crate::keeping::keeps_image;
-use crate::readers::boxed;
+use crate::readers::boxed_bank;
 use std::alloc::{AllocError, Global};
 use std::marker::Model;
-use xcp_bank::{Bank, IMAGE_BYTES, Reader, Writer};
+use xcp_bank::{IMAGE_BYTES, Reader, Writer};
 use xcp_memory::Layout;
 use xcp_packet::Packet;
 use xcp_slave::{Asked, Slave, Told};
@@ -56,8 +56,7 @@ impl Controller {
         let slave = Slave::new(alloc, layout)?;
         let mut last = [0; IMAGE_BYTES];
         slave.image(&mut last);
-        let (writer, readers) = Bank::new(alloc, &last)?;
-        let spare = boxed(alloc, Vec::from_array(alloc, readers)?)?;
+        let (writer, spare) = boxed_bank(alloc, &last)?;
         Ok(Controller {
             slave,
             writer,

@@ -5,7 +5,7 @@ ghost use Rattle.xcp_packet.specs.PlainSpelling.{OnePacket};
 use std::alloc::{AllocError, Global};
 use xcp_memory::Layout;
 use xcp_packet::{Command, Order, Packet, encode_command};
-use xcp_slave::{Slave, Told};
+use xcp_slave::{Cut, Slave, Told};
 
 /// The first byte of a positive response.
 const POSITIVE: u8 = 0xFF;
@@ -95,7 +95,7 @@ impl Asked {
         let order = self.slave.layout().order();
         let (told, answer) = self.submit(encode_command(&Command::Upload { n }, order));
         match told {
-            Told::Block(_) => answer,
+            Told::Packets(Cut::Block(_)) => answer,
             _ => behind_first(&answer),
         }
     }

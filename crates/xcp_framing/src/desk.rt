@@ -97,7 +97,7 @@ impl Station for Desk {
             return Err(StationError::Memory);
         }
         let told = self.slave.answer(asked, packet);
-        self.trace.push_told(asked, &told, packet);
+        self.trace.push(asked, &told, packet);
         Ok(told)
     }
 

@@ -10,7 +10,7 @@ use crate::{Batch, End, ServeError};
 use std::alloc::{AllocError, Global};
 use std::mem;
 use xcp_packet::{Packet, Width};
-use xcp_slave::Told;
+use xcp_slave::{Cut, Told};
 
 /// Puts the packets of a batch, if it has some. It has none then, also where they are handed back,
 /// and room for those of the next answers. Where there is no memory for this room they aren't put.
@@ -83,12 +83,12 @@ fn push_told(batch: &mut Batch, told: Told, packet: &Packet) -> Result<u64, Allo
     ensures most { IfOk result (λ n. n ≤ most_train) }
     ensures some { OnErr result (packet_of (answer_in told packet.now) ≢ []) }
 {
-    match told {
-        Told::Packet => {
+    match &told {
+        Told::Packets(Cut::Whole) => {
             batch.push(packet)?;
             Ok(1)
         }
-        Told::Block(width) => push_block(batch, packet, width),
+        Told::Packets(Cut::Block(width)) => push_block(batch, packet, *width),
         _ => Ok(0),
     }
 }

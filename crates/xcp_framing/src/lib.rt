@@ -33,7 +33,7 @@ pub use law::a_desk_is_never_full;
 pub use pumping::pump;
 pub use serving::{ServeError, Served, serve};
 pub use serving_by::serve_by;
-pub use station::{Station, StationError, told_of};
+pub use station::{Station, StationError};
 pub use stream::{
     any_cutting_gives_the_same_frames, each_stream_has_its_frames, plain_frames,
     the_wire_gives_its_packets_back,

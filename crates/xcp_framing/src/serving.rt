@@ -18,7 +18,7 @@ use std::alloc::Global;
 use std::io::{Read, Write};
 use thiserror::Error;
 use xcp_packet::{Packet, Width};
-use xcp_slave::{Asked, Told};
+use xcp_slave::{Asked, Cut, Told};
 
 /// The most Drains behind a command.
 const DRAINS: u8 = 64;
@@ -95,8 +95,7 @@ fn has_packets(told: &Told) -> bool
     ensures none { (packet : ArrayVec ℕ) → result ≡ false → packet_of (answer_in told.now packet) ≡ [] }
 {
     match told {
-        Told::Packet => true,
-        Told::Block(_) => true,
+        Told::Packets(_) => true,
         _ => false,
     }
 }
@@ -123,8 +122,8 @@ fn send_told<W: Write>(
         (e ≡ ServeError.Write) × (writer.old.failures < writer.new.failures)) }
 {
     match told {
-        Told::Packet => sender.send(writer, packet),
-        Told::Block(width) => send_block(packet.as_slice(), *width, writer, sender),
+        Told::Packets(Cut::Whole) => sender.send(writer, packet),
+        Told::Packets(Cut::Block(width)) => send_block(packet.as_slice(), *width, writer, sender),
         _ => Ok(()),
     }
 }

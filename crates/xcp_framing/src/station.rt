@@ -8,7 +8,7 @@ ghost use Rattle.xcp_framing.specs.declared.station.StationError.{StationError};
 
 use std::sync::atomic::AtomicBool;
 use thiserror::Error;
-use xcp_packet::{Packet, Train};
+use xcp_packet::Packet;
 use xcp_slave::{Answer, Asked, Request, Told};
 
 /// Why a station did not take a request. Nothing was executed, and nothing changed.
@@ -88,34 +88,4 @@ pub trait Station {
     ghost same_refl: { (x : Self) → same x x };
 
     ghost same_trans: { (x y z : Self) → same x y → same y z → same x z };
-}
-
-/// Lays an answer into a packet that is lent, for a station that has answers as values.
-pub fn told_of(answer: &Answer, packet: &mut Packet) -> Told
-    ensures { answer_in result packet.new ≡ answer.now }
-{
-    match answer {
-        Answer::Packets(train) => told_of_train(train, packet),
-        Answer::Silent => Told::Silent,
-        Answer::Sampled(count) => Told::Sampled(*count),
-        Answer::Overrun => Told::Overrun,
-        Answer::NoChannel => Told::NoChannel,
-        Answer::BadSignals => Told::BadSignals,
-        Answer::Nothing => Told::Nothing,
-        Answer::Stored(count) => Told::Stored(*count),
-        Answer::NoStore => Told::NoStore,
-        Answer::Later => Told::Later,
-    }
-}
-
-fn told_of_train(train: &Train, packet: &mut Packet) -> Told
-    ensures { answer_in result packet.new ≡ Answer.Packets train.now }
-{
-    let (width, bytes) = train.parts();
-    packet.clear();
-    let _ = packet.try_extend_from_slice(bytes);
-    match width {
-        None => Told::Packet,
-        Some(width) => Told::Block(width),
-    }
 }

@@ -21,8 +21,8 @@ use Rattle.xcp_daq.specs.declared.Allocation.TheVariants.{FreeDaq, AllocDaq, All
 use Rattle.xcp_slave.specs.Rows.{row}
 use Rattle.xcp_slave.specs.SlaveValue.{SlaveValue, layout_of}
 use Rattle.xcp_slave.specs.Step.{Answers, Executes, Heeds, answer_of, found_by, is_connect}
-use Rattle.xcp_slave.specs.declared.Answer.{Answer}
-use Rattle.xcp_slave.specs.declared.Answer.TheVariants as answers
+use Rattle.xcp_slave.specs.Outcomes.{Answer}
+use Rattle.xcp_slave.specs.declared.Outcome.TheVariants as answers
 use Rattle.xcp_slave.specs.declared.Request.TheVariants as requests
 
 -- a test that holds has its first case

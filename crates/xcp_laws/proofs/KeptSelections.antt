@@ -8,7 +8,7 @@ use Rattle.xcp_slave.specs.DueLists.{KeepsLists}
 use Rattle.xcp_slave.specs.PacketQueue.{event_packets}
 use Rattle.xcp_slave.specs.SlaveValue.{SlaveValue, layout_of}
 use Rattle.xcp_slave.specs.Step.{Answers, Fires, outbox_size}
-use Rattle.xcp_slave.specs.declared.Answer.{Answer}
+use Rattle.xcp_slave.specs.Outcomes.{Answer}
 use Rattle.xcp_slave.specs.declared.Request.{Request}
 use Rattle.xcp_slave.specs.declared.Request.TheVariants as requests
 use Rattle.xcp_slave.proofs.StepLaws.{either}

@@ -6,7 +6,7 @@ ghost use Rattle.xcp_slave.specs.AcceptedCommands.{Accepts};
 ghost use Rattle.xcp_slave.specs.DueLists.{KeepsLists};
 ghost use Rattle.xcp_slave.specs.SlaveValue.{SlaveValue};
 ghost use Rattle.xcp_slave.specs.Step.{Answers};
-ghost use Rattle.xcp_slave.specs.declared.Answer.{Answer};
+ghost use Rattle.xcp_slave.specs.Outcomes.{Answer};
 ghost use Rattle.xcp_slave.specs.declared.Request.{Request};
 
 /// START_STOP_DAQ_LIST starts (mode 1), stops (mode 0) or selects (mode 2) the list that it names, and no

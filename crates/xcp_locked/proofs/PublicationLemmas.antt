@@ -5,7 +5,7 @@ use Rattle.xcp_bank.specs.BankId.{BankId}
 use Rattle.xcp_bank.specs.BankEnds.{new_writer}
 use Rattle.xcp_slave.specs.declared.Exchange.{Exchange}
 use Rattle.xcp_slave.specs.declared.Request.{Request}
-use Rattle.xcp_slave.specs.declared.Answer.{Answer}
+use Rattle.xcp_slave.specs.Outcomes.{Answer}
 use Rattle.xcp_slave.specs.SlaveValue.{SlaveValue}
 use Rattle.xcp_slave.specs.Step.{Answers}
 use Rattle.xcp_slave.specs.Run.{Run}

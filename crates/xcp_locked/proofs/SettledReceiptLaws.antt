@@ -4,7 +4,7 @@ use Rattle.std.specs.Prelude.{◌==◌, Some}
 use Rattle.std.specs.List.{slice_get}
 use Rattle.std.proofs.lemmas.Bool.Decides.{Decides-eqb}
 use Rattle.xcp_slave.specs.declared.Request.{Request}
-use Rattle.xcp_slave.specs.declared.Answer.{Answer}
+use Rattle.xcp_slave.specs.Outcomes.{Answer}
 use Rattle.xcp_trace.specs.declared.Entry.{Entry}
 use Rattle.xcp_locked.specs.declared.receipt.Receipt.{Receipt}
 use Rattle.xcp_locked.specs.Journal.{entry}

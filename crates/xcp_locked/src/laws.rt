@@ -4,7 +4,7 @@ ghost use Rattle.std.specs.Prelude.{◌≡◌, ◌≢◌, ◌↔◌, ◌<◌, �
 ghost use Rattle.std.specs.List.{slice_get};
 ghost use Rattle.xcp_slave.specs.declared.exchange.Exchange.{Exchange};
 ghost use Rattle.xcp_slave.specs.declared.Request.{Request};
-ghost use Rattle.xcp_slave.specs.declared.Answer.{Answer};
+ghost use Rattle.xcp_slave.specs.Outcomes.{Answer};
 ghost use Rattle.xcp_bank.specs.PinHistory.{reads_of};
 ghost use Rattle.xcp_bank.specs.BankEnds.{AcquireDoes, ReaderEnd, image_held};
 ghost use Rattle.xcp_bank.specs.SeatKnowledge.{AllBegin};

@@ -5,7 +5,7 @@ ghost use Rattle.xcp_slave.specs.Run.{Run};
 ghost use Rattle.xcp_slave.specs.Step.{Answers};
 ghost use Rattle.xcp_slave.specs.AnswerInBytes.{answer_in};
 ghost use Rattle.xcp_slave.specs.AskedRequest.{IsShort, request_asked};
-ghost use Rattle.xcp_slave.specs.declared.Answer.{Answer};
+ghost use Rattle.xcp_slave.specs.Outcomes.{Answer};
 ghost use Rattle.xcp_slave.specs.SlaveValue.{SlaveValue, layout_of, opening};
 ghost use Rattle.xcp_locked.specs.Caller.{accepting};
 ghost use Rattle.xcp_locked.specs.Journal.{entry, exchanges, journal_limit};
@@ -313,7 +313,7 @@ fn execute(
 {
     let told = slave.answer(asked, packet);
     publish(publisher, slave, asked, place);
-    journal.push_told(caller, asked, &told, packet);
+    journal.push(caller, asked, &told, packet);
     told
 }
 

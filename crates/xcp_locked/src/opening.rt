@@ -1,5 +1,6 @@
 //! A slave that no type names yet, and its opening.
-ghost use Rattle.std.specs.Prelude.{◌≡◌, ◌≤◌, [], ◌∷◌, IfOk};
+ghost use Rattle.std.specs.Prelude.{◌≡◌, ◌<◌, ◌≤◌, [], ◌∷◌, IfOk, vec_capacity};
+ghost use Rattle.std.specs.Arc.{arc_value};
 ghost use Rattle.std.specs.List.{AllByRecursion};
 ghost use Rattle.xcp_bank.specs.BankEnds.{new_writer, six_readers};
 ghost use Rattle.xcp_slave.specs.SlaveValue.{layout_of, opening};
@@ -104,6 +105,12 @@ impl<N: Name> Locked<N> {
         ensures readers { IfOk result (λ o.
             o.readers ≡ six_readers N.bank (image_of (opening unnamed.layout))) }
     {
+        let Room {
+            waits,
+            base,
+            callers: room,
+            places,
+        } = take_room(alloc, &unnamed.slave, unnamed.callers)?;
         let Unnamed {
             slave,
             callers,
@@ -113,43 +120,75 @@ impl<N: Name> Locked<N> {
             readers,
         } = unnamed;
         let (book, shares) = blank.open::<N>();
-        let all = new_callers(alloc, callers, slave.layout(), shares)?;
-        let base = share(alloc, &slave)?;
+        let callers = new_callers(alloc, room, callers, slave.layout(), shares);
+        let journal = Journal::new(alloc);
+        let publisher = Publisher::new(places, writer, image);
         let locked = Locked {
             slave,
             chapter: 0,
             base,
             before: 0,
-            journal: Journal::new(alloc),
+            journal,
             book,
-            publisher: Publisher::new(alloc, writer, image)?,
-            waits: Arc::new(alloc, Condvar::new())?,
+            publisher,
+            waits,
         };
         Ok(Opening {
             locked,
-            callers: all,
+            callers,
             readers: name_readers(readers),
         })
     }
 }
 
+/// What an opening takes of memory beside its slave and its bank: where pumps wait, the slave with which the first chapter begins, and
+/// room for the callers and for the place of the first publication.
+#[derive(Drop)]
+struct Room<N: Name> {
+    waits: Arc<Condvar>,
+    base: Arc<Slave>,
+    callers: Vec<Caller<N>>,
+    places: Vec<u64>,
+}
+
+/// Takes all of it, before anything else is done.
+fn take_room<N: Name>(alloc: Global, slave: &Slave, callers: u8) -> Result<Room<N>, AllocError>
+    ensures base { IfOk result (λ r. arc_value r.base ≡ slave.now) }
+    ensures callers { IfOk result (λ r. (r.callers.items ≡ []) × (callers ≤ vec_capacity r.callers)) }
+    ensures places { IfOk result (λ r. (r.places.items ≡ []) × (0 < vec_capacity r.places)) }
+{
+    let waits = Arc::new(alloc, Condvar::new())?;
+    let base = share(alloc, slave)?;
+    let callers = Vec::with_capacity(alloc, usize::from(callers))?;
+    let places = Vec::with_capacity(alloc, 1)?;
+    Ok(Room {
+        waits,
+        base,
+        callers,
+        places,
+    })
+}
+
 /// So many callers that have made no call, numbered from 0.
 fn new_callers<N: Name>(
     alloc: Global,
+    room: Vec<Caller<N>>,
     callers: u8,
     layout: &Layout,
     shares: Share<N>,
-) -> Result<Vec<Caller<N>>, AllocError>
-    requires { (shares.parts ≡ callers) × (shares.amount ≡ 0) }
-    ensures { IfOk result (λ all. all.items ≡ callers_of layout.now callers) }
+) -> Vec<Caller<N>>
+    requires shares { (shares.parts ≡ callers) × (shares.amount ≡ 0) }
+    requires empty { room.items ≡ [] }
+    requires room { callers ≤ vec_capacity room }
+    ensures { result.items ≡ callers_of layout.now callers }
 {
     let mut rest = shares;
-    let mut all = Vec::new(alloc);
+    let mut all = room;
     for number in 0..callers {
         let share = rest.split_off(1, 0);
-        all.push(new_caller(alloc, number, layout, share))?;
+        all.push_reserved(new_caller(alloc, number, layout, share));
     }
-    Ok(all)
+    all
 }
 
 /// A caller that has made no call.

@@ -19,23 +19,21 @@ pub(crate) struct Publisher {
 }
 
 impl Publisher {
-    /// A publisher whose writer has published this image alone, before any call.
-    pub(crate) fn new(
-        alloc: Global,
-        writer: Writer,
-        image: [u8; 2040],
-    ) -> Result<Publisher, AllocError>
-        ensures { IfOk result (λ p. (p.writer ≡ writer) × (p.places.items ≡ 0 ∷ [])
-            × (p.last ≡ image) × (p.first ≡ 0)) }
+    /// A publisher whose writer has published this image alone, before any call. `places` is empty, and has room for one.
+    pub(crate) fn new(places: Vec<u64>, writer: Writer, image: [u8; 2040]) -> Publisher
+        requires empty { places.items ≡ [] }
+        requires room { vec_len places < vec_capacity places }
+        ensures { (result.writer ≡ writer) × (result.places.items ≡ 0 ∷ [])
+            × (result.last ≡ image) × (result.first ≡ 0) }
     {
-        let mut places = Vec::new(alloc);
-        places.push(0)?;
-        Ok(Publisher {
+        let mut places = places;
+        places.push_reserved(0);
+        Publisher {
             writer,
             first: 0,
             places,
             last: image,
-        })
+        }
     }
 
     /// Makes room for the place of one more publication.

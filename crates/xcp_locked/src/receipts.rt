@@ -76,7 +76,9 @@ impl Receipts {
             chapter: receipt.chapter,
             at: receipt.at,
         });
-        self.exchanges.push(&receipt.request, &receipt.answer);
+        let mut packet = Packet::new();
+        let told = receipt.answer.lay(&mut packet);
+        self.exchanges.push(receipt.request.asked(), &told, &packet);
         Ok(())
     }
 
@@ -90,7 +92,7 @@ impl Receipts {
             (answer_in told.now packet.now) ∷ [] }
     {
         self.places.push_reserved(place);
-        self.exchanges.push_told(asked, told, packet);
+        self.exchanges.push(asked, told, packet);
     }
 
     /// The receipt at an index from 0 on, if there is one. It passes over those before it.

@@ -5,7 +5,7 @@ ghost use Rattle.clap.specs.Words.{app_of, kind_of, rule_of, subcommand_of, subc
 ghost use Rattle.clap.specs.Words.{fault_of as faults_in};
 ghost use Rattle.clap.specs.declared.builder.command.Command.TheViews.{out-Command as fields_of};
 ghost use Rattle.xcp_program.specs.CommandLine.{Asks, AsksTooMany, InRange, HasChoice, HasText, IsMistake, Spells, SpellsIn, gives};
-ghost use Rattle.xcp_program.specs.private.CommandLine.{AsksAudit, AsksDescription, AsksReplay, AsksServe, AsksSomething, HasFlag, IsChosen, IsRefusal, placed_app};
+ghost use Rattle.xcp_program.specs.private.CommandLine.{AsksAudit, AsksDescription, AsksReplay, AsksServe, AsksSomething, HasFlag, IsChosen, IsRefusal, counted_app, front_app, placed_app};
 ghost use Rattle.xcp_program.specs.CommandLine.{audit_app, choice_rule, config_rule, describe_app, file_rule, flag_rule, host_rule, numeric_rule, program, replay_app, serve_app};
 
 use crate::purpose::{Options, OptionsFault};
@@ -230,9 +230,9 @@ fn placed_command<'a>(alloc: Global) -> Result<Command<'a>, AllocError>
     ))?)
 }
 
-/// The subcommand `serve`.
-fn serve_command<'a>(alloc: Global) -> Result<Command<'a>, AllocError>
-    ensures app { IfOk result (λ c. app_of c ≡ serve_app) }
+/// More of `serve`: the options that say how many tools, tasks, cycles and calls of a chapter there are.
+fn counted_command<'a>(alloc: Global) -> Result<Command<'a>, AllocError>
+    ensures app { IfOk result (λ c. app_of c ≡ counted_app) }
     ensures local { IfOk result (λ c. (fields_of c).has_globals ≡ false) }
 {
     let serve = placed_command(alloc)?;
@@ -251,7 +251,15 @@ fn serve_command<'a>(alloc: Global) -> Result<Command<'a>, AllocError>
     let chapter = numeric(alloc, "chapter", "M", 1, 65_536, Some("65536")).help(
         "From how many calls on a chapter of the journal is cut off, 1 to 65,536; not for --stay",
     );
-    let serve = serve.arg(chapter)?;
+    Ok(serve.arg(chapter)?)
+}
+
+/// The subcommand `serve`.
+fn serve_command<'a>(alloc: Global) -> Result<Command<'a>, AllocError>
+    ensures app { IfOk result (λ c. app_of c ≡ serve_app) }
+    ensures local { IfOk result (λ c. (fields_of c).has_globals ≡ false) }
+{
+    let serve = counted_command(alloc)?;
     let period = numeric(alloc, "period", "MS", 0, 1_000, Some("0")).help(
         "The milliseconds from one cycle of a task to its next, 0 to 1,000",
     );
@@ -322,25 +330,30 @@ fn audit_command<'a>(alloc: Global) -> Result<Command<'a>, AllocError>
     Ok(audit.arg(flag(alloc, "lines", "Prints each call as a line"))?)
 }
 
-/// The program's command line.
-fn program<'a>(alloc: Global) -> Result<Command<'a>, AllocError>
-    ensures { IfOk result (λ c. app_of c ≡ program) }
+/// The front of the program's command line: a replay and a server.
+fn front<'a>(alloc: Global) -> Result<Command<'a>, AllocError>
+    ensures { IfOk result (λ c. app_of c ≡ front_app) }
 {
-    let replay = replay_command(alloc)?;
-    let serve = serve_command(alloc)?;
-    let describe = describe_command(alloc)?;
-    let audit = audit_command(alloc)?;
     let top = Command::new(alloc, "xcpd")
         .about("A calibration slave: XCP of ASAM MCD-1, major version 1")
         .version(VERSION)
         .after_help(STATUS)
         .subcommand_required(true);
-    Ok(
-        top.subcommand(replay)?
-            .subcommand(serve)?
-            .subcommand(describe)?
-            .subcommand(audit)?,
-    )
+    let replay = replay_command(alloc)?;
+    let top = top.subcommand(replay)?;
+    let serve = serve_command(alloc)?;
+    Ok(top.subcommand(serve)?)
+}
+
+/// The program's command line.
+fn program<'a>(alloc: Global) -> Result<Command<'a>, AllocError>
+    ensures { IfOk result (λ c. app_of c ≡ program) }
+{
+    let top = front(alloc)?;
+    let describe = describe_command(alloc)?;
+    let top = top.subcommand(describe)?;
+    let audit = audit_command(alloc)?;
+    Ok(top.subcommand(audit)?)
 }
 
 /// The text of an option of a subcommand, if these matches are of that one.

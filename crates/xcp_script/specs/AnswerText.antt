@@ -1,8 +1,8 @@
 -- The text of a slave's answers.
 use Rattle.std.specs.Prelude.{ℕ, List, [], ◌∷◌, ◌++◌, flat_map, codes, decimal}
 use Rattle.hex.specs.Hex.{encode_upper}
-use Rattle.xcp_slave.specs.declared.Answer.{Answer}
-use Rattle.xcp_slave.specs.declared.Answer.TheVariants as answers
+use Rattle.xcp_slave.specs.Outcomes.{Answer}
+use Rattle.xcp_slave.specs.declared.Outcome.TheVariants as answers
 use Rattle.xcp_slave.specs.declared.Exchange.{Exchange}
 
 -- packets in upper-case hex, one space (32) between them

@@ -9,7 +9,7 @@ use crate::digits::{high_digit, low_digit};
 use std::alloc::AllocError;
 use std::mem;
 use xcp_packet::{Packet, Width};
-use xcp_slave::Told;
+use xcp_slave::{Cut, Told};
 
 /// Appends the line of an answer, whose packet, if it is one, stands in the lent one. After an
 /// `Err` a front of it may have been appended.
@@ -18,11 +18,11 @@ pub fn push_text(texts: &mut Vec<u8>, told: Told, packet: &Packet) -> Result<(),
     ensures { OnOk result (texts.new.items
         ≡ texts.old.items ++ text_of (answer_in told packet.now)) }
 {
-    match told {
-        Told::Packet => push_packet(texts, packet.as_slice()),
-        Told::Block(width) => push_block(texts, packet.as_slice(), width),
-        Told::Sampled(count) => push_count(texts, b"sampled ", count),
-        Told::Stored(count) => push_count(texts, b"stored ", count),
+    match &told {
+        Told::Packets(Cut::Whole) => push_packet(texts, packet.as_slice()),
+        Told::Packets(Cut::Block(width)) => push_block(texts, packet.as_slice(), *width),
+        Told::Sampled(count) => push_count(texts, b"sampled ", *count),
+        Told::Stored(count) => push_count(texts, b"stored ", *count),
         Told::Silent => texts.extend_from_slice(b"-\n"),
         Told::Overrun => texts.extend_from_slice(b"overrun\n"),
         Told::NoChannel => texts.extend_from_slice(b"no channel\n"),

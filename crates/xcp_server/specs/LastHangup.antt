@@ -1,7 +1,7 @@
 -- The end of a server's session.
 use Rattle.std.specs.Prelude.{ℕ, ◌≡◌, ◌⊎◌, List, [], ◌∷◌, ◌++◌, Option, Some, None, length, slice_set}
 use Rattle.std.specs.List.{slice_get}
-use Rattle.xcp_slave.specs.declared.Answer.{Answer}
+use Rattle.xcp_slave.specs.Outcomes.{Answer}
 use Rattle.xcp_slave.specs.declared.Request.TheVariants as requests
 use Rattle.xcp_trace.specs.declared.Entry.{Entry}
 use Rattle.xcp_locked.specs.declared.receipt.Receipt.{Receipt}

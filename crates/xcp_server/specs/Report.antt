@@ -7,8 +7,8 @@ use Rattle.xcp_memory.specs.Layout.{LayoutValue}
 use Rattle.xcp_slave.specs.Run.{Run}
 use Rattle.xcp_scribe.specs.Given.{Given}
 use Rattle.xcp_slave.specs.SlaveValue.{opening}
-use Rattle.xcp_slave.specs.declared.answer.Answer.{Answer}
-use Rattle.xcp_slave.specs.declared.answer.Answer.TheVariants as answers
+use Rattle.xcp_slave.specs.Outcomes.{Answer}
+use Rattle.xcp_slave.specs.declared.Outcome.TheVariants as answers
 use Rattle.xcp_framing.specs.Serve.{number_of}
 use Rattle.xcp_framing.specs.CountedCalls.{Watched}
 use Rattle.xcp_framing.specs.declared.serving.ServeError.{ServeError}

@@ -104,6 +104,9 @@ pub struct Ready<N: Name, I: Read + Drop, O: Write + Drop, S: Scribe> {
     writing: Writing<S>,
 }
 
+/// A slave under its lock, its callers and its readers.
+type Opened<N> = (Locked<N>, Vec<Caller<N>>, Vec<Reader<N>>);
+
 /// Makes all that takes memory.
 fn prepare<N: Name, I: Read + Drop, O: Write + Drop, S: Scribe>(
     alloc: Global,
@@ -123,14 +126,8 @@ fn prepare<N: Name, I: Read + Drop, O: Write + Drop, S: Scribe>(
     ensures relay { IfOk result (λ r. relay_of r.writing ≡ relay_to (way_of r.handing)) }
     ensures stores { 0 < tasks → IfOk result (λ r. cuts_at_stores (way_of r.handing) ≡ each_store) }
 {
-    let Opening {
-        locked,
-        callers,
-        readers,
-    } = opening;
-    let readers = Vec::from_array(alloc, readers)?;
-    let stops = make_stops(alloc, ends.len())?;
-    let rooms = make_rooms(alloc, callers.len(), ends.len(), tasks, readers.len())?;
+    let (locked, callers, readers) = opened(alloc, opening)?;
+    let (stops, rooms) = take_room(alloc, callers.len(), ends.len(), tasks, readers.len())?;
     let (handing, writing) = Writing::new(alloc, scribe, tasks, each_store)?;
     Ok(Ready {
         locked,
@@ -142,6 +139,36 @@ fn prepare<N: Name, I: Read + Drop, O: Write + Drop, S: Scribe>(
         handing,
         writing,
     })
+}
+
+/// The parts of an opening, its readers as a list.
+fn opened<N: Name>(alloc: Global, opening: Opening<N>) -> Result<Opened<N>, AllocError>
+    ensures callers { IfOk result (λ r. r.1.items ≡ opening.callers.items) }
+    ensures readers { IfOk result (λ r. r.2.items ≡ opening.readers) }
+{
+    let Opening {
+        locked,
+        callers,
+        readers,
+    } = opening;
+    let readers = Vec::from_array(alloc, readers)?;
+    Ok((locked, callers, readers))
+}
+
+/// A stop for each connection, and room for what is given back of so many callers, connections, tasks and readers.
+fn take_room<N: Name, I: Read + Drop, O: Write + Drop>(
+    alloc: Global,
+    callers: usize,
+    ends: usize,
+    tasks: u8,
+    readers: usize,
+) -> Result<(Vec<AtomicBool>, Rooms<N, I, O>), AllocError>
+    ensures stops { IfOk result (λ r. vec_len r.0 ≡ ends) }
+    ensures rooms { IfOk result (λ r. IsRoom callers ends tasks readers r.1) }
+{
+    let stops = make_stops(alloc, ends)?;
+    let rooms = make_rooms(alloc, callers, ends, tasks, readers)?;
+    Ok((stops, rooms))
 }
 
 /// Deals out what is ready, runs all parts, and puts together what comes of them.

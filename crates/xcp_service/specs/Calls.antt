@@ -1,7 +1,7 @@
 -- A call of a slave whose chapters are cut by its calls.
 use Rattle.std.specs.Prelude.{◌≡◌, ◌⊎◌, ◌++◌, ℕ, [], ◌∷◌}
 use Rattle.xcp_slave.specs.Step.{Answers}
-use Rattle.xcp_slave.specs.declared.Answer.{Answer}
+use Rattle.xcp_slave.specs.Outcomes.{Answer}
 use Rattle.xcp_slave.specs.declared.Request.{Request}
 use Rattle.xcp_locked.specs.Journal.{entry}
 use Rattle.xcp_locked.specs.LockedSlave.{SameChapter}

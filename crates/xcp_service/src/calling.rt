@@ -15,7 +15,7 @@ use std::alloc::Global;
 use std::sync::Wait;
 use xcp_locked::{HasSlave, JOURNAL, LockedError, Name};
 use xcp_packet::Packet;
-use xcp_slave::{Asked, Told};
+use xcp_slave::{Asked, Outcome, Told};
 
 /// From how many calls on the open chapter is cut off.
 pub const CHAPTER: u64 = 16_384;
@@ -55,8 +55,8 @@ pub fn call<N: Name, M: Route>(
 /// Whether a chapter ends that has so many calls, of which the last one was told this: it is full, or pages were stored.
 fn ends_chapter(calls: u64, told: &Told) -> bool
     ensures full { 16384 ≤ calls → result ≡ true }
-    ensures stored { (segments : ℕ) → told.now ≡ Told.Stored segments → 0 < segments → result ≡ true }
-    ensures neither { calls < 16384 → ((segments : ℕ) → 0 < segments → told.now ≢ Told.Stored segments) → result ≡ false }
+    ensures stored { (segments : ℕ) → told.now ≡ Outcome.Stored segments → 0 < segments → result ≡ true }
+    ensures neither { calls < 16384 → ((segments : ℕ) → 0 < segments → told.now ≢ Outcome.Stored segments) → result ≡ false }
 {
     match told {
         Told::Stored(segments) => *segments > 0 || calls >= CHAPTER,

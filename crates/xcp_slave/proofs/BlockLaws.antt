@@ -19,7 +19,7 @@ use Rattle.xcp_transfer.specs.TransferValue.{TransferValue, BlockValue}
 use Rattle.xcp_transfer.specs.MtaAccess.{write_refusal_at}
 use Rattle.xcp_transfer.specs.Downloads.{next_row, packet_room, greatest_download, downloaded, block_begun, block_with}
 use Rattle.xcp_slave.specs.declared.request.Request.TheVariants as requests
-use Rattle.xcp_slave.specs.declared.answer.Answer.TheVariants as answers
+use Rattle.xcp_slave.specs.declared.outcome.Outcome.TheVariants as answers
 use Rattle.xcp_slave.specs.SlaveValue.{SlaveValue, layout_of, noblock}
 use Rattle.xcp_slave.specs.Rows.{row}
 use Rattle.xcp_slave.specs.Step.{Answers, Heeds, answer_of, sent_reply, found_by, is_connect}

@@ -11,8 +11,8 @@ use Rattle.xcp_transfer.specs.TransferValue.{response_room}
 use Rattle.xcp_packet.specs.ReplyInBytes.{fault_reply, sent_packets, reply_packets}
 use Rattle.xcp_packet.specs.Rows.{Tells}
 use Rattle.xcp_memory.specs.Layout.{LayoutValue}
-use Rattle.xcp_slave.specs.declared.answer.Answer.{Answer}
-use Rattle.xcp_slave.specs.declared.answer.Answer.TheVariants as answers
+use Rattle.xcp_slave.specs.Outcomes.{Answer}
+use Rattle.xcp_slave.specs.declared.outcome.Outcome.TheVariants as answers
 use Rattle.xcp_slave.specs.SlaveValue.{SlaveValue, layout_of, noblock}
 use Rattle.xcp_slave.specs.Rows.{row}
 use Rattle.xcp_slave.specs.private.Rows.{TellsRow}

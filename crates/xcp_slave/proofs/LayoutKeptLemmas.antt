@@ -18,7 +18,7 @@ use Rattle.xcp_packet.specs.Rows.{Meets}
 use Rattle.xcp_transfer.specs.Downloads.{next_row}
 use Rattle.xcp_slave.specs.declared.request.Request.{Request}
 use Rattle.xcp_slave.specs.declared.request.Request.TheVariants as requests
-use Rattle.xcp_slave.specs.declared.answer.Answer.{Answer}
+use Rattle.xcp_slave.specs.Outcomes.{Answer}
 use Rattle.xcp_slave.specs.SlaveValue.{SlaveValue, layout_of, noblock}
 use Rattle.xcp_slave.specs.Rows.{row}
 use Rattle.xcp_slave.specs.Step.{Answers, Heeds, Drains, Stores, Samples, Fires, outbox_size, stored, with_event, with_signals, found_by, is_connect}

@@ -30,7 +30,7 @@ use Rattle.xcp_packet.specs.Rows.{Meets, first_holding, refused}
 use Rattle.xcp_transfer.specs.Downloads.{next_row, packet_room, greatest_download, downloaded, block_begun, block_with, modified}
 use Rattle.xcp_slave.specs.declared.request.Request.{Request}
 use Rattle.xcp_slave.specs.declared.request.Request.TheVariants as requests
-use Rattle.xcp_slave.specs.declared.answer.Answer.{Answer}
+use Rattle.xcp_slave.specs.Outcomes.{Answer}
 use Rattle.xcp_slave.specs.declared.exchange.Exchange.{Exchange}
 use Rattle.xcp_slave.specs.SlaveValue.{SlaveValue, layout_of, noblock, ended}
 use Rattle.xcp_slave.specs.Rows.{row}

@@ -20,8 +20,8 @@ use Rattle.xcp_packet.specs.declared.Fault.TheVariants as faults
 use Rattle.xcp_packet.specs.declared.Code.TheVariants.{CmdSyntax}
 use Rattle.xcp_packet.proofs.ParameterLemmas.{reading, coded-code, least-positive}
 use Rattle.xcp_packet.proofs.DecodingLaws.{exactly, decodes_total, spelling_begins}
-use Rattle.xcp_slave.specs.declared.answer.Answer.{Answer}
-use Rattle.xcp_slave.specs.declared.answer.Answer.TheVariants as answers
+use Rattle.xcp_slave.specs.Outcomes.{Answer}
+use Rattle.xcp_slave.specs.declared.outcome.Outcome.TheVariants as answers
 use Rattle.xcp_slave.specs.SlaveValue.{SlaveValue, layout_of, noblock}
 use Rattle.xcp_slave.specs.private.Rows.{TellsRow}
 use Rattle.xcp_slave.specs.Step.{AnswersPacket, Executes, Heeds, Ignores, found_by, is_connect}

@@ -14,7 +14,7 @@ use Rattle.xcp_packet.specs.declared.Code.TheVariants.{CmdUnknown, CmdSyntax}
 use Rattle.xcp_memory.specs.Layout.{IsLayout}
 use Rattle.xcp_transfer.specs.TransferValue.{response_room}
 use Rattle.xcp_slave.specs.declared.request.Request.TheVariants as requests
-use Rattle.xcp_slave.specs.declared.answer.Answer.TheVariants as answers
+use Rattle.xcp_slave.specs.declared.outcome.Outcome.TheVariants as answers
 use Rattle.xcp_slave.specs.SlaveValue.{SlaveValue, layout_of}
 use Rattle.xcp_slave.specs.Step.{Answers, Heeds, Ignores, Refuses, sent_reply, answer_of, is_connect}
 use Rattle.xcp_slave.proofs.StepLaws.{either}

@@ -25,8 +25,8 @@ use Rattle.xcp_transfer.specs.TransferValue.{BlockValue, IsUnderWay, IsBlock}
 use Rattle.xcp_packet.specs.Rows.{Meets}
 use Rattle.xcp_slave.specs.declared.request.Request.{Request}
 use Rattle.xcp_slave.specs.declared.request.Request.TheVariants as requests
-use Rattle.xcp_slave.specs.declared.answer.Answer.{Answer}
-use Rattle.xcp_slave.specs.declared.answer.Answer.TheVariants as answers
+use Rattle.xcp_slave.specs.Outcomes.{Answer}
+use Rattle.xcp_slave.specs.declared.outcome.Outcome.TheVariants as answers
 use Rattle.xcp_slave.specs.SlaveValue.{SlaveValue, layout_of, noblock}
 use Rattle.xcp_slave.specs.Rows.{row}
 use Rattle.xcp_slave.specs.Step.{Answers, Heeds, Drains, Samples, Fires, outbox_size, with_signals, found_by, is_connect}

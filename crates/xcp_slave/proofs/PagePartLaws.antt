@@ -19,7 +19,7 @@ use Rattle.xcp_transfer.specs.MtaAccess.{written_at}
 use Rattle.xcp_transfer.specs.TransferValue.{BlockValue, TransferValue}
 use Rattle.xcp_slave.specs.declared.request.Request.{Request}
 use Rattle.xcp_slave.specs.declared.request.Request.TheVariants as requests
-use Rattle.xcp_slave.specs.declared.answer.Answer.{Answer}
+use Rattle.xcp_slave.specs.Outcomes.{Answer}
 use Rattle.xcp_slave.specs.AcceptedCommands.{Accepts}
 use Rattle.xcp_slave.specs.CodesByEffect.{IsBeside, IsNoEvent, IsNone, mode_codes, switch_codes}
 use Rattle.xcp_slave.specs.Rows.{row}

@@ -19,7 +19,7 @@ use Rattle.xcp_memory.specs.PageCopy.{copy_refusal, lacks_segment, content, with
 use Rattle.xcp_packet.specs.Rows.{Meets, first_holding}
 use Rattle.xcp_slave.specs.declared.request.Request.{Request}
 use Rattle.xcp_slave.specs.declared.request.Request.TheVariants as requests
-use Rattle.xcp_slave.specs.declared.answer.Answer.{Answer}
+use Rattle.xcp_slave.specs.Outcomes.{Answer}
 use Rattle.xcp_slave.specs.declared.exchange.Exchange.{Exchange}
 use Rattle.xcp_slave.specs.SlaveValue.{SlaveValue, layout_of, noblock, ended, opening}
 use Rattle.xcp_slave.specs.Rows.{row}

@@ -18,7 +18,7 @@ use Rattle.xcp_daq.specs.Pools.{joined}
 use Rattle.xcp_daq.specs.Sample.{due, element_bytes, odt_bytes, list_packets, packets_from}
 use Rattle.xcp_daq.proofs.DaqInvariantLemmas.{all_left, all_right, entries_by_list}
 use Rattle.xcp_slave.specs.declared.request.Request.TheVariants as requests
-use Rattle.xcp_slave.specs.declared.answer.Answer.TheVariants as answers
+use Rattle.xcp_slave.specs.declared.outcome.Outcome.TheVariants as answers
 use Rattle.xcp_slave.specs.PacketQueue.{event_packets}
 use Rattle.xcp_slave.specs.SampledBytes.{ReadsOdt, OdtPackets, DuePackets}
 use Rattle.xcp_slave.specs.SlaveInvariant.{LiesWritten, IsSlave}

@@ -17,8 +17,8 @@ use Rattle.xcp_daq.specs.Sample.{sampled}
 use Rattle.xcp_packet.specs.Rows.{Row, Meets, first_holding}
 use Rattle.xcp_slave.specs.declared.request.Request.{Request}
 use Rattle.xcp_slave.specs.declared.request.Request.TheVariants as requests
-use Rattle.xcp_slave.specs.declared.answer.Answer.{Answer}
-use Rattle.xcp_slave.specs.declared.answer.Answer.TheVariants as answers
+use Rattle.xcp_slave.specs.Outcomes.{Answer}
+use Rattle.xcp_slave.specs.declared.outcome.Outcome.TheVariants as answers
 use Rattle.xcp_slave.specs.SlaveValue.{SlaveValue, layout_of, noblock, ended}
 use Rattle.xcp_slave.specs.Rows.{row}
 use Rattle.xcp_slave.specs.Step.{Answers, Heeds, Executes, Ignores, Refuses, Drains, Stores, Samples, Fires, outbox_size, stored, with_event, with_signals, answer_of, sent_reply, found_by, is_connect}

@@ -27,8 +27,8 @@ use Rattle.xcp_transfer.specs.declared.mta.TextId.{TextId}
 use Rattle.xcp_transfer.specs.MtaAccess.{is_readable, bytes_at}
 use Rattle.xcp_transfer.specs.TransferValue.{response_room, text_of}
 use Rattle.xcp_slave.specs.declared.request.Request.TheVariants as requests
-use Rattle.xcp_slave.specs.declared.answer.Answer.{Answer}
-use Rattle.xcp_slave.specs.declared.answer.Answer.TheVariants as answers
+use Rattle.xcp_slave.specs.Outcomes.{Answer}
+use Rattle.xcp_slave.specs.declared.outcome.Outcome.TheVariants as answers
 use Rattle.xcp_slave.specs.SlaveValue.{SlaveValue, layout_of}
 use Rattle.xcp_slave.specs.Rows.{row}
 use Rattle.xcp_slave.specs.Step.{Answers, Executes, Heeds, answer_of, found_by, is_connect}

@@ -7,7 +7,7 @@ use Rattle.xcp_packet.specs.PacketTrains.{block_packets}
 use Rattle.xcp_transfer.specs.TransferValue.{response_room}
 use Rattle.xcp_packet.specs.declared.Command.{Command}
 use Rattle.xcp_slave.specs.declared.request.Request.TheVariants as requests
-use Rattle.xcp_slave.specs.declared.answer.Answer.TheVariants as answers
+use Rattle.xcp_slave.specs.declared.outcome.Outcome.TheVariants as answers
 use Rattle.xcp_slave.specs.SlaveValue.{SlaveValue, layout_of}
 use Rattle.xcp_slave.specs.Step.{Answers}
 

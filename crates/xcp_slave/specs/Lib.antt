@@ -6,6 +6,7 @@ pub mod Step
 pub mod Run
 pub mod RefusingAnswers
 pub mod RefusalCodes
+pub mod Outcomes
 pub mod AnswerInBytes
 pub mod AskedRequest
 pub mod SlaveInvariant

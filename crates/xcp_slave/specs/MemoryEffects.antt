@@ -9,8 +9,8 @@ use Rattle.xcp_memory.specs.Pages.{PagesValue, segment_at}
 use Rattle.xcp_transfer.specs.declared.Mta.TheVariants.{Memory}
 use Rattle.xcp_transfer.specs.TransferValue.{TransferValue, BlockValue}
 use Rattle.xcp_transfer.specs.Downloads.{modified}
-use Rattle.xcp_slave.specs.declared.answer.Answer.{Answer}
-use Rattle.xcp_slave.specs.declared.answer.Answer.TheVariants as answers
+use Rattle.xcp_slave.specs.Outcomes.{Answer}
+use Rattle.xcp_slave.specs.declared.outcome.Outcome.TheVariants as answers
 use Rattle.xcp_slave.specs.declared.exchange.Exchange.{Exchange}
 use Rattle.xcp_slave.specs.declared.request.Request.{Request}
 use Rattle.xcp_slave.specs.declared.request.Request.TheVariants as requests

@@ -1,8 +1,8 @@
 -- Answers that refuse.
 use Rattle.std.specs.Prelude.{◌≡◌, ◌≢◌, ℕ, Bool, true, ◌==◌, ◌⊎◌, List, [], ◌∷◌}
 use Rattle.std.specs.List.{list_any}
-use Rattle.xcp_slave.specs.declared.answer.Answer.{Answer}
-use Rattle.xcp_slave.specs.declared.answer.Answer.TheVariants as answers
+use Rattle.xcp_slave.specs.Outcomes.{Answer}
+use Rattle.xcp_slave.specs.declared.outcome.Outcome.TheVariants as answers
 
 -- An error packet, FE and a code, other than FE 00, which is SYNCH's success.
 -- (ASAM MCD-1 XCP, protocol layer: error packet, SYNCH.)

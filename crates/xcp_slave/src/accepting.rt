@@ -11,7 +11,8 @@ ghost use Rattle.xcp_slave.specs.AcceptedCommands.{Accepts, Concerns, IsCut};
 ghost use Rattle.xcp_slave.specs.SlaveInvariant.{IsSlave};
 ghost use Rattle.xcp_slave.specs.Step.{Answers};
 ghost use Rattle.xcp_slave.specs.SlaveValue.{SlaveValue, layout_of};
-ghost use Rattle.xcp_slave.specs.declared.answer.Answer.{Answer};
+ghost use Rattle.xcp_slave.specs.Outcomes.{Answer};
+ghost use Rattle.xcp_slave.specs.declared.outcome.Outcome.{Outcome};
 ghost use Rattle.xcp_slave.specs.declared.request.Request.{Request};
 ghost use Rattle.xcp_transfer.specs.TransferValue.{BlockValue, text_of};
 ghost use Rattle.xcp_transfer.specs.Downloads.{modified};
@@ -50,9 +51,9 @@ pub fn a_tool_is_told_its_bytes()
 /// many packets as its n bytes fill, n / (MAX_CTO - 1), rounded up: each is FF and MAX_CTO - 1 bytes,
 /// the last one FF and the rest. Joined, they are the bytes that a read gives.
 pub fn an_upload_is_cut_into_packets()
-    ensures accepted { (v w : SlaveValue) (n a : ℕ) (packet : ArrayVec ℕ) (answer : Answer) → IsSlave v → v.connected ≡ true → v.transfer.mta ≡ Mta.Memory a → 0 < n → LiesInside (layout_of v) a n → spells (layout_of v).order (Command.Upload n) packet.items → Answers v (Request.Command packet) answer w → (bytes : List ℕ) × (packets : List (List ℕ)) × Reads Tool v.transfer.pages a n bytes × (answer ≡ Answer.Packets packets) × IsCut ((layout_of v).max_cto - 1) bytes packets }
-    ensures upload { (v w : SlaveValue) (n a : ℕ) (packet : ArrayVec ℕ) (first : List ℕ) (more : List (List ℕ)) → IsSlave v → v.transfer.mta ≡ Mta.Memory a → spells (layout_of v).order (Command.Upload n) packet.items → Answers v (Request.Command packet) (Answer.Packets ((0xFF ∷ first) ∷ more)) w → (bytes : List ℕ) × Reads Tool v.transfer.pages a n bytes × IsCut ((layout_of v).max_cto - 1) bytes ((0xFF ∷ first) ∷ more) }
-    ensures text { (v w : SlaveValue) (n place : ℕ) (id : TextId) (packet : ArrayVec ℕ) (first : List ℕ) (more : List (List ℕ)) → IsSlave v → v.transfer.mta ≡ Mta.Text id place → spells (layout_of v).order (Command.Upload n) packet.items → Answers v (Request.Command packet) (Answer.Packets ((0xFF ∷ first) ∷ more)) w → (place + n ≤ length (text_of (layout_of v) id)) × IsCut ((layout_of v).max_cto - 1) (take n (drop place (text_of (layout_of v) id))) ((0xFF ∷ first) ∷ more) }
+    ensures accepted { (v w : SlaveValue) (n a : ℕ) (packet : ArrayVec ℕ) (answer : Answer) → IsSlave v → v.connected ≡ true → v.transfer.mta ≡ Mta.Memory a → 0 < n → LiesInside (layout_of v) a n → spells (layout_of v).order (Command.Upload n) packet.items → Answers v (Request.Command packet) answer w → (bytes : List ℕ) × (packets : List (List ℕ)) × Reads Tool v.transfer.pages a n bytes × (answer ≡ Outcome.Packets packets) × IsCut ((layout_of v).max_cto - 1) bytes packets }
+    ensures upload { (v w : SlaveValue) (n a : ℕ) (packet : ArrayVec ℕ) (first : List ℕ) (more : List (List ℕ)) → IsSlave v → v.transfer.mta ≡ Mta.Memory a → spells (layout_of v).order (Command.Upload n) packet.items → Answers v (Request.Command packet) (Outcome.Packets ((0xFF ∷ first) ∷ more)) w → (bytes : List ℕ) × Reads Tool v.transfer.pages a n bytes × IsCut ((layout_of v).max_cto - 1) bytes ((0xFF ∷ first) ∷ more) }
+    ensures text { (v w : SlaveValue) (n place : ℕ) (id : TextId) (packet : ArrayVec ℕ) (first : List ℕ) (more : List (List ℕ)) → IsSlave v → v.transfer.mta ≡ Mta.Text id place → spells (layout_of v).order (Command.Upload n) packet.items → Answers v (Request.Command packet) (Outcome.Packets ((0xFF ∷ first) ∷ more)) w → (place + n ≤ length (text_of (layout_of v) id)) × IsCut ((layout_of v).max_cto - 1) (take n (drop place (text_of (layout_of v) id))) ((0xFF ∷ first) ∷ more) }
 {}
 
 /// What a tool sends is written where it says, all of it at once.
@@ -68,8 +69,8 @@ pub fn a_tool_writes_its_bytes()
 /// are gathered, DOWNLOAD's at the MTA, and DOWNLOAD_NEXT's, which tells how many are left, behind
 /// those before.
 pub fn a_block_gathers_its_bytes()
-    ensures begin { (v w : SlaveValue) (n a : ℕ) (items packet : ArrayVec ℕ) → v.connected ≡ true → v.transfer.mta ≡ Mta.Memory a → spells (layout_of v).order (Command.Download n items) packet.items → Answers v (Request.Command packet) Answer.Silent w → w ≡ record v { transfer = record v.transfer { block = Some (record { address = a; expected = n - ((layout_of v).max_cto - 2); bytes = take ((layout_of v).max_cto - 2) items.items }) } } }
-    ensures next { (v w : SlaveValue) (remaining : ℕ) (items packet : ArrayVec ℕ) (b : BlockValue) → v.connected ≡ true → v.transfer.block ≡ Some b → spells (layout_of v).order (Command.DownloadNext remaining items) packet.items → Answers v (Request.Command packet) Answer.Silent w → (remaining ≡ b.expected) × (w ≡ record v { transfer = record v.transfer { block = Some (record { address = b.address; expected = b.expected - ((layout_of v).max_cto - 2); bytes = b.bytes ++ take ((layout_of v).max_cto - 2) items.items }) } }) }
+    ensures begin { (v w : SlaveValue) (n a : ℕ) (items packet : ArrayVec ℕ) → v.connected ≡ true → v.transfer.mta ≡ Mta.Memory a → spells (layout_of v).order (Command.Download n items) packet.items → Answers v (Request.Command packet) Outcome.Silent w → w ≡ record v { transfer = record v.transfer { block = Some (record { address = a; expected = n - ((layout_of v).max_cto - 2); bytes = take ((layout_of v).max_cto - 2) items.items }) } } }
+    ensures next { (v w : SlaveValue) (remaining : ℕ) (items packet : ArrayVec ℕ) (b : BlockValue) → v.connected ≡ true → v.transfer.block ≡ Some b → spells (layout_of v).order (Command.DownloadNext remaining items) packet.items → Answers v (Request.Command packet) Outcome.Silent w → (remaining ≡ b.expected) × (w ≡ record v { transfer = record v.transfer { block = Some (record { address = b.address; expected = b.expected - ((layout_of v).max_cto - 2); bytes = b.bytes ++ take ((layout_of v).max_cto - 2) items.items }) } }) }
 {}
 
 /// SET_CAL_PAGE gives the page to exactly the sides that its mode names, in exactly the segments

@@ -10,7 +10,7 @@ ghost use Rattle.xcp_slave.specs.CodesByEffect.{IsBeside, IsNoEvent, list_codes,
 ghost use Rattle.xcp_slave.specs.SlaveInvariant.{IsSlave};
 ghost use Rattle.xcp_slave.specs.Step.{Answers};
 ghost use Rattle.xcp_slave.specs.SlaveValue.{SlaveValue};
-ghost use Rattle.xcp_slave.specs.declared.answer.Answer.{Answer};
+ghost use Rattle.xcp_slave.specs.Outcomes.{Answer};
 ghost use Rattle.xcp_slave.specs.declared.request.Request.{Request};
 ghost use Rattle.xcp_transfer.specs.declared.Mta.{Mta};
 ghost use Rattle.xcp_transfer.specs.declared.TextId.{TextId};

@@ -2,7 +2,8 @@
 ghost use Rattle.std.specs.Prelude.{◌≡◌, ◌<◌, ◌≤◌, ℕ, All, List, length};
 ghost use Rattle.arrayvec.specs.ArrayVec.{ArrayVec};
 ghost use Rattle.xcp_memory.specs.Layout.{IsLayout};
-ghost use Rattle.xcp_slave.specs.declared.answer.Answer.{Answer};
+ghost use Rattle.xcp_slave.specs.Outcomes.{Answer};
+ghost use Rattle.xcp_slave.specs.declared.outcome.Outcome.{Outcome};
 ghost use Rattle.xcp_slave.specs.declared.exchange.Exchange.{Exchange};
 ghost use Rattle.xcp_slave.specs.declared.request.Request.{Request};
 ghost use Rattle.xcp_slave.specs.RefusingAnswers.{IsErrorPacket, IsRefusal};
@@ -29,12 +30,12 @@ pub fn each_run_has_one_outcome()
 pub fn refusals_leave_the_slave()
     ensures errors { (v : SlaveValue) (p : ArrayVec ℕ) (a : Answer) (w : SlaveValue) → Answers v (Request.Command p) a w → IsErrorPacket a → w ≡ noblock v }
     ensures others { (v : SlaveValue) (q : Request) (a : Answer) (w : SlaveValue) → Answers v q a w → IsRefusal a → w ≡ v }
-    ensures overrun { (v : SlaveValue) (channel : ℕ) (signals : ArrayVec ℕ) (w : SlaveValue) → Answers v (Request.Event channel signals) Answer.Overrun w → w ≡ with_event channel (with_signals signals.items v) }
+    ensures overrun { (v : SlaveValue) (channel : ℕ) (signals : ArrayVec ℕ) (w : SlaveValue) → Answers v (Request.Event channel signals) Outcome.Overrun w → w ≡ with_event channel (with_signals signals.items v) }
 {}
 
 /// An answer to a command has at least one packet, and each packet at least one byte and at most
 /// MAX_CTO.
 pub fn no_reply_is_longer_than_max_cto()
-    ensures some { (v : SlaveValue) (q : ArrayVec ℕ) (ps : List (List ℕ)) (w : SlaveValue) → Answers v (Request.Command q) (Answer.Packets ps) w → 0 < length ps }
-    ensures most { (v : SlaveValue) (q : ArrayVec ℕ) (ps : List (List ℕ)) (w : SlaveValue) → IsLayout (layout_of v) → Answers v (Request.Command q) (Answer.Packets ps) w → All (λ p. (0 < length p) × (length p ≤ (layout_of v).max_cto)) ps }
+    ensures some { (v : SlaveValue) (q : ArrayVec ℕ) (ps : List (List ℕ)) (w : SlaveValue) → Answers v (Request.Command q) (Outcome.Packets ps) w → 0 < length ps }
+    ensures most { (v : SlaveValue) (q : ArrayVec ℕ) (ps : List (List ℕ)) (w : SlaveValue) → IsLayout (layout_of v) → Answers v (Request.Command q) (Outcome.Packets ps) w → All (λ p. (0 < length p) × (length p ≤ (layout_of v).max_cto)) ps }
 {}

@@ -5,13 +5,13 @@
 #![tactic(auto)]
 
 mod accepting;
-mod answer;
 mod asked;
 mod beside;
 mod blocks;
 mod exchange;
 mod law;
 mod outbox;
+mod outcome;
 mod packet;
 mod page_properties;
 mod queue;
@@ -19,14 +19,12 @@ mod request;
 mod runs;
 mod slave;
 mod status;
-mod told;
 
 pub use accepting::{
     a_block_gathers_its_bytes, a_copy_spares_the_reference_page, a_mode_is_of_its_segment,
     a_switch_gives_what_it_names, a_tool_is_told_its_bytes, a_tool_writes_its_bytes,
     an_upload_is_cut_into_packets, transfers_move_the_mta,
 };
-pub use answer::Answer;
 pub use asked::Asked;
 pub use beside::{requests_beside_change_their_own, sessions_begin_and_end};
 pub use blocks::a_block_is_written_at_its_end;
@@ -35,6 +33,7 @@ pub use law::{
     each_request_has_one_answer, each_run_has_one_outcome, no_reply_is_longer_than_max_cto,
     refusals_leave_the_slave,
 };
+pub use outcome::{Answer, Cut, Outcome, Told};
 pub use page_properties::PageProperties;
 pub use queue::{
     a_list_is_due_by_its_prescaler, a_pid_names_one_odt, a_sample_has_the_controllers_bytes,
@@ -49,4 +48,3 @@ pub use runs::{
 };
 pub use slave::Slave;
 pub use status::SessionStatus;
-pub use told::Told;

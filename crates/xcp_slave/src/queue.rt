@@ -12,7 +12,8 @@ ghost use Rattle.xcp_slave.specs.SampledBytes.{DuePackets};
 ghost use Rattle.xcp_slave.specs.SlaveInvariant.{IsSlave};
 ghost use Rattle.xcp_slave.specs.Step.{Answers, with_signals};
 ghost use Rattle.xcp_slave.specs.SlaveValue.{SlaveValue};
-ghost use Rattle.xcp_slave.specs.declared.answer.Answer.{Answer};
+ghost use Rattle.xcp_slave.specs.Outcomes.{Answer};
+ghost use Rattle.xcp_slave.specs.declared.outcome.Outcome.{Outcome};
 ghost use Rattle.xcp_slave.specs.declared.exchange.Exchange.{Exchange};
 ghost use Rattle.xcp_slave.specs.declared.request.Request.{Request};
 
@@ -23,23 +24,23 @@ pub fn what_waits_is_a_queue()
     ensures step { (v : SlaveValue) (q : Request) (a : Answer) (w : SlaveValue) → IsWithin q → Answers v q a w → taken_out q a ++ w.outbox ≡ v.outbox ++ put_in v q a }
     ensures some { (v : SlaveValue) (xs : List Exchange) (w : SlaveValue) → Run v xs w → (packets : List (ArrayVec ℕ)) × PutsIn v xs packets w }
     ensures run { (v : SlaveValue) (xs : List Exchange) (packets : List (ArrayVec ℕ)) (w : SlaveValue) → All (λ (x : Exchange). IsWithin x.request) xs → PutsIn v xs packets w → all_taken xs ++ w.outbox ≡ v.outbox ++ packets }
-    ensures drain { (v : SlaveValue) (packet : ArrayVec ℕ) (rest : List (ArrayVec ℕ)) (a : Answer) (w : SlaveValue) → v.outbox ≡ packet ∷ rest → Answers v Request.Drain a w → (a ≡ Answer.Packets (packet.items ∷ [])) × (w.outbox ≡ rest) }
+    ensures drain { (v : SlaveValue) (packet : ArrayVec ℕ) (rest : List (ArrayVec ℕ)) (a : Answer) (w : SlaveValue) → v.outbox ≡ packet ∷ rest → Answers v Request.Drain a w → (a ≡ Outcome.Packets (packet.items ∷ [])) × (w.outbox ≡ rest) }
 {}
 
 /// An event's packets wait whole: all of them, in order, behind the others, and then it is answered
 /// how many they are; or none of them. An event overruns only where they have no room.
 pub fn an_event_waits_whole()
-    ensures all { (v : SlaveValue) (channel n : ℕ) (signals : ArrayVec ℕ) (w : SlaveValue) → Answers v (Request.Event channel signals) (Answer.Sampled n) w → (n ≡ length (event_packets v channel signals.items)) × (w.outbox ≡ v.outbox ++ event_packets v channel signals.items) }
-    ensures none { (v : SlaveValue) (channel : ℕ) (signals : ArrayVec ℕ) (a : Answer) (w : SlaveValue) → Answers v (Request.Event channel signals) a w → ((n : ℕ) × (a ≡ Answer.Sampled n)) ⊎ (w.outbox ≡ v.outbox) }
-    ensures room { (v : SlaveValue) (channel n : ℕ) (signals : ArrayVec ℕ) (w : SlaveValue) → Answers v (Request.Event channel signals) (Answer.Sampled n) w → length w.outbox ≤ 64 }
-    ensures overrun { (v : SlaveValue) (channel : ℕ) (signals : ArrayVec ℕ) (w : SlaveValue) → Answers v (Request.Event channel signals) Answer.Overrun w → 64 < length v.outbox + length (event_packets v channel signals.items) }
+    ensures all { (v : SlaveValue) (channel n : ℕ) (signals : ArrayVec ℕ) (w : SlaveValue) → Answers v (Request.Event channel signals) (Outcome.Sampled n) w → (n ≡ length (event_packets v channel signals.items)) × (w.outbox ≡ v.outbox ++ event_packets v channel signals.items) }
+    ensures none { (v : SlaveValue) (channel : ℕ) (signals : ArrayVec ℕ) (a : Answer) (w : SlaveValue) → Answers v (Request.Event channel signals) a w → ((n : ℕ) × (a ≡ Outcome.Sampled n)) ⊎ (w.outbox ≡ v.outbox) }
+    ensures room { (v : SlaveValue) (channel n : ℕ) (signals : ArrayVec ℕ) (w : SlaveValue) → Answers v (Request.Event channel signals) (Outcome.Sampled n) w → length w.outbox ≤ 64 }
+    ensures overrun { (v : SlaveValue) (channel : ℕ) (signals : ArrayVec ℕ) (w : SlaveValue) → Answers v (Request.Event channel signals) Outcome.Overrun w → 64 < length v.outbox + length (event_packets v channel signals.items) }
 {}
 
 /// An event that is sampled puts the packets of the lists that are due, in order: for each ODT its PID,
 /// and behind it, entry by entry, the bytes that the controller reads there once the event's signals
 /// are in their place.
 pub fn a_sample_has_the_controllers_bytes()
-    ensures { (v : SlaveValue) (channel n : ℕ) (signals : ArrayVec ℕ) (w : SlaveValue) → IsSlave v → Answers v (Request.Event channel signals) (Answer.Sampled n) w → (packets : List (ArrayVec ℕ)) × DuePackets channel (with_signals signals.items v).transfer.pages v.daq 0 v.daq.lists packets × (w.outbox ≡ v.outbox ++ packets) }
+    ensures { (v : SlaveValue) (channel n : ℕ) (signals : ArrayVec ℕ) (w : SlaveValue) → IsSlave v → Answers v (Request.Event channel signals) (Outcome.Sampled n) w → (packets : List (ArrayVec ℕ)) × DuePackets channel (with_signals signals.items v).transfer.pages v.daq 0 v.daq.lists packets × (w.outbox ≡ v.outbox ++ packets) }
 {}
 
 /// A list that was started is due at the first event of its channel behind the start, and then at each

@@ -16,7 +16,8 @@ ghost use Rattle.xcp_slave.specs.Run.{Run};
 ghost use Rattle.xcp_slave.specs.MemoryEffects.{Follows, IsLeft, IsQuiet, IsReading, IsSteady, IsStill, IsWrite, Puts, SameMemory, Write, last_at};
 ghost use Rattle.xcp_slave.specs.Step.{Answers};
 ghost use Rattle.xcp_slave.specs.SlaveValue.{SlaveValue, layout_of, noblock, opening};
-ghost use Rattle.xcp_slave.specs.declared.answer.Answer.{Answer};
+ghost use Rattle.xcp_slave.specs.Outcomes.{Answer};
+ghost use Rattle.xcp_slave.specs.declared.outcome.Outcome.{Outcome};
 ghost use Rattle.xcp_slave.specs.declared.exchange.Exchange.{Exchange};
 ghost use Rattle.xcp_slave.specs.declared.request.Request.{Request};
 ghost use Rattle.xcp_transfer.specs.TransferValue.{BlockValue};
@@ -39,9 +40,9 @@ pub fn what_waits_is_no_response()
 /// alone, or it has the code of a refusal; and where the packet spells a command, it is a code that
 /// this command may be refused with.
 pub fn error_packets_have_codes()
-    ensures all { (v : SlaveValue) (q : ArrayVec ℕ) (p : List ℕ) (w : SlaveValue) (rest : List ℕ) → Answers v (Request.Command q) (Answer.Packets (p ∷ [])) w → p ≡ 0xFE ∷ rest → ((slice_index q.items 0 ≡ 0xFC) × (p ≡ 0xFE ∷ 0x00 ∷ [])) ⊎ IsRefusing p }
-    ensures blocks { (v : SlaveValue) (q : ArrayVec ℕ) (ps : List (List ℕ)) (w : SlaveValue) → Answers v (Request.Command q) (Answer.Packets ps) w → ((p : List ℕ) × (ps ≡ p ∷ [])) ⊎ All (λ p. slice_index p 0 ≡ 0xFF) ps }
-    ensures of_commands { (v : SlaveValue) (c : Command) (q : ArrayVec ℕ) (p : List ℕ) (w : SlaveValue) (code : ℕ) (rest : List ℕ) → spells (layout_of v).order c q.items → Answers v (Request.Command q) (Answer.Packets (p ∷ [])) w → p ≡ 0xFE ∷ code ∷ rest → code ≢ 0x00 → is_code_of c code ≡ true }
+    ensures all { (v : SlaveValue) (q : ArrayVec ℕ) (p : List ℕ) (w : SlaveValue) (rest : List ℕ) → Answers v (Request.Command q) (Outcome.Packets (p ∷ [])) w → p ≡ 0xFE ∷ rest → ((slice_index q.items 0 ≡ 0xFC) × (p ≡ 0xFE ∷ 0x00 ∷ [])) ⊎ IsRefusing p }
+    ensures blocks { (v : SlaveValue) (q : ArrayVec ℕ) (ps : List (List ℕ)) (w : SlaveValue) → Answers v (Request.Command q) (Outcome.Packets ps) w → ((p : List ℕ) × (ps ≡ p ∷ [])) ⊎ All (λ p. slice_index p 0 ≡ 0xFF) ps }
+    ensures of_commands { (v : SlaveValue) (c : Command) (q : ArrayVec ℕ) (p : List ℕ) (w : SlaveValue) (code : ℕ) (rest : List ℕ) → spells (layout_of v).order c q.items → Answers v (Request.Command q) (Outcome.Packets (p ∷ [])) w → p ≡ 0xFE ∷ code ∷ rest → code ≢ 0x00 → is_code_of c code ≡ true }
 {}
 
 /// A block under way lies in one segment, of which the tool has another page than the reference page;
@@ -55,7 +56,7 @@ pub fn a_block_may_be_written()
 
 /// A store request goes only when the pages are stored: no session's end takes it away.
 pub fn a_store_request_stands()
-    ensures { (v : SlaveValue) (q : Request) (a : Answer) (w : SlaveValue) → v.store ≡ true → w.store ≡ false → Answers v q a w → a ≡ Answer.Stored (frozen_count v.transfer.pages) }
+    ensures { (v : SlaveValue) (q : Request) (a : Answer) (w : SlaveValue) → v.store ≡ true → w.store ≡ false → Answers v q a w → a ≡ Outcome.Stored (frozen_count v.transfer.pages) }
 {}
 
 /// A reference page changes by a store alone: by no other step, and so without a store each of them
@@ -68,9 +69,9 @@ pub fn a_reference_page_is_kept()
 /// A store gives each reference page of a segment in FREEZE mode the content of the page that the
 /// tool has, and changes no other page, and nobody's page number.
 pub fn a_store_fills_the_reference_pages()
-    ensures frozen { (v w : SlaveValue) (n i : ℕ) → IsSlave v → Answers v Request.FinishStore (Answer.Stored n) w → i < length v.transfer.pages.segments → (segment_at v.transfer.pages i).freeze ≡ true → get_or (segment_at w.transfer.pages i).pages 0 [] ≡ xcp_page (segment_at v.transfer.pages i) }
-    ensures others { (v w : SlaveValue) (n i k : ℕ) → Answers v Request.FinishStore (Answer.Stored n) w → ((segment_at v.transfer.pages i).freeze ≡ false) ⊎ (k ≢ 0) → get_or (segment_at w.transfer.pages i).pages k [] ≡ get_or (segment_at v.transfer.pages i).pages k [] }
-    ensures sides { (v w : SlaveValue) (n i : ℕ) → Answers v Request.FinishStore (Answer.Stored n) w → ((segment_at w.transfer.pages i).ecu ≡ (segment_at v.transfer.pages i).ecu) × ((segment_at w.transfer.pages i).xcp ≡ (segment_at v.transfer.pages i).xcp) }
+    ensures frozen { (v w : SlaveValue) (n i : ℕ) → IsSlave v → Answers v Request.FinishStore (Outcome.Stored n) w → i < length v.transfer.pages.segments → (segment_at v.transfer.pages i).freeze ≡ true → get_or (segment_at w.transfer.pages i).pages 0 [] ≡ xcp_page (segment_at v.transfer.pages i) }
+    ensures others { (v w : SlaveValue) (n i k : ℕ) → Answers v Request.FinishStore (Outcome.Stored n) w → ((segment_at v.transfer.pages i).freeze ≡ false) ⊎ (k ≢ 0) → get_or (segment_at w.transfer.pages i).pages k [] ≡ get_or (segment_at v.transfer.pages i).pages k [] }
+    ensures sides { (v w : SlaveValue) (n i : ℕ) → Answers v Request.FinishStore (Outcome.Stored n) w → ((segment_at w.transfer.pages i).ecu ≡ (segment_at v.transfer.pages i).ecu) × ((segment_at w.transfer.pages i).xcp ≡ (segment_at v.transfer.pages i).xcp) }
 {}
 
 /// Where tool and controller have different pages of a segment, the controller's keeps its bytes

@@ -41,7 +41,7 @@ const CONNECT: u8 = 0xFF;
 const DOWNLOAD_NEXT: u8 = 0xEF;
 
 /// What comes of a command: a reply in the packet that was lent, or nothing is sent, or a refusal.
-type Outcome = Result<Sent, Fault>;
+type Handled = Result<Sent, Fault>;
 
 /// An XCP slave: segments with their pages, the signals, and one session of a tool with its DAQ
 /// lists and the packets that wait for it.
@@ -240,7 +240,7 @@ impl Slave {
     }
 
     #[tactic(auto, unfolding(crate::specs::private::Rows::TellsRow))]
-    fn execute(&mut self, bytes: &[u8], packet: &mut Packet) -> Outcome
+    fn execute(&mut self, bytes: &[u8], packet: &mut Packet) -> Handled
         requires some { 0 < length bytes.now }
         requires most { length bytes.now ≤ 255 }
         ensures { TellsCoded (coded (byte_at 0 bytes.now) (readings (layout_of self.old).order bytes.now)) bytes.now self.old result packet.new.items self.new }
@@ -258,7 +258,7 @@ impl Slave {
         }
     }
 
-    fn refuse(&mut self, code: Code) -> Outcome
+    fn refuse(&mut self, code: Code) -> Handled
         ensures outcome { result ≡ Err (Fault.Code code) }
         ensures left { self.new ≡ noblock self.old }
     {

@@ -209,14 +209,43 @@ fn take_rest<N: Name, M: Route, S: Scribe, R: Wait>(
     ensures { IfOk result (λ r. (r.0.journal ≡ []) × (r.0.base ≡ r.0.slave)) }
 {
     let mut resident = resident;
-    if !close(rt, alloc, &mut resident, post, members) {
-        return Err(StayError::Memory);
+    if close(rt, alloc, &mut resident, post, members) {
+        collect_rest(rt, resident, post, collector)
+    } else {
+        Err(StayError::Memory)
     }
-    let mut collector = collector.collect(rt, post)?;
-    let Some(locked) = resident.resign(post, &mut collector) else {
-        return Err(StayError::Memory);
-    };
-    Ok((locked, collector))
+}
+
+/// The keeper takes what is left, and the slave is given back.
+fn collect_rest<N: Name, M: Route, S: Scribe, R: Wait>(
+    rt: &R,
+    resident: Resident<N, M>,
+    post: &Post<N, M>,
+    collector: Collector<N, M, S>,
+) -> Result<(Locked<N>, Collector<N, M, S>), StayError>
+    requires { (resident.locked.journal ≡ []) × (resident.locked.base ≡ resident.locked.slave) }
+    ensures { IfOk result (λ r. (r.0.journal ≡ []) × (r.0.base ≡ r.0.slave)) }
+{
+    match collector.collect(rt, post) {
+        Ok(collector) => resign(resident, post, collector),
+        Err(error) => Err(StayError::from(error)),
+    }
+}
+
+/// The slave is given back, where the keeper took all chapters that were ever cut off it.
+fn resign<N: Name, M: Route, S: Scribe>(
+    resident: Resident<N, M>,
+    post: &Post<N, M>,
+    collector: Collector<N, M, S>,
+) -> Result<(Locked<N>, Collector<N, M, S>), StayError>
+    requires { (resident.locked.journal ≡ []) × (resident.locked.base ≡ resident.locked.slave) }
+    ensures { IfOk result (λ r. (r.0.journal ≡ []) × (r.0.base ≡ r.0.slave)) }
+{
+    let mut collector = collector;
+    match resident.resign(post, &mut collector) {
+        Some(locked) => Ok((locked, collector)),
+        None => Err(StayError::Memory),
+    }
 }
 
 /// All members resign, and the keeper meets the slave, which has no open call.

@@ -4,8 +4,8 @@ use Rattle.std.specs.Prelude.{◌≡◌, ◌≤◌, ◌<◌, ℕ, ◌+◌, ◌*�
 use Rattle.xcp_packet.specs.PacketTrains.{block_packets}
 use Rattle.xcp_slave.specs.declared.Request.{Request}
 use Rattle.xcp_slave.specs.declared.Request.TheVariants as requests
-use Rattle.xcp_slave.specs.declared.Answer.{Answer}
-use Rattle.xcp_slave.specs.declared.Answer.TheVariants as answers
+use Rattle.xcp_slave.specs.Outcomes.{Answer}
+use Rattle.xcp_slave.specs.declared.Outcome.TheVariants as answers
 use Rattle.xcp_slave.specs.declared.Exchange.{Exchange}
 
 -- a request as a tag, a channel and bytes

@@ -5,12 +5,12 @@ ghost use Rattle.xcp_slave.specs.AskedRequest.{IsShort, request_asked};
 ghost use Rattle.xcp_trace.specs.EntryBytes.{SpellEntries};
 ghost use Rattle.xcp_trace.specs.EntrySpelling.{IsEntryString, entry_in, room_for_any_entry};
 
-use crate::spelling::{EXCHANGE_BYTES, read_exchange, spell, spell_told};
+use crate::spelling::{EXCHANGE_BYTES, read_exchange, spell};
 use crate::{LentEntry, Strings, Tape};
 use std::alloc::{AllocError, Global};
 use std::marker::Model;
 use xcp_packet::Packet;
-use xcp_slave::{Answer, Asked, Exchange, Request, Told};
+use xcp_slave::{Asked, Exchange, Told};
 
 /// The bytes before an exchange's string: the caller's number.
 pub(crate) const CALLER_BYTES: usize = 1;
@@ -74,20 +74,9 @@ impl Journal {
         self.tape.reserve(CALLER_BYTES + EXCHANGE_BYTES)
     }
 
-    /// Puts an entry behind the others, for which room was made. It takes no memory.
-    pub fn push(&mut self, caller: u8, request: &Request, answer: &Answer)
-        requires { room_for_any_entry ≤ self.old.room }
-        ensures { self.new.entries ≡ self.old.entries
-            ++ record { caller = caller; exchange = record { request = request.now; answer = answer.now } } ∷ [] }
-    {
-        let spelled = spell(request, answer);
-        self.tape
-            .push(&[caller], &spelled.head, spelled.asked, spelled.told);
-    }
-
-    /// Puts an entry behind the others, as `push` does. The request's bytes are lent, and the answer's
-    /// packet, or the data bytes of its block, stand in the lent one.
-    pub fn push_told(&mut self, caller: u8, asked: Asked<'_>, told: &Told, packet: &Packet)
+    /// Puts an entry behind the others, for which room was made. It takes no memory. The request's bytes
+    /// are lent, and the answer's packet, or the data bytes of its block, stand in the lent one.
+    pub fn push(&mut self, caller: u8, asked: Asked<'_>, told: &Told, packet: &Packet)
         requires room { room_for_any_entry ≤ self.old.room }
         requires short { IsShort asked }
         ensures { self.new.entries ≡ self.old.entries ++ record {
@@ -95,7 +84,7 @@ impl Journal {
           exchange = record { request = request_asked asked.entry; answer = answer_in told.now packet.now };
         } ∷ [] }
     {
-        let parts = spell_told(asked, told, packet);
+        let parts = spell(asked, told, packet);
         self.tape
             .push(&[caller], &parts.head, parts.asked, parts.told);
     }

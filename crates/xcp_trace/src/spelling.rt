@@ -1,13 +1,13 @@
 //! The string of an exchange, in its parts.
 ghost use Rattle.std.specs.Prelude.{◌≡◌, ◌≤◌, ◌<◌, ◌++◌, length};
-ghost use Rattle.xcp_slave.specs.declared.Answer.{Answer};
+ghost use Rattle.xcp_slave.specs.Outcomes.{Answer};
 ghost use Rattle.xcp_slave.specs.AnswerInBytes.{answer_in};
 ghost use Rattle.xcp_slave.specs.AskedRequest.{IsShort, request_asked};
 ghost use Rattle.xcp_trace.specs.ExchangeSpelling.{IsExchangeString, answer_of, exchange_in, request_bytes, request_channel, request_of, request_tag};
 
 use arrayvec::ArrayVec;
 use xcp_packet::{Packet, Train, Width};
-use xcp_slave::{Answer, Asked, Exchange, Request, Told};
+use xcp_slave::{Answer, Asked, Cut, Exchange, Outcome, Request, Told};
 
 /// The bytes of a head: the request's tag and its channel, the answer's tag and its number, and the
 /// length of the request's bytes.
@@ -30,20 +30,8 @@ pub(crate) struct Spelled<'a> {
     pub(crate) told: &'a [u8],
 }
 
-/// The string of an exchange, from its request and its answer.
-pub(crate) fn spell<'a>(request: &'a Request, answer: &'a Answer) -> Spelled<'a>
-    ensures string { exchange_in (result.head ++ result.asked.now ++ result.told.now)
-        ≡ record { request = request.now; answer = answer.now } }
-    ensures fits { IsExchangeString (result.head ++ result.asked.now ++ result.told.now) }
-    ensures asked { length result.asked.now ≤ PACKET_BYTES }
-    ensures told { length result.told.now ≤ PACKET_BYTES }
-{
-    let (kind, count, told) = answer_parts(answer);
-    spell_parts(request.asked(), kind, count, told)
-}
-
 /// The string of an exchange, from its request and from what was told beside a lent packet.
-pub(crate) fn spell_told<'a>(asked: Asked<'a>, told: &Told, packet: &'a Packet) -> Spelled<'a>
+pub(crate) fn spell<'a>(asked: Asked<'a>, told: &Told, packet: &'a Packet) -> Spelled<'a>
     requires { IsShort asked }
     ensures string { exchange_in (result.head ++ result.asked.now ++ result.told.now)
         ≡ record { request = request_asked asked.entry; answer = answer_in told.now packet.now } }
@@ -51,7 +39,7 @@ pub(crate) fn spell_told<'a>(asked: Asked<'a>, told: &Told, packet: &'a Packet) 
     ensures asked { length result.asked.now ≤ PACKET_BYTES }
     ensures told { length result.told.now ≤ PACKET_BYTES }
 {
-    let (kind, count, bytes) = told_parts(told, packet);
+    let (kind, count, bytes) = answer_parts(told, packet);
     spell_parts(asked, kind, count, bytes)
 }
 
@@ -107,49 +95,16 @@ fn request_parts(request: Asked<'_>) -> (u8, u16, &[u8])
     }
 }
 
-/// The tag of an answer, its number and its bytes.
-fn answer_parts(answer: &Answer) -> (u8, u8, &[u8])
-    ensures answer { answer_of result.0 result.1 result.2.now ≡ answer.now }
-    ensures short { length result.2.now ≤ 255 }
-    ensures width { 9 < result.0 → (7 ≤ result.1) × (result.1 ≤ 254) }
-{
-    match answer {
-        Answer::Silent => (0, 0, &[]),
-        Answer::Packets(train) => train_parts(train),
-        Answer::Sampled(count) => (2, *count, &[]),
-        Answer::Overrun => (3, 0, &[]),
-        Answer::NoChannel => (4, 0, &[]),
-        Answer::BadSignals => (5, 0, &[]),
-        Answer::Nothing => (6, 0, &[]),
-        Answer::Stored(count) => (7, *count, &[]),
-        Answer::NoStore => (8, 0, &[]),
-        Answer::Later => (9, 0, &[]),
-    }
-}
-
-/// The same parts of an answer's packets.
-fn train_parts(train: &Train) -> (u8, u8, &[u8])
-    ensures answer { answer_of result.0 result.1 result.2.now ≡ Answer.Packets train.now }
-    ensures short { length result.2.now ≤ 255 }
-    ensures width { 9 < result.0 → (7 ≤ result.1) × (result.1 ≤ 254) }
-{
-    let (width, bytes) = train.parts();
-    match width {
-        None => (1, 0, bytes),
-        Some(width) => (BLOCK, width.bytes(), bytes),
-    }
-}
-
-/// The same parts of what was told beside a lent packet.
-fn told_parts<'a>(told: &Told, packet: &'a Packet) -> (u8, u8, &'a [u8])
+/// The tag of an answer that was told beside a lent packet, its number and its bytes.
+fn answer_parts<'a>(told: &Told, packet: &'a Packet) -> (u8, u8, &'a [u8])
     ensures answer { answer_of result.0 result.1 result.2.now ≡ answer_in told.now packet.now }
     ensures short { length result.2.now ≤ 255 }
     ensures width { 9 < result.0 → (7 ≤ result.1) × (result.1 ≤ 254) }
 {
     match told {
         Told::Silent => (0, 0, &[]),
-        Told::Packet => (1, 0, packet.as_slice()),
-        Told::Block(width) => (BLOCK, width.bytes(), packet.as_slice()),
+        Told::Packets(Cut::Whole) => (1, 0, packet.as_slice()),
+        Told::Packets(Cut::Block(width)) => (BLOCK, width.bytes(), packet.as_slice()),
         Told::Sampled(count) => (2, *count, &[]),
         Told::Overrun => (3, 0, &[]),
         Told::NoChannel => (4, 0, &[]),

@@ -4,12 +4,12 @@ ghost use Rattle.xcp_slave.specs.AnswerInBytes.{answer_in};
 ghost use Rattle.xcp_slave.specs.AskedRequest.{IsShort, request_asked};
 ghost use Rattle.xcp_trace.specs.ExchangeSpelling.{room_for_any};
 
-use crate::spelling::{EXCHANGE_BYTES, read_exchange, spell, spell_told};
+use crate::spelling::{EXCHANGE_BYTES, read_exchange, spell};
 use crate::{LentExchange, Strings, Tape};
 use std::alloc::{AllocError, Global};
 use std::marker::Model;
 use xcp_packet::Packet;
-use xcp_slave::{Answer, Asked, Exchange, Request, Told};
+use xcp_slave::{Asked, Exchange, Told};
 
 /// Exchanges, in the order in which they were had.
 #[derive(Drop)]
@@ -55,26 +55,15 @@ impl Trace {
         self.tape.reserve(EXCHANGE_BYTES)
     }
 
-    /// Puts an exchange behind the others, for which room was made. It takes no memory.
-    pub fn push(&mut self, request: &Request, answer: &Answer)
-        requires { room_for_any ≤ self.old.room }
-        ensures { self.new.exchanges ≡ self.old.exchanges
-            ++ record { request = request.now; answer = answer.now } ∷ [] }
-    {
-        let spelled = spell(request, answer);
-        self.tape
-            .push(&[], &spelled.head, spelled.asked, spelled.told);
-    }
-
-    /// Puts an exchange behind the others, as `push` does. The request's bytes are lent, and the answer's
-    /// packet, or the data bytes of its block, stand in the lent one.
-    pub fn push_told(&mut self, asked: Asked<'_>, told: &Told, packet: &Packet)
+    /// Puts an exchange behind the others, for which room was made. It takes no memory. The request's bytes
+    /// are lent, and the answer's packet, or the data bytes of its block, stand in the lent one.
+    pub fn push(&mut self, asked: Asked<'_>, told: &Told, packet: &Packet)
         requires room { room_for_any ≤ self.old.room }
         requires short { IsShort asked }
         ensures { self.new.exchanges ≡ self.old.exchanges
             ++ record { request = request_asked asked.entry; answer = answer_in told.now packet.now } ∷ [] }
     {
-        let spelled = spell_told(asked, told, packet);
+        let spelled = spell(asked, told, packet);
         self.tape
             .push(&[], &spelled.head, spelled.asked, spelled.told);
     }

@@ -9,7 +9,7 @@ mod log;
 mod stack;
 mod stay;
 
-ghost use Rattle.std.specs.Prelude.{◌≡◌, ◌≤◌, ◌+◌, IfOk, vec_len};
+ghost use Rattle.std.specs.Prelude.{◌≡◌, ◌<◌, ◌≤◌, ◌+◌, IfOk, vec_len};
 ghost use Rattle.xcp_program.specs.CommandLine.{InRange};
 ghost use Rattle.xcp_scribe.specs.Flashing.{KeepsNone};
 ghost use Rattle.xcp_scribe.specs.Scribing.{HasBegun};
@@ -108,7 +108,9 @@ fn check_or_tell(rt: &HostRuntime, path: &str) -> ExitCode {
 type Admitted = (Unnamed, [u64; 6], Both<Written, Kept>, Tools);
 
 /// A slave of the configuration file's layout with a caller for each tool, task and pump, the periods of its tasks, what writes its
-/// journal and its stored pages down, and the tools that have connected.
+/// journal and its stored pages down, and the tools that have connected. It isn't inlined, so that its stack is free again while these are
+/// served.
+#[inline(never)]
 fn admit(
     rt: &HostRuntime,
     path: &str,
@@ -124,7 +126,6 @@ fn admit(
     requires { (1 ≤ tools) × (tools ≤ 2) × (tasks ≤ 6) }
     ensures { IfOk result (λ r. (vec_len r.3 ≡ tools) × (r.0.callers ≡ tools + tasks + tools) × HasBegun r.2.first × KeepsNone r.2.second) }
 {
-    deepen(rt.alloc(), path)?;
     let text = text_of(rt, path)?;
     let (layout, kept) = begin_with(rt, text.as_str(), flash)?;
     let periods = periods_of(&layout, pace, period);
@@ -212,9 +213,38 @@ fn serve_by<R: Threads + Wait + Clock + Sync>(
 ) -> Result<(), Fault>
     requires { (1 ≤ tools) × (tools ≤ 2) × (tasks ≤ 6) }
 {
-    let (unnamed, periods, scribe, ends) = admit(
+    deepen(rt.alloc(), path)?;
+    let admitted = admit(
         rt, path, host, port, tools, tasks, pace, period, journal, flash,
     )?;
+    serve_admitted(
+        rt,
+        handle,
+        admitted,
+        tasks,
+        cycles,
+        chapter,
+        flash.is_some(),
+    )
+}
+
+/// The same, once the tools have connected. Its stack isn't there before: `deepen` makes sure that there is room for it.
+#[inline(never)]
+fn serve_admitted<R: Threads + Wait + Clock + Sync>(
+    rt: &HostRuntime,
+    handle: &R,
+    admitted: Admitted,
+    tasks: u8,
+    cycles: u32,
+    chapter: u32,
+    each_store: bool,
+) -> Result<(), Fault>
+    requires some { 0 < vec_len admitted.3 }
+    requires callers { vec_len admitted.3 + tasks + vec_len admitted.3 ≤ admitted.0.callers }
+    requires tasks { tasks ≤ 6 }
+    requires scribe { HasBegun admitted.2.first × KeepsNone admitted.2.second }
+{
+    let (unnamed, periods, scribe, ends) = admitted;
     let ending = serve_ends(
         handle,
         rt.alloc(),
@@ -223,7 +253,7 @@ fn serve_by<R: Threads + Wait + Clock + Sync>(
         tasks,
         cycles,
         chapter,
-        flash.is_some(),
+        each_store,
         periods,
         scribe,
     )?;

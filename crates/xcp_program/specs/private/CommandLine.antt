@@ -1,14 +1,22 @@
 -- What the four commands of the program ask for.
 use Rattle.std.specs.Prelude.{◌≡◌, ◌⊎◌, ℕ, List, Option, codes, true, false}
-use Rattle.clap.specs.Words.{App, Row, Text, new_app, with_rule}
+use Rattle.clap.specs.Words.{App, Row, Text, new_app, with_rule, with_subcommand}
 use Rattle.xcp_program.specs.declared.purpose.OptionsFault.{OptionsFault}
 use Rattle.xcp_program.specs.declared.purpose.OptionsFault.TheVariants.{Memory, TooManyTools, Words}
 use Rattle.xcp_program.specs.CommandLine.{AsksTooMany, HasFile, HasGiven, HasHost, HasNumber, HasNumberIn, HasText, gives}
-use Rattle.xcp_program.specs.CommandLine.{chapter, config_rule, cycles, flag_rule, host_rule, named_port, numeric_rule, patience, period, port, tasks, tools}
+use Rattle.xcp_program.specs.CommandLine.{chapter, config_rule, cycles, flag_rule, host_rule, named_port, numeric_rule, patience, period, port, replay_app, serve_app, tasks, tools, with_a_subcommand_wanted, with_a_version}
 
 -- `serve` with the first four of its options
 abbrev pub placed_app : App
 placed_app = with_rule (with_rule (with_rule (with_rule (new_app (codes "serve")) config_rule) (numeric_rule port)) host_rule) (flag_rule (codes "stay"))
+
+-- `serve` with the four after these
+abbrev pub counted_app : App
+counted_app = with_rule (with_rule (with_rule (with_rule placed_app (numeric_rule tools)) (numeric_rule tasks)) (numeric_rule cycles)) (numeric_rule chapter)
+
+-- the program with its first two subcommands
+abbrev pub front_app : App
+front_app = with_subcommand (with_subcommand (with_a_subcommand_wanted (with_a_version (new_app (codes "xcpd")))) replay_app.top) serve_app.top
 
 -- the text of a subcommand's flag says whether the words give it
 abbrev pub HasFlag : Option (Text × List Row) → Text → Text → Type 0

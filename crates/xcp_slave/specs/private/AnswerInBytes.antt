@@ -7,8 +7,8 @@ use Rattle.xcp_packet.specs.declared.Fault.{Fault}
 use Rattle.xcp_packet.specs.ReplyPacket.{layout}
 use Rattle.xcp_packet.specs.PacketTrains.{block_packets}
 use Rattle.xcp_packet.specs.ReplyInBytes.{fault_reply}
-use Rattle.xcp_slave.specs.declared.answer.Answer.{Answer}
-use Rattle.xcp_slave.specs.declared.answer.Answer.TheVariants as answers
+use Rattle.xcp_slave.specs.Outcomes.{Answer}
+use Rattle.xcp_slave.specs.declared.outcome.Outcome.TheVariants as answers
 
 -- the answer that a command's outcome is, where the lent packet has these bytes
 abbrev pub answer_said : Order → Result Sent Fault → List ℕ → Answer

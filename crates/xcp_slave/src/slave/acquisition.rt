@@ -3,13 +3,13 @@
 
 ghost use Rattle.xcp_slave.specs.private.Rows.{TellsRow};
 
-use super::{Outcome, Slave};
+use super::{Handled, Slave};
 use xcp_daq::Daq;
 use xcp_packet::{Command, Fault, Packet, Reply};
 use xcp_transfer::{Mta, TextId};
 
 impl Slave {
-    pub(super) fn clear_daq_list(&mut self, list: u16, packet: &mut Packet) -> Outcome
+    pub(super) fn clear_daq_list(&mut self, list: u16, packet: &mut Packet) -> Handled
         ensures { TellsRow (Command.ClearDaqList list) self.old result packet.new.items self.new }
     {
         self.transfer.give_up_block();
@@ -23,7 +23,7 @@ impl Slave {
         odt: u8,
         entry: u8,
         packet: &mut Packet,
-    ) -> Outcome
+    ) -> Handled
         ensures { TellsRow (Command.SetDaqPtr list odt entry) self.old result packet.new.items self.new }
     {
         self.transfer.give_up_block();
@@ -38,7 +38,7 @@ impl Slave {
         extension: u8,
         address: u32,
         packet: &mut Packet,
-    ) -> Outcome
+    ) -> Handled
         ensures { TellsRow (Command.WriteDaq offset size extension address) self.old result packet.new.items self.new }
     {
         self.transfer.give_up_block();
@@ -58,7 +58,7 @@ impl Slave {
         prescaler: u8,
         priority: u8,
         packet: &mut Packet,
-    ) -> Outcome
+    ) -> Handled
         ensures { TellsRow (Command.SetDaqListMode mode list event prescaler priority) self.old result packet.new.items self.new }
     {
         self.transfer.give_up_block();
@@ -68,7 +68,7 @@ impl Slave {
         Ok(self.done(packet))
     }
 
-    pub(super) fn get_daq_list_mode(&mut self, list: u16, packet: &mut Packet) -> Outcome
+    pub(super) fn get_daq_list_mode(&mut self, list: u16, packet: &mut Packet) -> Handled
         ensures { TellsRow (Command.GetDaqListMode list) self.old result packet.new.items self.new }
     {
         self.transfer.give_up_block();
@@ -87,7 +87,7 @@ impl Slave {
         mode: u8,
         list: u16,
         packet: &mut Packet,
-    ) -> Outcome
+    ) -> Handled
         ensures { TellsRow (Command.StartStopDaqList mode list) self.old result packet.new.items self.new }
     {
         self.transfer.give_up_block();
@@ -96,7 +96,7 @@ impl Slave {
         Ok(self.tell(&Reply::FirstPid(first_pid), packet))
     }
 
-    pub(super) fn start_stop_synch(&mut self, mode: u8, packet: &mut Packet) -> Outcome
+    pub(super) fn start_stop_synch(&mut self, mode: u8, packet: &mut Packet) -> Handled
         ensures { TellsRow (Command.StartStopSynch mode) self.old result packet.new.items self.new }
     {
         self.transfer.give_up_block();
@@ -105,7 +105,7 @@ impl Slave {
         Ok(self.done(packet))
     }
 
-    pub(super) fn read_daq(&mut self, packet: &mut Packet) -> Outcome
+    pub(super) fn read_daq(&mut self, packet: &mut Packet) -> Handled
         ensures { TellsRow Command.ReadDaq self.old result packet.new.items self.new }
     {
         self.transfer.give_up_block();
@@ -121,7 +121,7 @@ impl Slave {
         Ok(self.tell(&reply, packet))
     }
 
-    pub(super) fn get_daq_processor_info(&mut self, packet: &mut Packet) -> Outcome
+    pub(super) fn get_daq_processor_info(&mut self, packet: &mut Packet) -> Handled
         ensures { TellsRow Command.GetDaqProcessorInfo self.old result packet.new.items self.new }
     {
         self.transfer.give_up_block();
@@ -133,7 +133,7 @@ impl Slave {
         Ok(self.tell(&reply, packet))
     }
 
-    pub(super) fn get_daq_resolution_info(&mut self, packet: &mut Packet) -> Outcome
+    pub(super) fn get_daq_resolution_info(&mut self, packet: &mut Packet) -> Handled
         ensures { TellsRow Command.GetDaqResolutionInfo self.old result packet.new.items self.new }
     {
         self.transfer.give_up_block();
@@ -141,7 +141,7 @@ impl Slave {
         Ok(self.tell(&Reply::DaqResolution { greatest }, packet))
     }
 
-    pub(super) fn get_daq_event_info(&mut self, channel: u16, packet: &mut Packet) -> Outcome
+    pub(super) fn get_daq_event_info(&mut self, channel: u16, packet: &mut Packet) -> Handled
         ensures { TellsRow (Command.GetDaqEventInfo channel) self.old result packet.new.items self.new }
     {
         self.transfer.give_up_block();

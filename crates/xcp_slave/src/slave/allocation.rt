@@ -3,11 +3,11 @@
 
 ghost use Rattle.xcp_slave.specs.private.Rows.{TellsRow};
 
-use super::{Outcome, Slave};
+use super::{Handled, Slave};
 use xcp_packet::{Command, Packet};
 
 impl Slave {
-    pub(super) fn free_daq(&mut self, packet: &mut Packet) -> Outcome
+    pub(super) fn free_daq(&mut self, packet: &mut Packet) -> Handled
         ensures { TellsRow Command.FreeDaq self.old result packet.new.items self.new }
     {
         self.transfer.give_up_block();
@@ -15,7 +15,7 @@ impl Slave {
         Ok(self.done(packet))
     }
 
-    pub(super) fn alloc_daq(&mut self, count: u16, packet: &mut Packet) -> Outcome
+    pub(super) fn alloc_daq(&mut self, count: u16, packet: &mut Packet) -> Handled
         ensures { TellsRow (Command.AllocDaq count) self.old result packet.new.items self.new }
     {
         self.transfer.give_up_block();
@@ -23,7 +23,7 @@ impl Slave {
         Ok(self.done(packet))
     }
 
-    pub(super) fn alloc_odt(&mut self, list: u16, count: u8, packet: &mut Packet) -> Outcome
+    pub(super) fn alloc_odt(&mut self, list: u16, count: u8, packet: &mut Packet) -> Handled
         ensures { TellsRow (Command.AllocOdt list count) self.old result packet.new.items self.new }
     {
         self.transfer.give_up_block();
@@ -37,7 +37,7 @@ impl Slave {
         odt: u8,
         count: u8,
         packet: &mut Packet,
-    ) -> Outcome
+    ) -> Handled
         ensures { TellsRow (Command.AllocOdtEntry list odt count) self.old result packet.new.items self.new }
     {
         self.transfer.give_up_block();

@@ -6,7 +6,7 @@ ghost use Rattle.xcp_slave.specs.AnswerInBytes.{answer_in};
 ghost use Rattle.xcp_daq.specs.Sample.{sampled};
 
 use super::Slave;
-use crate::{Answer, Told};
+use crate::{Cut, Outcome, Told};
 use xcp_packet::Packet;
 
 /// The first byte of an event packet, and the event's code.
@@ -49,7 +49,7 @@ impl Slave {
         ensures { Drains self.old.outbox self.old (answer_in result packet.new) self.new }
     {
         if self.outbox.take_first(packet) {
-            Told::Packet
+            Told::Packets(Cut::Whole)
         } else {
             Told::Nothing
         }
@@ -57,7 +57,7 @@ impl Slave {
 
     /// Stores the segments that are in FREEZE mode, where it was asked for.
     pub(super) fn finish_store(&mut self) -> Told
-        ensures { (packet : ArrayVec ℕ) → MatchBool self.old.store (Stores self.old (answer_in result packet) self.new) ((answer_in result packet ≡ Answer.NoStore) × (self.new ≡ self.old)) }
+        ensures { (packet : ArrayVec ℕ) → MatchBool self.old.store (Stores self.old (answer_in result packet) self.new) ((answer_in result packet ≡ Outcome.NoStore) × (self.new ≡ self.old)) }
     {
         if !self.store {
             return Told::NoStore;

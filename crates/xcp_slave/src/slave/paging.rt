@@ -4,7 +4,7 @@
 
 ghost use Rattle.xcp_slave.specs.private.Rows.{TellsRow};
 
-use super::{Outcome, Slave};
+use super::{Handled, Slave};
 use crate::PageProperties;
 use xcp_packet::{Code, Command, Fault, Packet, Reply};
 
@@ -18,7 +18,7 @@ impl Slave {
         segment: u8,
         page: u8,
         packet: &mut Packet,
-    ) -> Outcome
+    ) -> Handled
         ensures { TellsRow (Command.SetCalPage mode segment page) self.old result packet.new.items self.new }
     {
         self.transfer.give_up_block();
@@ -26,7 +26,7 @@ impl Slave {
         Ok(self.done(packet))
     }
 
-    pub(super) fn get_cal_page(&mut self, mode: u8, segment: u8, packet: &mut Packet) -> Outcome
+    pub(super) fn get_cal_page(&mut self, mode: u8, segment: u8, packet: &mut Packet) -> Handled
         ensures { TellsRow (Command.GetCalPage mode segment) self.old result packet.new.items self.new }
     {
         self.transfer.give_up_block();
@@ -34,7 +34,7 @@ impl Slave {
         Ok(self.tell(&Reply::CalPage(page), packet))
     }
 
-    pub(super) fn get_pag_processor_info(&mut self, packet: &mut Packet) -> Outcome
+    pub(super) fn get_pag_processor_info(&mut self, packet: &mut Packet) -> Handled
         ensures { TellsRow Command.GetPagProcessorInfo self.old result packet.new.items self.new }
     {
         self.transfer.give_up_block();
@@ -49,7 +49,7 @@ impl Slave {
         info: u8,
         _mapping: u8,
         packet: &mut Packet,
-    ) -> Outcome
+    ) -> Handled
         ensures { TellsRow (Command.GetSegmentInfo mode segment info _mapping) self.old result packet.new.items self.new }
     {
         self.transfer.give_up_block();
@@ -68,7 +68,7 @@ impl Slave {
         Ok(self.tell(&Reply::SegmentWord(number), packet))
     }
 
-    pub(super) fn get_page_info(&mut self, segment: u8, page: u8, packet: &mut Packet) -> Outcome
+    pub(super) fn get_page_info(&mut self, segment: u8, page: u8, packet: &mut Packet) -> Handled
         ensures { TellsRow (Command.GetPageInfo segment page) self.old result packet.new.items self.new }
     {
         self.transfer.give_up_block();
@@ -80,7 +80,7 @@ impl Slave {
         Ok(self.tell(&reply, packet))
     }
 
-    pub(super) fn set_segment_mode(&mut self, mode: u8, segment: u8, packet: &mut Packet) -> Outcome
+    pub(super) fn set_segment_mode(&mut self, mode: u8, segment: u8, packet: &mut Packet) -> Handled
         ensures { TellsRow (Command.SetSegmentMode mode segment) self.old result packet.new.items self.new }
     {
         self.transfer.give_up_block();
@@ -88,7 +88,7 @@ impl Slave {
         Ok(self.done(packet))
     }
 
-    pub(super) fn get_segment_mode(&mut self, segment: u8, packet: &mut Packet) -> Outcome
+    pub(super) fn get_segment_mode(&mut self, segment: u8, packet: &mut Packet) -> Handled
         ensures { TellsRow (Command.GetSegmentMode segment) self.old result packet.new.items self.new }
     {
         self.transfer.give_up_block();
@@ -103,7 +103,7 @@ impl Slave {
         target: u8,
         target_page: u8,
         packet: &mut Packet,
-    ) -> Outcome
+    ) -> Handled
         ensures { TellsRow (Command.CopyCalPage source source_page target target_page) self.old result packet.new.items self.new }
     {
         self.transfer.give_up_block();
@@ -112,7 +112,7 @@ impl Slave {
         Ok(self.done(packet))
     }
 
-    pub(super) fn set_request(&mut self, mode: u8, _id: u16, packet: &mut Packet) -> Outcome
+    pub(super) fn set_request(&mut self, mode: u8, _id: u16, packet: &mut Packet) -> Handled
         ensures { TellsRow (Command.SetRequest mode _id) self.old result packet.new.items self.new }
     {
         self.transfer.give_up_block();

@@ -3,7 +3,7 @@
 
 ghost use Rattle.xcp_slave.specs.private.Rows.{TellsRow};
 
-use super::{Outcome, Slave};
+use super::{Handled, Slave};
 use crate::SessionStatus;
 use xcp_packet::{Code, Command, Packet, Reply};
 use xcp_transfer::Mta;
@@ -13,7 +13,7 @@ use xcp_transfer::Mta;
 const COMM_MODE_BASIC: u8 = 0xC0;
 
 impl Slave {
-    pub(super) fn connect(&mut self, _mode: u8, packet: &mut Packet) -> Outcome
+    pub(super) fn connect(&mut self, _mode: u8, packet: &mut Packet) -> Handled
         ensures { TellsRow (Command.Connect _mode) self.old result packet.new.items self.new }
     {
         self.connected = true;
@@ -27,33 +27,33 @@ impl Slave {
         Ok(self.tell(&reply, packet))
     }
 
-    pub(super) fn disconnect(&mut self, packet: &mut Packet) -> Outcome
+    pub(super) fn disconnect(&mut self, packet: &mut Packet) -> Handled
         ensures { TellsRow Command.Disconnect self.old result packet.new.items self.new }
     {
         self.end_session();
         Ok(self.done(packet))
     }
 
-    pub(super) fn get_status(&mut self, packet: &mut Packet) -> Outcome
+    pub(super) fn get_status(&mut self, packet: &mut Packet) -> Handled
         ensures { TellsRow Command.GetStatus self.old result packet.new.items self.new }
     {
         let status = SessionStatus::bits_of(self.store, self.daq.any_running());
         Ok(self.tell(&Reply::Status(status), packet))
     }
 
-    pub(super) fn synch(&mut self, packet: &mut Packet) -> Outcome
+    pub(super) fn synch(&mut self, packet: &mut Packet) -> Handled
         ensures { TellsRow Command.Synch self.old result packet.new.items self.new }
     {
         Ok(self.tell(&Reply::Error(Code::CmdSynch), packet))
     }
 
-    pub(super) fn get_comm_mode_info(&mut self, packet: &mut Packet) -> Outcome
+    pub(super) fn get_comm_mode_info(&mut self, packet: &mut Packet) -> Handled
         ensures { TellsRow Command.GetCommModeInfo self.old result packet.new.items self.new }
     {
         Ok(self.tell(&Reply::CommMode, packet))
     }
 
-    pub(super) fn get_id(&mut self, kind: u8, packet: &mut Packet) -> Outcome
+    pub(super) fn get_id(&mut self, kind: u8, packet: &mut Packet) -> Handled
         ensures { TellsRow (Command.GetId kind) self.old result packet.new.items self.new }
     {
         self.transfer.get_id(kind, packet)

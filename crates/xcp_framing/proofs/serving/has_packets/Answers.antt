@@ -1,7 +1,18 @@
-use Rattle.std.proofs.Common.{sym, ◌∙◌}
+use Rattle.std.proofs.Common.{ℕ, ◌≢◌, [], sym, ◌∙◌}
+use Rattle.arrayvec.specs.ArrayVec.{ArrayVec}
 use Rattle.xcp_packet.specs.BlockPacketLemmas.{block_begins}
+use Rattle.xcp_slave.specs.AnswerInBytes.{answer_in}
+use Rattle.xcp_slave.specs.declared.Outcome.TheVariants as outcomes
+use Rattle.xcp_slave.specs.declared.Cut.{Cut}
+use Rattle.xcp_slave.specs.declared.Cut.TheVariants as cuts
+use Rattle.xcp_framing.specs.Serve.{packet_of}
 use Rattle.xcp_framing.proofs.ExchangeLemmas.{cons≢nil}
 use Rattle.xcp_framing.proofs.serving.has_packets.Goals as goal
 
-pub returns-in-Block-clause-some : goal.returns-in-Block-clause-some
-returns-in-Block-clause-some c = λ packet t e. let b = block_begins c.in-Block.field-0 packet.items in cons≢nil (sym b.2 ∙ (rw c.in-Block.is at e))
+-- however it is cut, an answer with packets has one
+some : (cut : Cut) (packet : ArrayVec ℕ) → packet_of (answer_in (outcomes.Packets cut) packet) ≢ []
+some cuts.Whole packet = λ e. cons≢nil e
+some (cuts.Block width) packet = λ e. let b = block_begins width packet.items in cons≢nil (sym b.2 ∙ e)
+
+pub returns-in-Packets-clause-some : goal.returns-in-Packets-clause-some
+returns-in-Packets-clause-some c = λ packet t e. some _ packet (rw c.in-Packets.is at e)

@@ -1,7 +1,7 @@
 use Rattle.std.proofs.Common.{◌≡◌, Bool, ◌∙◌, ap, ap₂}
 use Rattle.clap.specs.declared.builder.Arg.{Arg}
 use Rattle.clap.specs.Words.{rule_of, with_rule}
-use Rattle.xcp_program.specs.CommandLine.{chapter, cycles, numeric_rule, patience, period, tasks, tools}
+use Rattle.xcp_program.specs.CommandLine.{numeric_rule, patience, period}
 use Rattle.xcp_program.proofs.command_line.serve_command.Goals as goal
 
 abbrev is_global : Arg → Bool
@@ -9,18 +9,10 @@ is_global a = a.global
 
 pub returns-clause-app : goal.returns-clause-app
 returns-clause-app c =
-    let tools_is : rule_of c.help-tools.result ≡ numeric_rule tools = ap rule_of c.help-tools.ensures ∙ c.numeric.ensures.rule in
-    let tasks_is : rule_of c.help-tasks.result ≡ numeric_rule tasks = ap rule_of c.help-tasks.ensures ∙ c.numeric-2.ensures.rule in
-    let cycles_is : rule_of c.help-cycles.result ≡ numeric_rule cycles = ap rule_of c.help-cycles.ensures ∙ c.numeric-3.ensures.rule in
-    let chapter_is : rule_of c.help-chapter.result ≡ numeric_rule chapter = ap rule_of c.help-chapter.ensures ∙ c.numeric-4.ensures.rule in
-    let period_is : rule_of c.help-period.result ≡ numeric_rule period = ap rule_of c.help-period.ensures ∙ c.numeric-5.ensures.rule in
-    let patience_is : rule_of c.help-patience.result ≡ numeric_rule patience = ap rule_of c.help-patience.ensures ∙ c.numeric-6.ensures.rule in
-    let with_tools = c.in_ok-serve-2.ensures.shape (ap is_global c.help-tools.ensures ∙ c.numeric.ensures.local) ∙ ap₂ with_rule c.in_ok-serve.ensures.app tools_is in
-    let with_tasks = c.in_ok-serve-3.ensures.shape (ap is_global c.help-tasks.ensures ∙ c.numeric-2.ensures.local) ∙ ap₂ with_rule with_tools tasks_is in
-    let with_cycles = c.in_ok-serve-4.ensures.shape (ap is_global c.help-cycles.ensures ∙ c.numeric-3.ensures.local) ∙ ap₂ with_rule with_tasks cycles_is in
-    let with_chapter = c.in_ok-serve-5.ensures.shape (ap is_global c.help-chapter.ensures ∙ c.numeric-4.ensures.local) ∙ ap₂ with_rule with_cycles chapter_is in
-    let with_period = c.in_ok-serve-6.ensures.shape (ap is_global c.help-period.ensures ∙ c.numeric-5.ensures.local) ∙ ap₂ with_rule with_chapter period_is in
-    let with_patience = c.in_ok-serve-7.ensures.shape (ap is_global c.help-patience.ensures ∙ c.numeric-6.ensures.local) ∙ ap₂ with_rule with_period patience_is in
-    let with_journal = c.in_ok-serve-8.ensures.shape c.choice-journal.ensures.local ∙ ap₂ with_rule with_patience c.choice-journal.ensures.rule in
-    let with_flash = c.in_ok-serve-9.ensures.shape c.choice-flash.ensures.local ∙ ap₂ with_rule with_journal c.choice-flash.ensures.rule in
+    let period_is : rule_of c.help-period.result ≡ numeric_rule period = ap rule_of c.help-period.ensures ∙ c.numeric.ensures.rule in
+    let patience_is : rule_of c.help-patience.result ≡ numeric_rule patience = ap rule_of c.help-patience.ensures ∙ c.numeric-2.ensures.rule in
+    let with_period = c.in_ok-serve-2.ensures.shape (ap is_global c.help-period.ensures ∙ c.numeric.ensures.local) ∙ ap₂ with_rule c.in_ok-serve.ensures.app period_is in
+    let with_patience = c.in_ok-serve-3.ensures.shape (ap is_global c.help-patience.ensures ∙ c.numeric-2.ensures.local) ∙ ap₂ with_rule with_period patience_is in
+    let with_journal = c.in_ok-serve-4.ensures.shape c.choice-journal.ensures.local ∙ ap₂ with_rule with_patience c.choice-journal.ensures.rule in
+    let with_flash = c.in_ok-serve-5.ensures.shape c.choice-flash.ensures.local ∙ ap₂ with_rule with_journal c.choice-flash.ensures.rule in
     c.in_ok-arg.ensures.shape c.flag.ensures.local ∙ ap₂ with_rule with_flash c.flag.ensures.rule

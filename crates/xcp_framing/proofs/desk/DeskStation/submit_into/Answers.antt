@@ -11,7 +11,7 @@ pub returns-then-is_err-clause-memory : goal.returns-then-is_err-clause-memory
 returns-then-is_err-clause-memory c = refl
 
 pub invariant_of-self-2 : goal.invariant_of-self-2
-invariant_of-self-2 c = rw (c.push_told.ensures, c.reserve.ensures.exchanges) (run-extended _ _ _ _ _ c.self.invariant c.answer-told.ensures)
+invariant_of-self-2 c = rw (c.push.ensures, c.reserve.ensures.exchanges) (run-extended _ _ _ _ _ c.self.invariant c.answer-told.ensures)
 
 pub returns-clause-layout : goal.returns-clause-layout
 returns-clause-layout c =
