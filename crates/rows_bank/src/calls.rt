@@ -1,5 +1,5 @@
 //! The whole calls of a list, over the bank.
-ghost use Rattle.std.specs.Prelude.{◌≡◌, All, IfSome};
+ghost use Rattle.std.specs.Prelude.{◌≡◌, All, IfSome, None};
 
 use crate::events::{WrongLine, cut, words};
 use pin_core::READERS;
@@ -26,7 +26,7 @@ fn wanted(said: &str) -> Option<Told> {
 }
 
 /// The byte of which the held image is made, if there is one.
-fn byte(reader: &mut Reader) -> Option<u64>
+fn byte(reader: &mut Reader) -> Option<Told>
     ensures { reader.new.bank ≡ reader.old.bank }
 {
     if !reader.holds() {
@@ -36,17 +36,17 @@ fn byte(reader: &mut Reader) -> Option<u64>
     reader.read(0, &mut image);
     let first = image[0];
     if image == [first; IMAGE_BYTES] {
-        Some(u64::from(first))
+        Some(Told::Number(u64::from(first)))
     } else {
         None
     }
 }
 
-fn number(reader: &mut Reader) -> Option<u64>
+fn number(reader: &mut Reader) -> Option<Told>
     ensures { reader.new.bank ≡ reader.old.bank }
 {
     if reader.holds() {
-        Some(reader.number())
+        Some(Told::Number(reader.number()))
     } else {
         None
     }
@@ -61,8 +61,8 @@ fn reads(writer: &mut Writer, verb: &str, reader: &mut Reader) -> Option<Told>
     match verb {
         "acquire" => Some(Told::Took(reader.acquire())),
         "holds" => Some(Told::Number(u64::from(reader.holds()))),
-        "read" => Some(Told::Number(byte(reader)?)),
-        "number" => Some(Told::Number(number(reader)?)),
+        "read" => byte(reader),
+        "number" => number(reader),
         "tell" => {
             reader.tell(writer);
             Some(Told::Done)
@@ -71,13 +71,45 @@ fn reads(writer: &mut Writer, verb: &str, reader: &mut Reader) -> Option<Told>
     }
 }
 
+/// Lets a reader go that leaves, or is dropped as it is.
+fn lets_go(verb: &str, slot: &mut Option<Reader>) -> Option<Told>
+    ensures { slot.new ≡ None }
+{
+    match slot.take() {
+        Some(reader) => {
+            if verb == "leave" {
+                reader.leave();
+            }
+            Some(Told::Done)
+        }
+        None => None,
+    }
+}
+
+/// What a reader's call is answered; it stays, but where it leaves or is dropped.
+fn asked(writer: &mut Writer, verb: &str, slot: &mut Option<Reader>) -> Option<Told>
+    requires { IfSome slot.old (λ x. x.bank ≡ writer.old.bank) }
+    ensures writer { writer.new.bank ≡ writer.old.bank }
+    ensures slot { IfSome slot.new (λ x. x.bank ≡ writer.old.bank) }
+{
+    if verb == "leave" || verb == "drop" {
+        return lets_go(verb, slot);
+    }
+    match slot {
+        Some(reader) => reads(writer, verb, reader),
+        None => None,
+    }
+}
+
 /// The bytes from one on, and below another; or one byte alone.
 fn bounds(bytes: &str) -> Option<(u16, u16)> {
-    let Some((first, end)) = bytes.split_once(" below ") else {
-        let byte = u16::from(bytes.parse::<u8>().ok()?);
-        return Some((byte, byte + 1));
-    };
-    Some((first.parse().ok()?, end.parse().ok()?))
+    match bytes.split_once(" below ") {
+        Some((first, end)) => Some((first.parse().ok()?, end.parse().ok()?)),
+        None => {
+            let byte = u16::from(bytes.parse::<u8>().ok()?);
+            Some((byte, byte + 1))
+        }
+    }
 }
 
 /// Publishes images of one byte each.
@@ -113,7 +145,7 @@ fn writes(writer: &mut Writer, verb: &str, rest: &str) -> Option<Told>
 #[derive(Drop)]
 struct Ends {
     writer: Writer,
-    readers: Vec<Option<Reader>>,
+    readers: [Option<Reader>; READERS],
 }
 
 impl Model for Ends {
@@ -123,7 +155,7 @@ impl Model for Ends {
 
     ghost view = { λ e. tt };
 
-    ghost invariant = { λ e. All (λ r. IfSome r (λ x. x.bank ≡ e.writer.bank)) e.readers.items };
+    ghost invariant = { λ e. All (λ r. IfSome r (λ x. x.bank ≡ e.writer.bank)) e.readers };
 }
 
 impl Ends {
@@ -138,34 +170,22 @@ impl Ends {
             Some(four),
             Some(five),
         ];
-        Ends::of(alloc, writer, readers)
+        Ok(Ends::of(writer, readers))
     }
 
-    fn of(
-        alloc: Global,
-        writer: Writer,
-        readers: [Option<Reader>; READERS],
-    ) -> Result<Ends, AllocError>
+    fn of(writer: Writer, readers: [Option<Reader>; READERS]) -> Ends
         requires { All (λ r. IfSome r (λ x. x.bank ≡ writer.bank)) readers }
     {
-        let readers = Vec::from_array(alloc, readers)?;
-        Ok(Ends { writer, readers })
+        Ends { writer, readers }
     }
 
-    /// What a reader's call is answered; it stays, but where it leaves or is dropped.
-    fn reads(&mut self, verb: &str, place: &str) -> Option<Told> {
-        let slot = self.readers.get_mut(place.parse::<usize>().ok()?)?;
-        match verb {
-            "leave" => {
-                slot.take()?.leave();
-                Some(Told::Done)
-            }
-            "drop" => {
-                drop(slot.take()?);
-                Some(Told::Done)
-            }
-            _ => reads(&mut self.writer, verb, slot.as_mut()?),
+    /// What the call of the reader at a place is answered.
+    fn reads(&mut self, verb: &str, place: usize) -> Option<Told> {
+        if place >= READERS {
+            return None;
         }
+        let slot = &mut self.readers[place];
+        asked(&mut self.writer, verb, slot)
     }
 
     /// What a call is answered; none where it means nothing.
@@ -173,7 +193,7 @@ impl Ends {
         let (verb, rest) = words(question);
         match verb {
             "publish" | "held" | "count" => writes(&mut self.writer, verb, rest),
-            _ => self.reads(verb, rest),
+            _ => self.reads(verb, rest.parse().ok()?),
         }
     }
 

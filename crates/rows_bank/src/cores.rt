@@ -1,5 +1,5 @@
 //! Lists of events with their answers, worked out by hand from the table of events.
-use crate::events::events_hold;
+use crate::events::{events_hold, so};
 use pin_core::Event::{Look, Pin, Publish, Read, Reset, Scan, Unpin, Write};
 use pin_core::Seen::{Done, Index, Leavings, Word};
 use pin_core::{Core, Event, RunError, Seen, StepError, run};
@@ -28,21 +28,20 @@ static HELD_EVENTS: [Event; 10] = [
     Reset(0),
 ];
 
-// What refuses a run of these, and the first idle buffer then.
-fn refusal(alloc: Global) -> Result<(Option<RunError>, u8), Fail> {
-    let mut core = Core::new(alloc, &[7])?;
-    let refused = run(alloc, &mut core, &HELD_EVENTS).err();
-    Ok((refused, core.idle()))
-}
-
-#[test]
-fn held_buffer_is_not_reset(rt: HostRuntime) -> Result<(), Fail> {
+// Whether a run of these is refused at the last of them, and buffer 2 is idle then.
+fn last_is_refused(alloc: Global) -> Result<(), Fail> {
     let refused = RunError::Refused {
         index: 9,
         error: StepError::NotEnabled,
     };
-    let found = refusal(rt.alloc())?;
-    assert!(rt; found == (Some(refused), 2));
+    let mut core = Core::new(alloc, &[7])?;
+    let found = run(alloc, &mut core, &HELD_EVENTS);
+    so(found == Err(refused) && core.idle() == 2)
+}
+
+#[test]
+fn held_buffer_is_not_reset(rt: HostRuntime) -> Result<(), Fail> {
+    last_is_refused(rt.alloc())?;
     events_hold(rt.alloc(), &[7], HELD)
 }
 
@@ -208,8 +207,7 @@ fn takes_the_widest(core: &mut Core) -> bool {
 #[test]
 fn widest_image(rt: HostRuntime) -> Result<(), Fail> {
     let mut core = Core::new(rt.alloc(), &[5; 256])?;
-    assert!(rt; takes_the_widest(&mut core));
-    Ok(())
+    so(takes_the_widest(&mut core))
 }
 
 // A new core; what was refused is asked for again.
@@ -222,13 +220,14 @@ fn new_core(alloc: Global) -> Result<Core, Fail> {
 
 static BUILT: [Event; 4] = [Scan(1), Reset(1), Write(0, 8), Pin(3)];
 
-// Whether these are answered as they should be; what was refused is asked for again.
-fn builds(alloc: Global, core: &mut Core) -> Result<bool, RunError> {
-    let seen = match run(alloc, core, &BUILT) {
-        Err(RunError::Memory) => run(alloc, core, &BUILT)?,
-        seen => seen?,
-    };
-    Ok(seen.as_slice() == [Leavings(0), Done, Done, Index(0)].as_slice())
+static SEEN: [Seen; 4] = [Leavings(0), Done, Done, Index(0)];
+
+// What these are answered; what was refused is asked for again.
+fn built(alloc: Global, core: &mut Core) -> Result<Vec<Seen>, RunError> {
+    match run(alloc, core, &BUILT) {
+        Err(RunError::Memory) => run(alloc, core, &BUILT),
+        seen => seen,
+    }
 }
 
 fn publishes(core: &mut Core) -> bool {
@@ -247,12 +246,19 @@ static PUBLISHED: [Row; 5] = [
     (Read(3, 0), Ok(Word(8))),
 ];
 
+fn is_built_and_published(alloc: Global, core: &mut Core) -> Result<(), Fail> {
+    let seen = built(alloc, core)?;
+    so(
+        seen.as_slice() == SEEN.as_slice()
+            && publishes(core)
+            && first_wrong_step(core, &PUBLISHED).is_none(),
+    )
+}
+
 // Passes whichever allocation is refused (`rt try --test --fail-alloc N`): what was refused is asked for
 // again, and nothing has changed in between.
 #[test]
 fn refused_memory_changes_nothing(rt: HostRuntime) -> Result<(), Fail> {
     let mut core = new_core(rt.alloc())?;
-    let built = builds(rt.alloc(), &mut core)? && publishes(&mut core);
-    assert!(rt; built && first_wrong_step(&mut core, &PUBLISHED).is_none());
-    Ok(())
+    is_built_and_published(rt.alloc(), &mut core)
 }

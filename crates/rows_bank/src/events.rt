@@ -86,6 +86,11 @@ impl List {
         Ok(good)
     }
 
+    /// Whether this is the first idle buffer.
+    fn is_idle(&self, buffer: &str) -> bool {
+        buffer.parse() == Ok(self.core.idle())
+    }
+
     /// Whether the core refuses this event.
     fn refuses(&mut self, question: &str) -> bool {
         match event(question) {
@@ -97,13 +102,19 @@ impl List {
     /// Whether a text between commas holds, as far as that is known.
     fn holds(&mut self, alloc: Global, text: &str) -> Result<bool, Fail> {
         let (question, said) = cut(text);
-        Ok(if question == "idle" {
-            self.settles(alloc)? && said.parse().ok() == Some(self.core.idle())
-        } else if said == "refused" {
-            self.settles(alloc)? && self.refuses(question)
-        } else {
-            self.add(question, said)?
-        })
+        let idle = question == "idle";
+        if !idle && said != "refused" {
+            return Ok(self.add(question, said)?);
+        }
+        let settled = self.settles(alloc)?;
+        Ok(
+            settled
+                && if idle {
+                    self.is_idle(said)
+                } else {
+                    self.refuses(question)
+                },
+        )
     }
 
     fn holds_all(&mut self, alloc: Global, line: &str) -> Result<bool, Fail> {
@@ -128,11 +139,8 @@ impl List {
                 }
             }
         }
-        Ok(if last > 0 && self.settles(alloc)? {
-            None
-        } else {
-            Some(last)
-        })
+        let good = self.settles(alloc)? && last > 0;
+        Ok(if good { None } else { Some(last) })
     }
 }
 
@@ -156,6 +164,15 @@ pub(crate) fn first_wrong_event(
 /// The line of a text, counted from 1, that is answered otherwise; 0 where none asks.
 #[derive(Debug, Drop)]
 pub struct WrongLine(pub u32);
+
+/// Fails where it isn't so.
+pub(crate) fn so(holds: bool) -> Result<(), Fail> {
+    if holds {
+        Ok(())
+    } else {
+        Err(Fail::new("it isn't so"))
+    }
+}
 
 /// Whether such a core answers all events as the text says.
 pub(crate) fn events_hold(alloc: Global, image: &[u64], text: &str) -> Result<(), Fail>

@@ -3,6 +3,7 @@ ghost use Rattle.std.specs.Prelude.{◌≡◌, IfOk};
 ghost use Rattle.xcp_bank.specs.BankEnds.{Holds};
 
 use crate::calls::calls_hold;
+use crate::events::so;
 use std::alloc::{AllocError, Global};
 use std::test::Fail;
 use xcp_bank::{Bank, IMAGE_BYTES, Reader, Taken, Writer};
@@ -66,18 +67,18 @@ fn rows_of(writer: &mut Writer, reader: &mut Reader) -> [Row; 4] {
     [first, (Taken::Same, number, bytes), newer, take(reader)]
 }
 
+static ROWS: [Row; 4] = [
+    (Taken::Newer, 0, [0x00, 0x01]),
+    (Taken::Same, 0, [0x00, 0x01]),
+    (Taken::Newer, 1, [0xAB, 0xCD]),
+    (Taken::Same, 1, [0xAB, 0xCD]),
+];
+
 #[test]
 fn held_image_stays(rt: HostRuntime) -> Result<(), Fail> {
     let (mut writer, mut reader) = one_reader(rt.alloc(), &begins(0x00, 0x01))?;
-    let before = reader.holds();
-    let wanted = [
-        (Taken::Newer, 0, [0x00, 0x01]),
-        (Taken::Same, 0, [0x00, 0x01]),
-        (Taken::Newer, 1, [0xAB, 0xCD]),
-        (Taken::Same, 1, [0xAB, 0xCD]),
-    ];
-    assert!(rt; !before && rows_of(&mut writer, &mut reader) == wanted);
-    Ok(())
+    let nothing = !reader.holds();
+    so(nothing && rows_of(&mut writer, &mut reader) == ROWS)
 }
 
 // Six readers hold the images 0, 1, and so on, whole, and take number 105 then.
@@ -139,11 +140,11 @@ fn range_is_read(reader: &mut Reader, image: &[u8; IMAGE_BYTES], at: usize, n: u
     if !reader.holds() || at > IMAGE_BYTES || n > IMAGE_BYTES - at {
         return false;
     }
-    let wanted = &image[at..at + n];
+    let mut wanted = all(0xFF);
+    wanted[..n].copy_from_slice(&image[at..at + n]);
     let mut bytes = all(0xFF);
     reader.read(at, &mut bytes[..n]);
-    let rest = &bytes[n..];
-    &bytes[..n] == wanted && rest.iter().all(|byte: &u8| -> bool { *byte == 0xFF })
+    bytes == wanted
 }
 
 static RANGES: [(usize, usize); 12] = [
@@ -161,26 +162,35 @@ static RANGES: [(usize, usize); 12] = [
     (2040, 0),
 ];
 
-// The first range that is read otherwise.
-fn first_wrong_range(reader: &mut Reader, image: &[u8; IMAGE_BYTES]) -> Option<(usize, usize)> {
-    for (at, n) in &RANGES {
+/// The range, counted from 0, that is read otherwise.
+#[derive(Debug, Drop)]
+pub struct WrongRange(pub usize);
+
+// Fails with the first range that is read otherwise.
+fn ranges_are_read(reader: &mut Reader, image: &[u8; IMAGE_BYTES]) -> Result<(), Fail> {
+    for (number, (at, n)) in RANGES.iter().enumerate() {
         if !range_is_read(reader, image, *at, *n) {
-            return Some((*at, *n));
+            return Err(WrongRange(number).into());
         }
     }
-    None
+    Ok(())
 }
 
-#[test]
-fn any_range_is_read(rt: HostRuntime) -> Result<(), Fail> {
+// An image whose bytes tell where they stand.
+fn counted() -> [u8; IMAGE_BYTES] {
     let mut image = all(0);
     for j in 0..IMAGE_BYTES {
         image[j] = (j % 251) as u8;
     }
+    image
+}
+
+#[test]
+fn any_range_is_read(rt: HostRuntime) -> Result<(), Fail> {
+    let image = counted();
     let (_writer, mut reader) = one_reader(rt.alloc(), &image)?;
     reader.acquire();
-    assert!(rt; first_wrong_range(&mut reader, &image).is_none());
-    Ok(())
+    ranges_are_read(&mut reader, &image)
 }
 
 // A reader is told of two publications: what it holds stays until it acquires.
@@ -251,6 +261,5 @@ fn refused_memory_is_asked_for_again(rt: HostRuntime) -> Result<(), Fail> {
     let first = take(&mut reader);
     writer.publish(&all(4));
     let rows = [first, take(&mut reader)];
-    assert!(rt; rows == [(Taken::Newer, 0, [3; 2]), (Taken::Newer, 1, [4; 2])]);
-    Ok(())
+    so(rows == [(Taken::Newer, 0, [3; 2]), (Taken::Newer, 1, [4; 2])])
 }

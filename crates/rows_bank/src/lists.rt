@@ -234,17 +234,26 @@ count > 4
 
 static WHOLE_CALLS: [&str; 4] = [SIX_HOLDERS, TOLD, MANY_PUBLICATIONS, SAME_AGAIN];
 
-fn both_hold(alloc: Global, list: &str) -> Result<(), Fail> {
-    events_hold(alloc, &[7, 0], list)?;
-    calls_hold(alloc, 7, list)
+// All events of the lists hold.
+fn all_events_hold(alloc: Global, lists: &[&str]) -> Result<(), Fail> {
+    for list in lists {
+        events_hold(alloc, &[7, 0], list)?;
+    }
+    Ok(())
+}
+
+// All calls of the lists hold.
+fn all_calls_hold(alloc: Global, lists: &[&str]) -> Result<(), Fail> {
+    for list in lists {
+        calls_hold(alloc, 7, list)?;
+    }
+    Ok(())
 }
 
 #[test]
 fn whole_calls_are_answered_alike(rt: HostRuntime) -> Result<(), Fail> {
-    for list in &WHOLE_CALLS {
-        both_hold(rt.alloc(), list)?;
-    }
-    Ok(())
+    all_events_hold(rt.alloc(), &WHOLE_CALLS)?;
+    all_calls_hold(rt.alloc(), &WHOLE_CALLS)
 }
 
 // Two readers leave while an image is built: one from the buffer that is current, one behind its Publish.
@@ -310,11 +319,11 @@ const TOLD_IN_THE_MIDDLE: &str = "
  scan 0 > 1, scan 2 > 0, scan 3 > 0, scan 1 > refused
 ";
 
+static ANY_ORDER: [&str; 3] = [LEFT_IN_MID_BUILD, PUBLISHED_AGAIN, TOLD_IN_THE_MIDDLE];
+
 #[test]
 fn events_are_answered_in_any_order(rt: HostRuntime) -> Result<(), Fail> {
-    events_hold(rt.alloc(), &[7, 0], LEFT_IN_MID_BUILD)?;
-    events_hold(rt.alloc(), &[7, 0], PUBLISHED_AGAIN)?;
-    events_hold(rt.alloc(), &[7, 0], TOLD_IN_THE_MIDDLE)
+    all_events_hold(rt.alloc(), &ANY_ORDER)
 }
 
 // Texts, and the line at which each is wrong: for the core, and for the bank.

@@ -1,4 +1,6 @@
 // One writer and six readers, each in a thread.
+use crate::events::so;
+use pin_core::READERS;
 use std::test::Fail;
 use std::thread::{Threads, join};
 use xcp_bank::{Bank, IMAGE_BYTES, Reader, Writer};
@@ -62,24 +64,24 @@ fn follow_four<R: Threads + Sync>(
     first && second
 }
 
+fn follow_six<R: Threads + Sync>(rt: &R, readers: [Reader; READERS]) -> bool {
+    let [zero, one, two, three, four, five] = readers;
+    let (first, second) = join(
+        rt,
+        move || -> bool { follow_two(rt, zero, one) },
+        move || -> bool { follow_four(rt, two, three, four, five) },
+    );
+    first && second
+}
+
 #[test]
 fn readers_take_whole_images(rt: HostRuntime) -> Result<(), Fail> {
     let (writer, readers) = Bank::new(rt.alloc(), &numbered(0))?;
-    let [zero, one, two, three, four, five] = readers;
     let threads = &rt;
     let (count, whole) = join(
         threads,
         move || -> u64 { publish_all(writer) },
-        move || -> bool {
-            let (first, second) = join(
-                threads,
-                move || -> bool { follow_two(threads, zero, one) },
-                move || -> bool { follow_four(threads, two, three, four, five) },
-            );
-            first && second
-        },
+        move || -> bool { follow_six(threads, readers) },
     );
-    assert!(rt; whole);
-    assert_eq!(rt; count, u64::from(PUBLICATIONS) + 1);
-    Ok(())
+    so(whole && count == u64::from(PUBLICATIONS) + 1)
 }

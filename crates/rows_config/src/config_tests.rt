@@ -1,5 +1,6 @@
 //! Layouts of documents: the worked one, and the faults of others.
 use crate::config_rows::{OF_PAGES, OF_SEGMENTS, OF_SIGNALS_AND_EVENTS, OF_THE_SLAVE, Row};
+use crate::config_texts::so;
 use std::alloc::{AllocError, Global};
 use std::test::Fail;
 use xcp_config::{ConfigError, read_layout};
@@ -59,50 +60,58 @@ fn is_documents(layout: &Layout) -> bool {
         && numbers == [32, 64, 2, 0x8000, 8, 1]
 }
 
-/// Whether a text is read as the document's layout; none where memory was refused.
-fn reads_the_document(alloc: Global, text: &str) -> Result<Option<bool>, Fail> {
+/// Whether a text is read as the document's layout.
+fn reads_the_document(alloc: Global, text: &str) -> Result<bool, ConfigError> {
     match read_layout(alloc, text) {
-        Ok(layout) => Ok(Some(is_documents(&layout))),
-        Err(ConfigError::Memory) => Ok(None),
-        Err(fault) => Err(fault.into()),
+        Ok(layout) => Ok(is_documents(&layout)),
+        Err(fault) => Err(fault),
     }
 }
 
-/// Whether the document is read as its layout.
-fn document_is_read(alloc: Global) -> Result<Option<bool>, Fail> {
-    let text = changed(alloc, LINES.len(), "")?;
-    reads_the_document(alloc, text.as_str())
+/// Fails where a text isn't read as the document's layout.
+fn is_read(alloc: Global, text: &str) -> Result<(), Fail> {
+    so(reads_the_document(alloc, text)?, "another layout is read")
 }
 
 #[test]
 fn the_layout_of_the_document(rt: HostRuntime) -> Result<(), Fail> {
-    assert!(rt; document_is_read(rt.alloc())? == Some(true));
+    let text = changed(rt.alloc(), LINES.len(), "")?;
+    is_read(rt.alloc(), text.as_str())
+}
+
+fn push_times(text: &mut String, part: &str, times: usize) -> Result<(), AllocError> {
+    for _ in 0..times {
+        text.push_str(part)?;
+    }
     Ok(())
 }
 
 fn push_long_document(text: &mut String) -> Result<(), AllocError> {
     push_document(text, LINES.len(), "")?;
     text.push_str("#")?;
-    for _part in 0..4_050 {
-        text.push_str("................")?;
-    }
-    Ok(())
+    push_times(text, "................", 4_050)
 }
 
-/// The bytes of the document with a comment behind it, and whether it is read as its layout.
-fn long_document_is_read(alloc: Global) -> Result<(usize, Option<bool>), Fail> {
+/// The document with a comment behind it.
+fn long_document(alloc: Global) -> Result<String, AllocError> {
     let mut text = String::new(alloc);
-    push_long_document(&mut text)?;
-    let read = reads_the_document(alloc, text.as_str())?;
-    Ok((text.len(), read))
+    match push_long_document(&mut text) {
+        Ok(()) => Ok(text),
+        Err(error) => Err(error),
+    }
+}
+
+fn is_long_and_read(alloc: Global, text: &str) -> Result<(), Fail> {
+    let long = text.len() >= 64_800 && text.len() < 65_536;
+    so(long, "the text has another length")?;
+    is_read(alloc, text)
 }
 
 /// Some 65,000 bytes.
 #[test]
 fn a_long_text_is_read(rt: HostRuntime) -> Result<(), Fail> {
-    let (length, read) = long_document_is_read(rt.alloc())?;
-    assert!(rt; read == Some(true) && (64_800..65_536).contains(&length));
-    Ok(())
+    let text = long_document(rt.alloc())?;
+    is_long_and_read(rt.alloc(), text.as_str())
 }
 
 /// The document; memory that is refused is asked for again.
@@ -114,11 +123,15 @@ fn document_again(alloc: Global) -> Result<String, AllocError> {
 }
 
 /// Whether a text is read as the document's layout; it is read again where memory was refused.
-fn reads_again(alloc: Global, text: &str) -> Result<Option<bool>, Fail> {
-    match reads_the_document(alloc, text)? {
-        None => reads_the_document(alloc, text),
-        read => Ok(read),
+fn reads_again(alloc: Global, text: &str) -> Result<bool, ConfigError> {
+    match reads_the_document(alloc, text) {
+        Err(ConfigError::Memory) => reads_the_document(alloc, text),
+        read => read,
     }
+}
+
+fn is_read_again(alloc: Global, text: &str) -> Result<(), Fail> {
+    so(reads_again(alloc, text)?, "another layout is read")
 }
 
 // Passes whichever allocation is refused (`rt try --test --fail-alloc N`): the refusal is told as `Memory` and not as
@@ -126,27 +139,37 @@ fn reads_again(alloc: Global, text: &str) -> Result<Option<bool>, Fail> {
 #[test]
 fn refused_memory_is_told(rt: HostRuntime) -> Result<(), Fail> {
     let text = document_again(rt.alloc())?;
-    assert!(rt; reads_again(rt.alloc(), text.as_str())? == Some(true));
-    Ok(())
+    is_read_again(rt.alloc(), text.as_str())
 }
 
 /// The fault of a text.
 fn fault(alloc: Global, text: &str) -> Option<ConfigError> {
-    read_layout(alloc, text).err()
+    match read_layout(alloc, text) {
+        Ok(_layout) => None,
+        Err(fault) => Some(fault),
+    }
 }
 
-/// The fault of the document with one line in the place of another.
-fn fault_of(alloc: Global, place: usize, line: &str) -> Result<Option<ConfigError>, AllocError> {
-    let text = changed(alloc, place, line)?;
-    Ok(fault(alloc, text.as_str()))
+/// Fails with these words where a text has another fault.
+fn has_fault(
+    alloc: Global,
+    text: &str,
+    wanted: Option<ConfigError>,
+    words: &str,
+) -> Result<(), Fail> {
+    so(fault(alloc, text) == wanted, words)
+}
+
+/// Fails with a line where the document has another fault with it in the place of one of its own.
+fn has_fault_with(alloc: Global, (place, line, wanted): &Row) -> Result<(), Fail> {
+    let text = changed(alloc, *place, line)?;
+    has_fault(alloc, text.as_str(), *wanted, line)
 }
 
 /// Fails with the first line whose fault isn't the one that is found.
 fn have_faults(alloc: Global, rows: &[Row]) -> Result<(), Fail> {
-    for (place, line, wanted) in rows {
-        if fault_of(alloc, *place, line)? != *wanted {
-            return Err(Fail::new(*line));
-        }
+    for row in rows {
+        has_fault_with(alloc, row)?;
     }
     Ok(())
 }
@@ -174,10 +197,16 @@ fn pages_of(layout: &Layout) -> Option<(u8, u8)> {
     Some((layout.segment_pages(0), layout.segment_pages(1)))
 }
 
+/// Fails with these words where a text's first segment has another number of pages, or the second not two.
+fn has_pages(alloc: Global, text: &str, first: u8, words: &str) -> Result<(), Fail> {
+    let layout = read_layout(alloc, text)?;
+    so(pages_of(&layout) == Some((first, 2)), words)
+}
+
 /// The same where another line stands in the place of the first one's address.
-fn pages(alloc: Global, line: &str) -> Result<Option<(u8, u8)>, Fail> {
+fn has_pages_with(alloc: Global, line: &str, first: u8) -> Result<(), Fail> {
     let text = changed(alloc, 4, line)?;
-    Ok(pages_of(&read_layout(alloc, text.as_str())?))
+    has_pages(alloc, text.as_str(), first, line)
 }
 
 static PAGES: [(&str, u8); 4] = [
@@ -189,9 +218,7 @@ static PAGES: [(&str, u8); 4] = [
 
 fn all_have_pages(alloc: Global) -> Result<(), Fail> {
     for (line, first) in &PAGES {
-        if pages(alloc, line)? != Some((*first, 2)) {
-            return Err(Fail::new(*line));
-        }
+        has_pages_with(alloc, line, *first)?;
     }
     Ok(())
 }
@@ -240,9 +267,7 @@ static FIRST: [(&str, ConfigError); 9] = [
 /// Fails with the first text whose fault isn't the one that is found.
 fn have_first_faults(alloc: Global) -> Result<(), Fail> {
     for (text, wanted) in &FIRST {
-        if fault(alloc, text) != Some(*wanted) {
-            return Err(Fail::new(*text));
-        }
+        has_fault(alloc, text, Some(*wanted), text)?;
     }
     Ok(())
 }
@@ -272,9 +297,7 @@ fn push_segment(text: &mut String, address: &str, bytes: usize) -> Result<(), Al
     text.push_str("[[segment]]\naddress = ")?;
     text.push_str(address)?;
     text.push_str("\ndata = \"")?;
-    for _ in 0..bytes {
-        text.push_str("5A")?;
-    }
+    push_times(text, "5A", bytes)?;
     text.push_str("\"\n")
 }
 
@@ -285,19 +308,17 @@ fn push_two(text: &mut String, bytes: usize, address: &str) -> Result<(), AllocE
     text.push_str("[signals]\naddress = 0x8000\nlength = 1\n[[event]]\nname = \"e\"\n")
 }
 
-/// The fault of two segments, of 1,020 bytes and of so many.
-fn fault_of_two(
-    alloc: Global,
-    bytes: usize,
-    address: &str,
-) -> Result<Option<ConfigError>, AllocError> {
+/// Two segments, of 1,020 bytes and of so many, which stand at an address, and their fault.
+type Two = (usize, &'static str, Option<ConfigError>);
+
+fn two_have_fault(alloc: Global, (bytes, address, wanted): &Two) -> Result<(), Fail> {
     let mut text = String::new(alloc);
-    push_two(&mut text, bytes, address)?;
-    Ok(fault(alloc, text.as_str()))
+    push_two(&mut text, *bytes, address)?;
+    has_fault(alloc, text.as_str(), *wanted, address)
 }
 
 /// 2,040 bytes in all are the most; the limit stands before the segment's last address.
-static BYTES_IN_ALL: [(usize, &str, Option<ConfigError>); 4] = [
+static BYTES_IN_ALL: [Two; 4] = [
     (1020, "0x1000", None),
     (1021, "0x1000", Some(ConfigError::TooMany(Key::Data(1)))),
     (1021, "0xFFFFFFFE", Some(ConfigError::TooMany(Key::Data(1)))),
@@ -309,10 +330,8 @@ static BYTES_IN_ALL: [(usize, &str, Option<ConfigError>); 4] = [
 ];
 
 fn all_are_counted(alloc: Global) -> Result<(), Fail> {
-    for (bytes, address, wanted) in &BYTES_IN_ALL {
-        if fault_of_two(alloc, *bytes, address)? != *wanted {
-            return Err(Fail::new(*address));
-        }
+    for row in &BYTES_IN_ALL {
+        two_have_fault(alloc, row)?;
     }
     Ok(())
 }

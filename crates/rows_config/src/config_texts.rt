@@ -1,11 +1,19 @@
 //! The numbers and texts of faults.
-use std::alloc::{AllocError, Global};
+use std::alloc::Global;
 use std::test::Fail;
 use xcp_config::ConfigError;
 use xcp_memory::{Area, Key};
 use xcp_packet::Refuse;
 
-static FAULTS: [(ConfigError, u8, &str); 7] = [
+/// Fails with these words where it isn't so.
+pub(crate) fn so(holds: bool, words: &str) -> Result<(), Fail> {
+    if holds { Ok(()) } else { Err(Fail::new(words)) }
+}
+
+/// A fault, its number and its text.
+type Row = (ConfigError, u8, &'static str);
+
+static FAULTS: [Row; 7] = [
     (ConfigError::Text, 1, "the text is no TOML document"),
     (ConfigError::Missing(Key::Id), 2, "Id is missing"),
     (
@@ -27,17 +35,18 @@ static FAULTS: [(ConfigError, u8, &str); 7] = [
     (ConfigError::Memory, 7, "out of memory"),
 ];
 
-fn is_told(alloc: Global, fault: &ConfigError, wanted: &str) -> Result<bool, AllocError> {
+fn is_told(alloc: Global, (fault, number, wanted): &Row) -> Result<(), Fail> {
     let text = format!(in alloc; "{fault}")?;
-    Ok(text.as_str() == wanted)
+    so(
+        fault.number() == *number && text.as_str() == *wanted,
+        wanted,
+    )
 }
 
 /// Fails with the first text of a fault that has another one, or another number.
 fn all_are_told(alloc: Global) -> Result<(), Fail> {
-    for (fault, number, wanted) in &FAULTS {
-        if fault.number() != *number || !is_told(alloc, fault, wanted)? {
-            return Err(Fail::new(*wanted));
-        }
+    for row in &FAULTS {
+        is_told(alloc, row)?;
     }
     Ok(())
 }
@@ -48,11 +57,11 @@ fn faults_have_numbers_and_texts(rt: HostRuntime) -> Result<(), Fail> {
 }
 
 #[test]
-fn reasons_have_numbers(rt: HostRuntime) {
+fn reasons_have_numbers(_rt: HostRuntime) -> Result<(), Fail> {
     let numbers = [
         Refuse::Empty.number(),
         Refuse::Unknown.number(),
         Refuse::Short.number(),
     ];
-    assert!(rt; numbers == [1, 2, 3]);
+    so(numbers == [1, 2, 3], "a reason has another number")
 }

@@ -1,8 +1,9 @@
 //! Files that are written by hand, byte by byte, with digests by another program.
-use crate::layouts::{DIGEST, layout};
+use crate::layouts::{DIGEST, layout, so};
 use std::alloc::Global;
 use std::test::Fail;
 use xcp_flash::References;
+use xcp_memory::Layout;
 
 /// A head with 32 bytes 07 as the SHA-256 of a layout's file, the pages of the layout, and the digest.
 pub(crate) static LAID_OUT: [u8; 84] = [
@@ -63,17 +64,21 @@ pub(crate) static THREE_PAGES: [u8; 88] = [
     0xB0, 0x27, 0x5F, 0x98, 0x40, 0x47, 0xCF, 0x67,
 ];
 
-/// Whether the reference pages of the layout spell the file.
-fn is_laid_out(alloc: Global) -> Result<bool, Fail> {
-    let references = References::of(alloc, &layout(alloc)?)?;
+/// Fails where pages spell another file.
+pub(crate) fn spell(alloc: Global, pages: &References, wanted: &[u8]) -> Result<(), Fail> {
     let mut file = b"what was here before".to_vec(alloc)?;
-    references.file(&DIGEST, &mut file)?;
-    Ok(file.as_slice() == LAID_OUT.as_slice())
+    pages.file(&DIGEST, &mut file)?;
+    so(file.as_slice() == wanted, "the pages spell another file")
+}
+
+/// Fails where the reference pages of a layout do.
+pub(crate) fn spells(alloc: Global, layout: &Layout, wanted: &[u8]) -> Result<(), Fail> {
+    let references = References::of(alloc, layout)?;
+    spell(alloc, &references, wanted)
 }
 
 #[test]
 fn a_file_is_as_by_hand(rt: HostRuntime) -> Result<(), Fail> {
-    let good = is_laid_out(rt.alloc())?;
-    assert!(rt; good);
-    Ok(())
+    let layout = layout(rt.alloc())?;
+    spells(rt.alloc(), &layout, &LAID_OUT)
 }

@@ -12,55 +12,66 @@ pub(crate) const FIRST: [u8; 4] = [0, 1, 2, 3];
 
 pub(crate) const SECOND: [u8; 2] = [0xAA, 0xAA];
 
-fn segment(
+fn add_segment(
+    parts: &mut Parts,
     alloc: Global,
     address: i64,
     bytes: &[u8],
     pages: i64,
-) -> Result<SegmentPart, AllocError> {
+) -> Result<(), AllocError> {
     let bytes = bytes.to_vec(alloc)?;
-    Ok(SegmentPart {
+    parts.segments.push(SegmentPart {
         address,
         bytes,
         pages,
-    })
+    })?;
+    Ok(())
 }
 
-fn segments(alloc: Global) -> Result<Vec<SegmentPart>, AllocError> {
-    let mut segments = Vec::new(alloc);
-    segments.push(segment(alloc, 0x1000, &FIRST, 2)?)?;
-    segments.push(segment(alloc, 0x2000, &SECOND, 3)?)?;
-    Ok(segments)
-}
-
-fn events(alloc: Global) -> Result<Vec<EventPart>, AllocError> {
+fn add_event(parts: &mut Parts, alloc: Global) -> Result<(), AllocError> {
     let name = b"10ms".to_vec(alloc)?;
-    let mut events = Vec::new(alloc);
-    events.push(EventPart {
+    parts.events.push(EventPart {
         name,
         cycle: 10,
         unit: 6,
         priority: 0,
     })?;
-    Ok(events)
+    Ok(())
 }
 
-/// Segment 0 at 0x1000 with 00 01 02 03 and two pages, segment 1 at 0x2000 with AA AA and three.
-pub(crate) fn layout(alloc: Global) -> Result<Layout, Fail> {
-    let id = b"ECU1".to_vec(alloc)?;
-    let segments = segments(alloc)?;
-    let events = events(alloc)?;
-    Ok(Layout::new(Parts {
-        id,
+fn add(parts: &mut Parts, alloc: Global) -> Result<(), AllocError> {
+    parts.id.extend_from_slice(b"ECU1")?;
+    add_segment(parts, alloc, 0x1000, &FIRST, 2)?;
+    add_segment(parts, alloc, 0x2000, &SECOND, 3)?;
+    add_event(parts, alloc)
+}
+
+fn parts(alloc: Global) -> Result<Parts, AllocError> {
+    let mut parts = Parts {
+        id: Vec::new(alloc),
         max_cto: 32,
         max_dto: 64,
         checksum: 3,
         order: Order::Intel,
-        segments,
+        segments: Vec::new(alloc),
         signals_address: 0x8000,
         signals_length: 8,
-        events,
-    })?)
+        events: Vec::new(alloc),
+    };
+    match add(&mut parts, alloc) {
+        Ok(()) => Ok(parts),
+        Err(error) => Err(error),
+    }
+}
+
+/// Segment 0 at 0x1000 with 00 01 02 03 and two pages, segment 1 at 0x2000 with AA AA and three.
+pub(crate) fn layout(alloc: Global) -> Result<Layout, Fail> {
+    Ok(Layout::new(parts(alloc)?)?)
+}
+
+/// Fails with these words where it isn't so.
+pub(crate) fn so(holds: bool, words: &str) -> Result<(), Fail> {
+    if holds { Ok(()) } else { Err(Fail::new(words)) }
 }
 
 /// Whether these are the reference pages of a layout of two segments.

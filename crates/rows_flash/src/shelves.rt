@@ -2,7 +2,7 @@
 ghost use Rattle.std.specs.Prelude.{◌≡◌, List, ℕ};
 
 use crate::by_hand::STORED;
-use crate::layouts::{DIGEST, layout};
+use crate::layouts::{DIGEST, layout, so};
 use crate::storing::stored;
 use std::alloc::Global;
 use std::test::Fail;
@@ -57,62 +57,112 @@ fn give<S: Scribe>(scribe: &mut S, journal: &Journal, slave: &Slave, chapters: u
     }
 }
 
-/// How often the shelf was asked, whether a write failed, and whether the stored pages stand on it, once a new slave ended one chapter,
-/// and a slave with stored pages so many.
-fn after(alloc: Global, failures: u8, chapters: u8) -> Result<(u8, bool, bool), Fail> {
-    let mut keeping = keeping(alloc, failures)?;
-    let journal = Journal::new(alloc);
-    give(
-        &mut keeping,
-        &journal,
-        &Slave::new(alloc, layout(alloc)?)?,
-        1,
-    );
-    give(&mut keeping, &journal, &stored(alloc)?, chapters);
+/// Gives one chapter that ends with a new slave.
+fn give_new<S: Scribe>(alloc: Global, scribe: &mut S) -> Result<(), Fail> {
+    let slave = Slave::new(alloc, layout(alloc)?)?;
+    give(scribe, &Journal::new(alloc), &slave, 1);
+    Ok(())
+}
+
+/// Gives so many chapters that end with a slave with stored pages.
+fn give_stored<S: Scribe>(alloc: Global, scribe: &mut S, chapters: u8) -> Result<(), Fail> {
+    let slave = stored(alloc)?;
+    give(scribe, &Journal::new(alloc), &slave, chapters);
+    Ok(())
+}
+
+fn give_both(alloc: Global, keeping: &mut Flashing<Memory>, chapters: u8) -> Result<(), Fail> {
+    give_new(alloc, keeping)?;
+    give_stored(alloc, keeping, chapters)
+}
+
+/// How often the shelf was asked, whether a write failed, and whether the stored pages stand on it.
+type Came = (u8, bool, bool);
+
+fn came(keeping: Flashing<Memory>) -> Came {
     let failed = keeping.has_failed();
     let shelf = keeping.into_shelf();
-    Ok((
+    (
         shelf.asked,
         failed,
         shelf.file.as_slice() == STORED.as_slice(),
-    ))
+    )
+}
+
+/// The same of a shelf that fails so often at first, once a new slave ended one chapter, and a slave with stored pages so many.
+fn after(alloc: Global, failures: u8, chapters: u8) -> Result<Came, Fail> {
+    let mut keeping = keeping(alloc, failures)?;
+    give_both(alloc, &mut keeping, chapters)?;
+    Ok(came(keeping))
+}
+
+/// How often a shelf fails, how many chapters a slave with stored pages ends, and what came of them.
+type Row = (u8, u8, Came);
+
+static PUT: [Row; 3] = [
+    (0, 0, (0, false, false)),
+    (0, 1, (1, false, true)),
+    (0, 3, (1, false, true)),
+];
+
+static TRIED_AGAIN: [Row; 3] = [
+    (1, 1, (1, true, false)),
+    (1, 2, (2, true, true)),
+    (2, 2, (2, true, false)),
+];
+
+/// Fails with the first of these rows, counted from 0, of which another thing comes.
+fn all_come(alloc: Global, rows: &[Row]) -> Result<(), Fail> {
+    for (number, (failures, chapters, wanted)) in rows.iter().enumerate() {
+        if after(alloc, *failures, *chapters)? != *wanted {
+            return Err(Fail::new(number));
+        }
+    }
+    Ok(())
 }
 
 #[test]
 fn a_store_is_put_on_the_shelf(rt: HostRuntime) -> Result<(), Fail> {
-    let good = after(rt.alloc(), 0, 0)? == (0, false, false)
-        && after(rt.alloc(), 0, 1)? == (1, false, true)
-        && after(rt.alloc(), 0, 3)? == (1, false, true);
-    assert!(rt; good);
-    Ok(())
+    all_come(rt.alloc(), &PUT)
 }
 
 #[test]
 fn a_shelf_that_fails_is_tried_again(rt: HostRuntime) -> Result<(), Fail> {
-    let good = after(rt.alloc(), 1, 1)? == (1, true, false)
-        && after(rt.alloc(), 1, 2)? == (2, true, true)
-        && after(rt.alloc(), 2, 2)? == (2, true, false);
-    assert!(rt; good);
-    Ok(())
+    all_come(rt.alloc(), &TRIED_AGAIN)
 }
 
-/// Whether both of two scribes have put a store on their shelves.
-fn both_have_it(alloc: Global) -> Result<bool, Fail> {
-    let mut both = Both {
-        first: keeping(alloc, 0)?,
-        second: Some(keeping(alloc, 0)?),
-    };
-    give(&mut both, &Journal::new(alloc), &stored(alloc)?, 1);
+/// Two scribes with shelves, of which the second might be none.
+type Two = Both<Flashing<Memory>, Option<Flashing<Memory>>>;
+
+/// Two with shelves that don't fail.
+fn two(alloc: Global) -> Result<Two, Fail> {
+    let first = keeping(alloc, 0)?;
+    match keeping(alloc, 0) {
+        Ok(second) => Ok(Both {
+            first,
+            second: Some(second),
+        }),
+        Err(fail) => Err(fail),
+    }
+}
+
+fn have_it(both: Two) -> bool {
     let Both { first, second } = both;
-    let Some(second) = second else {
-        return Ok(false);
-    };
-    let (first, second) = (first.into_shelf(), second.into_shelf());
-    Ok(first.file.as_slice() == STORED.as_slice() && second.file.as_slice() == STORED.as_slice())
+    let (_, _, first_has) = came(first);
+    match second {
+        Some(second) => came(second).2 && first_has,
+        None => false,
+    }
+}
+
+/// Fails unless both of two scribes have put a store on their shelves.
+fn both_have_it(alloc: Global) -> Result<(), Fail> {
+    let mut both = two(alloc)?;
+    give_stored(alloc, &mut both, 1)?;
+    so(have_it(both), "a scribe has no store")
 }
 
 #[test]
 fn two_scribes_are_given_the_same(rt: HostRuntime) -> Result<(), Fail> {
-    assert!(rt; both_have_it(rt.alloc())?);
-    Ok(())
+    both_have_it(rt.alloc())
 }

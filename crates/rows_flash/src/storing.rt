@@ -1,9 +1,10 @@
 //! A slave whose tool has its pages stored, and one that is opened with the file.
-use crate::by_hand::STORED;
-use crate::layouts::{DIGEST, FIRST, SECOND, has, layout};
+use crate::by_hand::{STORED, spell, spells};
+use crate::layouts::{DIGEST, FIRST, SECOND, has, layout, so};
 use std::alloc::Global;
 use std::test::Fail;
 use xcp_flash::{References, restore};
+use xcp_memory::Layout;
 use xcp_packet::{Packet, Train};
 use xcp_slave::{Answer, Request, Slave};
 
@@ -36,16 +37,22 @@ fn reads_55(slave: &mut Slave, page: u8) -> bool {
     ask(slave, &READ) == Answer::Packets(Train::one(packet(&[0xFF, 0x55])))
 }
 
+/// Whether a page is stored behind those commands.
+fn stores(slave: &mut Slave) -> bool {
+    for command in STORE {
+        let _ = ask(slave, command);
+    }
+    slave.submit(&Request::FinishStore) == Answer::Stored(1)
+}
+
 /// A slave behind those commands, whose controller has stored the page.
 pub fn stored(alloc: Global) -> Result<Slave, Fail> {
     let mut slave = Slave::new(alloc, layout(alloc)?)?;
-    for command in STORE {
-        let _ = ask(&mut slave, command);
+    if stores(&mut slave) {
+        Ok(slave)
+    } else {
+        Err(Fail::new("no page was stored"))
     }
-    if slave.submit(&Request::FinishStore) != Answer::Stored(1) {
-        return Err(Fail::new("no page was stored"));
-    }
-    Ok(slave)
 }
 
 /// Whether these are the reference pages of a slave of two segments.
@@ -55,65 +62,69 @@ fn refers(slave: &Slave, first: &[u8], second: &[u8]) -> bool {
         && slave.reference(1) == second
 }
 
-/// The file of the stored pages; none where they aren't told as others, or are told so twice.
-fn written(alloc: Global) -> Result<Option<Vec<u8>>, Fail> {
-    let slave = stored(alloc)?;
+/// Fails unless the pages that a slave stored are told as others, and not twice, and spell the file.
+fn are_written(alloc: Global, slave: &Slave) -> Result<(), Fail> {
     let mut references = References::of(alloc, slave.layout())?;
-    let changed = references.take(&slave);
-    let again = references.take(&slave);
-    let mut file = Vec::new(alloc);
-    references.file(&DIGEST, &mut file)?;
-    Ok(if changed && !again { Some(file) } else { None })
-}
-
-/// A slave that is opened with the pages of the file.
-fn restarted(alloc: Global) -> Result<Slave, Fail> {
-    let mut layout = layout(alloc)?;
-    if restore(&mut layout, &DIGEST, &STORED) != Ok(()) {
-        return Err(Fail::new("the file isn't restored"));
+    let changed = references.take(slave);
+    let again = references.take(slave);
+    if changed && !again {
+        spell(alloc, &references, &STORED)
+    } else {
+        Err(Fail::new("stored pages aren't others, or are so twice"))
     }
-    Ok(Slave::new(alloc, layout)?)
 }
 
 #[test]
 fn stored_pages_are_written(rt: HostRuntime) -> Result<(), Fail> {
-    let good = match written(rt.alloc())? {
-        Some(file) => file.as_slice() == STORED.as_slice(),
-        None => false,
-    };
-    assert!(rt; good);
-    Ok(())
+    let slave = stored(rt.alloc())?;
+    are_written(rt.alloc(), &slave)
 }
 
+/// A layout with the pages of the file.
+fn restored(alloc: Global) -> Result<Layout, Fail> {
+    let mut layout = layout(alloc)?;
+    match restore(&mut layout, &DIGEST, &STORED) {
+        Ok(()) => Ok(layout),
+        Err(_) => Err(Fail::new("the file isn't restored")),
+    }
+}
+
+fn has_stored_pages(slave: &mut Slave) -> bool {
+    let _ = ask(slave, &[0xFF, 0]);
+    refers(slave, &[0x55, 1, 2, 3], &SECOND) && reads_55(slave, 0) && reads_55(slave, 1)
+}
+
+/// A slave that is opened with the pages of the file.
 #[test]
 fn a_restarted_slave_has_them(rt: HostRuntime) -> Result<(), Fail> {
-    let mut slave = restarted(rt.alloc())?;
-    let _ = ask(&mut slave, &[0xFF, 0]);
-    let good = refers(&slave, &[0x55, 1, 2, 3], &SECOND)
-        && reads_55(&mut slave, 0)
-        && reads_55(&mut slave, 1);
-    assert!(rt; good);
-    Ok(())
+    let mut slave = Slave::new(rt.alloc(), restored(rt.alloc())?)?;
+    so(has_stored_pages(&mut slave), "a slave has other pages")
+}
+
+/// Fails where pages of a slave that stored none are taken.
+fn none_is_taken(alloc: Global, slave: &Slave) -> Result<(), Fail> {
+    let mut references = References::of(alloc, slave.layout())?;
+    let none = !references.take(slave);
+    so(none && refers(slave, &FIRST, &SECOND), "pages are taken")
 }
 
 #[test]
 fn what_is_not_stored_is_not_taken(rt: HostRuntime) -> Result<(), Fail> {
     let slave = Slave::new(rt.alloc(), layout(rt.alloc())?)?;
-    let mut references = References::of(rt.alloc(), slave.layout())?;
-    let good = !references.take(&slave) && refers(&slave, &FIRST, &SECOND);
-    assert!(rt; good);
-    Ok(())
+    none_is_taken(rt.alloc(), &slave)
+}
+
+/// Fails unless a layout has the stored pages, and these spell the file.
+fn spells_the_file(alloc: Global, layout: &Layout) -> Result<(), Fail> {
+    so(
+        has(layout, &[0x55, 1, 2, 3], &SECOND),
+        "a layout has other pages",
+    )?;
+    spells(alloc, layout, &STORED)
 }
 
 #[test]
 fn a_restored_layout_spells_the_file_again(rt: HostRuntime) -> Result<(), Fail> {
-    let mut layout = layout(rt.alloc())?;
-    let told = restore(&mut layout, &DIGEST, &STORED);
-    let mut file = Vec::new(rt.alloc());
-    References::of(rt.alloc(), &layout)?.file(&DIGEST, &mut file)?;
-    let good = told == Ok(())
-        && has(&layout, &[0x55, 1, 2, 3], &SECOND)
-        && file.as_slice() == STORED.as_slice();
-    assert!(rt; good);
-    Ok(())
+    let layout = restored(rt.alloc())?;
+    spells_the_file(rt.alloc(), &layout)
 }

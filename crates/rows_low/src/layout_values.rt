@@ -1,7 +1,7 @@
 //! What a layout tells, and the texts of its faults.
 use crate::layouts::{Kind, USUAL, layout};
-use crate::rows::WrongRow;
-use std::alloc::{AllocError, Global};
+use crate::rows::{WrongRow, so};
+use std::alloc::Global;
 use std::test::Fail;
 use xcp_memory::{Area, ChecksumKind, Key, Layout, LayoutFault};
 use xcp_packet::Order;
@@ -62,13 +62,22 @@ fn has_its_values(layout: &Layout) -> bool {
         && is_named(layout, 0, b"10ms")
 }
 
+/// Whether a layout of the other byte order has that.
+fn has_its_order(alloc: Global) -> Result<(), Fail> {
+    let order = Order::Motorola;
+    let swapped = layout(alloc, Kind { order, ..USUAL })?;
+    so(swapped.order() == order, "a layout has another byte order")
+}
+
+fn values_are_told(alloc: Global) -> Result<(), Fail> {
+    let layout = layout(alloc, Kind { pages: 3, ..USUAL })?;
+    so(has_its_values(&layout), "a layout has other values")
+}
+
 #[test]
 fn layout_has_its_values(rt: HostRuntime) -> Result<(), Fail> {
-    let order = Order::Motorola;
-    let swapped = layout(rt.alloc(), Kind { order, ..USUAL })?.order();
-    let good = has_its_values(&layout(rt.alloc(), Kind { pages: 3, ..USUAL })?);
-    assert!(rt; good && swapped == Order::Motorola);
-    Ok(())
+    has_its_order(rt.alloc())?;
+    values_are_told(rt.alloc())
 }
 
 /// A range, the segment in which it lies, and whether it lies in the signals.
@@ -85,11 +94,15 @@ static RANGES: [Range; 8] = [
     (0x7FFF, 1, None, false),
 ];
 
+fn is_found(layout: &Layout, (address, n, segment, in_signals): &Range) -> bool {
+    let found = layout.segment_of(*address, *n);
+    found == *segment && layout.is_in_signals(*address, *n) == *in_signals
+}
+
 /// Whether all ranges are found so.
 fn all_are_found(layout: &Layout) -> Result<(), Fail> {
-    for (number, (address, n, segment, in_signals)) in RANGES.iter().enumerate() {
-        let found = layout.segment_of(*address, *n);
-        if found != *segment || layout.is_in_signals(*address, *n) != *in_signals {
+    for (number, row) in RANGES.iter().enumerate() {
+        if !is_found(layout, row) {
             return Err(WrongRow(number).into());
         }
     }
@@ -113,17 +126,15 @@ static FAULTS: [(LayoutFault, &str); 3] = [
     (LayoutFault::TooMany(Key::Data(1)), "3: too many: Data(1)"),
 ];
 
-fn is_told(alloc: Global, fault: &LayoutFault, wanted: &str) -> Result<bool, AllocError> {
+fn is_told(alloc: Global, fault: &LayoutFault, wanted: &str) -> Result<(), Fail> {
     let text = format!(in alloc; "{}: {fault}", fault.number())?;
-    Ok(text.as_str() == wanted)
+    so(text.as_str() == wanted, wanted)
 }
 
 /// Whether all faults have these numbers and texts.
 fn all_are_told(alloc: Global) -> Result<(), Fail> {
     for (fault, wanted) in &FAULTS {
-        if !is_told(alloc, fault, wanted)? {
-            return Err(Fail::new(*wanted));
-        }
+        is_told(alloc, fault, wanted)?;
     }
     Ok(())
 }

@@ -31,56 +31,65 @@ pub const USUAL: Kind = Kind {
     pages: 2,
 };
 
-fn segment(
+fn add_segment(
+    parts: &mut Parts,
     alloc: Global,
     address: i64,
     bytes: &[u8],
     pages: i64,
-) -> Result<SegmentPart, AllocError> {
-    Ok(SegmentPart {
+) -> Result<(), AllocError> {
+    let bytes = bytes.to_vec(alloc)?;
+    parts.segments.push(SegmentPart {
         address,
-        bytes: bytes.to_vec(alloc)?,
+        bytes,
         pages,
-    })
+    })?;
+    Ok(())
 }
 
-/// A segment at 0x1000, and one of two pages at 0x2000.
-fn segments(alloc: Global, kind: Kind) -> Result<Vec<SegmentPart>, AllocError> {
-    let mut segments = Vec::new(alloc);
-    segments.push(segment(alloc, 0x1000, kind.first, kind.pages)?)?;
-    segments.push(segment(alloc, 0x2000, kind.second, 2)?)?;
-    Ok(segments)
-}
-
-/// The event channel `10ms`.
-fn events(alloc: Global) -> Result<Vec<EventPart>, AllocError> {
-    let mut events = Vec::new(alloc);
-    events.push(EventPart {
-        name: b"10ms".to_vec(alloc)?,
+/// Adds the event channel `10ms`.
+fn add_event(parts: &mut Parts, alloc: Global) -> Result<(), AllocError> {
+    let name = b"10ms".to_vec(alloc)?;
+    parts.events.push(EventPart {
+        name,
         cycle: 10,
         unit: 6,
         priority: 0,
     })?;
-    Ok(events)
+    Ok(())
+}
+
+/// Adds the identification `ECU1`, a segment at 0x1000, one of two pages at 0x2000, and the event channel.
+fn add(parts: &mut Parts, alloc: Global, kind: Kind) -> Result<(), AllocError> {
+    parts.id.extend_from_slice(b"ECU1")?;
+    add_segment(parts, alloc, 0x1000, kind.first, kind.pages)?;
+    add_segment(parts, alloc, 0x2000, kind.second, 2)?;
+    add_event(parts, alloc)
+}
+
+/// Those parts, and 8 bytes of signals at 0x8000.
+fn parts(alloc: Global, kind: Kind) -> Result<Parts, AllocError> {
+    let mut parts = Parts {
+        id: Vec::new(alloc),
+        max_cto: kind.max_cto,
+        max_dto: kind.max_dto,
+        checksum: kind.checksum,
+        order: kind.order,
+        segments: Vec::new(alloc),
+        signals_address: 0x8000,
+        signals_length: 8,
+        events: Vec::new(alloc),
+    };
+    match add(&mut parts, alloc, kind) {
+        Ok(()) => Ok(parts),
+        Err(error) => Err(error),
+    }
 }
 
 /// The identification `ECU1`, a segment at 0x1000, one of two pages at 0x2000, 8 bytes of signals at 0x8000, and
 /// the event channel `10ms`.
 pub(crate) fn layout(alloc: Global, kind: Kind) -> Result<Layout, Fail> {
-    let id = b"ECU1".to_vec(alloc)?;
-    let segments = segments(alloc, kind)?;
-    let events = events(alloc)?;
-    Ok(Layout::new(Parts {
-        id,
-        max_cto: kind.max_cto,
-        max_dto: kind.max_dto,
-        checksum: kind.checksum,
-        order: kind.order,
-        segments,
-        signals_address: 0x8000,
-        signals_length: 8,
-        events,
-    })?)
+    Ok(Layout::new(parts(alloc, kind)?)?)
 }
 
 pub(crate) fn pages(alloc: Global, kind: Kind) -> Result<Pages, Fail> {

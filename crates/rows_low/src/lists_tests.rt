@@ -1,7 +1,7 @@
 //! Acquisition lists against worked rows.
 use crate::answers::{refused, told};
 use crate::lists_rows::{Lists, opened_lists};
-use crate::rows::{Subject, all_hold};
+use crate::rows::{Subject, all_hold, both_hold, so};
 use std::alloc::Global;
 use std::test::Fail;
 use xcp_packet::Code;
@@ -98,14 +98,24 @@ fn follows(lists: &mut Lists, done: usize, next: &str, allowed: bool) -> bool {
     lists.told(next) == Some(wanted)
 }
 
+/// Whether it does in new lists.
+fn follows_in_new(alloc: Global, done: usize, next: &str, allowed: bool) -> Result<(), Fail> {
+    let mut lists = opened_lists(alloc, 64)?;
+    so(follows(&mut lists, done, next, allowed), next)
+}
+
+/// Whether all that may follow so many of them do, and no others.
+fn each_follows(alloc: Global, done: usize, row: &[bool; 4]) -> Result<(), Fail> {
+    for (next, allowed) in ALLOCATING.iter().zip(row.iter()) {
+        follows_in_new(alloc, done, next, *allowed)?;
+    }
+    Ok(())
+}
+
 /// Whether all of them follow so.
 fn all_follow(alloc: Global) -> Result<(), Fail> {
     for (done, row) in ALLOWED.iter().enumerate() {
-        for (next, allowed) in ALLOCATING.iter().zip(row.iter()) {
-            if !follows(&mut opened_lists(alloc, 64)?, done, next, *allowed) {
-                return Err(Fail::new(*next));
-            }
-        }
+        each_follows(alloc, done, row)?;
     }
     Ok(())
 }
@@ -250,9 +260,7 @@ const ONE_LIST: &str = "
 
 /// Whether this list answers so: its own rows, and others behind them.
 fn hold_behind(alloc: Global, rows: &str) -> Result<(), Fail> {
-    let mut lists = opened_lists(alloc, 64)?;
-    all_hold(&mut lists, ONE_LIST)?;
-    all_hold(&mut lists, rows)
+    both_hold(&mut opened_lists(alloc, 64)?, ONE_LIST, rows)
 }
 
 /// With prescaler 1, 2 and 3. A start of a list that runs begins its prescaler anew.

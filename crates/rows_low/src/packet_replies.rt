@@ -1,4 +1,6 @@
 //! Replies against their bytes.
+use crate::rows::{none_is_wrong, so};
+use std::test::Fail;
 use xcp_packet::{Code, Data, Order, Reply, encode_reply};
 
 /// A reply, and the bytes that it is laid out as in Intel order.
@@ -48,9 +50,9 @@ fn bytes_are_laid_out() -> bool {
 }
 
 #[test]
-fn session_and_transfers(rt: HostRuntime) {
-    assert_eq!(rt; first_wrong(Table::SessionAndTransfers, 8), None);
-    assert!(rt; bytes_are_laid_out());
+fn session_and_transfers(_rt: HostRuntime) -> Result<(), Fail> {
+    none_is_wrong(first_wrong(Table::SessionAndTransfers, 8))?;
+    so(bytes_are_laid_out(), "bytes are laid out otherwise")
 }
 
 fn page(number: usize) -> Option<Row> {
@@ -72,8 +74,8 @@ fn page(number: usize) -> Option<Row> {
 }
 
 #[test]
-fn pages(rt: HostRuntime) {
-    assert_eq!(rt; first_wrong(Table::Pages, 6), None);
+fn pages(_rt: HostRuntime) -> Result<(), Fail> {
+    none_is_wrong(first_wrong(Table::Pages, 6))
 }
 
 fn acquisition(number: usize) -> Option<Row> {
@@ -121,8 +123,8 @@ fn acquisition(number: usize) -> Option<Row> {
 }
 
 #[test]
-fn data_acquisition(rt: HostRuntime) {
-    assert_eq!(rt; first_wrong(Table::DataAcquisition, 6), None);
+fn data_acquisition(_rt: HostRuntime) -> Result<(), Fail> {
+    none_is_wrong(first_wrong(Table::DataAcquisition, 6))
 }
 
 fn row(table: Table, number: usize) -> Option<Row> {
@@ -133,13 +135,18 @@ fn row(table: Table, number: usize) -> Option<Row> {
     }
 }
 
+/// Whether a table has such a row, and it is laid out so.
+fn is_so(table: Table, number: usize) -> bool {
+    match row(table, number) {
+        Some((reply, bytes)) => is_laid_out(&reply, Order::Intel, bytes),
+        None => false,
+    }
+}
+
 /// The first of a table's so many rows that is not so.
 fn first_wrong(table: Table, count: usize) -> Option<usize> {
     for number in 0..count {
-        let Some((reply, bytes)) = row(table, number) else {
-            return Some(number);
-        };
-        if !is_laid_out(&reply, Order::Intel, bytes) {
+        if !is_so(table, number) {
             return Some(number);
         }
     }
@@ -167,12 +174,15 @@ static CODES: [(Code, u8); 18] = [
     (Code::Verify, 0x32),
 ];
 
-#[test]
-fn codes(rt: HostRuntime) {
-    let wrong = CODES
+fn first_wrong_code() -> Option<usize> {
+    CODES
         .iter()
-        .position(|(code, number)| code.number() != *number);
-    assert_eq!(rt; wrong, None);
+        .position(|(code, number)| code.number() != *number)
+}
+
+#[test]
+fn codes(_rt: HostRuntime) -> Result<(), Fail> {
+    none_is_wrong(first_wrong_code())
 }
 
 /// CONNECT's reply with the highest byte first.
@@ -187,8 +197,11 @@ fn connect_is_swapped() -> bool {
 }
 
 #[test]
-fn highest_byte_first(rt: HostRuntime) {
-    assert!(rt; connect_is_swapped());
+fn highest_byte_first(_rt: HostRuntime) -> Result<(), Fail> {
+    so(
+        connect_is_swapped(),
+        "CONNECT's reply is laid out otherwise",
+    )
 }
 
 /// The number of a byte order, the double word behind the first byte, the last word, and the bytes of a double word.
@@ -203,9 +216,13 @@ fn told_of(order: Order, double: u32) -> (u8, u32, u16, [u8; 4]) {
 }
 
 #[test]
-fn orders(rt: HostRuntime) {
+fn orders(_rt: HostRuntime) -> Result<(), Fail> {
     let intel = told_of(Order::Intel, 0x0403_0201);
-    assert!(rt; intel == (0, 0x0403_0201, 0x0403, [1, 2, 3, 4]));
     let motorola = told_of(Order::Motorola, 0x0102_0304);
-    assert!(rt; motorola == (1, 0x0102_0304, 0x0304, [1, 2, 3, 4]));
+    let words = "a byte order is told otherwise";
+    so(
+        intel == (0, 0x0403_0201, 0x0403, [1, 2, 3, 4])
+            && motorola == (1, 0x0102_0304, 0x0304, [1, 2, 3, 4]),
+        words,
+    )
 }

@@ -1,4 +1,6 @@
 //! Blocks against their packets.
+use crate::rows::{none_is_wrong, so};
+use std::test::Fail;
 use xcp_packet::{Data, Packet, Train, Width};
 
 /// How many data bytes go into a packet, the bytes of a block, and its packets.
@@ -69,8 +71,8 @@ fn first_wrong_block() -> Option<usize> {
 }
 
 #[test]
-fn blocks(rt: HostRuntime) {
-    assert_eq!(rt; first_wrong_block(), None);
+fn blocks(_rt: HostRuntime) -> Result<(), Fail> {
+    none_is_wrong(first_wrong_block())
 }
 
 /// FF and these bytes.
@@ -97,8 +99,9 @@ fn compared() -> [bool; 4] {
 
 /// A block that one packet holds is this packet; else its width tells.
 #[test]
-fn blocks_are_compared(rt: HostRuntime) {
-    assert!(rt; compared() == [true, false, true, false]);
+fn blocks_are_compared(_rt: HostRuntime) -> Result<(), Fail> {
+    let same = compared() == [true, false, true, false];
+    so(same, "blocks are compared otherwise")
 }
 
 /// Whether this is the width, if there are several packets, and these the bytes.
@@ -109,11 +112,11 @@ fn has_parts(train: &Train, width: Option<u8>, bytes: &[u8]) -> bool {
 
 /// A packet is made of its bytes, and a block of its data bytes without an FF, and its width.
 #[test]
-fn a_block_has_its_parts(rt: HostRuntime) {
+fn a_block_has_its_parts(_rt: HostRuntime) -> Result<(), Fail> {
     let eight = [1, 2, 3, 4, 5, 6, 7, 8];
     let block = has_parts(&Train::cut(&eight, Width::new(7)), Some(7), &eight);
     let packet = has_parts(&one(&eight), None, &[0xFF, 1, 2, 3, 4, 5, 6, 7, 8]);
-    assert!(rt; block && packet);
+    so(block && packet, "a block has other parts")
 }
 
 /// Whether the first packet of eight bytes is this, and these bytes are left.
@@ -127,9 +130,9 @@ fn is_cut_off(packet: &mut Packet, width: u8, rest: Option<&[u8]>, first: &[u8])
 
 /// The first packet of eight bytes, and the bytes behind it; and of as many as fill it.
 #[test]
-fn a_packet_is_cut_off(rt: HostRuntime) {
+fn a_packet_is_cut_off(_rt: HostRuntime) -> Result<(), Fail> {
     let mut packet = Packet::new();
     let seven = is_cut_off(&mut packet, 7, Some(&[8]), &[0xFF, 1, 2, 3, 4, 5, 6, 7]);
     let all = is_cut_off(&mut packet, 8, None, &[0xFF, 1, 2, 3, 4, 5, 6, 7, 8]);
-    assert!(rt; seven && all);
+    so(seven && all, "a packet is cut off otherwise")
 }

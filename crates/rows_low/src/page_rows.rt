@@ -5,14 +5,25 @@ use arrayvec::ArrayVec;
 use xcp_memory::Pages;
 use xcp_packet::Packet;
 
+/// Adds numbers that are bytes, if they are and there is room.
+fn adds_bytes(bytes: &mut ArrayVec<u8, 64>, numbers: &[u32]) -> bool {
+    for number in numbers {
+        match u8::try_from(*number) {
+            Ok(byte) if bytes.try_push(byte).is_ok() => {}
+            _ => return false,
+        }
+    }
+    true
+}
+
 /// Numbers that are bytes.
 fn bytes(numbers: &[u32]) -> Option<ArrayVec<u8, 64>> {
     let mut bytes = ArrayVec::new();
-    for number in numbers {
-        let byte = u8::try_from(*number).ok()?;
-        bytes.try_push(byte).ok()?;
+    if adds_bytes(&mut bytes, numbers) {
+        Some(bytes)
+    } else {
+        None
     }
-    Some(bytes)
 }
 
 /// So many bytes of the tool's, or of the controller's.
@@ -50,6 +61,13 @@ fn image(pages: &Pages) -> Option<Packet> {
     }
 }
 
+fn checksum(pages: &Pages, address: u32, n: u32) -> Packet {
+    match pages.checksum(address, n) {
+        Ok(sum) => told(&sum.to_be_bytes()),
+        Err(code) => refused(code),
+    }
+}
+
 fn signals(pages: &mut Pages, bytes: &[u8]) -> Option<Packet> {
     if bytes.len() != pages.layout().signals_length() {
         return None;
@@ -65,51 +83,72 @@ fn write(pages: &mut Pages, address: u32, bytes: &[u8]) -> Option<Packet> {
     Some(answer(pages.write_xcp(address, bytes), &[]))
 }
 
+fn write_numbers(pages: &mut Pages, address: u32, numbers: &[u32]) -> Option<Packet> {
+    match bytes(numbers) {
+        Some(bytes) => write(pages, address, &bytes),
+        None => None,
+    }
+}
+
 /// What is asked of an address.
 fn at_address(pages: &mut Pages, verb: &str, address: u32, rest: &[u32]) -> Option<Packet> {
     match (verb, rest) {
         ("read", [n]) => read(pages, true, address, *n),
         ("read_ecu", [n]) => read(pages, false, address, *n),
         ("may_write", [n]) if *n > 0 => Some(answer(pages.may_write(address, *n as usize), &[])),
-        ("checksum", [n]) => match pages.checksum(address, *n) {
-            Ok(sum) => Some(told(&sum.to_be_bytes())),
-            Err(code) => Some(refused(code)),
-        },
-        ("write", _) => write(pages, address, &bytes(rest)?),
+        ("checksum", [n]) => Some(checksum(pages, address, *n)),
+        ("write", _) => write_numbers(pages, address, rest),
         _ => None,
     }
 }
 
-/// What is asked of segments and pages by their numbers.
+/// What is asked of segments by their numbers.
+fn of_segments(pages: &mut Pages, verb: &str, bytes: &[u8]) -> Option<Packet> {
+    match (verb, bytes) {
+        ("page", [mode, segment]) => Some(byte(pages.page(*mode, *segment))),
+        ("page_count", [segment]) => Some(byte(pages.page_count(*segment))),
+        ("set_freeze", [mode, segment]) => Some(answer(pages.set_freeze(*mode, *segment), &[])),
+        ("freeze_mode", [segment]) => Some(byte(pages.freeze_mode(*segment))),
+        ("freeze", []) => Some(told(&[pages.freeze()])),
+        _ => None,
+    }
+}
+
+/// What is asked of pages by their numbers, of all, or of segments.
 fn of_pages(pages: &mut Pages, verb: &str, bytes: &[u8]) -> Option<Packet> {
     match (verb, bytes) {
         ("switch", [mode, segment, page]) => {
             Some(answer(pages.switch(*mode, *segment, *page), &[]))
         }
-        ("page", [mode, segment]) => Some(byte(pages.page(*mode, *segment))),
-        ("page_count", [segment]) => Some(byte(pages.page_count(*segment))),
         ("content", [segment, page, place]) => content(pages, *segment, *page, *place),
         ("copy", [source, source_page, target, target_page]) => Some(answer(
             pages.copy(*source, *source_page, *target, *target_page),
             &[],
         )),
-        ("set_freeze", [mode, segment]) => Some(answer(pages.set_freeze(*mode, *segment), &[])),
-        ("freeze_mode", [segment]) => Some(byte(pages.freeze_mode(*segment))),
-        ("freeze", []) => Some(told(&[pages.freeze()])),
         ("image", []) => image(pages),
         ("signals", _) => signals(pages, bytes),
-        _ => None,
+        _ => of_segments(pages, verb, bytes),
+    }
+}
+
+/// What is asked of pages with these numbers.
+fn asked(pages: &mut Pages, verb: &str, numbers: &[u32]) -> Option<Packet> {
+    match (verb, numbers) {
+        ("read" | "read_ecu" | "may_write" | "checksum" | "write", [address, rest @ ..]) => {
+            at_address(pages, verb, *address, rest)
+        }
+        _ => match bytes(numbers) {
+            Some(bytes) => of_pages(pages, verb, &bytes),
+            None => None,
+        },
     }
 }
 
 impl Subject for Pages {
     fn told(&mut self, question: &str) -> Option<Packet> {
-        let (verb, numbers) = words(question)?;
-        match (verb, numbers.as_slice()) {
-            ("read" | "read_ecu" | "may_write" | "checksum" | "write", [address, rest @ ..]) => {
-                at_address(self, verb, *address, rest)
-            }
-            _ => of_pages(self, verb, &bytes(&numbers)?),
+        match words(question) {
+            (verb, Some(numbers)) => asked(self, verb, &numbers),
+            _ => None,
         }
     }
 }

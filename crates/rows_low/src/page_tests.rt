@@ -1,6 +1,6 @@
 //! Pages against worked rows.
 use crate::layouts::{Kind, USUAL, pages};
-use crate::rows::all_hold;
+use crate::rows::{all_hold, both_hold};
 use std::alloc::Global;
 use std::test::Fail;
 
@@ -98,8 +98,7 @@ const REFUSED_SUMS: &str = "
 /// Whether the sums of such a type are so.
 fn sums_hold(alloc: Global, checksum: i64, row: &str) -> Result<(), Fail> {
     let mut pages = pages(alloc, Kind { checksum, ..USUAL })?;
-    all_hold(&mut pages, row)?;
-    all_hold(&mut pages, REFUSED_SUMS)
+    both_hold(&mut pages, row, REFUSED_SUMS)
 }
 
 #[test]

@@ -13,30 +13,52 @@ pub trait Subject {
     fn told(&mut self, question: &str) -> Option<Packet>;
 }
 
+/// Adds the numbers of a text, if all its words are numbers and there is room.
+fn adds_numbers(text: &str, numbers: &mut Numbers) -> bool {
+    for word in text.split_whitespace() {
+        match u32::from_str_radix(word, 16) {
+            Ok(number) if numbers.try_push(number).is_ok() => {}
+            _ => return false,
+        }
+    }
+    true
+}
+
 /// The numbers of a text, if all its words are numbers.
 fn numbers(text: &str) -> Option<Numbers> {
     let mut numbers = Numbers::new();
-    for word in text.split_whitespace() {
-        let number = u32::from_str_radix(word, 16).ok()?;
-        numbers.try_push(number).ok()?;
+    if adds_numbers(text, &mut numbers) {
+        Some(numbers)
+    } else {
+        None
     }
-    Some(numbers)
 }
 
 /// A question's first word, and the numbers behind it.
-pub(crate) fn words(question: &str) -> Option<(&str, Numbers)> {
+pub(crate) fn words(question: &str) -> (&str, Option<Numbers>) {
     let (verb, rest) = question.split_once(' ').unwrap_or((question, ""));
-    Some((verb, numbers(rest)?))
+    (verb, numbers(rest))
+}
+
+/// Adds the bytes of a text, if all its words are bytes and there is room.
+fn adds_bytes(text: &str, packet: &mut Packet) -> bool {
+    for word in text.split_whitespace() {
+        match u8::from_str_radix(word, 16) {
+            Ok(byte) if packet.try_push(byte).is_ok() => {}
+            _ => return false,
+        }
+    }
+    true
 }
 
 /// The bytes of a text, if all its words are bytes.
 pub(crate) fn packet(text: &str) -> Option<Packet> {
     let mut packet = Packet::new();
-    for word in text.split_whitespace() {
-        let byte = u8::from_str_radix(word, 16).ok()?;
-        packet.try_push(byte).ok()?;
+    if adds_bytes(text, &mut packet) {
+        Some(packet)
+    } else {
+        None
     }
-    Some(packet)
 }
 
 /// The bytes that a line says; there are some but for `-`.
@@ -44,12 +66,7 @@ fn answer(text: &str) -> Option<Packet> {
     if text == "-" {
         return Some(Packet::new());
     }
-    let packet = packet(text)?;
-    if packet.is_empty() {
-        None
-    } else {
-        Some(packet)
-    }
+    if text.is_empty() { None } else { packet(text) }
 }
 
 /// Whether a line's question is answered as it says.
@@ -99,6 +116,25 @@ pub(crate) fn all_hold<S: Subject>(subject: &mut S, rows: &str) -> Result<(), Fa
     }
 }
 
+/// The same of these rows, and of others behind them.
+pub(crate) fn both_hold<S: Subject>(subject: &mut S, rows: &str, behind: &str) -> Result<(), Fail> {
+    all_hold(subject, rows)?;
+    all_hold(subject, behind)
+}
+
 /// The row of a table, counted from 0, that isn't so.
 #[derive(Debug, Drop)]
 pub struct WrongRow(pub usize);
+
+/// Fails with the row that was found wrong.
+pub(crate) fn none_is_wrong(wrong: Option<usize>) -> Result<(), Fail> {
+    match wrong {
+        None => Ok(()),
+        Some(row) => Err(WrongRow(row).into()),
+    }
+}
+
+/// Fails with these words where it isn't so.
+pub(crate) fn so(holds: bool, words: &str) -> Result<(), Fail> {
+    if holds { Ok(()) } else { Err(Fail::new(words)) }
+}

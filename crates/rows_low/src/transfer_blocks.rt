@@ -67,10 +67,16 @@ const LONG: Kind = Kind {
     ..USUAL
 };
 
-/// Whether blocks of each length are, with MAX_CTO 8.
+/// Whether a block of this length is, with MAX_CTO 8.
+fn is_written(alloc: Global, n: u8) -> Result<bool, Fail> {
+    let mut transfer = Transfer::new(pages(alloc, LONG)?);
+    Ok(is_written_whole(&mut transfer, n))
+}
+
+/// Whether blocks of each length are.
 fn all_are_written(alloc: Global) -> Result<(), Fail> {
-    for n in 1..=48u8 {
-        if !is_written_whole(&mut Transfer::new(pages(alloc, LONG)?), n) {
+    for n in 1..49u8 {
+        if !is_written(alloc, n)? {
             return Err(Fail::new(n));
         }
     }

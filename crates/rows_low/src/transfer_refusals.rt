@@ -22,14 +22,23 @@ fn set_mta(transfer: &mut Transfer, mta: Mta) -> bool {
     exists
 }
 
-/// Whether one row holds at this MTA, and leaves it.
-fn holds_at(transfer: &mut Transfer, mta: Mta, row: &str) -> bool {
-    let set = set_mta(transfer, mta);
+/// An MTA, and what is refused there.
+type Row = (Mta, &'static str);
+
+/// Whether one row holds at its MTA, and leaves it.
+fn holds_at(transfer: &mut Transfer, (mta, row): &Row) -> bool {
+    let set = set_mta(transfer, *mta);
     let wrong = first_wrong(transfer, row);
-    set && wrong.is_none() && transfer.mta() == mta
+    set && wrong.is_none() && transfer.mta() == *mta
 }
 
-static ROWS: [(Mta, &str); 31] = [
+/// Whether it does after a fresh start.
+fn holds(alloc: Global, row: &Row) -> Result<bool, Fail> {
+    let mut transfer = transfer(alloc, 32)?;
+    Ok(holds_at(&mut transfer, row))
+}
+
+static ROWS: [Row; 31] = [
     (Mta::Nowhere, "F0 00 > FE 22"),
     (Mta::Nowhere, "F0 02 55 > FE 21"),
     (Mta::Nowhere, "F0 01 55 > FE 24"),
@@ -70,10 +79,10 @@ static ROWS: [(Mta, &str); 31] = [
     (Mta::Nowhere, "ED 01 00 00 00 10 00 00 55 > FE 23"),
 ];
 
-/// Whether all rows do, each after a fresh start.
+/// Whether all rows do.
 fn all_rows_hold(alloc: Global) -> Result<(), Fail> {
-    for (number, (mta, row)) in ROWS.iter().enumerate() {
-        if !holds_at(&mut transfer(alloc, 32)?, *mta, row) {
+    for (number, row) in ROWS.iter().enumerate() {
+        if !holds(alloc, row)? {
             return Err(WrongRow(number).into());
         }
     }

@@ -168,22 +168,33 @@ fn signals_leave_a_block(rt: HostRuntime) -> Result<(), Fail> {
     hold_of(rt.alloc(), 8, rows)
 }
 
-/// For the types of checksums from 1 on.
-static SUMS: [&str; 4] = [
-    "
+/// The type of checksums, and what is asked.
+static SUMS: [(i64, &str); 4] = [
+    (
+        1,
+        "
     F6 00 00 00 00 20 00 00 > FF
     F3 00 00 00 08 00 00 00 > FF 01 00 00 50 00 00 00
     ",
-    "
+    ),
+    (
+        2,
+        "
     F6 00 00 00 00 20 00 00 > FF
     F3 00 00 00 08 00 00 00 > FF 02 00 00 50 05 00 00
     ",
-    "
+    ),
+    (
+        3,
+        "
     F6 00 00 00 00 20 00 00 > FF
     F3 00 00 00 08 00 00 00 > FF 03 00 00 50 05 00 00
     ",
+    ),
     // Nowhere, and at a text: the size is looked at first.
-    "
+    (
+        4,
+        "
     F3 00 00 00 00 00 00 00 > FE 22
     F3 00 00 00 03 00 00 00 > FE 22
     F3 00 00 00 02 00 00 00 > FE 24
@@ -191,6 +202,7 @@ static SUMS: [&str; 4] = [
     F3 00 00 00 03 00 00 00 > FE 22
     F3 00 00 00 02 00 00 00 > FE 24
     ",
+    ),
 ];
 
 /// Whether transfers with such a type of checksums answer so.
@@ -201,8 +213,8 @@ fn sums_hold(alloc: Global, checksum: i64, rows: &str) -> Result<(), Fail> {
 
 #[test]
 fn checksums(rt: HostRuntime) -> Result<(), Fail> {
-    for (rows, checksum) in SUMS.iter().zip(1..5) {
-        sums_hold(rt.alloc(), checksum, rows)?;
+    for (checksum, rows) in &SUMS {
+        sums_hold(rt.alloc(), *checksum, rows)?;
     }
     Ok(())
 }
