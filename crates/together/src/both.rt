@@ -1,15 +1,14 @@
 //! Works of two kinds, all at the same time.
-ghost use Rattle.std.specs.Prelude.{IfOk, vec_len};
-ghost use Rattle.together.specs.private.ThreadRoom.{HasRoom};
+ghost use Rattle.std.specs.Prelude.{IfOk};
 ghost use Rattle.together.specs.Works.{GivesEach};
 
-use crate::room::{Room, room_for};
+use crate::room::rooms_for;
 use crate::threads::{join_all, start_all};
-use crate::work::{Given, Work};
+use crate::work::Work;
 use std::alloc::{AllocError, Global};
 use std::sync::{Mutex, Wait};
 use std::thread;
-use std::thread::{PromisedHandle, Scope, Threads};
+use std::thread::{Scope, Threads};
 
 /// What comes of works of two kinds, each at its work's place.
 type Results<T, U> = Result<(Vec<T>, Vec<U>), AllocError>;
@@ -28,22 +27,20 @@ pub fn run_both<T: Send + Drop, W: Work<T>, U: Send + Drop, V: Work<U>, R: Threa
     ensures works { IfOk result (λ r. GivesEach W.Work works.items r.0.items) }
     ensures others { IfOk result (λ r. GivesEach V.Work others.items r.1.items) }
 {
-    let first = room_for(alloc, works.len())?;
-    let second = room_for(alloc, others.len())?;
     let start = Mutex::new(false);
     let signal = &start;
     thread::scope(
         thread::scope_env(),
         rt,
         move |scope| -> Results<T, U>
-            requires { HasRoom first (vec_len works) × HasRoom second (vec_len others) }
             ensures { IfOk result (λ r. GivesEach W.Work works.items r.0.items
                 × GivesEach V.Work others.items r.1.items) }
-        { in_scope(scope, rt, signal, works, first, others, second) },
+        { in_scope(scope, rt, signal, alloc, works, others) },
     )
 }
 
-/// Makes all threads while it holds the start signal, lets them go, and joins them.
+/// Takes room for all threads, makes them while it holds the start signal, lets them go, and joins
+/// them.
 fn in_scope<
     's,
     E,
@@ -56,15 +53,14 @@ fn in_scope<
     scope: &'s Scope<'s, E>,
     rt: &'s R,
     start: &'s Mutex<bool>,
+    alloc: Global,
     works: Vec<W>,
-    first: Room<PromisedHandle<T, Given<W>>, T>,
     others: Vec<V>,
-    second: Room<PromisedHandle<U, Given<V>>, U>,
 ) -> Results<T, U>
-    requires { HasRoom first (vec_len works) × HasRoom second (vec_len others) }
     ensures works { IfOk result (λ r. GivesEach W.Work works.items r.0.items) }
     ensures others { IfOk result (λ r. GivesEach V.Work others.items r.1.items) }
 {
+    let (first, second) = rooms_for(alloc, works.len(), others.len())?;
     let mut go = start.lock(rt);
     let (handles, all) = start_all(scope, rt, start, works, first.handles);
     let (more, both) = start_all(scope, rt, start, others, second.handles);

@@ -1,18 +1,17 @@
 //! Crews of three works and single works, all at the same time.
-ghost use Rattle.std.specs.Prelude.{IfOk, vec_len};
+ghost use Rattle.std.specs.Prelude.{IfOk};
 ghost use Rattle.together.specs.Crews.{GivesEachCrew};
-ghost use Rattle.together.specs.private.ThreadRoom.{HasRoom};
 ghost use Rattle.together.specs.Works.{GivesEach};
 
-use crate::crews::{CrewHandles, join_crews, start_crews};
+use crate::crews::{join_crews, start_crews};
 use crate::meanwhile::{Meanwhile, Nothing};
-use crate::room::{Room, room_for};
+use crate::room::rooms_for;
 use crate::threads::{join_all, start_all};
-use crate::work::{Given, Work};
+use crate::work::Work;
 use std::alloc::{AllocError, Global};
 use std::sync::{Mutex, Wait};
 use std::thread;
-use std::thread::{PromisedHandle, Scope, Threads};
+use std::thread::{Scope, Threads};
 
 /// What comes of crews and of single works, each at its place.
 type Results<X, Y, Z, T> = Result<(Vec<(X, Y, Z)>, Vec<T>), AllocError>;
@@ -72,23 +71,20 @@ pub fn run_crews_and<
     ensures works { IfOk result (λ r. GivesEach W.Work works.items r.1.items) }
     ensures meanwhile { IfOk result (λ r. M.gives meanwhile r.2) }
 {
-    let first = room_for(alloc, crews.len())?;
-    let second = room_for(alloc, works.len())?;
     let start = Mutex::new(false);
     let signal = &start;
     thread::scope(
         thread::scope_env(),
         rt,
         move |scope| -> Outcomes<X, Y, Z, T, U>
-            requires { HasRoom first (vec_len crews) × HasRoom second (vec_len works) }
             ensures { IfOk result (λ r. GivesEachCrew A.Work B.Work C.Work crews.items r.0.items
                 × GivesEach W.Work works.items r.1.items × M.gives meanwhile r.2) }
-        { in_scope(scope, rt, signal, crews, first, works, second, meanwhile) },
+        { in_scope(scope, rt, signal, alloc, crews, works, meanwhile) },
     )
 }
 
-/// Makes all threads while it holds the start signal, lets them go, does something else, and joins
-/// them.
+/// Takes room for all threads, makes them while it holds the start signal, lets them go, does
+/// something else, and joins them.
 fn in_scope<
     's,
     E,
@@ -107,17 +103,16 @@ fn in_scope<
     scope: &'s Scope<'s, E>,
     rt: &'s R,
     start: &'s Mutex<bool>,
+    alloc: Global,
     crews: Vec<(A, B, C)>,
-    first: Room<CrewHandles<X, A, Y, B, Z, C>, (X, Y, Z)>,
     works: Vec<W>,
-    second: Room<PromisedHandle<T, Given<W>>, T>,
     meanwhile: M,
 ) -> Outcomes<X, Y, Z, T, U>
-    requires { HasRoom first (vec_len crews) × HasRoom second (vec_len works) }
     ensures crews { IfOk result (λ r. GivesEachCrew A.Work B.Work C.Work crews.items r.0.items) }
     ensures works { IfOk result (λ r. GivesEach W.Work works.items r.1.items) }
     ensures meanwhile { IfOk result (λ r. M.gives meanwhile r.2) }
 {
+    let (first, second) = rooms_for(alloc, crews.len(), works.len())?;
     let mut go = start.lock(rt);
     let (crewed, all) = start_crews(scope, rt, start, crews, first.handles);
     let (handles, both) = start_all(scope, rt, start, works, second.handles);

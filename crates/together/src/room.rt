@@ -11,8 +11,21 @@ pub struct Room<H: Drop, T: Drop> {
     pub results: Vec<T>,
 }
 
+/// Room for so many works of one kind, and for so many of another.
+pub fn rooms_for<H: Drop, T: Drop, I: Drop, U: Drop>(
+    alloc: Global,
+    works: usize,
+    others: usize,
+) -> Result<(Room<H, T>, Room<I, U>), AllocError>
+    ensures { IfOk result (λ r. HasRoom r.0 works × HasRoom r.1 others) }
+{
+    let first = room_for(alloc, works)?;
+    let second = room_for(alloc, others)?;
+    Ok((first, second))
+}
+
 /// Room for so many works.
-pub fn room_for<H: Drop, T: Drop>(alloc: Global, works: usize) -> Result<Room<H, T>, AllocError>
+fn room_for<H: Drop, T: Drop>(alloc: Global, works: usize) -> Result<Room<H, T>, AllocError>
     ensures { IfOk result (λ r. HasRoom r works) }
 {
     let handles = Vec::with_capacity(alloc, works)?;

@@ -18,7 +18,7 @@ use Rattle.xcp_bank.specs.SeatKnowledge.{Begins, AllBegin, Reading, Writing, Kno
 use Rattle.xcp_bank.specs.private.SeatSplits.{when_joined, when_parted}
 use Rattle.xcp_bank.specs.PinHistory.{looked_at}
 use Rattle.xcp_bank.specs.private.SeatSteps.{IsReaderSeat, Acquired, HasRead, buffer_of}
-use Rattle.xcp_bank.specs.BankEnds.{ReaderEnd, reader_end, WriterEnd, writer_end, HoldsNumber, image_at, image_held, IsRun, AcquireDoes, ReadDoes, ReaderDoes, GivesBack}
+use Rattle.xcp_bank.specs.BankEnds.{ReaderEnd, reader_end, WriterEnd, writer_end, HoldsNumber, image_at, image_held, IsRun, AcquireDoes, FollowsTold, KnowsMore, ReadDoes, ReaderDoes, GivesBack, TellsTaken}
 use Rattle.xcp_bank.specs.EndFields.{reader_in, shown_reader}
 use Rattle.xcp_bank.specs.private.EndFields.{ReaderKept}
 use Rattle.xcp_bank.proofs.EndFieldLemmas.{reader_is, kept_by, sits_at, sits_here}
@@ -62,12 +62,8 @@ acquired_kept token bank r b x y taken s a = kept_by token bank r y (Some b) s (
 pub record AcquiredEnd (taken : Taken) (old new : ReaderEnd) : Type 0 where
   pub holds_the_last : HoldsNumber new (length new.seen - 1)
   pub has_seen : 0 < length new.seen
-  pub seen : Begins old.seen new.seen
-  pub past : AllBegin old.past new.seen
-  pub settled : new.past ≡ []
-  pub heard : (new.heard ≡ old.heard) × Begins old.heard new.history
-  pub same : taken ≡ Same ↔ HoldsNumber old (length new.seen - 1)
-  pub newer : taken ≡ Newer ↔ ((b p : ℕ) → old.held ≡ Some (b, p) → p < length new.seen - 1)
+  pub knows : KnowsMore old new
+  pub tells : TellsTaken taken old new
   pub looked : (b p : ℕ) → new.held ≡ Some (b, p) → b ≡ new.looked
   pub does : AcquireDoes taken old new
 
@@ -93,12 +89,16 @@ module _ (bank : TableId) (r : ℕ) (x y : Reading) where
       record {
         holds_the_last = (b, a.held ∙ ap (λ (n : ℕ). Some (b, n - 1)) long);
         has_seen = omega arith;
-        seen = images_begin x.list y.list a.begins;
-        past = images_all x.past y.list a.pasts;
-        settled = ap (map images) a.settled;
-        heard = (a.heard_is, a.heard);
-        same = subst (λ (n : ℕ). taken ≡ Same ↔ HoldsNumber old (n - 1)) long (same_where taken b a);
-        newer = subst (λ (n : ℕ). taken ≡ Newer ↔ ((c p : ℕ) → x.pins.held ≡ Some (c, p) → p < n - 1)) long (newer_where taken b a);
+        knows = record {
+          seen = images_begin x.list y.list a.begins;
+          past = images_all x.past y.list a.pasts;
+          settled = ap (map images) a.settled;
+          heard = (a.heard_is, a.heard);
+        };
+        tells = record {
+          same = subst (λ (n : ℕ). taken ≡ Same ↔ HoldsNumber old (n - 1)) long (same_where taken b a);
+          newer = subst (λ (n : ℕ). taken ≡ Newer ↔ ((c p : ℕ) → x.pins.held ≡ Some (c, p) → p < n - 1)) long (newer_where taken b a);
+        };
         looked = λ c p e. ap (λ (h : ℕ × ℕ). h.0) (same_Some (c, p) (b, length y.list - 1) (sym e ∙ a.held)) ∙ sym a.looked;
         does = record { buffer = b; number = length y.list - 1; deeds = a.deeds; held = a.held; did = a.did; settled = a.placed; state = a.up_to_date.state; ran = a.up_to_date.ran; current = a.up_to_date.index ∙ a.looked; seen = ap images a.up_to_date.list; holds = ap (λ (z : Reader). z.held) a.up_to_date.pins; once = a.once; first = a.first; other = a.other; last = a.last };
       }
@@ -124,10 +124,8 @@ pub record ReadEnd (k n : ℕ) (old new : ReaderEnd) : Type 0 where
   pub same : (new.held ≡ old.held) × (new.seen ≡ old.seen)
   pub does : ReadDoes k n old new
   pub run : IsRun new
-  pub past : 0 < n → AllBegin old.past new.seen
-  pub heard : 0 < n → Begins old.heard new.history
+  pub follows : 0 < n → FollowsTold old new
   pub known : 0 < n → (b p : ℕ) → old.held ≡ Some (b, p) → p < length new.seen
-  pub whole : 0 < n → length (image_held old) ≡ 2040
 
 -- who has a publication of 256 words has it among those that it has
 there : (l : List (List ℕ)) (p : ℕ) → length (get_or l p []) ≡ 256 → p < length l
@@ -149,15 +147,17 @@ read_end bank r k n b p x y holds follows g =
         same = λ i. record { bank = bank_of bank; place = r; held = (g.pins i).held; looked = (g.pins i).looked; seen = images (g.list i); past = map images (g.past i); history = y.history; pending = y.pending; heard = g.heard_is i };
       };
       run = run_of bank r y (g.follows follows);
-      past = λ some. subst (λ (l : List (List ℕ)). AllBegin (map images x.past) l) (sym seen) (images_all x.past x.list (g.pasts some));
-      heard = g.heard;
+      follows = λ some. record {
+        past = subst (λ (l : List (List ℕ)). AllBegin (map images x.past) l) (sym seen) (images_all x.past x.list (g.pasts some));
+        heard = g.heard some;
+        whole = subst (λ (l : List ℕ). length l ≡ 2040) (sym (image_held_is bank r x b p holds)) (image_length (get_or x.list p []) (g.numbered some).size);
+      };
       known = λ some c q e. (
           let long : length (images y.list) ≡ length x.list = ap length seen ∙ length-map x.list image_of in
           let below : p < length x.list = there x.list p (g.numbered some).size in
           let q_is : p ≡ q = ap (λ (h : ℕ × ℕ). h.1) (same_Some (b, p) (c, q) (sym holds ∙ e)) in
           omega arith
           );
-      whole = λ some. subst (λ (l : List ℕ). length l ≡ 2040) (sym (image_held_is bank r x b p holds)) (image_length (get_or x.list p []) (g.numbered some).size);
     }
 
 -- what a reader is told leaves what it holds

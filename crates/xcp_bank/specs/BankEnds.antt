@@ -1,12 +1,12 @@
 -- The two ends of a bank, as contracts see them: in images, without a word or a seat.
-use Rattle.std.specs.Prelude.{◌≡◌, ◌≢◌, ℕ, suc, ◌+◌, ◌-◌, ◌/◌, ◌≤◌, false, true, List, [], ◌∷◌, ◌++◌, length, map, sum_by, slice_index_or, Option, Some, None}
+use Rattle.std.specs.Prelude.{◌≡◌, ◌≢◌, ◌↔◌, ℕ, suc, ◌+◌, ◌-◌, ◌/◌, ◌<◌, ◌≤◌, false, true, List, [], ◌∷◌, ◌++◌, length, map, sum_by, slice_index_or, Option, Some, None}
 use Rattle.xcp_bank.specs.BankId.{BankId, bank_of}
 use Rattle.atomic_table.specs.Seated.{TableId}
 use Rattle.xcp_bank.specs.PinHistory.{Deed, Grows, Does, Ran, Ends, AllScans, looked_at, pinned_at, given_up, has_reset, has_published, reads_of, writes_of}
 use Rattle.xcp_bank.specs.HeldBufferCount.{others, scanned_buffer, scan_of, unquiet}
 use Rattle.xcp_bank.specs.declared.taken.Taken.{Taken}
 use Rattle.xcp_bank.specs.declared.taken.Taken.TheVariants.{Same, Newer}
-use Rattle.xcp_bank.specs.SeatKnowledge.{Begins, Reading, Writing}
+use Rattle.xcp_bank.specs.SeatKnowledge.{AllBegin, Begins, Reading, Writing}
 use Rattle.pin_core.specs.State.{PinState, reader}
 use Rattle.xcp_bank.specs.Images.{image_of, images}
 
@@ -97,6 +97,23 @@ words_in at n = (at + n + 7) / 8 - at / 8
 abbrev pub ReaderDoes : ReaderEnd → ReaderEnd → List Deed → Type 0
 ReaderDoes old new deeds = Does (suc old.place) old.history old.pending new.history new.pending deeds
 
+-- What a reader knows by a Look or a Pin, beside what it knew.
+pub record KnowsMore (old new : ReaderEnd) : Type 0 where
+  -- the images that it had seen are the first ones of those that it has seen now, and so is each list of which it was told since
+  -- its last Look or Pin
+  pub seen : Begins old.seen new.seen
+  pub past : AllBegin old.past new.seen
+  pub settled : new.past ≡ []
+  -- its history begins with the writer's, as it was told last
+  pub heard : (new.heard ≡ old.heard) × Begins old.heard new.history
+
+-- What an acquire answers.
+pub record TellsTaken (taken : Taken) (old new : ReaderEnd) : Type 0 where
+  -- the same: what was held is the last image that it has seen
+  pub same : taken ≡ Same ↔ HoldsNumber old (length new.seen - 1)
+  -- a newer one: nothing was held, or an earlier one
+  pub newer : taken ≡ Newer ↔ ((b p : ℕ) → old.held ≡ Some (b, p) → p < length new.seen - 1)
+
 -- What an acquire does. Its last deed is the last in the history, and is answered by the buffer that it holds then.
 pub record AcquireDoes (taken : Taken) (old new : ReaderEnd) : Type 0 where
   pub buffer : ℕ
@@ -130,6 +147,12 @@ pub record ReadDoes (k n : ℕ) (old new : ReaderEnd) : Type 0 where
   pub image : image_of words ≡ image_held old
   pub did : ReaderDoes old new (reads_of old.place words k n)
   pub same : new ≡ record old { history = new.history; pending = new.pending }
+
+-- What a reader knows by a Read: what it was told stands first in what it knows, and the image that it held has all its bytes.
+pub record FollowsTold (old new : ReaderEnd) : Type 0 where
+  pub past : AllBegin old.past new.seen
+  pub heard : Begins old.heard new.history
+  pub whole : length (image_held old) ≡ 2040
 
 -- The reader has given back what it held by one last Unpin, after which the core has it as gone.
 pub record GivesBack (old new : ReaderEnd) : Type 0 where

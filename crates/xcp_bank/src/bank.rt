@@ -42,13 +42,20 @@ fn six(board: &Arc<Board>, seat: &mut Token) -> Result<[Reader; READERS], AllocE
     requires { (words : List ℕ) × IsFirstSeat seat.old (arc_value board.now) 6 words }
     ensures { IfOk result (λ readers. (words : List ℕ) → IsFirstSeat seat.old (arc_value board.now) 6 words → IsFirstSeat seat.new (arc_value board.now) 0 words × (readers ≡ six_readers (bank_of (arc_value board.now)) (image_of words))) }
 {
-    let five = next_reader(board, seat)?;
-    let four = next_reader(board, seat)?;
-    let three = next_reader(board, seat)?;
-    let two = next_reader(board, seat)?;
-    let one = next_reader(board, seat)?;
-    let zero = next_reader(board, seat)?;
+    let (three, four, five) = last_three(board, seat)?;
+    let (zero, one, two) = last_three(board, seat)?;
     Ok([zero, one, two, three, four, five])
+}
+
+// Cuts the last three readers' seats off the first one.
+fn last_three(board: &Arc<Board>, seat: &mut Token) -> Result<(Reader, Reader, Reader), AllocError>
+    requires { (n : ℕ) × (words : List ℕ) × IsFirstSeat seat.old (arc_value board.now) (suc (suc (suc n))) words }
+    ensures { IfOk result (λ readers. (n : ℕ) (words : List ℕ) → IsFirstSeat seat.old (arc_value board.now) (suc (suc (suc n))) words → IsFirstSeat seat.new (arc_value board.now) n words × (readers.0 ≡ reader_end (arc_value board.now) n (starting words)) × (readers.1 ≡ reader_end (arc_value board.now) (suc n) (starting words)) × (readers.2 ≡ reader_end (arc_value board.now) (suc (suc n)) (starting words))) }
+{
+    let last = next_reader(board, seat)?;
+    let middle = next_reader(board, seat)?;
+    let first = next_reader(board, seat)?;
+    Ok((first, middle, last))
 }
 
 // Cuts the last reader's seat off the first one.

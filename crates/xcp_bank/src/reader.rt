@@ -2,9 +2,9 @@
 ghost use Rattle.std.specs.Prelude.{◌≡◌, ◌↔◌, ℕ, ◌+◌, ◌-◌, ◌/◌, ◌%◌, ◌<◌, ◌≤◌, List, [], ◌∷◌, length, take, drop, Some, None, IsTrue};
 ghost use Rattle.std.specs.Arc.{arc_value};
 ghost use Rattle.xcp_bank.specs.PinHistory.{looked_at};
-ghost use Rattle.xcp_bank.specs.SeatKnowledge.{Begins, AllBegin, starting};
+ghost use Rattle.xcp_bank.specs.SeatKnowledge.{starting};
 ghost use Rattle.xcp_bank.specs.private.SeatSteps.{IsReaderSeat};
-ghost use Rattle.xcp_bank.specs.BankEnds.{Holds, HoldsNumber, image_held, words_in, reader_end, IsRun, AcquireDoes, ReadDoes, ReaderDoes, LeavesBy};
+ghost use Rattle.xcp_bank.specs.BankEnds.{AcquireDoes, FollowsTold, Holds, HoldsNumber, IsRun, KnowsMore, LeavesBy, ReadDoes, ReaderDoes, TellsTaken, image_held, reader_end, words_in};
 
 use crate::IMAGE_BYTES;
 use crate::acquiring::acquire_at;
@@ -60,12 +60,8 @@ impl Reader {
         ensures same_reader { (self.new.bank ≡ self.old.bank) × (self.new.place ≡ self.old.place) }
         ensures holds_the_last { HoldsNumber self.new (length self.new.seen - 1) }
         ensures has_seen { 0 < length self.new.seen }
-        ensures seen { Begins self.old.seen self.new.seen }
-        ensures past { AllBegin self.old.past self.new.seen }
-        ensures settled { self.new.past ≡ [] }
-        ensures heard { (self.new.heard ≡ self.old.heard) × Begins self.old.heard self.new.history }
-        ensures same { result ≡ Taken.Same ↔ HoldsNumber self.old (length self.new.seen - 1) }
-        ensures newer { result ≡ Taken.Newer ↔ ((b p : ℕ) → self.old.held ≡ Some (b, p) → p < length self.new.seen - 1) }
+        ensures knows { KnowsMore self.old self.new }
+        ensures tells { TellsTaken result self.old self.new }
         ensures looked { (b p : ℕ) → self.new.held ≡ Some (b, p) → b ≡ self.new.looked }
         ensures does { AcquireDoes result self.old self.new }
     {
@@ -96,9 +92,7 @@ impl Reader {
         ensures same { (self.new.held ≡ self.old.held) × (self.new.seen ≡ self.old.seen) }
         ensures does { ReadDoes (at / 8) (words_in at (length out.old)) self.old self.new }
         ensures run { IsRun self.new }
-        ensures past { 0 < length out.old → AllBegin self.old.past self.new.seen }
-        ensures heard { 0 < length out.old → Begins self.old.heard self.new.history }
-        ensures whole { 0 < length out.old → length (image_held self.old) ≡ IMAGE_BYTES }
+        ensures follows { 0 < length out.old → FollowsTold self.old self.new }
     {
         let Some(seat) = &mut self.seat else {
             unreachable!()
@@ -117,10 +111,8 @@ impl Reader {
         ensures same { (self.new.held ≡ self.old.held) × (self.new.seen ≡ self.old.seen) }
         ensures does { ReadDoes 255 1 self.old self.new }
         ensures run { IsRun self.new }
-        ensures past { AllBegin self.old.past self.new.seen }
-        ensures heard { Begins self.old.heard self.new.history }
+        ensures follows { FollowsTold self.old self.new }
         ensures known { (b p : ℕ) → self.old.held ≡ Some (b, p) → p < length self.new.seen }
-        ensures whole { length (image_held self.old) ≡ IMAGE_BYTES }
     {
         let Some(seat) = &mut self.seat else {
             unreachable!()

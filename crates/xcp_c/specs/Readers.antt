@@ -1,6 +1,6 @@
 -- What a task in C does with a reader.
 use Rattle.std.specs.Prelude.{◌≡◌, ◌↔◌, ◌⊎◌, ℕ, ◌+◌, ◌-◌, ◌/◌, ◌%◌, ◌<◌, List, [], length, take, drop, Option, Some, None}
-use Rattle.xcp_bank.specs.BankEnds.{AcquireDoes, Holds, HoldsNumber, IsRun, ReadDoes, ReaderEnd, image_held, words_in}
+use Rattle.xcp_bank.specs.BankEnds.{AcquireDoes, FollowsTold, Holds, HoldsNumber, IsRun, KnowsMore, ReadDoes, ReaderEnd, TellsTaken, image_held, words_in}
 use Rattle.xcp_bank.specs.SeatKnowledge.{AllBegin, Begins}
 use Rattle.xcp_bank.specs.declared.taken.Taken.{Taken}
 use Rattle.xcp_bank.specs.declared.taken.Taken.TheVariants.{Newer, Same}
@@ -14,12 +14,8 @@ pub record Acquired (taken : Taken) (old new : Option ReaderEnd) : Type 0 where
   pub same_reader : (after.bank ≡ before.bank) × (after.place ≡ before.place)
   pub holds_the_last : HoldsNumber after (length after.seen - 1)
   pub has_seen : 0 < length after.seen
-  pub seen : Begins before.seen after.seen
-  pub past : AllBegin before.past after.seen
-  pub settled : after.past ≡ []
-  pub heard : (after.heard ≡ before.heard) × Begins before.heard after.history
-  pub same : taken ≡ Same ↔ HoldsNumber before (length after.seen - 1)
-  pub newer : taken ≡ Newer ↔ ((b p : ℕ) → before.held ≡ Some (b, p) → p < length after.seen - 1)
+  pub knows : KnowsMore before after
+  pub tells : TellsTaken taken before after
   pub looked : (b p : ℕ) → after.held ≡ Some (b, p) → b ≡ after.looked
   pub does : AcquireDoes taken before after
 
@@ -34,9 +30,7 @@ pub record Reads (at : ℕ) (old : Option ReaderEnd) (out : List ℕ) (new : Opt
   pub same : (after.held ≡ before.held) × (after.seen ≡ before.seen)
   pub does : ReadDoes (at / 8) (words_in at (length out)) before after
   pub run : IsRun after
-  pub past : 0 < length out → AllBegin before.past after.seen
-  pub heard : 0 < length out → Begins before.heard after.history
-  pub whole : 0 < length out → length (image_held before) ≡ 2040
+  pub follows : 0 < length out → FollowsTold before after
 
 -- What is told of the held publication's number, from 0, modulo 2 ^ 64.
 pub record Numbered (n : ℕ) (old new : Option ReaderEnd) : Type 0 where
@@ -50,9 +44,7 @@ pub record Numbered (n : ℕ) (old new : Option ReaderEnd) : Type 0 where
   pub same : (after.held ≡ before.held) × (after.seen ≡ before.seen)
   pub does : ReadDoes 255 1 before after
   pub run : IsRun after
-  pub past : AllBegin before.past after.seen
-  pub heard : Begins before.heard after.history
-  pub whole : length (image_held before) ≡ 2040
+  pub follows : FollowsTold before after
 
 -- no reader, or one that holds nothing
 abbrev pub HoldsNothing : Option ReaderEnd → Type 0

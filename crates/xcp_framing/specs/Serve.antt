@@ -1,6 +1,6 @@
 -- What `serve` does with a stream: the exchanges that it makes, and what it writes (ASAM MCD-1 XCP, transport layer, XCP on
 -- Ethernet; CTO packets come in and go out, DTO packets go out between them).
-use Rattle.std.specs.Prelude.{◌≡◌, ◌≢◌, ◌<◌, ◌≤◌, ℕ, List, [], ◌∷◌, ◌++◌, All, length, Option, Some, None, Result, Ok, Err, ⊤}
+use Rattle.std.specs.Prelude.{◌≡◌, ◌≢◌, ◌<◌, ◌≤◌, ◌+◌, ℕ, List, [], ◌∷◌, ◌++◌, All, length, Option, Some, None, Result, Ok, Err, ⊤}
 use Rattle.std.specs.List.{flat_map}
 use Rattle.std.specs.Io.KnownBytes.{Appends, IsAtEnd}
 use Rattle.xcp_slave.specs.declared.Exchange.{Exchange}
@@ -12,6 +12,7 @@ use Rattle.xcp_framing.specs.declared.station.StationError.TheVariants as refusa
 use Rattle.xcp_framing.specs.declared.serving.Served.{Served}
 use Rattle.xcp_framing.specs.declared.serving.ServeError.{ServeError}
 use Rattle.xcp_framing.specs.declared.serving.ServeError.TheVariants as errors
+use Rattle.xcp_framing.specs.CountedCalls.{Watched}
 use Rattle.xcp_framing.specs.Prefix.{AppendsFront}
 use Rattle.xcp_framing.specs.Wire.{wire, len_of, IsBadLength}
 use Rattle.xcp_framing.specs.Frames.{frames, rest}
@@ -111,6 +112,15 @@ abbrev pub EndsReader : Result Served ServeError → Option (List ℕ) → Type 
 EndsReader (Ok served) after = IsAtEnd after
 EndsReader (Err errors.Truncated) after = IsAtEnd after
 EndsReader _ after = ⊤
+
+-- The calls of the reader, at most `turns` of them, and those that failed.
+pub record ReadsWithin {R : Type 0} (turns : ℕ) (result : Result Served ServeError) (old new : Watched R) : Type 0 where
+  -- Read is returned only if a read failed; with any other result none did
+  pub failed : result ≡ Err errors.Read → old.failures < new.failures
+  pub fine : result ≢ Err errors.Read → new.failures ≡ old.failures
+  pub most : new.calls ≤ old.calls + turns
+  -- TurnsSpent is returned only if there were as many as are allowed
+  pub spent : result ≡ Err errors.TurnsSpent → new.calls ≡ old.calls + turns
 
 -- the counts are those of the commands and of the packets sent
 abbrev pub Counts : Result Served ServeError → List (List ℕ) → List (List ℕ) → Type 0

@@ -1,11 +1,11 @@
 //! The packets of a stream, answered one after another, whatever answers them.
-ghost use Rattle.std.specs.Prelude.{◌≡◌, ◌≢◌, ◌<◌, ◌≤◌, ◌+◌, ◌*◌, ◌^◌, ◌++◌, [], ◌∷◌, ℕ, List, Result, OnOk, IfOk, IfErr, length, Ok, Err};
+ghost use Rattle.std.specs.Prelude.{◌≡◌, ◌<◌, ◌≤◌, ◌+◌, ◌*◌, ◌^◌, ◌++◌, [], ◌∷◌, ℕ, List, Result, OnOk, IfOk, IfErr, length, Ok, Err};
 ghost use Rattle.xcp_framing.specs.Frames.{frames, rest};
-ghost use Rattle.xcp_framing.specs.Serve.{EndsReader};
+ghost use Rattle.xcp_framing.specs.Serve.{EndsReader, ReadsWithin};
 ghost use Rattle.xcp_framing.specs.ServeParts.{IsInterruption};
 ghost use Rattle.xcp_framing.specs.private.Serve.{most_packets};
 ghost use Rattle.xcp_framing.specs.private.ServeParts.{EndsPiece};
-ghost use Rattle.xcp_framing.specs.private.AnsweredStream.{Stand, Streams, outcome};
+ghost use Rattle.xcp_framing.specs.private.AnsweredStream.{JoinsHandingOn, JoinsPackets, Stand, Streams, outcome};
 
 use crate::{Brought, Framer, ServeError, Served, Watched};
 use std::io::Read;
@@ -69,11 +69,7 @@ fn answer_piece<A: Answerer<S, K, O>, S, K, O>(
 ) -> Result<(), ServeError>
     requires sent { A.sent_of state.old + most_packets * length piece.now < 2 ^ 64 }
     requires count { count.old + length piece.now < 2 ^ 64 }
-    requires none { (a : Stand S K O) → A.answers (Ok tt) [] a a }
-    requires more { (r : Result (Unit {0}) ServeError) (ps qs : List (List ℕ)) (a b c : Stand S K O)
-        → A.answers (Ok tt) ps a b → A.answers r qs b c → A.answers r (ps ++ qs) a c }
-    requires before { (e : ServeError) (ps qs : List (List ℕ)) (a b : Stand S K O)
-        → IsInterruption e → A.answers (Err e) ps a b → A.answers (Err e) (ps ++ qs) a b }
+    requires packets { JoinsPackets A.answers }
     ensures answered { A.answers (outcome result)
         (frames framer.old.max_cto (framer.old.held ++ piece.now))
         (record { station = station.old; state = state.old; out = out.old })
@@ -117,18 +113,8 @@ pub(crate) fn answer_stream<A: Answerer<S, K, O>, S, K, O, R: Read>(
     requires size { length buffer.old ≡ READ_SIZE }
     requires sent { A.sent_of state.old ≡ 0 }
     requires rests { A.rests state.old }
-    // What `answers` says of more packets, and behind a handing on.
-    requires none { (a : Stand S K O) → A.answers (Ok tt) [] a a }
-    requires more { (r : Result (Unit {0}) ServeError) (ps qs : List (List ℕ)) (a b c : Stand S K O)
-        → A.answers (Ok tt) ps a b → A.answers r qs b c → A.answers r (ps ++ qs) a c }
-    requires before { (e : ServeError) (ps qs : List (List ℕ)) (a b : Stand S K O)
-        → IsInterruption e → A.answers (Err e) ps a b → A.answers (Err e) (ps ++ qs) a b }
-    requires handed { (r : Result (Unit {0}) ServeError) (ps : List (List ℕ)) (a b : Stand S K O) (k : K) (o : O)
-        → A.answers r ps a b → A.hands (Ok tt) b.state b.out k o
-        → A.answers r ps a (record { station = b.station; state = k; out = o }) }
-    requires held { (r : Result (Unit {0}) ServeError) (e : ServeError) (ps : List (List ℕ)) (a b : Stand S K O) (k : K) (o : O)
-        → A.answers r ps a b → A.hands (Err e) b.state b.out k o
-        → A.answers (Err e) ps a (record { station = b.station; state = k; out = o }) }
+    requires packets { JoinsPackets A.answers }
+    requires handing_on { JoinsHandingOn A.answers A.hands }
     ensures streams { Streams A.answers max_cto result
         (R.remaining reader.old.inner) (R.remaining reader.new.inner)
         (record { station = station.old; state = state.old; out = out.old })
@@ -136,10 +122,7 @@ pub(crate) fn answer_stream<A: Answerer<S, K, O>, S, K, O, R: Read>(
     ensures rests { A.rests state.new }
     ensures sent { IfOk result (λ served. served.sent ≡ A.sent_of state.new) }
     ensures ends { EndsReader result (R.remaining reader.new.inner) }
-    ensures read { result ≡ Err ServeError.Read → reader.old.failures < reader.new.failures }
-    ensures read_quiet { result ≢ Err ServeError.Read → reader.new.failures ≡ reader.old.failures }
-    ensures reads { reader.new.calls ≤ reader.old.calls + turns }
-    ensures turns { result ≡ Err ServeError.TurnsSpent → reader.new.calls ≡ reader.old.calls + turns }
+    ensures reads { ReadsWithin turns result reader.old reader.new }
 {
     let mut framer = Framer::new(max_cto);
     let mut command = Packet::new();

@@ -4,7 +4,7 @@ ghost use Rattle.arrayvec.specs.ArrayVec.{ArrayVec};
 ghost use Rattle.xcp_packet.specs.PacketTrains.{block_packets};
 ghost use Rattle.xcp_slave.specs.AnswerInBytes.{answer_in};
 ghost use Rattle.xcp_framing.specs.private.FrameOutput.{Sends, output};
-ghost use Rattle.xcp_framing.specs.Serve.{AnswersSoFar, EndsReader, Serves, most_drains, number_of, packet_of};
+ghost use Rattle.xcp_framing.specs.Serve.{AnswersSoFar, EndsReader, ReadsWithin, Serves, most_drains, number_of, packet_of};
 ghost use Rattle.xcp_framing.specs.private.Serve.{most_packets, most_train};
 ghost use Rattle.xcp_framing.specs.Wire.{wire_from};
 ghost use Rattle.xcp_framing.specs.ServeRefusal.{AsksNext, DrainsNext, OnRefusal, ReadsNext, Refused};
@@ -295,13 +295,10 @@ pub fn serve<R: Read, W: Write, S: Station>(
     // Ok and Truncated come at the reader's end.
     ensures ends { EndsReader result (R.remaining reader.new.inner) }
     // When the others come. A stream fails only where the call ends with it.
-    ensures read { result ≡ Err ServeError.Read → reader.old.failures < reader.new.failures }
-    ensures read_quiet { result ≢ Err ServeError.Read → reader.new.failures ≡ reader.old.failures }
+    ensures reads { ReadsWithin turns result reader.old reader.new }
     ensures write { result ≡ Err ServeError.Write → writer.old.failures < writer.new.failures }
     ensures write_quiet { result ≢ Err ServeError.Write
         → writer.new.failures ≡ writer.old.failures }
-    ensures reads { reader.new.calls ≤ reader.old.calls + turns }
-    ensures turns { result ≡ Err ServeError.TurnsSpent → reader.new.calls ≡ reader.old.calls + turns }
     // Memory and JournalFull come where the station refused the request that comes next. Memory
     // also comes where there was no buffer, before anything was done.
     ensures refused { OnRefusal result (λ e.

@@ -1,6 +1,6 @@
 //! A station behind a stream, whose answers' packets are put for another thread to send.
 ghost use Rattle.std.specs.Prelude.{◌≡◌, ◌≢◌, ◌<◌, ◌≤◌, ◌+◌, ◌⊎◌, Err};
-ghost use Rattle.xcp_framing.specs.Serve.{EndsReader};
+ghost use Rattle.xcp_framing.specs.Serve.{EndsReader, ReadsWithin};
 ghost use Rattle.xcp_framing.specs.ServeRefusal.{OnRefusal, Refused};
 ghost use Rattle.xcp_framing.specs.ServeBy.{CommandNext, ServesBy};
 
@@ -79,12 +79,7 @@ pub fn serve_by<R: Read, S: Station, E: End>(
     ensures kept { E.same end.old end.new }
     ensures stays { S.same station.old station.new }
     ensures ends { EndsReader result (R.remaining reader.new.inner) }
-    ensures read { result ≡ Err ServeError.Read → reader.old.failures < reader.new.failures }
-    ensures read_quiet { result ≢ Err ServeError.Read
-        → reader.new.failures ≡ reader.old.failures }
-    ensures reads { reader.new.calls ≤ reader.old.calls + turns }
-    ensures turns { result ≡ Err ServeError.TurnsSpent
-        → reader.new.calls ≡ reader.old.calls + turns }
+    ensures reads { ReadsWithin turns result reader.old reader.new }
     ensures refused { OnRefusal result (λ e.
         ((e ≡ StationError.Memory) × (reader.new ≡ reader.old)
         × (station.new ≡ station.old) × (end.new ≡ end.old))

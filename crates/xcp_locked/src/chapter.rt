@@ -1,11 +1,12 @@
 //! A chapter of a journal, which was cut off.
-ghost use Rattle.std.specs.Prelude.{◌*◌, ◌≡◌, ◌↔◌, ◌⊎◌, ◌≤◌, Err, IfOk, IfErr, OnErr, MatchResult, false, true, length};
+ghost use Rattle.std.specs.Prelude.{◌*◌, ◌≡◌, ◌↔◌, ◌⊎◌, ◌<◌, ◌≤◌, [], Err, IfOk, IfErr, OnErr, MatchResult, false, true, length, vec_capacity, vec_len};
 ghost use Rattle.std.specs.Arc.{arc_value};
 ghost use Rattle.xcp_slave.specs.Run.{Run};
 ghost use Rattle.xcp_locked.specs.Journal.{exchanges, journal_limit, last_chapter};
 ghost use Rattle.xcp_locked.specs.LockedSlave.{IsReached, chapter_of, cut_off};
 ghost use Rattle.xcp_locked.specs.SettledReceipts.{DiffersFor, IsSettledFor};
 
+use crate::publisher::Publisher;
 use crate::settling::settled;
 use crate::{Caller, Locked, LockedError, Mismatch, Name};
 use std::alloc::{AllocError, Global};
@@ -81,19 +82,8 @@ impl<N: Name> Locked<N> {
             ..
         } = self;
         // All memory is taken before anything is changed.
-        let Ok(last) = share(alloc, slave) else {
-            return Err(LockedError::Memory);
-        };
-        let Ok(next) = Arc::try_clone(&last) else {
-            return Err(LockedError::Memory);
-        };
-        let Ok(empty) = Journal::with_room_of(alloc, journal) else {
-            return Err(LockedError::Memory);
-        };
-        let Ok(places) = publisher.room_anew(alloc) else {
-            return Err(LockedError::Memory);
-        };
-        let Ok(mut entries) = Arc::new(alloc, empty) else {
+        let Ok((last, next, mut entries, places)) = beginnings(alloc, slave, journal, publisher)
+        else {
             return Err(LockedError::Memory);
         };
         let calls = journal.len() as u64;
@@ -115,6 +105,25 @@ impl<N: Name> Locked<N> {
             of: PhantomData,
         })
     }
+}
+
+/// What the next chapter begins with: a copy of the slave, for two owners, an empty journal, and an empty list with room for one place.
+fn beginnings(
+    alloc: Global,
+    slave: &Slave,
+    journal: &Journal,
+    publisher: &Publisher,
+) -> Result<(Arc<Slave>, Arc<Slave>, Arc<Journal>, Vec<u64>), AllocError>
+    ensures slaves { IfOk result (λ b. (arc_value b.0 ≡ slave.now) × (arc_value b.1 ≡ slave.now)) }
+    ensures journal { IfOk result (λ b. (arc_value b.2).entries ≡ []) }
+    ensures places { IfOk result (λ b. (b.3.items ≡ []) × (vec_len b.3 < vec_capacity b.3)) }
+{
+    let places = publisher.room_anew(alloc)?;
+    let empty = Journal::with_room_of(alloc, journal)?;
+    let entries = Arc::new(alloc, empty)?;
+    let last = share(alloc, slave)?;
+    let next = Arc::try_clone(&last)?;
+    Ok((last, next, entries, places))
 }
 
 /// Puts a journal into the place of another one, which nobody else owns, and that one into its place. `false` where somebody else owns

@@ -1,7 +1,7 @@
 //! A reader of a slave's images.
 ghost use Rattle.std.specs.Prelude.{◌≡◌, ◌↔◌, ℕ, ◌+◌, ◌-◌, ◌/◌, ◌%◌, ◌<◌, ◌≤◌, [], length, take, drop, Some, IsTrue};
 ghost use Rattle.xcp_bank.specs.SeatKnowledge.{AllBegin, Begins};
-ghost use Rattle.xcp_bank.specs.BankEnds.{AcquireDoes, Holds, HoldsNumber, IsRun, LeavesBy, ReadDoes, image_held, words_in};
+ghost use Rattle.xcp_bank.specs.BankEnds.{AcquireDoes, FollowsTold, Holds, HoldsNumber, IsRun, KnowsMore, LeavesBy, ReadDoes, TellsTaken, image_held, words_in};
 
 use crate::Name;
 use std::marker::{Model, PhantomData};
@@ -44,14 +44,9 @@ impl<N: Name> Reader<N> {
         ensures same_reader { (self.new.bank ≡ self.old.bank) × (self.new.place ≡ self.old.place) }
         ensures holds_the_last { HoldsNumber self.new (length self.new.seen - 1) }
         ensures has_seen { 0 < length self.new.seen }
-        ensures seen { Begins self.old.seen self.new.seen }
         ensures rises { (p q : ℕ) → HoldsNumber self.old p → HoldsNumber self.new q → p ≤ q }
-        ensures past { AllBegin self.old.past self.new.seen }
-        ensures settled { self.new.past ≡ [] }
-        ensures heard { (self.new.heard ≡ self.old.heard) × Begins self.old.heard self.new.history }
-        ensures same { result ≡ Taken.Same ↔ HoldsNumber self.old (length self.new.seen - 1) }
-        ensures newer { result ≡ Taken.Newer ↔ ((b p : ℕ) → self.old.held ≡ Some (b, p)
-            → p < length self.new.seen - 1) }
+        ensures knows { KnowsMore self.old self.new }
+        ensures tells { TellsTaken result self.old self.new }
         ensures looked { (b p : ℕ) → self.new.held ≡ Some (b, p) → b ≡ self.new.looked }
         ensures does { AcquireDoes result self.old self.new }
     {
@@ -75,9 +70,7 @@ impl<N: Name> Reader<N> {
         ensures same { (self.new.held ≡ self.old.held) × (self.new.seen ≡ self.old.seen) }
         ensures does { ReadDoes (at / 8) (words_in at (length out.old)) self.old self.new }
         ensures run { IsRun self.new }
-        ensures past { 0 < length out.old → AllBegin self.old.past self.new.seen }
-        ensures heard { 0 < length out.old → Begins self.old.heard self.new.history }
-        ensures whole { 0 < length out.old → length (image_held self.old) ≡ 2040 }
+        ensures follows { 0 < length out.old → FollowsTold self.old self.new }
     {
         self.inner.read(at, out);
     }
@@ -90,10 +83,8 @@ impl<N: Name> Reader<N> {
         ensures same { (self.new.held ≡ self.old.held) × (self.new.seen ≡ self.old.seen) }
         ensures does { ReadDoes 255 1 self.old self.new }
         ensures run { IsRun self.new }
-        ensures past { AllBegin self.old.past self.new.seen }
-        ensures heard { Begins self.old.heard self.new.history }
+        ensures follows { FollowsTold self.old self.new }
         ensures known { (b p : ℕ) → self.old.held ≡ Some (b, p) → p < length self.new.seen }
-        ensures whole { length (image_held self.old) ≡ 2040 }
     {
         self.inner.number()
     }

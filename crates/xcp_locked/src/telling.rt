@@ -5,7 +5,7 @@ ghost use Rattle.xcp_bank.specs.PinHistory.{looked_at};
 ghost use Rattle.xcp_bank.specs.SeatKnowledge.{AllBegin};
 ghost use Rattle.xcp_locked.specs.Journal.{exchanges};
 ghost use Rattle.xcp_locked.specs.PublishingCalls.{AreImagesFrom};
-ghost use Rattle.xcp_locked.specs.SettledReader.{HoldsEarlier, IsSettledAt};
+ghost use Rattle.xcp_locked.specs.SettledReader.{HoldsEarlier, IsSettledAt, WasTold};
 
 use crate::{Locked, LockedError, Name, Reader};
 
@@ -47,14 +47,10 @@ impl<N: Name> Locked<N> {
             (exchanges self.old.journal) self.old.first reader.new s)) }
         ensures chapter { IfOk result (λ o. IfSome o (λ s. s.chapter ≡ self.old.chapter)) }
         ensures refused { IfErr result (λ e. e ≡ LockedError.Earlier) }
-        ensures held { reader.new.held ≡ reader.old.held }
-        ensures seen { reader.new.seen ≡ self.old.writer.publications }
+        ensures told { WasTold self.old.writer.publications reader.old reader.new }
         ensures begins { reader.old.held ≢ None →
             AllBegin (reader.old.seen ∷ reader.old.past) reader.new.seen }
-        ensures past { reader.new.past ≡ reader.old.seen ∷ reader.old.past }
         ensures same { self.new ≡ self.old }
-        ensures same_reader { (reader.new.bank ≡ reader.old.bank)
-            × (reader.new.place ≡ reader.old.place) }
     {
         reader.inner.tell(&mut self.publisher.writer);
         if !reader.inner.holds() {

@@ -55,20 +55,22 @@ pub fn audit<R: Read, T: Witness>(
         → HoldsRun layout.now slave all n → SaysSettled n result) }
 {
     each_request_has_one_answer();
-    audit_chapters(alloc, slave, layout, reader, witness)
+    let mut slave = slave;
+    let mut parts = Parts::new(alloc);
+    audit_chapters(&mut slave, &mut parts, layout, reader, witness)
 }
 
-/// Audits the file of a journal, as `audit` does.
+/// Audits the file of a journal, as `audit` does. Each chapter is read into the same parts.
 fn audit_chapters<R: Read, T: Witness>(
-    alloc: Global,
-    mut slave: Slave,
+    slave: &mut Slave,
+    parts: &mut Parts,
     layout: &[u8; 32],
     reader: &mut Watched<R>,
     witness: &mut T,
 ) -> Result<u64, AuditFault>
     ensures audits { (read : List ℕ)
         × Consumes (R.remaining reader.old.inner) (R.remaining reader.new.inner) read
-        × Audits layout.now slave (IsAtEnd (R.remaining reader.new.inner)) read result
+        × Audits layout.now slave.old (IsAtEnd (R.remaining reader.new.inner)) read result
         × (calls : List Entry)
         × T.hears witness.old calls witness.new × Hears layout.now read result calls }
     ensures quiet { result ≢ Err AuditFault.Read → reader.new.failures ≡ reader.old.failures }
@@ -78,13 +80,12 @@ fn audit_chapters<R: Read, T: Witness>(
     if let Err(fault) = read_head(layout, reader, &mut hasher) {
         return Err(fault);
     }
-    let mut parts = Parts::new(alloc);
     let mut calls = 0;
     for number in 0..MOST_CHAPTERS + 1 {
-        match next_chapter(number, reader, &mut hasher, &mut parts) {
+        match next_chapter(number, reader, &mut hasher, parts) {
             Ok(None) => return Ok(calls),
             Ok(Some(count)) => {
-                if let Err(place) = check_calls(&mut slave, &parts.calls, calls, witness) {
+                if let Err(place) = check_calls(slave, &parts.calls, calls, witness) {
                     return Err(AuditFault::Mismatch(place));
                 }
                 calls += count;

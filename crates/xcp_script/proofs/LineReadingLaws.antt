@@ -134,9 +134,11 @@ lines_of text =
 pub one_list_only : (text : List ℕ) (lines others : List (List ℕ)) → Lines text lines → Lines text others → lines ≡ others
 one_list_only text lines others h k = lines_are_read text lines h ∙ sym (lines_are_read text others k)
 
--- the last line, when all bytes have been read
-pub lines_done : (text begun : List ℕ) (lines all : List (List ℕ)) (i : ℕ) → length text ≤ i
-    → lines ++ lines_from begun (drop i text) ≡ lines_from [] text → all ≡ lines ++ unless_empty begun → Lines text all
-lines_done text begun lines all i h k l =
-    let read : lines ++ unless_empty begun ≡ lines_from [] text = rw (drop_all i text h) at k in
-    subst (λ (ls : List (List ℕ)). Lines text ls) (sym (l ∙ read)) (lines_of text)
+-- the lines that have ended and the last one, when all bytes have been read
+pub lines_put : (text begun : List ℕ) (lines : List (List ℕ)) (i : ℕ) → length text ≤ i
+    → lines ++ lines_from begun (drop i text) ≡ lines_from [] text → lines ++ unless_empty begun ≡ lines_from [] text
+lines_put text begun lines i h k = rw (drop_all i text h) at k
+
+-- the same with the last line among them
+pub lines_done : (text : List ℕ) (put all : List (List ℕ)) → put ≡ lines_from [] text → all ≡ put → Lines text all
+lines_done text put all k l = subst (λ (ls : List (List ℕ)). Lines text ls) (sym (l ∙ k)) (lines_of text)

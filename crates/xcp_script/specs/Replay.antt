@@ -1,5 +1,5 @@
 -- What a replay of a script asks, and what it writes.
-use Rattle.std.specs.Prelude.{◌≡◌, ℕ, ◌+◌, ◌⊎◌, Bool, true, false, List, [], ◌∷◌, ◌++◌, length, flat_map, position, Option, Some, None, option_map, Result, Ok, Err}
+use Rattle.std.specs.Prelude.{◌≡◌, ◌≢◌, ◌<◌, ◌≤◌, ℕ, ◌+◌, ◌⊎◌, Bool, true, false, List, [], ◌∷◌, ◌++◌, length, flat_map, position, Option, Some, None, option_map, Result, Ok, Err}
 use Rattle.std.specs.List.{before_first}
 use Rattle.std.specs.Io.KnownBytes.{Appends}
 use Rattle.xcp_slave.specs.declared.Exchange.{Exchange}
@@ -9,6 +9,7 @@ use Rattle.xcp_script.specs.declared.line.Line.{Line}
 use Rattle.xcp_script.specs.declared.line.Line.TheVariants.{Ask, Faulty}
 use Rattle.xcp_script.specs.declared.fault.ReplayError.{ReplayError}
 use Rattle.xcp_script.specs.declared.fault.ReplayError.TheVariants as errors
+use Rattle.xcp_framing.specs.CountedCalls.{Watched}
 use Rattle.xcp_framing.specs.Prefix.{IsFront, AppendsFront}
 use Rattle.xcp_script.specs.Lines.{Lines}
 use Rattle.xcp_script.specs.ScriptLine.{meaning}
@@ -73,3 +74,16 @@ pub record NotTold (exchanges : List Exchange) (old new : Option (List ℕ)) : T
 -- where memory is short: at a request that was not taken, or at the text of its answer
 abbrev pub EndsShort : List Request → List Exchange → Option (List ℕ) → Option (List ℕ) → Type 0
 EndsShort asks exchanges old new = NotTaken asks exchanges ⊎ NotTold exchanges old new
+
+-- What became of a script's reader and writer in one call of at most so many reads.
+pub record UsesStreams {A R W : Type 0} (turns : ℕ) (result : Result A ReplayError) (reader reader' : Watched R) (writer writer' : Watched W) : Type 0 where
+  -- at `Read` a read failed, or there was one in each turn
+  pub read : result ≡ Err errors.Read → (reader.failures < reader'.failures) ⊎ (reader'.calls ≡ reader.calls + turns)
+  -- there was at most one read in each turn
+  pub reads : reader'.calls ≤ reader.calls + turns
+  -- at any other end than `Read` no read failed
+  pub read_quiet : result ≢ Err errors.Read → reader'.failures ≡ reader.failures
+  -- at `Write` a write failed
+  pub write : result ≡ Err errors.Write → writer.failures < writer'.failures
+  -- at any other end than `Write` no write failed
+  pub write_quiet : result ≢ Err errors.Write → writer'.failures ≡ writer.failures

@@ -5,7 +5,7 @@ ghost use Rattle.xcp_slave.specs.Run.{Run, requests_of};
 ghost use Rattle.xcp_slave.specs.SlaveValue.{layout_of, opening};
 ghost use Rattle.xcp_framing.specs.Prefix.{IsFront};
 ghost use Rattle.xcp_script.specs.private.LineReading.{OfRead};
-ghost use Rattle.xcp_script.specs.Replay.{EndsShort, OfLines, Replayed, Tells, asked};
+ghost use Rattle.xcp_script.specs.Replay.{EndsShort, OfLines, Replayed, Tells, UsesStreams, asked};
 ghost use Rattle.xcp_script.specs.AnswerText.{answers_text};
 
 use crate::ReplayError;
@@ -68,27 +68,23 @@ fn write_out<W: Write>(
 }
 
 /// Answers a script of at most so many reads: `replay_on`, in the words of the lines as they are
-/// read.
+/// read. No line has begun, and no text waits to be written.
 fn run_script<R: Read, W: Write>(
-    alloc: Global,
     desk: &mut Desk,
+    pending: &mut Pending,
+    texts: &mut Vec<u8>,
     reader: &mut Watched<R>,
     writer: &mut Watched<W>,
     turns: u32,
 ) -> Result<u64, ReplayError>
-    requires { desk.old.exchanges ≡ [] }
+    requires { (desk.old.exchanges ≡ []) × (pending.old.liner.held.items ≡ [])
+        × (pending.old.count ≡ 0) × (texts.old.items ≡ []) }
     ensures replayed { OfRead (R.remaining reader.old.inner) (λ lines.
         Replayed (layout_of desk.old.slave).max_cto lines result (requests_of desk.new.exchanges)) }
     ensures told { Tells result
         (W.contents writer.old.inner) (W.contents writer.new.inner) (answers_text desk.new.exchanges) }
     ensures ended { OnOk result (IsAtEnd (R.remaining reader.new.inner)) }
-    ensures read { result ≡ Err ReplayError.Read
-        → (reader.old.failures < reader.new.failures) ⊎ (reader.new.calls ≡ reader.old.calls + turns) }
-    ensures reads { reader.new.calls ≤ reader.old.calls + turns }
-    ensures read_quiet { result ≢ Err ReplayError.Read → reader.new.failures ≡ reader.old.failures }
-    ensures write { result ≡ Err ReplayError.Write → writer.old.failures < writer.new.failures }
-    ensures write_quiet { result ≢ Err ReplayError.Write
-        → writer.new.failures ≡ writer.old.failures }
+    ensures streams { UsesStreams turns result reader.old reader.new writer.old writer.new }
     ensures memory { result ≡ Err ReplayError.Memory
         → OfRead (R.remaining reader.old.inner) (λ lines.
         EndsShort (asked (layout_of desk.old.slave).max_cto lines) desk.new.exchanges
@@ -96,20 +92,18 @@ fn run_script<R: Read, W: Write>(
     ensures layout { layout_of desk.new.slave ≡ layout_of desk.old.slave }
 {
     let max_cto = desk.max_cto();
-    let mut pending = Pending::new();
-    let mut texts = Vec::new(alloc);
     let mut buffer = [0; PIECE_BYTES];
     for _ in 0..turns {
         let Ok(length) = reader.read(&mut buffer) else {
             return Err(ReplayError::Read);
         };
         if length == 0 {
-            let last = pending.finish(desk, max_cto, &mut texts);
-            write_out(writer, &mut texts, last, pending.count)?;
+            let last = pending.finish(desk, max_cto, texts);
+            write_out(writer, texts, last, pending.count)?;
             return Ok(desk.trace().len() as u64);
         }
-        let fed = pending.feed(desk, max_cto, &buffer[..length], &mut texts);
-        write_out(writer, &mut texts, fed, pending.count)?;
+        let fed = pending.feed(desk, max_cto, &buffer[..length], texts);
+        write_out(writer, texts, fed, pending.count)?;
     }
     Err(ReplayError::Read)
 }
@@ -140,13 +134,7 @@ pub fn replay_on<R: Read, W: Write>(
     ensures ended { OnOk result (IsAtEnd (R.remaining reader.new.inner)) }
 
     // A fault of a stream comes only where that stream failed, or the turns are spent.
-    ensures read { result ≡ Err ReplayError.Read
-        → (reader.old.failures < reader.new.failures) ⊎ (reader.new.calls ≡ reader.old.calls + turns) }
-    ensures reads { reader.new.calls ≤ reader.old.calls + turns }
-    ensures read_quiet { result ≢ Err ReplayError.Read → reader.new.failures ≡ reader.old.failures }
-    ensures write { result ≡ Err ReplayError.Write → writer.old.failures < writer.new.failures }
-    ensures write_quiet { result ≢ Err ReplayError.Write
-        → writer.new.failures ≡ writer.old.failures }
+    ensures streams { UsesStreams turns result reader.old reader.new writer.old writer.new }
 
     // Memory comes only at a request of the script: the desk did not take it, or there is no text
     // of its answer.
@@ -155,7 +143,9 @@ pub fn replay_on<R: Read, W: Write>(
         EndsShort (asked (layout_of desk.old.slave).max_cto lines) desk.new.exchanges
         (W.contents writer.old.inner) (W.contents writer.new.inner)) }
 {
-    let result = run_script(alloc, desk, reader, writer, turns);
+    let mut pending = Pending::new();
+    let mut texts = Vec::new(alloc);
+    let result = run_script(desk, &mut pending, &mut texts, reader, writer, turns);
     desk.audit();
     result
 }

@@ -56,6 +56,20 @@ pub fn make_seat<'a, N: Name, M: Route, W>(
     pump: Member<N, M>,
     place: Place<'a, W>,
 ) -> Result<Parts<'a, N, M, W>, AllocError> {
+    let lines = make_lines(alloc)?;
+    Ok(join(alloc, shared, listener, tool, pump, place, lines))
+}
+
+/// The parts of a seat, which these channels join.
+fn join<'a, N: Name, M: Route, W>(
+    alloc: Global,
+    shared: &'a Shared<N, M>,
+    listener: TcpListener,
+    tool: Member<N, M>,
+    pump: Member<N, M>,
+    place: Place<'a, W>,
+    lines: Lines,
+) -> Parts<'a, N, M, W> {
     let Place {
         number,
         max_cto,
@@ -70,7 +84,7 @@ pub fn make_seat<'a, N: Name, M: Route, W>(
         pumped: (ends, pumped),
         outgoing: (outgoing, begun),
         sent: (ended, sent),
-    } = make_lines(alloc)?;
+    } = lines;
     let hearer = Hearer {
         member: tool,
         seat: Seat {
@@ -102,5 +116,5 @@ pub fn make_seat<'a, N: Name, M: Route, W>(
         begins: begun,
         ends: ended,
     };
-    Ok((hearer, pumper, sending))
+    (hearer, pumper, sending)
 }

@@ -6,6 +6,7 @@ use Rattle.std.specs.Vec.Iter.{into_iter_items}
 use Rattle.xcp_bank.specs.BankEnds.{ReaderEnd}
 use Rattle.xcp_framing.specs.CountedCalls.{Watched}
 use Rattle.xcp_memory.specs.Layout.{LayoutValue}
+use Rattle.xcp_slave.specs.SlaveValue.{SlaveValue}
 use Rattle.xcp_trace.specs.declared.Entry.{Entry}
 use Rattle.xcp_server.specs.declared.connection.Closed.{Closed}
 use Rattle.xcp_server.specs.declared.dealing.Ended.{Ended}
@@ -17,6 +18,7 @@ use Rattle.xcp_server.specs.private.ConnectionOutcome.{AreOfOneOutlet, ClosedAs,
 use Rattle.xcp_locked.specs.Caller.{CallerValue, callers_of, fresh_caller}
 use Rattle.xcp_server.specs.private.DealtCallers.{Dealt}
 use Rattle.xcp_server.specs.LastHangup.{HungUp}
+use Rattle.xcp_locked.specs.LockedSlave.{IsReached}
 use Rattle.xcp_locked.specs.PairedLists.{EachFrom}
 use Rattle.xcp_server.specs.private.PairedLists.{Each}
 use Rattle.xcp_server.specs.private.ServerRoom.{IsEndedRoom}
@@ -224,3 +226,7 @@ room_for_fewer k k' e e' r a b h =
 -- as many callers as before the last Hangup
 pub all_come_back : (before after : Option TaskError) (old new : List CallerValue) (ch : ℕ) (journal : List Entry) → HungUp before after old new ch journal → length new ≡ length old
 all_come_back before after old new ch journal h = ⊎_elim (λ accepted. ap length accepted.3 ∙ length-set old 0 _) (λ refused. ap length refused.1) h.outcome
+
+-- what is reached from the opening of a layout is so from that of the same one
+pub reached_as : (l l' : LayoutValue) (n : ℕ) (v : SlaveValue) → l ≡ l' → IsReached l n v → IsReached l' n v
+reached_as l l' n v e h = subst (λ k. IsReached k n v) e h

@@ -2,6 +2,8 @@
 pub mod ConnectionOutcome
 pub mod DealtCallers
 pub mod PairedLists
+pub mod ReadyServer
+pub mod ServerEnd
 pub mod ServerOutcome
 pub mod ServerRoom
 pub mod WrittenChapters

@@ -1,15 +1,12 @@
 //! What a server gives back.
-ghost use Rattle.std.specs.Prelude.{◌≡◌, ◌<◌, ◌≤◌, ◌+◌, ◌++◌, [], IfErr, IfOk, false, true, length, map, sum_by, vec_capacity, vec_len};
+ghost use Rattle.std.specs.Prelude.{◌≡◌, ◌<◌, ◌≤◌, ◌+◌, ◌++◌, [], IfErr, IfOk, length, map, sum_by, vec_capacity, vec_len};
 ghost use Rattle.std.specs.Vec.Iter.{into_iter_items};
 ghost use Rattle.xcp_locked.specs.Caller.{accepted_by};
+ghost use Rattle.xcp_server.specs.private.ServerEnd.{GivesBack, GivesChapters};
 ghost use Rattle.xcp_server.specs.private.ServerRoom.{IsEndedRoom, IsRoom};
 ghost use Rattle.xcp_server.specs.LastHangup.{HungUp};
 ghost use Rattle.xcp_server.specs.ServerOutcome.{SameClosing};
 ghost use Rattle.xcp_locked.specs.TaskOutcome.{chapters_of, first_fault};
-ghost use Rattle.xcp_locked.specs.Excerpts.{KeepsPace, way_of};
-ghost use Rattle.xcp_locked.specs.Journal.{exchanges};
-ghost use Rattle.xcp_slave.specs.Run.{Run};
-ghost use Rattle.xcp_locked.specs.LockedSlave.{IsReached};
 ghost use Rattle.xcp_locked.specs.Chapters.{Disagree, IsWhole, entries_of};
 
 use crate::dealing::{Ended, add_rest, dismiss, take_apart};
@@ -103,15 +100,9 @@ pub(crate) fn close_all<N: Name, I: Read + Drop, O: Write + Drop>(
         (map (λ d. d.tool) closed.items ++ map (λ d. d.worker.caller) done.items
         ++ map (λ d. d.pump) closed.items ++ into_iter_items spare) result.0.callers.items
         result.0.locked.chapter result.0.locked.journal }
-    ensures ends { result.0.ends.items ≡ map (λ d. d.end) closed.items }
-    ensures left { result.0.left.items ≡ map (λ d. d.left) closed.items }
-    ensures readers { result.0.readers.items
-        ≡ map (λ d. d.worker.reader) done.items ++ into_iter_items unused }
-    ensures run { Run result.0.locked.base (exchanges result.0.locked.journal) result.0.locked.slave }
-    ensures reached { IsReached N.layout result.0.locked.before result.0.locked.base }
-    ensures chapters { result.0.chapters.items ≡ (chapters_of (map (λ d. d.worker) done.items)).items }
-    ensures way { way_of result.1 ≡ (chapters_of (map (λ d. d.worker) done.items)).way }
-    ensures pace { KeepsPace false result.1 result.0.chapters.items }
+    ensures back { GivesBack N.layout (map (λ d. d.end) closed.items) (map (λ d. d.left) closed.items)
+        (map (λ d. d.worker.reader) done.items ++ into_iter_items unused) result.0 }
+    ensures cut { GivesChapters (chapters_of (map (λ d. d.worker) done.items)) result.0.chapters.items result.1 }
 {
     let ended = take_apart(closed, ended);
     let ran = collect_workers(done, workers);
@@ -137,15 +128,9 @@ fn put_together<N: Name, I: Read + Drop, O: Write + Drop>(
     ensures hung_up { HungUp ran.fault result.0.fault
         (ended.callers.items ++ map (λ w. w.caller) ran.workers.items
         ++ ended.pumps.items ++ into_iter_items spare) result.0.callers.items result.0.locked.chapter result.0.locked.journal }
-    ensures ends { result.0.ends.items ≡ ended.ends.items }
-    ensures left { result.0.left.items ≡ ended.left.items }
-    ensures readers { result.0.readers.items
-        ≡ map (λ w. w.reader) ran.workers.items ++ into_iter_items unused }
-    ensures run { Run result.0.locked.base (exchanges result.0.locked.journal) result.0.locked.slave }
-    ensures reached { IsReached N.layout result.0.locked.before result.0.locked.base }
-    ensures chapters { result.0.chapters.items ≡ (chapters_of ran.workers.items).items }
-    ensures way { way_of result.1 ≡ (chapters_of ran.workers.items).way }
-    ensures pace { KeepsPace false result.1 result.0.chapters.items }
+    ensures back { GivesBack N.layout ended.ends.items ended.left.items
+        (map (λ w. w.reader) ran.workers.items ++ into_iter_items unused) result.0 }
+    ensures cut { GivesChapters (chapters_of ran.workers.items) result.0.chapters.items result.1 }
 {
     let mut locked = locked;
     let (callers, readers, chapters) = dismiss(alloc, ran.workers, ended.callers, readers);

@@ -1,20 +1,16 @@
 //! Connections and tasks of one slave, all at the same time.
-ghost use Rattle.std.specs.Prelude.{◌≡◌, ◌<◌, ◌≤◌, ◌+◌, [], IfOk, None, vec_len};
+ghost use Rattle.std.specs.Prelude.{◌≡◌, ◌<◌, ◌≤◌, ◌+◌, [], IfOk, vec_len};
 ghost use Rattle.xcp_bank.specs.BankEnds.{six_readers};
 ghost use Rattle.xcp_locked.specs.Caller.{callers_of};
-ghost use Rattle.xcp_server.specs.LastHangup.{EndsSession};
 ghost use Rattle.xcp_locked.specs.PairedLists.{EachFrom};
 ghost use Rattle.xcp_locked.specs.Publications.{image_of};
 ghost use Rattle.xcp_locked.specs.TaskOutcome.{DoneAs};
-ghost use Rattle.xcp_locked.specs.Journal.{exchanges};
-ghost use Rattle.xcp_locked.specs.LockedSlave.{IsReached};
-ghost use Rattle.xcp_slave.specs.Run.{Run};
 ghost use Rattle.xcp_slave.specs.SlaveValue.{opening};
 ghost use Rattle.xcp_server.specs.ServerOutcome.{Closes, CountTheirCommands, PartedAs};
+ghost use Rattle.xcp_server.specs.ServerEnd.{LeavesAll};
+ghost use Rattle.xcp_server.specs.private.ReadyServer.{IsReady};
 ghost use Rattle.xcp_server.specs.private.ServerRoom.{IsRoom};
-ghost use Rattle.xcp_server.specs.private.WrittenChapters.{relay_of, relay_to};
-ghost use Rattle.xcp_server.specs.Report.{given_in};
-ghost use Rattle.xcp_locked.specs.Excerpts.{HandsNone, cuts_at_stores, way_of};
+ghost use Rattle.xcp_server.specs.private.WrittenChapters.{relay_of};
 
 use crate::closing::{Rooms, close_all, make_rooms};
 use crate::connection::close_each;
@@ -72,12 +68,8 @@ pub fn run_server<
         unnamed.layout.max_cto turns cycles chapter each_store tasks
         (callers_of unnamed.layout unnamed.callers)
         (six_readers unnamed.bank (image_of (opening unnamed.layout))) ends.items r.0) }
-    ensures callers { IfOk result (λ r. vec_len r.0.callers ≡ unnamed.callers) }
     ensures frames { IfOk result (λ r. CountTheirCommands r.0.ends.items r.0.callers.items) }
-    ensures hangup { IfOk result (λ r. EndsSession r.0.fault r.0.callers.items r.0.locked.chapter r.0.locked.journal) }
-    ensures run { IfOk result (λ r. Run r.0.locked.base (exchanges r.0.locked.journal) r.0.locked.slave) }
-    ensures reached { IfOk result (λ r. IsReached unnamed.layout r.0.locked.before r.0.locked.base) }
-    ensures written { IfOk result (λ r. S.wrote r.1 (given_in r.0.chapters.items)) }
+    ensures leaves { IfOk result (λ r. LeavesAll unnamed.layout unnamed.callers (S.wrote r.1) r.0) }
 {
     let limits = Limits {
         max_cto: unnamed.max_cto(),
@@ -104,8 +96,14 @@ pub struct Ready<N: Name, I: Read + Drop, O: Write + Drop, S: Scribe> {
     writing: Writing<S>,
 }
 
-/// A slave under its lock, its callers and its readers.
-type Opened<N> = (Locked<N>, Vec<Caller<N>>, Vec<Reader<N>>);
+/// A slave under its lock, its callers and its readers, a stop for each connection, and room for what is given back.
+type Opened<N, I, O> = (
+    Locked<N>,
+    Vec<Caller<N>>,
+    Vec<Reader<N>>,
+    Vec<AtomicBool>,
+    Rooms<N, I, O>,
+);
 
 /// Makes all that takes memory.
 fn prepare<N: Name, I: Read + Drop, O: Write + Drop, S: Scribe>(
@@ -120,15 +118,11 @@ fn prepare<N: Name, I: Read + Drop, O: Write + Drop, S: Scribe>(
     ensures callers { IfOk result (λ r. r.callers.items ≡ opening.callers.items) }
     ensures readers { IfOk result (λ r. r.readers.items ≡ opening.readers) }
     ensures ends { IfOk result (λ r. r.ends.items ≡ ends.items) }
-    ensures rooms { IfOk result (λ r. IsRoom (vec_len r.callers) (vec_len r.ends) tasks (vec_len r.readers) r.rooms) }
-    ensures stops { IfOk result (λ r. vec_len r.stops ≡ vec_len r.ends) }
-    ensures handing { IfOk result (λ r. HandsNone r.handing × (tasks ≡ 0 → r.handing ≡ None)) }
-    ensures relay { IfOk result (λ r. relay_of r.writing ≡ relay_to (way_of r.handing)) }
-    ensures stores { 0 < tasks → IfOk result (λ r. cuts_at_stores (way_of r.handing) ≡ each_store) }
+    ensures ready { IfOk result (λ r. IsReady tasks each_store r) }
 {
-    let (locked, callers, readers) = opened(alloc, opening)?;
-    let (stops, rooms) = take_room(alloc, callers.len(), ends.len(), tasks, readers.len())?;
+    let opened = open(alloc, opening, ends.len(), tasks)?;
     let (handing, writing) = Writing::new(alloc, scribe, tasks, each_store)?;
+    let (locked, callers, readers, stops, rooms) = opened;
     Ok(Ready {
         locked,
         callers,
@@ -141,10 +135,17 @@ fn prepare<N: Name, I: Read + Drop, O: Write + Drop, S: Scribe>(
     })
 }
 
-/// The parts of an opening, its readers as a list.
-fn opened<N: Name>(alloc: Global, opening: Opening<N>) -> Result<Opened<N>, AllocError>
+/// The parts of an opening, its readers as a list, with stops and room for so many connections and tasks.
+fn open<N: Name, I: Read + Drop, O: Write + Drop>(
+    alloc: Global,
+    opening: Opening<N>,
+    ends: usize,
+    tasks: u8,
+) -> Result<Opened<N, I, O>, AllocError>
     ensures callers { IfOk result (λ r. r.1.items ≡ opening.callers.items) }
     ensures readers { IfOk result (λ r. r.2.items ≡ opening.readers) }
+    ensures stops { IfOk result (λ r. vec_len r.3 ≡ ends) }
+    ensures rooms { IfOk result (λ r. IsRoom (vec_len r.1) ends tasks (vec_len r.2) r.4) }
 {
     let Opening {
         locked,
@@ -152,7 +153,8 @@ fn opened<N: Name>(alloc: Global, opening: Opening<N>) -> Result<Opened<N>, Allo
         readers,
     } = opening;
     let readers = Vec::from_array(alloc, readers)?;
-    Ok((locked, callers, readers))
+    let (stops, rooms) = take_room(alloc, callers.len(), ends, tasks, readers.len())?;
+    Ok((locked, callers, readers, stops, rooms))
 }
 
 /// A stop for each connection, and room for what is given back of so many callers, connections, tasks and readers.
@@ -193,18 +195,11 @@ fn run_ready<
     requires some { 0 < vec_len ready.ends }
     requires enough { vec_len ready.ends + tasks + vec_len ready.ends ≤ vec_len ready.callers }
     requires few { (tasks ≤ 16) × (tasks ≤ vec_len ready.readers) }
-    requires rooms { IsRoom (vec_len ready.callers) (vec_len ready.ends) tasks (vec_len ready.readers) ready.rooms }
-    requires stops { vec_len ready.stops ≡ vec_len ready.ends }
-    requires handing { HandsNone ready.handing × (tasks ≡ 0 → ready.handing ≡ None) }
-    requires relay { relay_of ready.writing ≡ relay_to (way_of ready.handing) }
-    requires stores { 0 < tasks → cuts_at_stores (way_of ready.handing) ≡ each_store }
+    requires ready { IsReady tasks each_store ready }
     ensures closes { IfOk result (λ r. Closes I.remaining O.contents N.layout G.may_end
         limits.max_cto limits.turns cycles chapter each_store tasks
         ready.callers.items ready.readers.items ready.ends.items r.0) }
-    ensures callers { IfOk result (λ r. vec_len r.0.callers ≡ vec_len ready.callers) }
-    ensures run { IfOk result (λ r. Run r.0.locked.base (exchanges r.0.locked.journal) r.0.locked.slave) }
-    ensures reached { IfOk result (λ r. IsReached N.layout r.0.locked.before r.0.locked.base) }
-    ensures written { IfOk result (λ r. S.wrote r.1 (given_in r.0.chapters.items)) }
+    ensures leaves { IfOk result (λ r. LeavesAll N.layout (vec_len ready.callers) (S.wrote r.1) r.0) }
 {
     let Ready {
         locked,

@@ -1,11 +1,12 @@
 -- What is true of all calls of a server that stayed.
-use Rattle.std.specs.Prelude.{◌≡◌, ℕ, List, length}
+use Rattle.std.specs.Prelude.{◌≡◌, ℕ, List, [], length}
 use Rattle.std.specs.List.{AllByRecursion}
 use Rattle.xcp_memory.specs.Layout.{LayoutValue}
 use Rattle.xcp_slave.specs.SlaveValue.{SlaveValue}
 use Rattle.xcp_scribe.specs.Given.{Given}
 use Rattle.xcp_locked.specs.Caller.{CallerValue}
 use Rattle.xcp_locked.specs.Chapters.{AreJoined}
+use Rattle.xcp_locked.specs.LockedSlave.{LockedValue}
 use Rattle.xcp_service.specs.Keeping.{AreKeptSettled, KeeperValue}
 use Rattle.xcp_service.specs.Parcels.{AreNumbered, IsHandedOver, given_in}
 use Rattle.xcp_service.specs.declared.keeper.Unkept.{Unkept}
@@ -36,3 +37,16 @@ pub record IsKept (layout : LayoutValue) (count : ℕ) (wrote : List Given → T
   pub members : List CallerValue
   pub all : AreAllMembers count keeper members
   pub written : wrote (given_in keeper.chapters)
+
+-- What a server that stayed leaves: a slave of this layout, its keeper and so many members; `written` says what its scribe was given.
+pub record LeavesKept (layout : LayoutValue) (count : ℕ) (written : List Given → Type 0) (k : KeeperValue) (l : LockedValue) (former : List CallerValue) : Type 0 where
+  -- the chapters that the keeper took are one run from the layout's opening to where the open chapter begins
+  pub joined : AreJoined layout k.chapters l.chapter l.before l.base
+  -- each of them is settled by all callers
+  pub settled : AreKeptSettled k
+  -- the open chapter has no call
+  pub closed : (l.journal ≡ []) × (l.base ≡ l.slave)
+  -- the keeper took all receipts that the members ever had
+  pub members : AreAllMembers count k former
+  -- the scribe was given just these chapters, in order
+  pub wrote : written (given_in k.chapters)

@@ -1,9 +1,6 @@
 //! How a server that stays ends.
 ghost use Rattle.std.specs.Prelude.{◌≡◌, [], IfOk, true};
-ghost use Rattle.xcp_locked.specs.Chapters.{AreJoined};
-ghost use Rattle.xcp_service.specs.Keeping.{AreKeptSettled};
-ghost use Rattle.xcp_service.specs.Parcels.{given_in};
-ghost use Rattle.xcp_stay.specs.Stay.{AreAllMembers};
+ghost use Rattle.xcp_stay.specs.Stay.{LeavesKept};
 
 use std::alloc::{AllocError, Global};
 use std::sync::Wait;
@@ -172,12 +169,8 @@ pub(crate) fn conclude<N: Name, M: Route, S: Scribe, R: Wait>(
     count: usize,
     lost: u64,
 ) -> Result<Stayed<N, S>, StayError>
-    ensures joined { IfOk result (λ s. AreJoined N.layout s.keeper.chapters
-        s.locked.chapter s.locked.before s.locked.base) }
-    ensures settled { IfOk result (λ s. AreKeptSettled s.keeper) }
-    ensures closed { IfOk result (λ s. (s.locked.journal ≡ []) × (s.locked.base ≡ s.locked.slave)) }
-    ensures members { IfOk result (λ s. AreAllMembers count s.keeper s.members.items) }
-    ensures wrote { IfOk result (λ s. S.wrote s.scribe (given_in s.keeper.chapters)) }
+    ensures leaves { IfOk result (λ s. LeavesKept N.layout count (S.wrote s.scribe)
+        s.keeper s.locked s.members.items) }
 {
     let Gathered { members, kept } = gathered;
     let collector = collector_of(kept)?;
@@ -259,12 +252,8 @@ fn settle<N: Name, M: Route, S: Scribe>(
     lost: u64,
 ) -> Result<Stayed<N, S>, StayError>
     requires closed { (locked.journal ≡ []) × (locked.base ≡ locked.slave) }
-    ensures joined { IfOk result (λ s. AreJoined N.layout s.keeper.chapters
-        s.locked.chapter s.locked.before s.locked.base) }
-    ensures settled { IfOk result (λ s. AreKeptSettled s.keeper) }
-    ensures closed { IfOk result (λ s. (s.locked.journal ≡ []) × (s.locked.base ≡ s.locked.slave)) }
-    ensures members { IfOk result (λ s. AreAllMembers count s.keeper s.members.items) }
-    ensures wrote { IfOk result (λ s. S.wrote s.scribe (given_in s.keeper.chapters)) }
+    ensures leaves { IfOk result (λ s. LeavesKept N.layout count (S.wrote s.scribe)
+        s.keeper s.locked s.members.items) }
 {
     let Resigned {
         keeper,

@@ -1,11 +1,10 @@
 //! A server that stays.
 ghost use Rattle.std.specs.Prelude.{◌≡◌, ◌≤◌, ◌+◌, [], IfOk, length, vec_len};
 ghost use Rattle.std.specs.Vec.Iter.{into_iter_items};
-ghost use Rattle.xcp_locked.specs.Chapters.{AreJoined};
-ghost use Rattle.xcp_service.specs.Keeping.{AreKeptSettled};
-ghost use Rattle.xcp_service.specs.Parcels.{AreOpened, given_in};
+ghost use Rattle.xcp_locked.specs.Caller.{callers_of};
+ghost use Rattle.xcp_service.specs.Parcels.{AreOpened};
 ghost use Rattle.xcp_service.specs.Residents.{IsUncut};
-ghost use Rattle.xcp_stay.specs.Stay.{AreAllMembers, IsKept};
+ghost use Rattle.xcp_stay.specs.Stay.{IsKept, LeavesKept};
 
 use crate::boxed::Boxed;
 use crate::ending::{Gathered, StayError, Stayed, conclude, gather};
@@ -163,29 +162,35 @@ pub fn stay_named<
     requires callers { plan.tools + plan.tools + plan.tasks ≤ unnamed.callers }
     requires readers { plan.tasks ≤ 6 }
     requires scribe { S.wrote scribe [] }
-    ensures joined { IfOk result (λ s. AreJoined unnamed.layout s.keeper.chapters
-        s.locked.chapter s.locked.before s.locked.base) }
-    ensures settled { IfOk result (λ s. AreKeptSettled s.keeper) }
-    ensures closed { IfOk result (λ s. (s.locked.journal ≡ []) × (s.locked.base ≡ s.locked.slave)) }
-    ensures members { IfOk result (λ s. AreAllMembers (plan.tools + plan.tools + plan.tasks)
-        s.keeper s.members.items) }
-    ensures wrote { IfOk result (λ s. S.wrote s.scribe (given_in s.keeper.chapters)) }
+    ensures leaves { IfOk result (λ s. LeavesKept unnamed.layout (plan.tools + plan.tools + plan.tasks)
+        (S.wrote s.scribe) s.keeper s.locked s.members.items) }
 {
-    let max_cto = unnamed.max_cto();
     let Ok(scribe) = Box::new(alloc, scribe) else {
         return Err(StayError::Memory);
     };
     let boxed = Boxed { scribe };
-    let unrouted = Unrouted::new(alloc)?;
-    let ready = Ready {
-        opening: Locked::<N>::new(alloc, unnamed)?,
-        unrouted,
-        max_cto,
-    };
+    let ready = make_ready::<N>(alloc, unnamed)?;
     let stayed = stay_by_post::<N, Brand, S, W, R>(
         rt, alloc, ready, listener, plan, boxed, halt, watcher,
     )?;
     Ok(unboxed(stayed))
+}
+
+/// Opens a slave and a post.
+fn make_ready<N: Name>(alloc: Global, unnamed: Unnamed) -> Result<Ready<N>, AllocError>
+    requires name { (unnamed.name ≡ N.name) × (unnamed.callers ≡ N.parts)
+        × (unnamed.layout ≡ N.layout) × (unnamed.bank ≡ N.bank) }
+    ensures first { IfOk result (λ r. IsUncut N.layout r.opening.locked) }
+    ensures callers { IfOk result (λ r. r.opening.callers.items ≡ callers_of unnamed.layout unnamed.callers) }
+{
+    let max_cto = unnamed.max_cto();
+    let unrouted = Unrouted::new(alloc)?;
+    let opening = Locked::<N>::new(alloc, unnamed)?;
+    Ok(Ready {
+        opening,
+        unrouted,
+        max_cto,
+    })
 }
 
 /// What is left, with the scribe out of its box.
@@ -232,13 +237,8 @@ fn stay_by_post<
     requires callers { plan.tools + plan.tools + plan.tasks ≤ length ready.opening.callers.items }
     requires readers { plan.tasks ≤ 6 }
     requires scribe { S.wrote scribe.scribe.value [] }
-    ensures joined { IfOk result (λ s. AreJoined N.layout s.keeper.chapters
-        s.locked.chapter s.locked.before s.locked.base) }
-    ensures settled { IfOk result (λ s. AreKeptSettled s.keeper) }
-    ensures closed { IfOk result (λ s. (s.locked.journal ≡ []) × (s.locked.base ≡ s.locked.slave)) }
-    ensures members { IfOk result (λ s. AreAllMembers (plan.tools + plan.tools + plan.tasks)
-        s.keeper s.members.items) }
-    ensures wrote { IfOk result (λ s. S.wrote s.scribe.scribe.value (given_in s.keeper.chapters)) }
+    ensures leaves { IfOk result (λ s. LeavesKept N.layout (plan.tools + plan.tools + plan.tasks)
+        (S.wrote s.scribe.scribe.value) s.keeper s.locked s.members.items) }
 {
     let Ready {
         opening,
@@ -320,6 +320,27 @@ fn serve<
     requires callers { plan.tools + plan.tools + plan.tasks ≤ length crew.members.items }
     requires readers { plan.tasks ≤ 6 }
 {
+    let (seats, duties) = assign(alloc, common, listener, crew, max_cto, plan)?;
+    let (seats, duties) = run(rt, alloc, seats, duties)?;
+    Ok(gather(alloc, seats, duties)?)
+}
+
+/// The seats, and what is done beside them.
+type Assignments<'a, N, M, S, C, W> = (Vec<Parts<'a, N, M, W>>, Vec<Assigned<'a, N, M, S, C, W>>);
+
+/// Gives the first members and readers something to do, and the keeper.
+fn assign<'a, N: Name, M: Route, S: Scribe, C, W>(
+    alloc: Global,
+    common: &Common<'a, N, M, C, W>,
+    listener: &TcpListener,
+    crew: Crew<N, M, S>,
+    max_cto: u8,
+    plan: Plan,
+) -> Result<Assignments<'a, N, M, S, C, W>, StayError>
+    requires doors { length common.now.doors.now ≡ plan.tools }
+    requires callers { plan.tools + plan.tools + plan.tasks ≤ length crew.members.items }
+    requires readers { plan.tasks ≤ 6 }
+{
     let Crew {
         members,
         readers,
@@ -338,8 +359,7 @@ fn serve<
         collector,
         plan.tasks,
     )?;
-    let (seats, duties) = run(rt, alloc, seats, duties)?;
-    Ok(gather(alloc, seats, duties)?)
+    Ok((seats, duties))
 }
 
 /// A door for each seat.

@@ -6,7 +6,7 @@ use Rattle.xcp_framing.proofs.passage.answer_piece.Goals as goal
 
 pub loop-length-init : goal.loop-length-init
 loop-length-init g c = record {
-  uses = uses_none g.A.Answerer.answers c.requires.none _ _ _ _ _;
+  uses = uses_none g.A.Answerer.answers c.requires.packets.none _ _ _ _ _;
   within = omega arith;
   bound = omega arith;
   few = omega arith;
@@ -59,7 +59,7 @@ loop-length-preserved g c =
     let limit = c.loop-length.invariant.within in
     let front = fed.front in
     record {
-      uses = uses_more g.A.Answerer.answers c.requires.more _ j _ s t _ _ _ _ _ _ c.loop-length.invariant.uses all fed answered;
+      uses = uses_more g.A.Answerer.answers c.requires.packets.more _ j _ s t _ _ _ _ _ _ c.loop-length.invariant.uses all fed answered;
       within = omega (arith, front, left, limit);
       bound = omega (arith, c.in_ok-answer-in-Packet.ensures.bound, c.loop-length.invariant.bound, some);
       few = omega (arith, c.loop-length.invariant.few, some);
@@ -74,4 +74,4 @@ returns-in_err-answer-in-Packet-clause-answered g c =
     let all : t ≡ drop i s = take_all (length s - i) (drop i s) (omega (arith, length-drop i s)) in
     let fed = rw (c.in-Packet.is, c.loop-length.invariant.kept) at c.feed_into-cut.ensures.feeds in
     rw (passed_on c.from_residual.result c.in_err-answer-in-Packet.field-0.0 c.from_residual.ensures.1)
-    (uses_part g.A.Answerer.answers c.requires.more c.requires.before (Unit {0}) _ _ c.in_err-answer-in-Packet.field-0.0 _ s t _ _ _ _ _ _ c.in_err-answer-in-Packet.ensures.stops c.loop-length.invariant.uses all fed c.in_err-answer-in-Packet.ensures.answers)
+    (uses_part g.A.Answerer.answers c.requires.packets.more c.requires.packets.before (Unit {0}) _ _ c.in_err-answer-in-Packet.field-0.0 _ s t _ _ _ _ _ _ c.in_err-answer-in-Packet.ensures.stops c.loop-length.invariant.uses all fed c.in_err-answer-in-Packet.ensures.answers)

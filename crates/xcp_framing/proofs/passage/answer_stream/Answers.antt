@@ -8,7 +8,7 @@ use Rattle.xcp_framing.proofs.passage.answer_stream.Goals as goal
 pub loop-turn-init : goal.loop-turn-init
 loop-turn-init g c =
     record {
-      along = rw (c.new-framer.ensures) (along_start g.A.Answerer.answers c.requires.none _ _ _);
+      along = rw (c.new-framer.ensures) (along_start g.A.Answerer.answers c.requires.packets.none _ _ _);
       rests = c.requires.rests;
       size = c.requires.size;
       limit = rw (c.new-framer.ensures) refl;
@@ -35,19 +35,19 @@ pub returns-in_err-hand_on-clause-streams : goal.returns-in_err-hand_on-clause-s
 returns-in_err-hand_on-clause-streams g c =
     let e = c.in_err-hand_on.field-0.0 in
     let answered = rw (c.loop-turn.invariant.limit) at c.answer_piece-answered.ensures.answered in
-    let held = c.requires.held _ e _ _ _ _ _ answered c.in_err-hand_on.ensures.hands in
+    let held = c.requires.handing_on.held _ e _ _ _ _ _ answered c.in_err-hand_on.ensures.hands in
     rw (passed_on c.from_residual.result e c.from_residual.ensures.1)
-    (streams_held g.A.Answerer.answers c.requires.more _ e _ _ _ _ _ _ _ _ c.in_err-hand_on.ensures.stops c.loop-turn.invariant.along c.in-Ok.ensures.bytes.0 held)
+    (streams_held g.A.Answerer.answers c.requires.packets.more _ e _ _ _ _ _ _ _ _ c.in_err-hand_on.ensures.stops c.loop-turn.invariant.along c.in-Ok.ensures.bytes.0 held)
 
 pub returns-in_err-answered-clause-streams : goal.returns-in_err-answered-clause-streams
 returns-in_err-answered-clause-streams g c =
     let e = c.in_err-answered.field-0.0 in
     let answered = rw (c.loop-turn.invariant.limit) at c.in_err-answered.ensures.answered in
-    let handed = c.requires.handed _ _ _ _ _ _ answered c.in_ok-hand_on.ensures.hands in
+    let handed = c.requires.handing_on.handed _ _ _ _ _ _ answered c.in_ok-hand_on.ensures.hands in
     let chunk : List ℕ = take c.in-Ok.length c.read.new.buf in
     let ends = ends_for (Unit {0}) _ _ e c.answer_piece-answered.new.framer.held c.loop-turn.framer.held chunk chunk c.loop-turn.invariant.limit refl c.in_err-answered.ensures.ends in
     rw (passed_on c.from_residual-in_err-answered.result e c.from_residual-in_err-answered.ensures.1)
-    (streams_part g.A.Answerer.answers c.requires.more (Unit {0}) _ e _ _ _ _ _ _ _ _ _ c.loop-turn.invariant.along c.in-Ok.ensures.bytes.0 handed ends)
+    (streams_part g.A.Answerer.answers c.requires.packets.more (Unit {0}) _ e _ _ _ _ _ _ _ _ _ c.loop-turn.invariant.along c.in-Ok.ensures.bytes.0 handed ends)
 
 pub returns-in_err-answered-clause-ends : goal.returns-in_err-answered-clause-ends
 returns-in_err-answered-clause-ends g c =
@@ -57,12 +57,12 @@ returns-in_err-answered-clause-ends g c =
 pub loop-turn-preserved : goal.loop-turn-preserved
 loop-turn-preserved g c =
     let answered = rw (c.loop-turn.invariant.limit) at c.in_ok-answered.ensures.answered in
-    let handed = c.requires.handed _ _ _ _ _ _ answered c.in_ok-hand_on.ensures.hands in
+    let handed = c.requires.handing_on.handed _ _ _ _ _ _ answered c.in_ok-hand_on.ensures.hands in
     let ends = rw (c.loop-turn.invariant.limit) at c.in_ok-answered.ensures.ends in
     let count = rw (c.loop-turn.invariant.limit) at c.in_ok-answered.ensures.counts in
     let piece : length (take c.in-Ok.length c.read.new.buf) ≤ 512 = omega (arith, c.in-Ok.ensures.bound.0, length-take c.in-Ok.length c.read.new.buf, c.read.auto.buf, c.loop-turn.invariant.size) in
     record {
-      along = along_more g.A.Answerer.answers c.requires.more _ _ _ _ _ _ _ _ _ _ c.loop-turn.invariant.along c.in-Ok.ensures.bytes.0 handed ends.0 ends.1 count;
+      along = along_more g.A.Answerer.answers c.requires.packets.more _ _ _ _ _ _ _ _ _ _ c.loop-turn.invariant.along c.in-Ok.ensures.bytes.0 handed ends.0 ends.1 count;
       rests = c.hand_on.ensures.rests;
       size = c.read.auto.buf ∙ c.loop-turn.invariant.size;
       limit = c.in_ok-answered.ensures.kept ∙ c.loop-turn.invariant.limit;

@@ -1,18 +1,19 @@
-use Rattle.std.proofs.Common.{refl}
+use Rattle.std.proofs.Common.{rules, refl}
 use Rattle.xcp_framing.proofs.ServeAnswerLemmas.{frames_more, frames_before, frames_handed, frames_held, serves_memory, serves_of, refuses_of, write_of}
 use Rattle.xcp_framing.proofs.serving.serve.Goals as goal
 
-pub answer_stream-requires-clause-more : goal.answer_stream-requires-clause-more
-answer_stream-requires-clause-more g c = frames_more _ _ _ _ _
+pub answer_stream-requires-clause-packets : goal.answer_stream-requires-clause-packets
+answer_stream-requires-clause-packets g c = record {
+  none = search rules;
+  more = frames_more _ _ _ _ _;
+  before = frames_before _ _ _ _ _;
+}
 
-pub answer_stream-requires-clause-before : goal.answer_stream-requires-clause-before
-answer_stream-requires-clause-before g c = frames_before _ _ _ _ _
-
-pub answer_stream-requires-clause-handed : goal.answer_stream-requires-clause-handed
-answer_stream-requires-clause-handed g c = frames_handed _ _ _ _ _
-
-pub answer_stream-requires-clause-held : goal.answer_stream-requires-clause-held
-answer_stream-requires-clause-held g c = frames_held _ _ _ _ _
+pub answer_stream-requires-clause-handing_on : goal.answer_stream-requires-clause-handing_on
+answer_stream-requires-clause-handing_on g c = record {
+  handed = frames_handed _ _ _ _ _;
+  held = frames_held _ _ _ _ _;
+}
 
 pub returns-in_default-clause-serves : goal.returns-in_default-clause-serves
 returns-in_default-clause-serves g c = serves_memory _ _ _ _

@@ -2,17 +2,18 @@ use Rattle.std.proofs.Common.{rules, refl}
 use Rattle.xcp_framing.proofs.PutPacketLemmas.{puts_behind, puts_before, puts_handed, puts_held, by_memory, by_of, refused_by}
 use Rattle.xcp_framing.proofs.serving_by.serve_by.Goals as goal
 
-pub answer_stream-requires-clause-more : goal.answer_stream-requires-clause-more
-answer_stream-requires-clause-more g c = puts_behind _ _ _ _ _ _ _ g.met.S.Station.same_trans g.met.E.End.same_trans
+pub answer_stream-requires-clause-packets : goal.answer_stream-requires-clause-packets
+answer_stream-requires-clause-packets g c = record {
+  none = search rules;
+  more = puts_behind _ _ _ _ _ _ _ g.met.S.Station.same_trans g.met.E.End.same_trans;
+  before = λ e ps qs a b i x. puts_before _ _ _ _ _ _ _ e ps qs a b x;
+}
 
-pub answer_stream-requires-clause-before : goal.answer_stream-requires-clause-before
-answer_stream-requires-clause-before g c = λ e ps qs a b i x. puts_before _ _ _ _ _ _ _ e ps qs a b x
-
-pub answer_stream-requires-clause-handed : goal.answer_stream-requires-clause-handed
-answer_stream-requires-clause-handed g c = puts_handed _ _ _ _ _ _ _ g.met.E.End.same_trans
-
-pub answer_stream-requires-clause-held : goal.answer_stream-requires-clause-held
-answer_stream-requires-clause-held g c = puts_held _ _ _ _ _ _ _ g.met.E.End.same_trans
+pub answer_stream-requires-clause-handing_on : goal.answer_stream-requires-clause-handing_on
+answer_stream-requires-clause-handing_on g c = record {
+  handed = puts_handed _ _ _ _ _ _ _ g.met.E.End.same_trans;
+  held = puts_held _ _ _ _ _ _ _ g.met.E.End.same_trans;
+}
 
 pub returns-in_default-clause-serves : goal.returns-in_default-clause-serves
 returns-in_default-clause-serves g c = by_memory _ _ _ _

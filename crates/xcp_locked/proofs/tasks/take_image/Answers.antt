@@ -7,13 +7,13 @@ pub returns-clause-took : goal.returns-clause-took
 returns-clause-took g c =
     let size : length c.args.last.now ≡ 2040 = search rules in
     took_image c.acquire.result _ _ _ _ _ _ (length c.args.last.now) size c.acquire.ensures.same_reader c.acquire.ensures.does c.acquire.ensures.rises
-    c.read.ensures.does c.read.ensures.same_reader c.read.ensures.same (c.read.ensures.whole (omega (arith, size))) c.read.ensures.bytes
+    c.read.ensures.does c.read.ensures.same_reader c.read.ensures.same (c.read.ensures.follows (omega (arith, size))).whole c.read.ensures.bytes
 
 pub returns-clause-seen : goal.returns-clause-seen
 returns-clause-seen g c = (
-  subst (λ s. Begins c.args.reader.now.seen s) (sym c.read.ensures.same.1) c.acquire.ensures.seen,
-  subst (λ s. AllBegin c.args.reader.now.past s) (sym c.read.ensures.same.1) c.acquire.ensures.past,
+  subst (λ s. Begins c.args.reader.now.seen s) (sym c.read.ensures.same.1) c.acquire.ensures.knows.seen,
+  subst (λ s. AllBegin c.args.reader.now.past s) (sym c.read.ensures.same.1) c.acquire.ensures.knows.past,
 )
 
 pub returns-clause-newest : goal.returns-clause-newest
-returns-clause-newest g c number holds = newest c.args.reader.now c.acquire.new.self c.read.new.self number c.acquire.ensures.seen c.acquire.ensures.has_seen c.acquire.ensures.holds_the_last c.read.ensures.same.0 holds
+returns-clause-newest g c number holds = newest c.args.reader.now c.acquire.new.self c.read.new.self number c.acquire.ensures.knows.seen c.acquire.ensures.has_seen c.acquire.ensures.holds_the_last c.read.ensures.same.0 holds

@@ -6,8 +6,8 @@ use Rattle.xcp_script.proofs.plain.plain_lines.Goals as goal
 
 pub returns-then-is_empty : goal.returns-then-is_empty
 returns-then-is_empty c =
-    lines_done c.args.text.now c.loop-byte.begun.items _ _ _ c.loop-byte-test.false c.loop-byte.invariant (rw (last_is_none c.loop-byte.begun.items (rw c.as_slice.ensures.value at c.if-is_empty.ensures)) (sym (append-nil _)))
+    lines_done c.args.text.now _ _ c.in_ok-put_lines.ensures (rw (last_is_none c.put_lines.new.begun.items (rw c.as_slice.ensures.value at c.if-is_empty.ensures)) (sym (append-nil _)))
 
 pub returns : goal.returns
 returns c =
-    lines_done c.args.text.now c.loop-byte.begun.items _ _ _ c.loop-byte-test.false c.loop-byte.invariant (rw (c.in_ok-push-3.ensures.items, map-append, last_is_one c.loop-byte.begun.items (rw c.as_slice.ensures.value at c.if-is_empty.ensures)) refl)
+    lines_done c.args.text.now _ _ c.in_ok-put_lines.ensures (rw (c.in_ok-push.ensures.items, map-append, last_is_one c.put_lines.new.begun.items (rw c.as_slice.ensures.value at c.if-is_empty.ensures)) refl)

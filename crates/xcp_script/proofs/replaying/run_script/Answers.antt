@@ -9,8 +9,8 @@ use Rattle.xcp_script.proofs.replaying.run_script.Goals as goal
 
 pub loop-init : goal.loop-init
 loop-init g c = record {
-  midway = rw (c.new-pending.ensures.line, c.new-pending.ensures.count, c.requires) (midway_init _ _);
-  written = rw c.requires (appends_none _);
+  midway = rw (c.requires.1, c.requires.2, c.requires.0) (midway_init _ _);
+  written = rw c.requires.0 (appends_none _);
   none_left = search rules;
   layout = search rules;
   limit = search rules;

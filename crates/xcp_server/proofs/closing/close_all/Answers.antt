@@ -12,13 +12,24 @@ returns-clause-hung_up g c =
     let tools = c.take_apart-ended.ensures.callers in
     hung_up_as _ _ c.put_together.result.0.fault _ _ c.put_together.result.0.callers.items c.put_together.result.0.locked.chapter c.put_together.result.0.locked.journal c.collect_workers-ran.ensures.fault (λ i. ((tools i ++ workers i) ++ pumps i) ++ spare) c.put_together.ensures.hung_up
 
-pub returns-clause-readers : goal.returns-clause-readers
-returns-clause-readers g c =
+pub returns-clause-back : goal.returns-clause-back
+returns-clause-back g c =
+    let back = c.put_together.ensures.back in
     let workers = ap (λ ws. map (λ w. w.reader) ws) c.collect_workers-ran.ensures.workers ∙ map_map (λ d. d.worker) (λ w. w.reader) c.args.done.items in
-    c.put_together.ensures.readers ∙ ap (λ rs. rs ++ into_iter_items c.args.unused) workers
+    record {
+      ends_are = back.ends_are ∙ c.take_apart-ended.ensures.ends;
+      left_is = back.left_is ∙ c.take_apart-ended.ensures.left;
+      readers_back = back.readers_back ∙ ap (λ rs. rs ++ into_iter_items c.args.unused) workers;
+      run = back.run;
+      reached = back.reached;
+    }
 
-pub returns-clause-chapters : goal.returns-clause-chapters
-returns-clause-chapters g c = c.put_together.ensures.chapters ∙ ap (λ ws. (chapters_of ws).items) c.collect_workers-ran.ensures.workers
-
-pub returns-clause-way : goal.returns-clause-way
-returns-clause-way g c = c.put_together.ensures.way ∙ ap (λ ws. (chapters_of ws).way) c.collect_workers-ran.ensures.workers
+pub returns-clause-cut : goal.returns-clause-cut
+returns-clause-cut g c =
+    let cut = c.put_together.ensures.cut in
+    let workers = c.collect_workers-ran.ensures.workers in
+    record {
+      chapters_are = cut.chapters_are ∙ ap (λ ws. (chapters_of ws).items) workers;
+      way = cut.way ∙ ap (λ ws. (chapters_of ws).way) workers;
+      pace = cut.pace;
+    }

@@ -9,6 +9,7 @@ use Rattle.xcp_server.specs.ServerOutcome.{PartedAs}
 use Rattle.xcp_locked.proofs.PairedListLemmas.{each_length}
 use Rattle.xcp_server.proofs.ServerOutcomeLemmas.{all_come_back, all_served, all_there, all_worked, as_many_connections, as_many_pumps, as_many_readers, as_many_tasks, as_many_tools, back_in_order, one_outlet_each, room_for_fewer}
 use Rattle.xcp_server.specs.private.WrittenChapters.{relay_to}
+use Rattle.xcp_server.proofs.CommandCountLemmas.{ends_session}
 use Rattle.xcp_server.proofs.WrittenChapterLemmas.{first_way_of, way_back}
 use Rattle.xcp_server.proofs.server.run_ready.Goals as goal
 
@@ -18,8 +19,8 @@ close_each-closed-requires-clause-room g c =
     let parted : vec_len c.in_ok-parted.parted ≡ length c.in_ok-parted.parted.items = search rules in
     let all = each_length (PartedAs g.I.Read.remaining g.O.Write.contents) 0 c.in_ok-connections.field-0.connections.items c.in_ok-parted.parted.items c.in_ok-parted.ensures.parted in
     let connected = as_many_connections _ _ _ _ _ _ _ _ _ _ c.in_ok-connections.ensures.dealt in
-    let room = c.requires.rooms.for_closed in
-    (c.requires.rooms.none_closed, omega (arith, ends, parted, all, connected, room))
+    let room = c.requires.ready.rooms.for_closed in
+    (c.requires.ready.rooms.none_closed, omega (arith, ends, parted, all, connected, room))
 
 pub close_each-closed-requires-clause-one : goal.close_each-closed-requires-clause-one
 close_each-closed-requires-clause-one g c =
@@ -48,7 +49,7 @@ close_all-closing-requires-clause-ended g c =
     let tasks = each_length (DoneAs g.N.Name.layout g.G.Gate.may_end) 0 d.tasks.items c.in_ok-parted.done.items c.in_ok-parted.ensures.worked in
     let connected = as_many_connections _ _ _ _ _ _ _ _ _ _ c.in_ok-connections.ensures.dealt in
     let there = all_there _ _ _ _ _ _ _ _ _ _ c.in_ok-connections.ensures.dealt c.close_each-closed.result.items c.in_ok-parted.done.items (put ∙ all) tasks in
-    room_for_fewer _ _ _ _ c.args.ready.rooms.ended (omega (arith, callers, closed, done, there)) (omega (arith, ends, closed, put, all, connected)) c.requires.rooms.for_ended
+    room_for_fewer _ _ _ _ c.args.ready.rooms.ended (omega (arith, callers, closed, done, there)) (omega (arith, ends, closed, put, all, connected)) c.requires.ready.rooms.for_ended
 
 pub close_all-closing-requires-clause-workers : goal.close_all-closing-requires-clause-workers
 close_all-closing-requires-clause-workers g c =
@@ -56,8 +57,8 @@ close_all-closing-requires-clause-workers g c =
     let d = c.in_ok-connections.field-0 in
     let tasks = each_length (DoneAs g.N.Name.layout g.G.Gate.may_end) 0 d.tasks.items c.in_ok-parted.done.items c.in_ok-parted.ensures.worked in
     let hired = as_many_tasks _ _ _ _ _ _ _ _ _ _ c.in_ok-connections.ensures.dealt in
-    let room = c.requires.rooms.for_workers in
-    (c.requires.rooms.no_worker, omega (arith, done, tasks, hired, room))
+    let room = c.requires.ready.rooms.for_workers in
+    (c.requires.ready.rooms.no_worker, omega (arith, done, tasks, hired, room))
 
 pub close_all-closing-requires-clause-readers : goal.close_all-closing-requires-clause-readers
 close_all-closing-requires-clause-readers g c =
@@ -67,8 +68,8 @@ close_all-closing-requires-clause-readers g c =
     let hired = as_many_tasks _ _ _ _ _ _ _ _ _ _ c.in_ok-connections.ensures.dealt in
     let lent = as_many_readers _ _ _ _ _ _ _ _ _ _ c.in_ok-connections.ensures.dealt in
     let readers = c.args.ready.readers.ok.0 in
-    let room = c.requires.rooms.for_readers in
-    (c.requires.rooms.no_reader, omega (arith, done, tasks, hired, lent, readers, room))
+    let room = c.requires.ready.rooms.for_readers in
+    (c.requires.ready.rooms.no_reader, omega (arith, done, tasks, hired, lent, readers, room))
 
 pub returns-clause-closes : goal.returns-clause-closes
 returns-clause-closes g c =
@@ -93,23 +94,23 @@ returns-clause-closes g c =
       workers = deal.workers;
       hired = deal.hired;
       fresh = deal.fresh;
-      stores = λ some. subst (λ (w : Option Way). cuts_at_stores w ≡ c.args.each_store) (sym c.in_ok-connections.ensures.way ∙ first_way_of c.args.cycles c.args.chapter 0 deal.workers d.tasks.items deal.numbered) (c.requires.stores some);
+      stores = λ some. subst (λ (w : Option Way). cuts_at_stores w ≡ c.args.each_store) (sym c.in_ok-connections.ensures.way ∙ first_way_of c.args.cycles c.args.chapter 0 deal.workers d.tasks.items deal.numbered) (c.requires.ready.stores some);
       dealt = deal.in_order;
       closed = closed;
       served = all_served m turns pumps c.args.cycles c.args.chapter c.args.tasks opened readers ends d deal g.I.Read.remaining g.O.Write.contents parted closed came.parted c.close_each-closed.ensures;
-      ends_are = c.close_all-closing.ensures.ends;
-      left_is = c.close_all-closing.ensures.left;
+      ends_are = c.close_all-closing.ensures.back.ends_are;
+      left_is = c.close_all-closing.ensures.back.left_is;
       done = done;
       worked = all_worked m turns pumps c.args.cycles c.args.chapter c.args.tasks opened readers ends d deal g.N.Name.layout g.G.Gate.may_end done came.worked;
       hung_up = c.close_all-closing.ensures.hung_up;
-      chapters_are = c.close_all-closing.ensures.chapters;
+      chapters_are = c.close_all-closing.ensures.cut.chapters_are;
       unused = into_iter_items d.unused;
       lent = deal.readers_in_order;
-      readers_back = c.close_all-closing.ensures.readers;
+      readers_back = c.close_all-closing.ensures.back.readers_back;
     }
 
-pub returns-clause-callers : goal.returns-clause-callers
-returns-clause-callers g c =
+pub returns-clause-leaves : goal.returns-clause-leaves
+returns-clause-leaves g c =
     let back : vec_len c.close_all-closing.result.0.callers ≡ length c.close_all-closing.result.0.callers.items = search rules in
     let given : length c.args.ready.callers.items ≡ vec_len c.args.ready.callers = search rules in
     let d = c.in_ok-connections.field-0 in
@@ -117,11 +118,17 @@ returns-clause-callers g c =
     let all = each_length (PartedAs g.I.Read.remaining g.O.Write.contents) 0 d.connections.items c.in_ok-parted.parted.items c.in_ok-parted.ensures.parted in
     let tasks = each_length (DoneAs g.N.Name.layout g.G.Gate.may_end) 0 d.tasks.items c.in_ok-parted.done.items c.in_ok-parted.ensures.worked in
     let there = back_in_order _ _ _ _ _ _ _ _ _ _ c.in_ok-connections.ensures.dealt c.close_each-closed.result.items c.in_ok-parted.done.items (put ∙ all) tasks in
-    back ∙ (all_come_back _ _ _ _ _ _ c.close_all-closing.ensures.hung_up ∙ (there ∙ given))
+    record {
+      callers = back ∙ (all_come_back _ _ _ _ _ _ c.close_all-closing.ensures.hung_up ∙ (there ∙ given));
+      hangup = ends_session _ _ _ _ _ _ c.close_all-closing.ensures.hung_up;
+      run = c.close_all-closing.ensures.back.run;
+      reached = c.close_all-closing.ensures.back.reached;
+      written = search rules;
+    }
 
 pub finish-scribe-requires-clause-relay : goal.finish-scribe-requires-clause-relay
 finish-scribe-requires-clause-relay g c =
     let d = c.in_ok-connections.field-0 in
     let back = way_back g.N.Name.layout g.G.Gate.may_end 0 d.tasks.items c.in_ok-parted.done.items c.in_ok-parted.ensures.worked in
-    let way = c.close_all-closing.ensures.way ∙ (back ∙ c.in_ok-connections.ensures.way) in
-    c.in_ok-parted.ensures.writing ∙ (c.requires.relay ∙ ap relay_to (sym way))
+    let way = c.close_all-closing.ensures.cut.way ∙ (back ∙ c.in_ok-connections.ensures.way) in
+    c.in_ok-parted.ensures.writing ∙ (c.requires.ready.relay ∙ ap relay_to (sym way))

@@ -44,23 +44,11 @@ returns-clause-holds_the_last c = (said c).holds_the_last
 pub returns-clause-has_seen : goal.returns-clause-has_seen
 returns-clause-has_seen c = (said c).has_seen
 
-pub returns-clause-seen : goal.returns-clause-seen
-returns-clause-seen c = (said c).seen
+pub returns-clause-knows : goal.returns-clause-knows
+returns-clause-knows c = (said c).knows
 
-pub returns-clause-past : goal.returns-clause-past
-returns-clause-past c = (said c).past
-
-pub returns-clause-settled : goal.returns-clause-settled
-returns-clause-settled c = (said c).settled
-
-pub returns-clause-heard : goal.returns-clause-heard
-returns-clause-heard c = (said c).heard
-
-pub returns-clause-same : goal.returns-clause-same
-returns-clause-same c = (said c).same
-
-pub returns-clause-newer : goal.returns-clause-newer
-returns-clause-newer c = (said c).newer
+pub returns-clause-tells : goal.returns-clause-tells
+returns-clause-tells c = (said c).tells
 
 pub returns-clause-looked : goal.returns-clause-looked
 returns-clause-looked c = (said c).looked

@@ -57,14 +57,8 @@ returns-clause-does c = (said c).does
 pub returns-clause-run : goal.returns-clause-run
 returns-clause-run c = (said c).run
 
-pub returns-clause-past : goal.returns-clause-past
-returns-clause-past c = (said c).past (omega arith)
-
-pub returns-clause-heard : goal.returns-clause-heard
-returns-clause-heard c = (said c).heard (omega arith)
+pub returns-clause-follows : goal.returns-clause-follows
+returns-clause-follows c = (said c).follows (omega arith)
 
 pub returns-clause-known : goal.returns-clause-known
 returns-clause-known c = (said c).known (omega arith)
-
-pub returns-clause-whole : goal.returns-clause-whole
-returns-clause-whole c = (said c).whole (omega arith)

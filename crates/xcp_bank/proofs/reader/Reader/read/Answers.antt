@@ -52,11 +52,5 @@ returns-clause-does c = (said c).does
 pub returns-clause-run : goal.returns-clause-run
 returns-clause-run c = (said c).run
 
-pub returns-clause-past : goal.returns-clause-past
-returns-clause-past c = λ some. (said c).past (some_words c.args.at (length c.args.out.now) some)
-
-pub returns-clause-heard : goal.returns-clause-heard
-returns-clause-heard c = λ some. (said c).heard (some_words c.args.at (length c.args.out.now) some)
-
-pub returns-clause-whole : goal.returns-clause-whole
-returns-clause-whole c = λ some. (said c).whole (some_words c.args.at (length c.args.out.now) some)
+pub returns-clause-follows : goal.returns-clause-follows
+returns-clause-follows c = λ some. (said c).follows (some_words c.args.at (length c.args.out.now) some)

@@ -9,9 +9,9 @@ use Rattle.xcp_locked.proofs.locked.Locked.cut.Goals as goal
 pub invariant_of-self-2 : goal.invariant_of-self-2
 invariant_of-self-2 g c =
     let exchanged = c.exchange.ensures.done c.if-not-exchange.false in
-    let none : c.exchange.new.journal.entries ≡ [] = ap (λ j. j.entries) exchanged.1 ∙ (ap (λ j. j.entries) c.in-Ok-new.ensures.ok ∙ c.in-Ok-with_room_of.ensures.0) in
+    let none : c.exchange.new.journal.entries ≡ [] = ap (λ j. j.entries) exchanged.1 ∙ c.in-Ok.ensures.journal in
     let empty = ap length none in
-    let is : c.self.inside.slave ≡ arc_value c.replace.new.dest = sym (ap arc_value c.replace.ensures.after ∙ (c.in-Ok-try_clone.ensures ∙ c.in-Ok.ensures)) in
+    let is : c.self.inside.slave ≡ arc_value c.replace.new.dest = sym (ap arc_value c.replace.ensures.after ∙ c.in-Ok.ensures.slaves.1) in
     let count : c.len-calls.result ≡ length c.self.inside.journal.entries = c.len-calls.ensures in
     let reached = reached_on g.N.Name.layout c.self.inside.before (arc_value c.self.inside.base) c.self.inside.slave c.self.inside.journal.entries c.self.invariant.5 c.self.invariant.0 in
     let total = c.self.invariant.1 in
