@@ -1,5 +1,5 @@
 // Excerpts of the chapters that a task cuts, taken once it has ended.
-ghost use Rattle.std.specs.Prelude.{◌≡◌};
+ghost use Rattle.std.specs.Prelude.{◌≡◌, ◌≤◌, IfOk, vec_len};
 
 use crate::calls::{Asked, Call, submit_all};
 use crate::tasks::lengths;
@@ -9,7 +9,9 @@ use std::marker::Brand;
 use std::sync::{Mutex, Wait};
 use std::test::Fail;
 use std::thread::Threads;
-use xcp_locked::{Caller, Excerpts, Locked, Name, Opening, TaskError, Unnamed, Worker, run_tasks};
+use xcp_locked::{
+    Caller, Excerpts, Locked, Name, Opening, Ran, Reader, TaskError, Unnamed, Worker, run_tasks,
+};
 
 // CONNECT, FREEZE for the segment, and the request to store it.
 const WANTED: [Call; 3] = [
@@ -42,6 +44,18 @@ fn taken(rt: &impl Wait, alloc: Global, excerpts: Excerpts) -> Result<Vec<u64>, 
     Ok(lengths)
 }
 
+// A slave's only worker.
+fn alone<N: Name>(alloc: Global, worker: Worker<N>) -> Result<Vec<Worker<N>>, Fail>
+    ensures { IfOk result (λ workers. vec_len workers ≤ 16) }
+{
+    let mut workers = Vec::new(alloc);
+    workers.push(worker)?;
+    if workers.len() > 16 {
+        return Err("one worker".into());
+    }
+    Ok(workers)
+}
+
 fn run_locked<N: Name + Send + Sync, R: Threads + Wait + Sync>(
     rt: &R,
     alloc: Global,
@@ -49,31 +63,41 @@ fn run_locked<N: Name + Send + Sync, R: Threads + Wait + Sync>(
     worker: Worker<N>,
     plan: Plan,
 ) -> Result<(Option<TaskError>, Vec<u64>), Fail> {
-    let mut workers = Vec::new(alloc);
-    workers.push(worker)?;
-    if workers.len() > 16 {
-        return Err("one worker".into());
-    }
+    let workers = alone(alloc, worker)?;
     let lock = Mutex::new(locked);
-    let ran = run_tasks(rt, alloc, &lock, workers, plan.cycles, plan.chapter, &Open)?;
-    match ran.workers.first() {
-        Some(worker) => Ok((ran.fault, lengths(alloc, worker.chapters.as_slice())?)),
-        None => Err("a worker".into()),
-    }
+    let ran = run_tasks(rt, alloc, &lock, workers, plan.cycles, plan.chapter, &Open);
+    cut_by(alloc, ran)
 }
 
-// The same slave and the same callers, once one of them has asked to store.
-fn asked<N: Name>(
-    locked: Locked<N>,
-    callers: Vec<Caller<N>>,
-) -> Result<(Locked<N>, Vec<Caller<N>>), Fail> {
-    let mut locked = locked;
-    let mut callers = callers;
-    submit_all(&mut locked, &mut callers, &WANTED).ok_or("a call is refused")?;
-    Ok((locked, callers))
+// The tasks' fault, and how many calls the chapters have that the first task has cut.
+fn cut_by<N: Name>(
+    alloc: Global,
+    ran: Result<Ran<N>, TaskError>,
+) -> Result<(Option<TaskError>, Vec<u64>), Fail> {
+    let ran = ran?;
+    let worker = ran.workers.first().ok_or("a worker")?;
+    Ok((ran.fault, lengths(alloc, worker.chapters.as_slice())?))
 }
 
-// A task of a slave that was asked to store.
+// A worker that hands excerpts in, and where they come.
+type Handed<N> = (Worker<N>, Excerpts);
+
+fn handed<N: Name>(
+    alloc: Global,
+    asked: Option<()>,
+    pair: Option<(Caller<N>, Reader<N>)>,
+    each_store: bool,
+) -> Result<Handed<N>, Fail> {
+    asked.ok_or("a call is refused")?;
+    let (caller, reader) = pair.ok_or("a caller and a reader")?;
+    let (handing, excerpts) = Excerpts::new(alloc, each_store)?;
+    Ok((
+        Worker::handing_in(alloc, caller, reader, Some(handing)),
+        excerpts,
+    ))
+}
+
+// A task of a slave that was asked to store by one of its callers.
 fn run_opening<N: Name + Send + Sync, R: Threads + Wait + Sync>(
     rt: &R,
     alloc: Global,
@@ -81,19 +105,35 @@ fn run_opening<N: Name + Send + Sync, R: Threads + Wait + Sync>(
     plan: Plan,
 ) -> Result<Came, Fail> {
     let Opening {
-        locked,
-        callers,
+        mut locked,
+        mut callers,
         readers,
     } = opening;
-    let (locked, callers) = asked(locked, callers)?;
-    let (caller, reader) = callers
-        .into_iter()
-        .zip(readers)
-        .next()
-        .ok_or("a caller and a reader")?;
-    let (handing, excerpts) = Excerpts::new(alloc, plan.each_store)?;
-    let worker = Worker::handing_in(alloc, caller, reader, Some(handing));
-    let (fault, cut) = run_locked(rt, alloc, locked, worker, plan)?;
+    let asked = submit_all(&mut locked, &mut callers, &WANTED);
+    let pair = callers.into_iter().zip(readers).next();
+    let handed = handed(alloc, asked, pair, plan.each_store);
+    run_handed(rt, alloc, locked, handed, plan)
+}
+
+fn run_handed<N: Name + Send + Sync, R: Threads + Wait + Sync>(
+    rt: &R,
+    alloc: Global,
+    locked: Locked<N>,
+    handed: Result<Handed<N>, Fail>,
+    plan: Plan,
+) -> Result<Came, Fail> {
+    let (worker, excerpts) = handed?;
+    let ran = run_locked(rt, alloc, locked, worker, plan);
+    came(rt, alloc, ran, excerpts)
+}
+
+fn came(
+    rt: &impl Wait,
+    alloc: Global,
+    ran: Result<(Option<TaskError>, Vec<u64>), Fail>,
+    excerpts: Excerpts,
+) -> Result<Came, Fail> {
+    let (fault, cut) = ran?;
     Ok((fault, cut, taken(rt, alloc, excerpts)?))
 }
 

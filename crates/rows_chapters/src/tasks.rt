@@ -96,14 +96,20 @@ const ROWS: [Row; 6] = [
     (0, 1, &[], 0),
 ];
 
+// Whether nobody has a fault, and one task alone has cut chapters, and so many.
+fn is_all(came: &Came, cut: &[u64], open: u64) -> bool {
+    let (fault, tasks, calls, number) = came;
+    let [only] = tasks.as_slice() else {
+        return false;
+    };
+    fault.is_none() && only.as_slice() == cut && *calls == open && *number == cut.len() as u64
+}
+
 #[test]
 fn a_task_cuts_full_chapters(rt: HostRuntime) -> Result<(), Fail> {
-    let alloc = rt.alloc();
     for (cycles, chapter, cut, open) in ROWS {
-        let lengths = Vec::from_array(alloc, [cut.to_vec(alloc)?])?;
-        let wanted: Came = (None, lengths, open, cut.len() as u64);
-        let found = run(&rt, alloc, 1, cycles, chapter)?;
-        assert!(rt; found == wanted, "{cycles} cycles, {chapter}");
+        let found = run(&rt, rt.alloc(), 1, cycles, chapter)?;
+        assert!(rt; is_all(&found, cut, open), "{cycles} cycles, {chapter}");
     }
     Ok(())
 }

@@ -128,13 +128,22 @@ fn tool(alloc: Global, most: usize) -> (Watched<Pieces<'static>>, Watched<Vec<u8
     (Watched::new(reader), Watched::new(Vec::new(alloc)))
 }
 
+// Two such tools and two tasks.
+fn two_tools<R: Threads + Wait + Clock + Sync>(
+    rt: &R,
+    alloc: Global,
+    most: usize,
+) -> Result<Came, Fail> {
+    let ends = Vec::from_array(alloc, [tool(alloc, most), tool(alloc, most)])?;
+    serve_some(rt, alloc, ends, 2, 2, false)
+}
+
 // Two calls of each of two tools, three in each cycle of both tasks, and the last Hangup.
 #[test]
 fn cut_streams_settle_by_chapters(rt: HostRuntime) -> Result<(), Fail> {
     let alloc = rt.alloc();
     for most in 1..12 {
-        let ends = Vec::from_array(alloc, [tool(alloc, most), tool(alloc, most)])?;
-        let came = serve_some(&rt, alloc, ends, 2, 2, false)?;
+        let came = two_tools(&rt, alloc, most)?;
         assert!(rt; came == (2, None, Ok(11)), "{most} bytes at a read");
     }
     Ok(())

@@ -11,7 +11,9 @@ use std::test::Fail;
 use std::thread::Threads;
 use together::Work;
 use xcp_framing::ServeError;
-use xcp_locked::{Caller, Locked, Name, Opening, Ran, TaskError, Unnamed, run_tasks};
+use xcp_locked::{
+    Caller, Locked, Name, Opening, Ran, Reader, TaskError, Unnamed, Worker, run_tasks,
+};
 use xcp_outlet::outlet;
 use xcp_server::Pumping;
 use xcp_slave::Request;
@@ -98,27 +100,98 @@ fn come<N: Name + Send + Sync, R: Threads + Wait + Sync>(
     requires { (unnamed.name ≡ N.name) × (unnamed.callers ≡ N.parts)
         × (unnamed.layout ≡ N.layout) × (unnamed.bank ≡ N.bank) }
 {
+    match Locked::<N>::new(alloc, unnamed) {
+        Ok(opening) => come_opening(rt, alloc, opening),
+        Err(_) => Err("an opening".into()),
+    }
+}
+
+fn come_opening<N: Name + Send + Sync, R: Threads + Wait + Sync>(
+    rt: &R,
+    alloc: Global,
+    opening: Opening<N>,
+) -> Result<Came, Fail> {
     let Opening {
-        mut locked,
-        mut callers,
+        locked,
+        callers,
         readers,
-    } = Locked::<N>::new(alloc, unnamed)?;
-    let mut tool = callers.pop().ok_or("a tool")?;
-    let pump = callers.pop().ok_or("a pump")?;
-    let pending = fill(&mut locked, &mut tool, 65_534);
+    } = opening;
+    let crew = crew(alloc, callers, readers)?;
+    come_crew(rt, alloc, locked, crew)
+}
+
+// The callers of a tool and of a pump, and a worker for each other caller.
+type Crew<N> = (Caller<N>, Caller<N>, Vec<Worker<N>>);
+
+fn crew<N: Name>(
+    alloc: Global,
+    mut callers: Vec<Caller<N>>,
+    readers: [Reader<N>; 6],
+) -> Result<Crew<N>, Fail> {
+    let (tool, pump) = last_two(&mut callers)?;
     let workers = workers(alloc, callers, readers)?;
+    Ok((tool, pump, workers))
+}
+
+fn last_two<N: Name>(callers: &mut Vec<Caller<N>>) -> Result<(Caller<N>, Caller<N>), Fail> {
+    let tool = callers.pop().ok_or("a tool")?;
+    let pump = callers.pop().ok_or("a pump")?;
+    Ok((tool, pump))
+}
+
+fn come_crew<N: Name + Send + Sync, R: Threads + Wait + Sync>(
+    rt: &R,
+    alloc: Global,
+    mut locked: Locked<N>,
+    crew: Crew<N>,
+) -> Result<Came, Fail> {
+    let (mut tool, pump, workers) = crew;
+    let pending = fill(&mut locked, &mut tool, 65_534);
     let lock = Mutex::new(locked);
-    let (pump, first) = pumped(rt, alloc, &lock, pump)?;
-    let ran = run_tasks(rt, alloc, &lock, workers, 2, 65_536, &Open)?;
+    rounds(rt, alloc, &lock, pump, workers, pending)
+}
+
+// The pump and the tasks, once and again.
+fn rounds<N: Name + Send + Sync, R: Threads + Wait + Sync>(
+    rt: &R,
+    alloc: Global,
+    lock: &Mutex<Locked<N>>,
+    pump: Caller<N>,
+    workers: Vec<Worker<N>>,
+    pending: Option<u8>,
+) -> Result<Came, Fail> {
+    let (pump, first, ran) = round(rt, alloc, lock, pump, workers)?;
     let once = tasked(&ran);
-    let (pump, second) = pumped(rt, alloc, &lock, pump)?;
-    let workers = ran.workers;
+    let (pump, second, ran) = round(rt, alloc, lock, pump, ran.workers)?;
+    let again = tasked(&ran);
+    Ok((pending, [first, second], pump.receipts.len(), [once, again]))
+}
+
+// The pump's caller and end, and what comes of the tasks behind it.
+type Round<N> = (Caller<N>, Result<u64, ServeError>, Ran<N>);
+
+fn round<N: Name + Send + Sync, R: Threads + Wait + Sync>(
+    rt: &R,
+    alloc: Global,
+    lock: &Mutex<Locked<N>>,
+    pump: Caller<N>,
+    workers: Vec<Worker<N>>,
+) -> Result<Round<N>, Fail> {
+    let (pump, end) = pumped(rt, alloc, lock, pump)?;
+    let ran = run(rt, alloc, lock, workers)?;
+    Ok((pump, end, ran))
+}
+
+fn run<N: Name + Send + Sync, R: Threads + Wait + Sync>(
+    rt: &R,
+    alloc: Global,
+    lock: &Mutex<Locked<N>>,
+    workers: Vec<Worker<N>>,
+) -> Result<Ran<N>, Fail> {
     if workers.len() > 16 {
         return Err("more than sixteen workers".into());
     }
-    let ran = run_tasks(rt, alloc, &lock, workers, 2, 65_536, &Open)?;
-    let again = tasked(&ran);
-    Ok((pending, [first, second], pump.receipts.len(), [once, again]))
+    Ok(run_tasks(rt, alloc, lock, workers, 2, 65_536, &Open)?)
 }
 
 // The packet that waits is drained by the last call but one. Then task 0 submits an event, of which a packet waits,

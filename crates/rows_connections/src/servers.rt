@@ -28,6 +28,17 @@ pub type Came = (
     Option<usize>,
 );
 
+// Whether these ends came, this fault and this settling, and so many readers that hold an image.
+pub fn is_all(
+    came: &Came,
+    ends: &[Result<Served, ServeError>],
+    fault: Option<TaskError>,
+    settled: Result<u64, Discord>,
+    holding: Option<usize>,
+) -> bool {
+    came.0.as_slice() == ends && came.1 == fault && came.2 == settled && came.3 == holding
+}
+
 // Where one receipt is altered: that of a caller at an index.
 pub type Altered = Option<(usize, usize)>;
 

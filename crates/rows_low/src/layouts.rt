@@ -1,7 +1,8 @@
 //! The layout that the rows are about.
-use std::alloc::{AllocError, Global};
+use small_layouts::{Small, parts};
+use std::alloc::Global;
 use std::test::Fail;
-use xcp_memory::{EventPart, Layout, Pages, Parts, SegmentPart};
+use xcp_memory::{Layout, Pages};
 use xcp_packet::Order;
 
 /// The bytes of the first segment.
@@ -31,65 +32,18 @@ pub const USUAL: Kind = Kind {
     pages: 2,
 };
 
-fn add_segment(
-    parts: &mut Parts,
-    alloc: Global,
-    address: i64,
-    bytes: &[u8],
-    pages: i64,
-) -> Result<(), AllocError> {
-    let bytes = bytes.to_vec(alloc)?;
-    parts.segments.push(SegmentPart {
-        address,
-        bytes,
-        pages,
-    })?;
-    Ok(())
-}
-
-/// Adds the event channel `10ms`.
-fn add_event(parts: &mut Parts, alloc: Global) -> Result<(), AllocError> {
-    let name = b"10ms".to_vec(alloc)?;
-    parts.events.push(EventPart {
-        name,
-        cycle: 10,
-        unit: 6,
-        priority: 0,
-    })?;
-    Ok(())
-}
-
-/// Adds the identification `ECU1`, a segment at 0x1000, one of two pages at 0x2000, and the event channel.
-fn add(parts: &mut Parts, alloc: Global, kind: Kind) -> Result<(), AllocError> {
-    parts.id.extend_from_slice(b"ECU1")?;
-    add_segment(parts, alloc, 0x1000, kind.first, kind.pages)?;
-    add_segment(parts, alloc, 0x2000, kind.second, 2)?;
-    add_event(parts, alloc)
-}
-
-/// Those parts, and 8 bytes of signals at 0x8000.
-fn parts(alloc: Global, kind: Kind) -> Result<Parts, AllocError> {
-    let mut parts = Parts {
-        id: Vec::new(alloc),
+/// The identification `ECU1`, a segment at 0x1000, one of two pages at 0x2000, 8 bytes of signals at 0x8000, and
+/// the event channel `10ms`.
+pub(crate) fn layout(alloc: Global, kind: Kind) -> Result<Layout, Fail> {
+    let small = Small {
         max_cto: kind.max_cto,
         max_dto: kind.max_dto,
         checksum: kind.checksum,
         order: kind.order,
-        segments: Vec::new(alloc),
-        signals_address: 0x8000,
-        signals_length: 8,
-        events: Vec::new(alloc),
+        signals: 8,
+        segments: &[(0x1000, kind.first, kind.pages), (0x2000, kind.second, 2)],
     };
-    match add(&mut parts, alloc, kind) {
-        Ok(()) => Ok(parts),
-        Err(error) => Err(error),
-    }
-}
-
-/// The identification `ECU1`, a segment at 0x1000, one of two pages at 0x2000, 8 bytes of signals at 0x8000, and
-/// the event channel `10ms`.
-pub(crate) fn layout(alloc: Global, kind: Kind) -> Result<Layout, Fail> {
-    Ok(Layout::new(parts(alloc, kind)?)?)
+    Ok(Layout::new(parts(alloc, small)?)?)
 }
 
 pub(crate) fn pages(alloc: Global, kind: Kind) -> Result<Pages, Fail> {

@@ -1,56 +1,27 @@
 //! A small slave, and journals of its calls.
 
 use arrayvec::ArrayVec;
+use small_layouts::{Small, USUAL, parts};
 use std::alloc::{AllocError, Global};
-use xcp_memory::{EventPart, Layout, Parts, SegmentPart};
-use xcp_packet::{Order, Packet};
+use xcp_memory::Layout;
+use xcp_packet::Packet;
 use xcp_slave::{Request, Slave};
 use xcp_trace::Journal;
 
-fn segments(alloc: Global) -> Result<Vec<SegmentPart>, AllocError> {
-    let bytes = [0, 1, 2, 3, 4, 5, 6, 7, 8, 9, 10, 11, 12, 13, 14, 15].to_vec(alloc)?;
-    let mut segments = Vec::new(alloc);
-    segments.push(SegmentPart {
-        address: 0x1000,
-        bytes,
-        pages: 2,
-    })?;
-    Ok(segments)
-}
+/// What the segment has at the opening.
+const BYTES: [u8; 16] = [0, 1, 2, 3, 4, 5, 6, 7, 8, 9, 10, 11, 12, 13, 14, 15];
 
-fn events(alloc: Global) -> Result<Vec<EventPart>, AllocError> {
-    let name = b"10ms".to_vec(alloc)?;
-    let mut events = Vec::new(alloc);
-    events.push(EventPart {
-        name,
-        cycle: 10,
-        unit: 6,
-        priority: 0,
-    })?;
-    Ok(events)
-}
-
-/// MAX_CTO 8, one segment at 0x1000 with 16 bytes, and one event channel with a signal of 2 bytes at 0x8000.
-fn parts(alloc: Global) -> Result<Parts, AllocError> {
-    let segments = segments(alloc)?;
-    let events = events(alloc)?;
-    let id = b"ECU1".to_vec(alloc)?;
-    Ok(Parts {
-        id,
-        max_cto: 8,
-        max_dto: 64,
-        checksum: 3,
-        order: Order::Intel,
-        segments,
-        signals_address: 0x8000,
-        signals_length: 2,
-        events,
-    })
-}
+/// MAX_CTO 8, one segment at 0x1000 with two pages of these bytes, and 2 bytes of signals.
+const NARROW: Small = Small {
+    max_cto: 8,
+    signals: 2,
+    segments: &[(0x1000, &BYTES, 2)],
+    ..USUAL
+};
 
 /// A slave of this layout; none where memory is lacking.
 pub(crate) fn slave(alloc: Global) -> Option<Slave> {
-    let layout = Layout::new(parts(alloc).ok()?).ok()?;
+    let layout = Layout::new(parts(alloc, NARROW).ok()?).ok()?;
     Slave::new(alloc, layout).ok()
 }
 

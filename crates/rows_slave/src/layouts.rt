@@ -1,8 +1,9 @@
 //! The slaves that the rows are about.
 use crate::rows::packet_of;
-use std::alloc::{AllocError, Global};
+use small_layouts::{Small, parts};
+use std::alloc::Global;
 use std::test::Fail;
-use xcp_memory::{EventPart, Layout, Parts, SegmentPart};
+use xcp_memory::Layout;
 use xcp_packet::Order;
 use xcp_slave::{Request, Slave};
 
@@ -41,74 +42,25 @@ fn counted() -> [u8; 255] {
     bytes
 }
 
-fn add_segment(
-    parts: &mut Parts,
-    alloc: Global,
-    address: i64,
-    bytes: &[u8],
-    pages: i64,
-) -> Result<(), AllocError> {
-    let bytes = bytes.to_vec(alloc)?;
-    parts.segments.push(SegmentPart {
-        address,
-        bytes,
-        pages,
-    })?;
-    Ok(())
-}
-
-/// Adds the event channel `10ms`.
-fn add_event(parts: &mut Parts, alloc: Global) -> Result<(), AllocError> {
-    let name = b"10ms".to_vec(alloc)?;
-    parts.events.push(EventPart {
-        name,
-        cycle: 10,
-        unit: 6,
-        priority: 0,
-    })?;
-    Ok(())
-}
-
-/// Adds what a layout has of its own memory.
-fn add(parts: &mut Parts, alloc: Global, kind: Kind) -> Result<(), AllocError> {
-    parts.id.extend_from_slice(b"ECU1")?;
+/// The identification `ECU1`, 00, 01 and so on at 0x1000, eight bytes AA at 0x2000, four bytes BB at 0x3000
+/// where there is a segment 2, 8 bytes of signals at 0x8000, and the event channel `10ms`.
+fn layout(alloc: Global, kind: Kind) -> Result<Layout, Fail> {
     let first = counted();
-    add_segment(
-        parts,
-        alloc,
-        0x1000,
-        &first[..usize::from(kind.length)],
-        kind.pages,
-    )?;
-    add_segment(parts, alloc, 0x2000, &[0xAA; 8], 2)?;
-    if kind.third {
-        add_segment(parts, alloc, 0x3000, &[0xBB; 4], 2)?;
-    }
-    add_event(parts, alloc)
-}
-
-fn parts(alloc: Global, kind: Kind) -> Result<Parts, AllocError> {
-    let mut parts = Parts {
-        id: Vec::new(alloc),
+    let segments: [(i64, &[u8], i64); 3] = [
+        (0x1000, &first[..usize::from(kind.length)], kind.pages),
+        (0x2000, &[0xAA; 8], 2),
+        (0x3000, &[0xBB; 4], 2),
+    ];
+    let count = if kind.third { 3 } else { 2 };
+    let small = Small {
         max_cto: kind.max_cto,
         max_dto: kind.max_dto,
         checksum: kind.checksum,
         order: kind.order,
-        segments: Vec::new(alloc),
-        signals_address: 0x8000,
-        signals_length: 8,
-        events: Vec::new(alloc),
+        signals: 8,
+        segments: &segments[..count],
     };
-    match add(&mut parts, alloc, kind) {
-        Ok(()) => Ok(parts),
-        Err(error) => Err(error),
-    }
-}
-
-/// The identification `ECU1`, 00, 01 and so on at 0x1000, eight bytes AA at 0x2000, four bytes BB at 0x3000
-/// where there is a segment 2, 8 bytes of signals at 0x8000, and the event channel `10ms`.
-fn layout(alloc: Global, kind: Kind) -> Result<Layout, Fail> {
-    Ok(Layout::new(parts(alloc, kind)?)?)
+    Ok(Layout::new(parts(alloc, small)?)?)
 }
 
 /// A slave that was just made.
