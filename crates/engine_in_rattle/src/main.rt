@@ -18,7 +18,7 @@ use std::io;
 use std::marker::Brand;
 use std::sync::{Barrier, Mutex, Wait};
 use std::thread::Threads;
-use together::run_both;
+use together::run_works;
 use xcp_config::read_layout;
 use xcp_locked::{Locked, Name, Opening, Unnamed};
 
@@ -58,8 +58,7 @@ fn run<N: Name + Send + Sync, R: Threads + Wait + Print + Sync>(
             lambdas: [0; 3],
         })?;
     }
-    let none: Vec<Part<N>> = Vec::new(alloc);
-    let (parts, _none) = run_both(rt, alloc, parts, none)?;
+    let parts = run_works(rt, alloc, parts)?;
     let (locked, _engine) = &mut *bench.lock.lock(rt);
     report(rt, locked, parts)
 }

@@ -10,7 +10,7 @@ use std::sync::atomic::{AtomicBool, AtomicU64, Ordering};
 use std::sync::{Mutex, Wait};
 use std::time::{Duration, Instant};
 use std::{fmt, io, thread};
-use together::Work;
+use together::{Meanwhile, Work};
 use xcp_framing::Station;
 use xcp_locked::{Caller, Locked, Name, Reader, Tool};
 use xcp_packet::Packet;
@@ -111,7 +111,7 @@ pub struct Talking<'a, N: Name, C> {
     pub pace: &'a Pace,
 }
 
-impl<'a, N: Name + Send + Sync, C: Clock + Sync> Work<io::Result<Times>> for Talking<'a, N, C> {
+impl<'a, N: Name, C: Clock> Meanwhile<io::Result<Times>> for Talking<'a, N, C> {
     ghost gives = { λ w t. ⊤ };
 
     fn run<R: Wait>(self, rt: &R) -> io::Result<Times> {
@@ -132,10 +132,6 @@ impl<'a, N: Name + Send + Sync, C: Clock + Sync> Work<io::Result<Times>> for Tal
             Ok(()) => Ok(times),
             Err(error) => Err(error),
         }
-    }
-
-    fn leave(self) -> io::Result<Times> {
-        Err(io::Error::from(io::ErrorKind::OutOfMemory))
     }
 }
 

@@ -14,7 +14,7 @@ use std::rt::Clock;
 use std::sync::{Mutex, Wait};
 use std::thread::Threads;
 use std::{fmt, io};
-use together::run_both;
+use together::run_crews_and;
 use xcp_bank::Bank;
 use xcp_locked::{Caller, Locked, Name, Opening, Reader, Unnamed};
 use xcp_slave::Slave;
@@ -206,7 +206,7 @@ fn measure_seats<N: Name, C: Clock>(
     none(time_seats(rt, alone, readers, look, times))
 }
 
-// A tool beside so many readers, each in a thread of its own.
+// A tool beside so many readers, each of these in a thread of its own.
 fn measure_beside<N: Name + Send + Sync, R: Clock + Threads + Wait + Sync>(
     rt: &R,
     alloc: Global,
@@ -220,18 +220,24 @@ fn measure_beside<N: Name + Send + Sync, R: Clock + Threads + Wait + Sync>(
     let Alone { locked, caller } = alone;
     let lock = Mutex::new(locked);
     let pace = Pace::new(count as u64);
-    let tools = tool_of(rt, alloc, &lock, caller, talk, &pace);
+    let tool = Talking {
+        clock: rt,
+        alloc,
+        lock: &lock,
+        caller,
+        talk,
+        pace: &pace,
+    };
     let others = followers(rt, alloc, readers, count, pause, &pace);
-    told(run_all(rt, alloc, tools, others), times)
+    told(run_all(rt, alloc, tool, others), times)
 }
 
 // Adds what the tool took, and counts the images.
 fn told(ended: Ended, times: &mut Times) -> io::Result<u64> {
     match ended {
-        Ok((tools, images)) => {
-            let images = sum_of(&images);
-            append_all(tools, times)?;
-            Ok(images)
+        Ok((took, images)) => {
+            append(took, times)?;
+            Ok(sum_of(&images))
         }
         Err(error) => Err(error.into()),
     }
@@ -245,38 +251,11 @@ fn sum_of(counts: &[u64]) -> u64 {
     sum
 }
 
-fn append_all(all: Vec<io::Result<Times>>, times: &mut Times) -> io::Result<()> {
-    for told in all {
-        append(told, times)?;
-    }
-    Ok(())
-}
-
-fn append(told: io::Result<Times>, times: &mut Times) -> io::Result<()> {
-    match told {
+fn append(took: io::Result<Times>, times: &mut Times) -> io::Result<()> {
+    match took {
         Ok(others) => Ok(times.append(&others)?),
         Err(error) => Err(error),
     }
-}
-
-fn tool_of<'a, N: Name, C: Clock>(
-    clock: &'a C,
-    alloc: Global,
-    lock: &'a Mutex<Locked<N>>,
-    caller: Caller<N>,
-    talk: Talk,
-    pace: &'a Pace,
-) -> Result<Vec<Talking<'a, N, C>>, AllocError> {
-    let mut tools = Vec::new(alloc);
-    tools.push(Talking {
-        clock,
-        alloc,
-        lock,
-        caller,
-        talk,
-        pace,
-    })?;
-    Ok(tools)
 }
 
 fn followers<'a, N: Name, C: Clock>(
@@ -299,14 +278,24 @@ fn followers<'a, N: Name, C: Clock>(
     Ok(all)
 }
 
-// What comes of the tool, and how many images each thread read.
-type Ended = Result<(Vec<io::Result<Times>>, Vec<u64>), AllocError>;
+// Readers come one by one; there is no crew of them.
+type NoCrew<'a, N, R> = (
+    Following<'a, N, R>,
+    Following<'a, N, R>,
+    Following<'a, N, R>,
+);
 
+// What comes of the tool, and how many images each thread read.
+type Ended = Result<(io::Result<Times>, Vec<u64>), AllocError>;
+
+// The tool talks in this thread, while the others run in theirs.
 fn run_all<'a, N: Name + Send + Sync, R: Clock + Threads + Wait + Sync>(
     rt: &R,
     alloc: Global,
-    tools: Result<Vec<Talking<'a, N, R>>, AllocError>,
+    tool: Talking<'a, N, R>,
     others: Result<Vec<Following<'a, N, R>>, AllocError>,
 ) -> Ended {
-    run_both(rt, alloc, tools?, others?)
+    let none: Vec<NoCrew<'a, N, R>> = Vec::new(alloc);
+    let (_none, images, took) = run_crews_and(rt, alloc, none, others?, tool)?;
+    Ok((took, images))
 }

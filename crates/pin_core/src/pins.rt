@@ -45,7 +45,7 @@ impl Model for Core {
     ghost Value = { PinState };
 
     ghost use Rattle.pin_core.specs.CoreFields.{shown};
-    ghost use Rattle.pin_core.specs.private.CoreFields.{IsSound};
+    ghost use Rattle.pin_core.specs.private.SoundCore.{IsSound};
 
     ghost view = { shown };
 

@@ -7,6 +7,7 @@ ghost use Rattle.std.specs.Prelude.{◌≡◌};
 
 use arrayvec::ArrayVec;
 use fixtures::unnamed;
+use holding::bytes_of;
 use std::alloc::Global;
 use std::marker::Brand;
 use std::test::Fail;
@@ -16,21 +17,11 @@ use xcp_slave::{Answer, Request};
 
 type Row = (&'static str, &'static str);
 
-// The bytes of a text, if all its words are bytes.
-fn bytes<const N: usize>(text: &str) -> Option<ArrayVec<u8, N>> {
-    let mut bytes = ArrayVec::new();
-    for word in text.split_whitespace() {
-        let byte = u8::from_str_radix(word, 16).ok()?;
-        bytes.try_push(byte).ok()?;
-    }
-    Some(bytes)
-}
-
 fn request(text: &str) -> Option<Request> {
     match text {
         "drain" => Some(Request::Drain),
         "store" => Some(Request::FinishStore),
-        _ => Some(Request::Command(bytes(text)?)),
+        _ => Some(Request::Command(bytes_of(text)?)),
     }
 }
 
@@ -38,7 +29,7 @@ fn answer(text: &str) -> Option<Answer> {
     match text {
         "nothing" => Some(Answer::Nothing),
         "no store" => Some(Answer::NoStore),
-        _ => Some(Answer::Packets(Train::one(bytes(text)?))),
+        _ => Some(Answer::Packets(Train::one(bytes_of(text)?))),
     }
 }
 
@@ -100,7 +91,7 @@ fn held<N: Name>(reader: &mut Reader<N>) -> Option<[u8; 2040]> {
 
 // Whether the reader's image begins with these bytes, and all behind them is 0.
 fn reads<N: Name>(reader: &mut Reader<N>, said: &str) -> Option<bool> {
-    let wanted: ArrayVec<u8, 32> = bytes(said)?;
+    let wanted: ArrayVec<u8, 32> = bytes_of(said)?;
     let image = held(reader)?;
     let (front, rest) = image.split_at(wanted.len());
     Some(front == wanted.as_slice() && rest.iter().all(|byte| *byte == 0))

@@ -1,49 +1,11 @@
 //! Layouts of documents: the worked one, and the faults of others.
 use crate::config_rows::{OF_PAGES, OF_SEGMENTS, OF_SIGNALS_AND_EVENTS, OF_THE_SLAVE, Row};
-use crate::config_texts::so;
+use holding::so;
+use small_layouts::{WHOLE, changed};
 use std::alloc::{AllocError, Global};
 use std::test::Fail;
 use xcp_config::{ConfigError, read_layout};
 use xcp_memory::{ChecksumKind, Key, Layout};
-
-/// The document that the rows change: one line for each line of it.
-static LINES: [&str; 16] = [
-    "id = \"ECU1\"",
-    "max_cto = 32",
-    "max_dto = 64",
-    "[[segment]]",
-    "address = 0x1000",
-    "data = \"000102030405060708090A0B0C0D0E0F\"",
-    "[[segment]]",
-    "address = 0x2000",
-    "data = \"AAAAAAAAAAAAAAAA\"",
-    "[signals]",
-    "address = 0x8000",
-    "length = 8",
-    "[[event]]",
-    "name = \"10ms\"",
-    "cycle = 10",
-    "unit = 6",
-];
-
-fn push_line(text: &mut String, line: &str) -> Result<(), AllocError> {
-    text.push_str(line)?;
-    text.push_str("\n")
-}
-
-fn push_document(text: &mut String, place: usize, line: &str) -> Result<(), AllocError> {
-    for (i, old) in LINES.iter().enumerate() {
-        push_line(text, if i == place { line } else { *old })?;
-    }
-    Ok(())
-}
-
-/// The document with one line in the place of another; an empty one drops it.
-fn changed(alloc: Global, place: usize, line: &str) -> Result<String, AllocError> {
-    let mut text = String::new(alloc);
-    push_document(&mut text, place, line)?;
-    Ok(text)
-}
 
 /// Whether this is the layout of the document.
 fn is_documents(layout: &Layout) -> bool {
@@ -75,7 +37,7 @@ fn is_read(alloc: Global, text: &str) -> Result<(), Fail> {
 
 #[test]
 fn the_layout_of_the_document(rt: HostRuntime) -> Result<(), Fail> {
-    let text = changed(rt.alloc(), LINES.len(), "")?;
+    let text = changed(rt.alloc(), WHOLE, "")?;
     is_read(rt.alloc(), text.as_str())
 }
 
@@ -86,19 +48,12 @@ fn push_times(text: &mut String, part: &str, times: usize) -> Result<(), AllocEr
     Ok(())
 }
 
-fn push_long_document(text: &mut String) -> Result<(), AllocError> {
-    push_document(text, LINES.len(), "")?;
-    text.push_str("#")?;
-    push_times(text, "................", 4_050)
-}
-
 /// The document with a comment behind it.
 fn long_document(alloc: Global) -> Result<String, AllocError> {
-    let mut text = String::new(alloc);
-    match push_long_document(&mut text) {
-        Ok(()) => Ok(text),
-        Err(error) => Err(error),
-    }
+    let mut text = changed(alloc, WHOLE, "")?;
+    text.push_str("#")?;
+    push_times(&mut text, "................", 4_050)?;
+    Ok(text)
 }
 
 fn is_long_and_read(alloc: Global, text: &str) -> Result<(), Fail> {
@@ -116,8 +71,8 @@ fn a_long_text_is_read(rt: HostRuntime) -> Result<(), Fail> {
 
 /// The document; memory that is refused is asked for again.
 fn document_again(alloc: Global) -> Result<String, AllocError> {
-    match changed(alloc, LINES.len(), "") {
-        Err(_) => changed(alloc, LINES.len(), ""),
+    match changed(alloc, WHOLE, "") {
+        Err(_) => changed(alloc, WHOLE, ""),
         text => text,
     }
 }

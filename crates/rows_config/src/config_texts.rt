@@ -1,14 +1,10 @@
 //! The numbers and texts of faults.
+use holding::so;
 use std::alloc::Global;
 use std::test::Fail;
 use xcp_config::ConfigError;
 use xcp_memory::{Area, Key};
 use xcp_packet::Refuse;
-
-/// Fails with these words where it isn't so.
-pub(crate) fn so(holds: bool, words: &str) -> Result<(), Fail> {
-    if holds { Ok(()) } else { Err(Fail::new(words)) }
-}
 
 /// A fault, its number and its text.
 type Row = (ConfigError, u8, &'static str);

@@ -1,6 +1,7 @@
 //! Each fault of a layout, in its order.
 use std::alloc::{AllocError, Global};
 use std::test::Fail;
+use xcp_memory::LayoutFault::{Overlap, Range, TooMany};
 use xcp_memory::{Area, EventPart, Key, Layout, LayoutFault, Parts, SegmentPart};
 use xcp_packet::Order;
 
@@ -77,265 +78,153 @@ fn parts(alloc: Global, row: &Row) -> Result<Parts, AllocError> {
 
 const LONG: &[u8] = b"a name of thirty-three characters";
 
+/// An event of which all is wrong.
+const WRONG: (&[u8], i64, i64, i64) = (b"", -1, -1, -1);
+
+/// Good values of the layout itself, without a segment or an event, and signals out of each limit.
+const BARE: Row = Row {
+    id: b"ECU1",
+    own: (32, 64, 3),
+    segments: &[],
+    signals: (-1, 65),
+    events: &[],
+    fault: None,
+};
+
+/// The bare values with two segments that share an address, and signals that share some with both.
+const CROSSED: Row = Row {
+    segments: &[(0x1000, 16, 2), (0x100F, 8, 2)],
+    signals: (0x1000, 64),
+    ..BARE
+};
+
+/// The bare values with a good event.
+const TIMED: Row = Row {
+    events: &[(b"10ms", 10, 6, 0)],
+    ..BARE
+};
+
+/// The identification, MAX_CTO, MAX_DTO and the checksum, where all behind them is bare.
+macro_rules! with_itself {
+    ($id:expr, $own:expr, $fault:expr) => {
+        Row {
+            id: $id,
+            own: $own,
+            fault: Some($fault),
+            ..BARE
+        }
+    };
+}
+
+/// Segments, where all behind them is bare.
+macro_rules! with_segments {
+    ($segments:expr, $fault:expr) => {
+        Row {
+            segments: $segments,
+            fault: Some($fault),
+            ..BARE
+        }
+    };
+}
+
+/// The address and the length of the signals, behind crossed segments.
+macro_rules! with_signals {
+    ($signals:expr, $fault:expr) => {
+        Row {
+            signals: $signals,
+            fault: Some($fault),
+            ..CROSSED
+        }
+    };
+}
+
+/// Events, behind crossed segments and signals.
+macro_rules! with_events {
+    ($events:expr, $fault:expr) => {
+        Row {
+            events: $events,
+            fault: Some($fault),
+            ..CROSSED
+        }
+    };
+}
+
 /// Each row keeps the limit that the row before breaks, and breaks all those behind that it can.
 static ROWS: [Row; 31] = [
+    with_itself!(b"", (7, 256, 7), Range(Key::Id)),
+    with_itself!(b"ECU\x7F", (7, 256, 7), Range(Key::Id)),
+    with_itself!(b"ECU 1~", (256, 7, 0), Range(Key::MaxCto)),
+    with_itself!(b"ECU1", (8, 256, 0), Range(Key::MaxDto)),
+    with_itself!(b"ECU1", (255, 255, 7), Range(Key::Checksum)),
+    with_itself!(b"ECU1", (32, 8, 1), Range(Key::Segment)),
     Row {
-        id: b"",
-        own: (7, 256, 7),
-        segments: &[],
-        signals: (-1, 65),
-        events: &[],
-        fault: Some(LayoutFault::Range(Key::Id)),
-    },
-    Row {
-        id: b"ECU\x7F",
-        own: (7, 256, 7),
-        segments: &[],
-        signals: (-1, 65),
-        events: &[],
-        fault: Some(LayoutFault::Range(Key::Id)),
-    },
-    Row {
-        id: b"ECU 1~",
-        own: (256, 7, 0),
-        segments: &[],
-        signals: (-1, 65),
-        events: &[],
-        fault: Some(LayoutFault::Range(Key::MaxCto)),
-    },
-    Row {
-        id: b"ECU1",
-        own: (8, 256, 0),
-        segments: &[],
-        signals: (-1, 65),
-        events: &[],
-        fault: Some(LayoutFault::Range(Key::MaxDto)),
-    },
-    Row {
-        id: b"ECU1",
-        own: (255, 255, 7),
-        segments: &[],
-        signals: (-1, 65),
-        events: &[],
-        fault: Some(LayoutFault::Range(Key::Checksum)),
-    },
-    Row {
-        id: b"ECU1",
-        own: (32, 8, 1),
-        segments: &[],
-        signals: (-1, 65),
-        events: &[],
-        fault: Some(LayoutFault::Range(Key::Segment)),
-    },
-    Row {
-        id: b"ECU1",
         own: (32, 64, 2),
         segments: &[(-1, 0, 1), (0, 0, 1), (0, 0, 1), (0, 0, 1), (0, 0, 1)],
-        signals: (-1, 65),
-        events: &[],
-        fault: Some(LayoutFault::TooMany(Key::Segment)),
+        fault: Some(TooMany(Key::Segment)),
+        ..BARE
     },
+    with_segments!(&[(0xFFFF_FFFF, 0, 1), (-1, 0, 1)], Range(Key::Address(0))),
+    with_segments!(&[(0xFFFF_FFFE, 0, 1), (-1, 0, 1)], Range(Key::Data(0))),
+    with_segments!(&[(0xFFFF_FFFE, 2041, 1), (-1, 0, 1)], TooMany(Key::Data(0))),
+    with_segments!(&[(0xFFFF_FFF0, 16, 1), (-1, 0, 1)], Range(Key::Address(0))),
+    with_segments!(&[(0xFFFF_FFEF, 16, 1), (-1, 0, 1)], Range(Key::Pages(0))),
+    with_segments!(&[(0xFFFF_FFEF, 16, 5), (-1, 0, 1)], Range(Key::Pages(0))),
+    with_segments!(&[(0xFFFF_FFEF, 16, 4), (-1, 0, 1)], Range(Key::Address(1))),
+    with_segments!(
+        &[(0x1000, 16, 2), (0xFFFF_FFF0, 2025, 1)],
+        TooMany(Key::Data(1))
+    ),
     Row {
-        id: b"ECU1",
-        own: (32, 64, 3),
-        segments: &[(0xFFFF_FFFF, 0, 1), (-1, 0, 1)],
-        signals: (-1, 65),
-        events: &[],
-        fault: Some(LayoutFault::Range(Key::Address(0))),
-    },
-    Row {
-        id: b"ECU1",
-        own: (32, 64, 3),
-        segments: &[(0xFFFF_FFFE, 0, 1), (-1, 0, 1)],
-        signals: (-1, 65),
-        events: &[],
-        fault: Some(LayoutFault::Range(Key::Data(0))),
-    },
-    Row {
-        id: b"ECU1",
-        own: (32, 64, 3),
-        segments: &[(0xFFFF_FFFE, 2041, 1), (-1, 0, 1)],
-        signals: (-1, 65),
-        events: &[],
-        fault: Some(LayoutFault::TooMany(Key::Data(0))),
-    },
-    Row {
-        id: b"ECU1",
-        own: (32, 64, 3),
-        segments: &[(0xFFFF_FFF0, 16, 1), (-1, 0, 1)],
-        signals: (-1, 65),
-        events: &[],
-        fault: Some(LayoutFault::Range(Key::Address(0))),
-    },
-    Row {
-        id: b"ECU1",
-        own: (32, 64, 3),
-        segments: &[(0xFFFF_FFEF, 16, 1), (-1, 0, 1)],
-        signals: (-1, 65),
-        events: &[],
-        fault: Some(LayoutFault::Range(Key::Pages(0))),
-    },
-    Row {
-        id: b"ECU1",
-        own: (32, 64, 3),
-        segments: &[(0xFFFF_FFEF, 16, 5), (-1, 0, 1)],
-        signals: (-1, 65),
-        events: &[],
-        fault: Some(LayoutFault::Range(Key::Pages(0))),
-    },
-    Row {
-        id: b"ECU1",
-        own: (32, 64, 3),
-        segments: &[(0xFFFF_FFEF, 16, 4), (-1, 0, 1)],
-        signals: (-1, 65),
-        events: &[],
-        fault: Some(LayoutFault::Range(Key::Address(1))),
-    },
-    Row {
-        id: b"ECU1",
-        own: (32, 64, 3),
-        segments: &[(0x1000, 16, 2), (0xFFFF_FFF0, 2025, 1)],
-        signals: (-1, 65),
-        events: &[],
-        fault: Some(LayoutFault::TooMany(Key::Data(1))),
-    },
-    Row {
-        id: b"ECU1",
-        own: (32, 64, 3),
         segments: &[(0x1000, 16, 2), (0x100F, 2024, -1)],
         signals: (0xFFFF_FFFF, 65),
-        events: &[],
-        fault: Some(LayoutFault::Range(Key::Pages(1))),
+        fault: Some(Range(Key::Pages(1))),
+        ..BARE
     },
     Row {
-        id: b"ECU1",
-        own: (32, 64, 3),
         segments: &[(0x1000, 16, 2), (0x100F, 2024, 2)],
         signals: (0xFFFF_FFFF, 65),
-        events: &[],
-        fault: Some(LayoutFault::Range(Key::SignalsAddress)),
+        fault: Some(Range(Key::SignalsAddress)),
+        ..BARE
     },
+    with_signals!((0xFFFF_FFFE, 65), Range(Key::SignalsLength)),
+    with_signals!((0xFFFF_FFFE, 0), Range(Key::SignalsLength)),
+    with_signals!((0xFFFF_FFFE, 2), Range(Key::SignalsAddress)),
+    with_signals!((0x1000, 64), Range(Key::Event)),
+    with_events!(&[WRONG; 9], TooMany(Key::Event)),
+    with_events!(&[(LONG, -1, 256, -1), (b"", 0, 0, 0)], Range(Key::Name(0))),
+    with_events!(&[(b"a", -1, 256, -1), (b"", 0, 0, 0)], Range(Key::Cycle(0))),
+    with_events!(&[(b"a", 255, 256, -1), (b"", 0, 0, 0)], Range(Key::Unit(0))),
+    with_events!(
+        &[(b"a", 255, 0, 256), (b"", 0, 0, 0)],
+        Range(Key::Priority(0))
+    ),
+    with_events!(
+        &[(b"a", 255, 0, 255), (b"\x1F", 0, 0, 0)],
+        Range(Key::Name(1))
+    ),
     Row {
-        id: b"ECU1",
-        own: (32, 64, 3),
-        segments: &[(0x1000, 16, 2), (0x100F, 8, 2)],
-        signals: (0xFFFF_FFFE, 65),
-        events: &[],
-        fault: Some(LayoutFault::Range(Key::SignalsLength)),
-    },
-    Row {
-        id: b"ECU1",
-        own: (32, 64, 3),
-        segments: &[(0x1000, 16, 2), (0x100F, 8, 2)],
-        signals: (0xFFFF_FFFE, 0),
-        events: &[],
-        fault: Some(LayoutFault::Range(Key::SignalsLength)),
-    },
-    Row {
-        id: b"ECU1",
-        own: (32, 64, 3),
-        segments: &[(0x1000, 16, 2), (0x100F, 8, 2)],
-        signals: (0xFFFF_FFFE, 2),
-        events: &[],
-        fault: Some(LayoutFault::Range(Key::SignalsAddress)),
-    },
-    Row {
-        id: b"ECU1",
-        own: (32, 64, 3),
         segments: &[(0x1000, 16, 2), (0x100F, 8, 2)],
         signals: (0x1000, 64),
-        events: &[],
-        fault: Some(LayoutFault::Range(Key::Event)),
+        fault: Some(Overlap(Area::Segment(0), Area::Segment(1))),
+        ..TIMED
     },
     Row {
-        id: b"ECU1",
-        own: (32, 64, 3),
-        segments: &[(0x1000, 16, 2), (0x100F, 8, 2)],
-        signals: (0x1000, 64),
-        events: &[
-            (b"", -1, -1, -1),
-            (b"", -1, -1, -1),
-            (b"", -1, -1, -1),
-            (b"", -1, -1, -1),
-            (b"", -1, -1, -1),
-            (b"", -1, -1, -1),
-            (b"", -1, -1, -1),
-            (b"", -1, -1, -1),
-            (b"", -1, -1, -1),
-        ],
-        fault: Some(LayoutFault::TooMany(Key::Event)),
-    },
-    Row {
-        id: b"ECU1",
-        own: (32, 64, 3),
-        segments: &[(0x1000, 16, 2), (0x100F, 8, 2)],
-        signals: (0x1000, 64),
-        events: &[(LONG, -1, 256, -1), (b"", 0, 0, 0)],
-        fault: Some(LayoutFault::Range(Key::Name(0))),
-    },
-    Row {
-        id: b"ECU1",
-        own: (32, 64, 3),
-        segments: &[(0x1000, 16, 2), (0x100F, 8, 2)],
-        signals: (0x1000, 64),
-        events: &[(b"a", -1, 256, -1), (b"", 0, 0, 0)],
-        fault: Some(LayoutFault::Range(Key::Cycle(0))),
-    },
-    Row {
-        id: b"ECU1",
-        own: (32, 64, 3),
-        segments: &[(0x1000, 16, 2), (0x100F, 8, 2)],
-        signals: (0x1000, 64),
-        events: &[(b"a", 255, 256, -1), (b"", 0, 0, 0)],
-        fault: Some(LayoutFault::Range(Key::Unit(0))),
-    },
-    Row {
-        id: b"ECU1",
-        own: (32, 64, 3),
-        segments: &[(0x1000, 16, 2), (0x100F, 8, 2)],
-        signals: (0x1000, 64),
-        events: &[(b"a", 255, 0, 256), (b"", 0, 0, 0)],
-        fault: Some(LayoutFault::Range(Key::Priority(0))),
-    },
-    Row {
-        id: b"ECU1",
-        own: (32, 64, 3),
-        segments: &[(0x1000, 16, 2), (0x100F, 8, 2)],
-        signals: (0x1000, 64),
-        events: &[(b"a", 255, 0, 255), (b"\x1F", 0, 0, 0)],
-        fault: Some(LayoutFault::Range(Key::Name(1))),
-    },
-    Row {
-        id: b"ECU1",
-        own: (32, 64, 3),
-        segments: &[(0x1000, 16, 2), (0x100F, 8, 2)],
-        signals: (0x1000, 64),
-        events: &[(b"10ms", 10, 6, 0)],
-        fault: Some(LayoutFault::Overlap(Area::Segment(0), Area::Segment(1))),
-    },
-    Row {
-        id: b"ECU1",
-        own: (32, 64, 3),
         segments: &[(0x1000, 16, 2), (0x1010, 8, 2)],
         signals: (0x0FD0, 64),
-        events: &[(b"10ms", 10, 6, 0)],
-        fault: Some(LayoutFault::Overlap(Area::Segment(0), Area::Signals)),
+        fault: Some(Overlap(Area::Segment(0), Area::Signals)),
+        ..TIMED
     },
     Row {
-        id: b"ECU1",
-        own: (32, 64, 3),
         segments: &[(0x1010, 16, 2), (0x1000, 16, 2)],
         signals: (0x0FC1, 64),
-        events: &[(b"10ms", 10, 6, 0)],
-        fault: Some(LayoutFault::Overlap(Area::Segment(1), Area::Signals)),
+        fault: Some(Overlap(Area::Segment(1), Area::Signals)),
+        ..TIMED
     },
     Row {
-        id: b"ECU1",
-        own: (32, 64, 3),
         segments: &[(0xFFFF_FFEF, 16, 4), (0x2000, 2024, 3)],
         signals: (0x1FC0, 64),
-        events: &[(b"10ms", 10, 6, 0)],
         fault: None,
+        ..TIMED
     },
 ];
 

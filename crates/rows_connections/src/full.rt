@@ -71,7 +71,7 @@ fn pumped<N: Name + Send + Sync, R: Wait>(
         turns: 1,
     };
     let pumped = pumping.run(rt);
-    Ok((pumped.caller, pumped.end))
+    Ok((pumped.caller, pumped.outcome))
 }
 
 // The tasks' fault, and how many calls the first of them has made, and how many chapters it has cut.

@@ -115,7 +115,7 @@ fn served<
     alter(alloc, &mut closing, altered);
     let settled = settle_all(&mut closing);
     let holding = holding(&closing.readers);
-    Ok((closing.ends, closing.fault, settled, holding))
+    Ok((closing.outcomes, closing.fault, settled, holding))
 }
 
 // The same of a small slave with so many callers.

@@ -1,7 +1,8 @@
 //! What is told of a request before it is asked, and what a controller is told of its slave.
-use crate::holding::hold;
 use crate::openings::in_use;
 use crate::rows::{Ask, asks, request};
+use holding::none_is_wrong;
+use std::test::Fail;
 use xcp_controller::{Controller, is_reading, keeps_image};
 use xcp_slave::Asked;
 
@@ -18,9 +19,10 @@ fn first_misread() -> Option<usize> {
 }
 
 #[test]
-fn seven_commands_may_change_the_image(rt: HostRuntime) {
-    hold(&rt, first_misread());
+fn seven_commands_may_change_the_image(rt: HostRuntime) -> Result<(), Fail> {
+    none_is_wrong(first_misread())?;
     assert!(rt; is_reading(&[]));
+    Ok(())
 }
 
 static REQUESTS: [(Ask, bool); 8] = [
@@ -44,8 +46,8 @@ fn first_not_kept() -> Option<usize> {
 }
 
 #[test]
-fn requests_keep_the_image(rt: HostRuntime) {
-    hold(&rt, first_not_kept());
+fn requests_keep_the_image() -> Result<(), Fail> {
+    none_is_wrong(first_not_kept())
 }
 
 // How many packets wait before a store, behind it, and behind a Drain, and MAX_CTO.

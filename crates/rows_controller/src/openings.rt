@@ -1,6 +1,6 @@
 //! The controller that the tests are about, and what a tool asks of it first.
 use crate::rows::asks;
-use small_layouts::{Small, USUAL, parts};
+use small_layouts::{COUNTED, Small, USUAL, parts};
 use std::alloc::{AllocError, Global};
 use xcp_controller::Controller;
 use xcp_memory::Layout;
@@ -8,13 +8,10 @@ use xcp_memory::Layout;
 /// CONNECT, and page 1 of each segment for the tool and for the controller.
 static BEGIN: [&[u8]; 2] = [&[0xFF, 0], &[0xEB, 0x83, 0, 1]];
 
-/// What the segment has at the opening.
-pub const BYTES: [u8; 16] = [0, 1, 2, 3, 4, 5, 6, 7, 8, 9, 10, 11, 12, 13, 14, 15];
-
-/// MAX_CTO 12, and these bytes with two pages at 0x1000.
+/// MAX_CTO 12, and the bytes 00 to 0F with two pages at 0x1000.
 const NARROW: Small = Small {
     max_cto: 12,
-    segments: &[(0x1000, &BYTES, 2)],
+    segments: &[(0x1000, &COUNTED, 2)],
     ..USUAL
 };
 

@@ -1,10 +1,12 @@
 //! Which requests publish an image.
-use crate::holding::hold;
-use crate::openings::{BYTES, controller, in_use};
+use crate::openings::{controller, in_use};
 use crate::rows::Ask::{Command, Drain, Event, FinishStore, Hangup};
 use crate::rows::Said::{BadSignals, NoChannel, NoStore, Nothing, Packet, Sampled, Silent, Stored};
 use crate::rows::{Row, Seen, first_wrong, held, take};
+use holding::none_is_wrong;
+use small_layouts::COUNTED;
 use std::alloc::Global;
+use std::test::Fail;
 use xcp_bank::{Reader, Taken};
 use xcp_controller::Controller;
 
@@ -127,7 +129,7 @@ static PAGES: [Row; 26] = [
     (
         Command(&[0xEB, 1, 0, 0]),
         Packet(&[0xFF]),
-        Some((0, &BYTES)),
+        Some((0, &COUNTED)),
     ),
     (Command(&[0xEA, 1, 0]), Packet(&[0xFF, 0, 0, 0]), None),
     (Command(&[0xEB, 4, 0, 1]), Packet(&[0xFE, 0x27]), None),
@@ -178,7 +180,7 @@ fn follow(
     keeper: &mut Reader,
     reader: &mut Reader,
 ) -> (bool, [Option<usize>; 3]) {
-    let opening = Seen::first(&BYTES);
+    let opening = Seen::first(&COUNTED);
     let mut seen = opening;
     let kept = take(keeper) == (Taken::Newer, opening);
     let first = take(reader) == (Taken::Newer, opening);
@@ -240,7 +242,7 @@ fn finds(controller: &mut Controller, rows: &[Row]) -> bool {
     let Some(mut reader) = controller.take_reader() else {
         return false;
     };
-    let mut seen = Seen::first(&BYTES);
+    let mut seen = Seen::first(&COUNTED);
     let _opening = take(&mut reader);
     first_wrong(controller, &mut reader, &mut seen, rows) == Some(0)
 }
@@ -262,6 +264,6 @@ fn first_not_found(alloc: Global) -> Option<usize> {
 }
 
 #[test]
-fn wrong_rows_are_found(rt: HostRuntime) {
-    hold(&rt, first_not_found(rt.alloc()));
+fn wrong_rows_are_found(rt: HostRuntime) -> Result<(), Fail> {
+    none_is_wrong(first_not_found(rt.alloc()))
 }

@@ -1,6 +1,7 @@
 //! How readers are had and given back.
-use crate::openings::{BYTES, controller, in_use, opened};
+use crate::openings::{controller, in_use, opened};
 use crate::rows::{Seen, asks, held, take};
+use small_layouts::COUNTED;
 use std::alloc::{AllocError, Global};
 use xcp_bank::{Reader, Taken};
 use xcp_controller::Controller;
@@ -15,7 +16,7 @@ pub(crate) fn write(controller: &mut Controller, byte: u8) -> bool {
 
 /// The image with this number that begins with four such bytes.
 pub(crate) fn image(number: u64, byte: u8) -> Seen {
-    let mut bytes = BYTES;
+    let mut bytes = COUNTED;
     bytes[..4].copy_from_slice(&[byte; 4]);
     let mut held = Seen::first(&bytes);
     held.number = number;
@@ -133,7 +134,7 @@ fn six_readers_hold_six_images(rt: HostRuntime) {
 
 // Whether a reader takes the opening's image, and takes it again where it is asked once more.
 fn takes_twice(reader: &mut Reader) -> bool {
-    let opening = Seen::first(&BYTES);
+    let opening = Seen::first(&COUNTED);
     let first = take(reader) == (Taken::Newer, opening);
     first && take(reader) == (Taken::Same, opening)
 }
@@ -156,7 +157,7 @@ fn a_reader_outlives_its_controller(rt: HostRuntime) {
 // Whether a reader takes the opening's image.
 fn takes_first(controller: &mut Controller) -> bool {
     match controller.take_reader() {
-        Some(mut reader) => take(&mut reader) == (Taken::Newer, Seen::first(&BYTES)),
+        Some(mut reader) => take(&mut reader) == (Taken::Newer, Seen::first(&COUNTED)),
         None => false,
     }
 }

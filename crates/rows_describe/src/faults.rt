@@ -1,8 +1,9 @@
 //! Faults of descriptions.
-use crate::holding::hold;
 use crate::layouts::SMALL;
+use holding::none_is_wrong;
 use std::alloc::Global;
 use std::io::{self, Write};
+use std::test::Fail;
 use xcp_describe::{DescribeError, describe};
 use xcp_framing::Watched;
 use xcp_program::Fault;
@@ -58,6 +59,6 @@ fn first_not_faulty(alloc: Global) -> Option<usize> {
 }
 
 #[test]
-fn faulty_layout_files(rt: HostRuntime) {
-    hold(&rt, first_not_faulty(rt.alloc()));
+fn faulty_layout_files(rt: HostRuntime) -> Result<(), Fail> {
+    none_is_wrong(first_not_faulty(rt.alloc()))
 }

@@ -6,8 +6,6 @@ mod checks;
 #[cfg(test)]
 mod faults;
 #[cfg(test)]
-mod holding;
-#[cfg(test)]
 mod layouts;
 #[cfg(test)]
 mod reading;

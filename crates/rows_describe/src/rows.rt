@@ -1,8 +1,9 @@
 //! What descriptions say.
-use crate::holding::hold;
 use crate::layouts::{MOTOROLA, NAMED, SMALL};
 use crate::reading::{is_balanced, words_of};
+use holding::none_is_wrong;
 use std::alloc::{AllocError, Global};
+use std::test::Fail;
 use xcp_describe::describe;
 use xcp_framing::Watched;
 
@@ -91,18 +92,15 @@ fn first_present(alloc: Global) -> Option<usize> {
 }
 
 #[test]
-fn a_small_slave(rt: HostRuntime) {
-    hold(
-        &rt,
-        first_missing(rt.alloc(), SMALL, HOST, 5555, &SMALL_ROWS),
-    );
-    hold(&rt, first_present(rt.alloc()));
+fn a_small_slave(rt: HostRuntime) -> Result<(), Fail> {
+    none_is_wrong(first_missing(rt.alloc(), SMALL, HOST, 5555, &SMALL_ROWS))?;
+    none_is_wrong(first_present(rt.alloc()))
 }
 
 #[test]
-fn a_motorola_slave(rt: HostRuntime) {
+fn a_motorola_slave(rt: HostRuntime) -> Result<(), Fail> {
     let missing = first_missing(rt.alloc(), MOTOROLA, "ecu.example", 1024, &MOTOROLA_ROWS);
-    hold(&rt, missing);
+    none_is_wrong(missing)
 }
 
 /// Whether each block of a description is closed.
@@ -232,6 +230,6 @@ fn first_not_refused(alloc: Global) -> Option<usize> {
 }
 
 #[test]
-fn entries_are_refused(rt: HostRuntime) {
-    hold(&rt, first_not_refused(rt.alloc()));
+fn entries_are_refused(rt: HostRuntime) -> Result<(), Fail> {
+    none_is_wrong(first_not_refused(rt.alloc()))
 }

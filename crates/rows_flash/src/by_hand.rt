@@ -1,5 +1,6 @@
 //! Files that are written by hand, byte by byte, with digests by another program.
-use crate::layouts::{DIGEST, layout, so};
+use crate::layouts::{DIGEST, layout};
+use holding::so;
 use std::alloc::Global;
 use std::test::Fail;
 use xcp_flash::References;

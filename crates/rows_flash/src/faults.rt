@@ -1,6 +1,7 @@
 //! Files that aren't restored: each leaves the layout as it was.
 use crate::by_hand::{NEWER, ONE_PAGE, OTHER_SIZES, STORED, THREE_PAGES};
-use crate::layouts::{DIGEST, FIRST, SECOND, has, layout, so};
+use crate::layouts::{DIGEST, FIRST, SECOND, has, layout};
+use holding::so;
 use std::alloc::Global;
 use std::test::Fail;
 use xcp_flash::{FlashError, restore};

@@ -1,5 +1,5 @@
 //! The layout that the files are of.
-use small_layouts::{Small, USUAL, parts};
+use small_layouts::{Small, USUAL};
 use std::alloc::Global;
 use std::test::Fail;
 use xcp_memory::Layout;
@@ -18,12 +18,7 @@ pub(crate) fn layout(alloc: Global) -> Result<Layout, Fail> {
         segments: &[(0x1000, &FIRST, 2), (0x2000, &SECOND, 3)],
         ..USUAL
     };
-    Ok(Layout::new(parts(alloc, small)?)?)
-}
-
-/// Fails with these words where it isn't so.
-pub(crate) fn so(holds: bool, words: &str) -> Result<(), Fail> {
-    if holds { Ok(()) } else { Err(Fail::new(words)) }
+    small_layouts::layout(alloc, small)
 }
 
 /// Whether these are the reference pages of a layout of two segments.

@@ -2,8 +2,9 @@
 ghost use Rattle.std.specs.Prelude.{◌≡◌, List, ℕ};
 
 use crate::by_hand::STORED;
-use crate::layouts::{DIGEST, layout, so};
+use crate::layouts::{DIGEST, layout};
 use crate::storing::stored;
+use holding::so;
 use std::alloc::Global;
 use std::test::Fail;
 use xcp_scribe::{Both, Flashing, Scribe, Shelf};

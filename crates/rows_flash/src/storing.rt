@@ -1,6 +1,7 @@
 //! A slave whose tool has its pages stored, and one that is opened with the file.
 use crate::by_hand::{STORED, spell, spells};
-use crate::layouts::{DIGEST, FIRST, SECOND, has, layout, so};
+use crate::layouts::{DIGEST, FIRST, SECOND, has, layout};
+use holding::so;
 use std::alloc::Global;
 use std::test::Fail;
 use xcp_flash::{References, restore};

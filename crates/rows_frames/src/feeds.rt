@@ -1,6 +1,7 @@
 //! Frames that come in pieces.
-use crate::holding::hold;
+use holding::none_is_wrong;
 use std::alloc::Global;
+use std::test::Fail;
 use xcp_framing::{Cut, Framer, Got};
 use xcp_packet::Packet;
 
@@ -63,8 +64,8 @@ fn first_wrong(rows: &[Row]) -> Option<usize> {
 }
 
 #[test]
-fn pieces(rt: HostRuntime) {
-    hold(&rt, first_wrong(&PIECES));
+fn pieces() -> Result<(), Fail> {
+    none_is_wrong(first_wrong(&PIECES))
 }
 
 /// A stream that begins so, in two pieces: the second byte decides.
@@ -176,6 +177,6 @@ fn first_wrong_stream(alloc: Global) -> Option<usize> {
 }
 
 #[test]
-fn packets_that_are_lent_at_each_cut(rt: HostRuntime) {
-    hold(&rt, first_wrong_stream(rt.alloc()));
+fn packets_that_are_lent_at_each_cut(rt: HostRuntime) -> Result<(), Fail> {
+    none_is_wrong(first_wrong_stream(rt.alloc()))
 }

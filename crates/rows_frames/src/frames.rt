@@ -1,6 +1,7 @@
 //! Frames, and the frames of whole streams.
-use crate::holding::hold;
+use holding::none_is_wrong;
 use std::alloc::{AllocError, Global};
+use std::test::Fail;
 use xcp_framing::{
     any_cutting_gives_the_same_frames, each_stream_has_its_frames, frame, plain_frames,
     the_wire_gives_its_packets_back,
@@ -69,9 +70,9 @@ fn first_wrong(alloc: Global) -> Option<usize> {
 
 /// The definition itself, by the program whose contract it is.
 #[test]
-fn frames_of_streams(rt: HostRuntime) {
+fn frames_of_streams(rt: HostRuntime) -> Result<(), Fail> {
     any_cutting_gives_the_same_frames();
     each_stream_has_its_frames();
     the_wire_gives_its_packets_back();
-    hold(&rt, first_wrong(rt.alloc()));
+    none_is_wrong(first_wrong(rt.alloc()))
 }

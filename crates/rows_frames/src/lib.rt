@@ -7,8 +7,6 @@ mod feeds;
 #[cfg(test)]
 mod frames;
 #[cfg(test)]
-mod holding;
-#[cfg(test)]
 mod lines;
 #[cfg(test)]
 mod texts;

@@ -1,7 +1,8 @@
 //! What lines say, and the lines of a text.
-use crate::holding::hold;
 use arrayvec::ArrayVec;
+use holding::none_is_wrong;
 use std::alloc::{AllocError, Global};
+use std::test::Fail;
 use xcp_script::{LINE_BYTES, Line, parse_line, plain_lines};
 use xcp_slave::Request;
 
@@ -94,8 +95,8 @@ fn first_wrong_asking() -> Option<usize> {
 }
 
 #[test]
-fn lines_that_ask(rt: HostRuntime) {
-    hold(&rt, first_wrong_asking());
+fn lines_that_ask() -> Result<(), Fail> {
+    none_is_wrong(first_wrong_asking())
 }
 
 fn first_not_faulty() -> Option<usize> {
@@ -108,8 +109,8 @@ fn first_not_faulty() -> Option<usize> {
 }
 
 #[test]
-fn lines_that_are_faulty(rt: HostRuntime) {
-    hold(&rt, first_not_faulty());
+fn lines_that_are_faulty() -> Result<(), Fail> {
+    none_is_wrong(first_not_faulty())
 }
 
 /// A line that begins so, and then has the same byte up to its length.
@@ -145,8 +146,8 @@ fn first_wrong_long(alloc: Global) -> Option<usize> {
 }
 
 #[test]
-fn lines_at_a_limit(rt: HostRuntime) {
-    hold(&rt, first_wrong_long(rt.alloc()));
+fn lines_at_a_limit(rt: HostRuntime) -> Result<(), Fail> {
+    none_is_wrong(first_wrong_long(rt.alloc()))
 }
 
 /// The lines of a text, with a bar behind each.
@@ -182,6 +183,6 @@ fn first_wrong_text(alloc: Global) -> Option<usize> {
 }
 
 #[test]
-fn lines_of_a_text(rt: HostRuntime) {
-    hold(&rt, first_wrong_text(rt.alloc()));
+fn lines_of_a_text(rt: HostRuntime) -> Result<(), Fail> {
+    none_is_wrong(first_wrong_text(rt.alloc()))
 }

@@ -1,6 +1,7 @@
 //! The text of each answer.
-use crate::holding::hold;
+use holding::none_is_wrong;
 use std::alloc::Global;
+use std::test::Fail;
 use xcp_packet::{Packet, Width};
 use xcp_script::push_text;
 use xcp_slave::{Cut, Told};
@@ -46,6 +47,6 @@ fn first_wrong(alloc: Global) -> Option<usize> {
 }
 
 #[test]
-fn texts_of_answers(rt: HostRuntime) {
-    hold(&rt, first_wrong(rt.alloc()));
+fn texts_of_answers(rt: HostRuntime) -> Result<(), Fail> {
+    none_is_wrong(first_wrong(rt.alloc()))
 }

@@ -1,8 +1,9 @@
 //! What is stored of exchanges is read again: each request and each answer once, and strings of
 //! each length of a length.
-use crate::holding::hold;
 use arrayvec::ArrayVec;
+use holding::none_is_wrong;
 use std::alloc::{AllocError, Global};
+use std::test::Fail;
 use xcp_packet::{Packet, Train, Width};
 use xcp_slave::{Answer, Exchange, Request};
 use xcp_trace::{Entry, Journal, LentEntry, Tape, Trace, what_is_written_is_read_again};
@@ -88,10 +89,9 @@ fn first_not_traced(trace: &Trace) -> Option<usize> {
 }
 
 #[test]
-fn a_trace_gives_back_its_exchanges(rt: HostRuntime) -> Result<(), AllocError> {
+fn a_trace_gives_back_its_exchanges(rt: HostRuntime) -> Result<(), Fail> {
     what_is_written_is_read_again();
-    hold(&rt, first_not_traced(&traced(rt.alloc())?));
-    Ok(())
+    none_is_wrong(first_not_traced(&traced(rt.alloc())?))
 }
 
 fn entered(alloc: Global) -> Result<Journal, AllocError> {
@@ -128,9 +128,8 @@ fn first_not_entered(journal: &Journal) -> Option<usize> {
 }
 
 #[test]
-fn a_journal_gives_back_its_entries(rt: HostRuntime) -> Result<(), AllocError> {
-    hold(&rt, first_not_entered(&entered(rt.alloc())?));
-    Ok(())
+fn a_journal_gives_back_its_entries(rt: HostRuntime) -> Result<(), Fail> {
+    none_is_wrong(first_not_entered(&entered(rt.alloc())?))
 }
 
 /// The first entry that the bytes of a journal's entries don't give back, or how many there are where
@@ -152,9 +151,8 @@ fn first_not_in_bytes(journal: &Journal) -> Option<usize> {
 }
 
 #[test]
-fn the_bytes_of_entries_give_them_back(rt: HostRuntime) -> Result<(), AllocError> {
-    hold(&rt, first_not_in_bytes(&entered(rt.alloc())?));
-    Ok(())
+fn the_bytes_of_entries_give_them_back(rt: HostRuntime) -> Result<(), Fail> {
+    none_is_wrong(first_not_in_bytes(&entered(rt.alloc())?))
 }
 
 /// Bytes, and how many of them stand behind the entry with which they begin, if they begin with one: a
@@ -193,8 +191,8 @@ fn first_not_checked() -> Option<usize> {
 }
 
 #[test]
-fn bytes_from_elsewhere_are_checked(rt: HostRuntime) {
-    hold(&rt, first_not_checked());
+fn bytes_from_elsewhere_are_checked() -> Result<(), Fail> {
+    none_is_wrong(first_not_checked())
 }
 
 /// A tape of a string in four parts, between two others.
@@ -242,6 +240,6 @@ fn first_not_taped(alloc: Global) -> Option<usize> {
 }
 
 #[test]
-fn a_tape_gives_back_its_strings(rt: HostRuntime) {
-    hold(&rt, first_not_taped(rt.alloc()));
+fn a_tape_gives_back_its_strings(rt: HostRuntime) -> Result<(), Fail> {
+    none_is_wrong(first_not_taped(rt.alloc()))
 }

@@ -1,8 +1,9 @@
 //! Scripts in two pieces, cut at each place: their lines are those of the whole.
-use crate::holding::hold;
 use crate::over::replayed;
+use holding::none_is_wrong;
 use std::alloc::{AllocError, Global};
 use std::io::Read;
+use std::test::Fail;
 use xcp_script::ReplayError;
 
 /// How a script ends, and what is written of it.
@@ -77,8 +78,8 @@ fn first_wrong_script(alloc: Global) -> Option<usize> {
 }
 
 #[test]
-fn scripts_at_each_cut(rt: HostRuntime) {
-    hold(&rt, first_wrong_script(rt.alloc()));
+fn scripts_at_each_cut(rt: HostRuntime) -> Result<(), Fail> {
+    none_is_wrong(first_wrong_script(rt.alloc()))
 }
 
 /// CONNECT, a comment of so many bytes, what ends it, and CONNECT again.
@@ -122,6 +123,6 @@ fn first_wrong_comment(alloc: Global) -> Option<usize> {
 }
 
 #[test]
-fn long_lines_at_each_cut(rt: HostRuntime) {
-    hold(&rt, first_wrong_comment(rt.alloc()));
+fn long_lines_at_each_cut(rt: HostRuntime) -> Result<(), Fail> {
+    none_is_wrong(first_wrong_comment(rt.alloc()))
 }

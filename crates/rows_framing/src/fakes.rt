@@ -1,26 +1,14 @@
 //! A desk over a small slave, and readers and writers that give and take little, or fail.
 ghost use Rattle.std.specs.Prelude.{◌≡◌, [], IfSome};
 
-use small_layouts::{Small, USUAL, parts};
+use small_layouts::{Small, TWO_SEGMENTS, parts};
 use std::alloc::Global;
 use std::io::{self, Read, Write};
 use xcp_framing::Desk;
 use xcp_memory::Layout;
 use xcp_slave::Slave;
 
-/// What segment 0 has at the opening.
-const COUNTED: [u8; 16] = [0, 1, 2, 3, 4, 5, 6, 7, 8, 9, 10, 11, 12, 13, 14, 15];
-
-/// Such a MAX_CTO, segment 0 at 0x1000 with the bytes 00 to 0F, and segment 1 at 0x2000 with 8 bytes AA.
-fn small(max_cto: i64) -> Small<'static> {
-    Small {
-        max_cto,
-        segments: &[(0x1000, &COUNTED, 2), (0x2000, &[0xAA; 8], 2)],
-        ..USUAL
-    }
-}
-
-/// A desk over a slave of this layout, whose MAX_CTO is 32.
+/// A desk over a slave of two segments, whose MAX_CTO is 32.
 pub(crate) fn desk(alloc: Global) -> Option<Desk>
     ensures { IfSome result (λ d. d.exchanges ≡ []) }
 {
@@ -31,7 +19,11 @@ pub(crate) fn desk(alloc: Global) -> Option<Desk>
 pub(crate) fn desk_of(alloc: Global, max_cto: i64) -> Option<Desk>
     ensures { IfSome result (λ d. d.exchanges ≡ []) }
 {
-    let layout = Layout::new(parts(alloc, small(max_cto)).ok()?).ok()?;
+    let small = Small {
+        max_cto,
+        ..TWO_SEGMENTS
+    };
+    let layout = Layout::new(parts(alloc, small).ok()?).ok()?;
     let slave = Slave::new(alloc, layout).ok()?;
     Some(Desk::new(alloc, slave))
 }

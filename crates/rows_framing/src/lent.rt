@@ -1,9 +1,10 @@
 //! Requests and packets that are lent to a station, and its answers as values.
 use crate::fakes::desk_of;
-use crate::holding::hold;
 use crate::stations::Pending;
 use arrayvec::ArrayVec;
+use holding::none_is_wrong;
 use std::alloc::Global;
+use std::test::Fail;
 use xcp_framing::{Desk, Station, StationError};
 use xcp_packet::{Packet, Train, Width};
 use xcp_slave::{Answer, Request};
@@ -109,8 +110,8 @@ fn first_not_laid() -> Option<usize> {
 }
 
 #[test]
-fn answers_are_laid_into_a_packet(rt: HostRuntime) {
-    hold(&rt, first_not_laid());
+fn answers_are_laid_into_a_packet() -> Result<(), Fail> {
+    none_is_wrong(first_not_laid())
 }
 
 /// A script, and what the small slave with MAX_CTO 8 answers to each of its requests.
@@ -201,8 +202,8 @@ fn first_wrong_of_new(alloc: Global) -> Option<usize> {
 }
 
 #[test]
-fn a_desk_answers_what_is_lent_as_what_is_given(rt: HostRuntime) {
-    hold(&rt, first_wrong_of_new(rt.alloc()));
+fn a_desk_answers_what_is_lent_as_what_is_given(rt: HostRuntime) -> Result<(), Fail> {
+    none_is_wrong(first_wrong_of_new(rt.alloc()))
 }
 
 /// Requests to a station that has one packet of one byte for Drains, and what it answers.

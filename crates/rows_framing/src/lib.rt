@@ -7,8 +7,6 @@ mod cuts;
 #[cfg(test)]
 mod fakes;
 #[cfg(test)]
-mod holding;
-#[cfg(test)]
 mod lent;
 #[cfg(test)]
 mod ordered;

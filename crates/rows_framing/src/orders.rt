@@ -1,12 +1,13 @@
 //! The order of reads, submits and writes: each answer is written before the next read, and a write
 //! that fails is the last of all.
 use crate::fakes::{Full, desk};
-use crate::holding::hold;
 use crate::ordered::{Noting, Order, Patient, Piece, Seen, Telling};
 use crate::over;
 use crate::serves::synch_stream;
 use crate::stations::{Pending, Refusing};
+use holding::none_is_wrong;
 use std::alloc::{AllocError, Global};
+use std::test::Fail;
 use xcp_framing::{ServeError, Served, Station, StationError, Watched, serve};
 use xcp_script::ReplayError;
 
@@ -99,8 +100,8 @@ fn first_not_served(alloc: Global) -> Option<usize> {
 
 /// Each command's answer is written before the next read, and behind a bad LEN there is none.
 #[test]
-fn answers_before_the_next_read(rt: HostRuntime) {
-    hold(&rt, first_not_served(rt.alloc()));
+fn answers_before_the_next_read(rt: HostRuntime) -> Result<(), Fail> {
+    none_is_wrong(first_not_served(rt.alloc()))
 }
 
 /// CONNECT and 101 SYNCH, and the first byte of one more.
@@ -214,15 +215,12 @@ fn first_not_last(alloc: Global, pieces: &[Piece<'_>], rooms: usize, full: Full)
 }
 
 #[test]
-fn a_failed_write_is_the_last_call(rt: HostRuntime) {
+fn a_failed_write_is_the_last_call(rt: HostRuntime) -> Result<(), Fail> {
     let alloc = rt.alloc();
-    hold(&rt, first_not_last(alloc, FRAME_BY_FRAME, 24, Full::Fails));
-    hold(
-        &rt,
-        first_not_last(alloc, FRAME_BY_FRAME, 24, Full::TakesNothing),
-    );
-    hold(&rt, first_not_last(alloc, AT_ONCE, 24, Full::Fails));
-    hold(&rt, first_not_last(alloc, AT_ONCE, 24, Full::TakesNothing));
+    none_is_wrong(first_not_last(alloc, FRAME_BY_FRAME, 24, Full::Fails))?;
+    none_is_wrong(first_not_last(alloc, FRAME_BY_FRAME, 24, Full::TakesNothing))?;
+    none_is_wrong(first_not_last(alloc, AT_ONCE, 24, Full::Fails))?;
+    none_is_wrong(first_not_last(alloc, AT_ONCE, 24, Full::TakesNothing))
 }
 
 /// The first room at which the same isn't so where three packets wait behind the first of two commands.
@@ -237,8 +235,8 @@ fn first_behind(alloc: Global) -> Option<usize> {
 
 /// Three packets wait behind the first of two commands: none is asked for once one isn't sent.
 #[test]
-fn a_failed_write_is_behind_the_last_drain(rt: HostRuntime) {
-    hold(&rt, first_behind(rt.alloc()));
+fn a_failed_write_is_behind_the_last_drain(rt: HostRuntime) -> Result<(), Fail> {
+    none_is_wrong(first_behind(rt.alloc()))
 }
 
 /// CONNECT, and a bad LEN behind it.
@@ -264,9 +262,9 @@ fn first_refused(alloc: Global) -> Option<usize> {
 
 /// What answers the first packet is written before a fault behind it is told.
 #[test]
-fn a_failed_write_comes_before_a_fault(rt: HostRuntime) {
-    hold(&rt, first_not_last(rt.alloc(), BAD_BEHIND, 12, Full::Fails));
-    hold(&rt, first_refused(rt.alloc()));
+fn a_failed_write_comes_before_a_fault(rt: HostRuntime) -> Result<(), Fail> {
+    none_is_wrong(first_not_last(rt.alloc(), BAD_BEHIND, 12, Full::Fails))?;
+    none_is_wrong(first_refused(rt.alloc()))
 }
 
 /// How a script in these pieces ends, how many exchanges there were, and the order of calls; none where
@@ -338,8 +336,8 @@ fn first_not_replayed(alloc: Global) -> Option<usize> {
 /// The answers of the lines that are whole are written before the next read, and behind a faulty
 /// line there is none.
 #[test]
-fn lines_are_answered_before_the_next_read(rt: HostRuntime) {
-    hold(&rt, first_not_replayed(rt.alloc()));
+fn lines_are_answered_before_the_next_read(rt: HostRuntime) -> Result<(), Fail> {
+    none_is_wrong(first_not_replayed(rt.alloc()))
 }
 
 /// The first script whose answers aren't written in so many writes.
@@ -355,8 +353,8 @@ fn first_in_other_writes(alloc: Global) -> Option<usize> {
 
 /// The answers of all lines that a read made whole are written in one write.
 #[test]
-fn lines_of_a_read_are_answered_in_one_write(rt: HostRuntime) {
-    hold(&rt, first_in_other_writes(rt.alloc()));
+fn lines_of_a_read_are_answered_in_one_write(rt: HostRuntime) -> Result<(), Fail> {
+    none_is_wrong(first_in_other_writes(rt.alloc()))
 }
 
 /// Whether the first write that fails is the last call of all, behind so many exchanges.
@@ -383,7 +381,7 @@ fn first_not_ended(alloc: Global, full: Full) -> Option<usize> {
 }
 
 #[test]
-fn a_failed_write_ends_a_script(rt: HostRuntime) {
-    hold(&rt, first_not_ended(rt.alloc(), Full::Fails));
-    hold(&rt, first_not_ended(rt.alloc(), Full::TakesNothing));
+fn a_failed_write_ends_a_script(rt: HostRuntime) -> Result<(), Fail> {
+    none_is_wrong(first_not_ended(rt.alloc(), Full::Fails))?;
+    none_is_wrong(first_not_ended(rt.alloc(), Full::TakesNothing))
 }

@@ -1,11 +1,12 @@
 //! What waits in a station, pumped to an end.
 use crate::fakes::desk;
-use crate::holding::hold;
 use crate::shelf::{Shelf, are, count};
 use crate::stations::{Pending, Refusing};
 use arrayvec::ArrayVec;
+use holding::none_is_wrong;
 use std::alloc::Global;
 use std::sync::atomic::AtomicBool;
+use std::test::Fail;
 use xcp_framing::{Desk, ServeError, Station, StationError, Watched, pump, serve_by};
 use xcp_slave::Request;
 
@@ -115,8 +116,8 @@ fn first_wrong_turns(alloc: Global) -> Option<usize> {
 /// Where nothing waits nothing is drained, and the pump waits; what waits is put together as far as the turns go, and
 /// a batch that is handed back ends the call.
 #[test]
-fn turns(rt: HostRuntime) {
-    hold(&rt, first_wrong_turns(rt.alloc()));
+fn turns(rt: HostRuntime) -> Result<(), Fail> {
+    none_is_wrong(first_wrong_turns(rt.alloc()))
 }
 
 /// How ten turns over this station end.

@@ -2,10 +2,11 @@
 ghost use Rattle.std.specs.Prelude.{◌≡◌, []};
 
 use crate::fakes::{Narrow, Pieces, desk};
-use crate::holding::hold;
 use crate::over::{replayed, replayed_on};
 use crate::replay_rows::{GOOD, ROWS, Row};
+use holding::none_is_wrong;
 use std::alloc::{AllocError, Global};
+use std::test::Fail;
 use xcp_framing::{Desk, Station};
 use xcp_script::{ReplayError, each_text_has_its_lines};
 use xcp_slave::{Answer, Exchange, Request};
@@ -46,8 +47,8 @@ fn first_wrong(alloc: Global) -> Option<usize> {
 }
 
 #[test]
-fn scripts(rt: HostRuntime) {
-    hold(&rt, first_wrong(rt.alloc()));
+fn scripts(rt: HostRuntime) -> Result<(), Fail> {
+    none_is_wrong(first_wrong(rt.alloc()))
 }
 
 /// A comment of so many bytes, and a line feed.
@@ -98,8 +99,8 @@ fn first_wrong_line(alloc: Global) -> Option<usize> {
 }
 
 #[test]
-fn long_lines(rt: HostRuntime) {
-    hold(&rt, first_wrong_line(rt.alloc()));
+fn long_lines(rt: HostRuntime) -> Result<(), Fail> {
+    none_is_wrong(first_wrong_line(rt.alloc()))
 }
 
 /// Whether Hangup is answered, and is the fourth exchange that the desk stores.

@@ -1,12 +1,13 @@
 //! Streams whose answers are put at an end.
 use crate::fakes::{Pieces, desk, desk_of};
-use crate::holding::hold;
 use crate::over::put;
 use crate::serve_rows::CONNECT;
 use crate::shelf::{Shelf, are, count as packets_in};
 use crate::stations::{Pending, Refusing};
+use holding::none_is_wrong;
 use std::alloc::Global;
 use std::io::Read;
+use std::test::Fail;
 use xcp_framing::{Batch, ServeError, Served, StationError, Watched, serve_by};
 
 /// CONNECT, a command that is unknown, SYNCH, a second CONNECT, SET_MTA, an UPLOAD of 16 bytes, and SYNCH.
@@ -91,10 +92,11 @@ fn first_not_ended(alloc: Global) -> Option<usize> {
 }
 
 #[test]
-fn a_batch_that_is_handed_back_is_a_failed_write(rt: HostRuntime) {
-    hold(&rt, first_not_ended(rt.alloc()));
+fn a_batch_that_is_handed_back_is_a_failed_write(rt: HostRuntime) -> Result<(), Fail> {
+    none_is_wrong(first_not_ended(rt.alloc()))?;
     let none = served(rt.alloc(), COMMANDS, 0, 1000);
     assert!(rt; is_served(&none, Err(ServeError::Write), &[]));
+    Ok(())
 }
 
 /// So many CONNECTs, one behind another.
@@ -148,8 +150,8 @@ fn first_other_end(alloc: Global) -> Option<usize> {
 }
 
 #[test]
-fn other_ends(rt: HostRuntime) {
-    hold(&rt, first_other_end(rt.alloc()));
+fn other_ends(rt: HostRuntime) -> Result<(), Fail> {
+    none_is_wrong(first_other_end(rt.alloc()))
 }
 
 /// Whether a station's refusal of CONNECT ends the call so.

@@ -2,12 +2,13 @@
 ghost use Rattle.std.specs.Prelude.{◌≢◌, IfSome};
 
 use crate::fakes::{Narrow, Pieces, desk, desk_of};
-use crate::holding::hold;
 use crate::over::served;
 use crate::serve_rows::{BLOCK, CONNECT, CONNECTED, GOOD, ROWS, Row};
 use crate::stations::{Pending, Refusing};
+use holding::none_is_wrong;
 use std::alloc::{AllocError, Global};
 use std::io::Read;
+use std::test::Fail;
 use xcp_framing::{Desk, ServeError, Served, StationError, Watched, a_desk_is_never_full, serve};
 
 /// Serves the row's stream over a desk, which is never full.
@@ -61,8 +62,8 @@ fn first_wrong(alloc: Global) -> Option<usize> {
 }
 
 #[test]
-fn streams(rt: HostRuntime) {
-    hold(&rt, first_wrong(rt.alloc()));
+fn streams(rt: HostRuntime) -> Result<(), Fail> {
+    none_is_wrong(first_wrong(rt.alloc()))
 }
 
 /// Whether a row's stream in these two pieces is answered as in one.
@@ -88,9 +89,9 @@ fn first_wrong_cut(alloc: Global, row: &Row) -> Option<usize> {
 
 /// In two pieces, cut at each place.
 #[test]
-fn cuts(rt: HostRuntime) {
-    hold(&rt, first_wrong_cut(rt.alloc(), &GOOD));
-    hold(&rt, first_wrong_cut(rt.alloc(), &BLOCK));
+fn cuts(rt: HostRuntime) -> Result<(), Fail> {
+    none_is_wrong(first_wrong_cut(rt.alloc(), &GOOD))?;
+    none_is_wrong(first_wrong_cut(rt.alloc(), &BLOCK))
 }
 
 /// A reader that fails behind so many bytes.
@@ -140,10 +141,10 @@ fn first_write(alloc: Global, row: &Row) -> Option<usize> {
 }
 
 #[test]
-fn faults_in_mid_stream(rt: HostRuntime) {
-    hold(&rt, first_read(rt.alloc()));
-    hold(&rt, first_write(rt.alloc(), &GOOD));
-    hold(&rt, first_write(rt.alloc(), &BLOCK));
+fn faults_in_mid_stream(rt: HostRuntime) -> Result<(), Fail> {
+    none_is_wrong(first_read(rt.alloc()))?;
+    none_is_wrong(first_write(rt.alloc(), &GOOD))?;
+    none_is_wrong(first_write(rt.alloc(), &BLOCK))
 }
 
 /// A station's refusal, behind so many requests, how it ends the call, and what is written.
@@ -183,8 +184,8 @@ fn first_wrong_refusal(alloc: Global) -> Option<usize> {
 
 /// The station's refusal ends the call: before CONNECT, and before the Drain behind it.
 #[test]
-fn refusals(rt: HostRuntime) {
-    hold(&rt, first_wrong_refusal(rt.alloc()));
+fn refusals(rt: HostRuntime) -> Result<(), Fail> {
+    none_is_wrong(first_wrong_refusal(rt.alloc()))
 }
 
 /// What is served of two commands where so many Drains give packets, and how many exchanges it takes.
@@ -228,8 +229,8 @@ fn first_wrong_drain(alloc: Global) -> Option<usize> {
 
 /// Behind a command stand 64 Drains at most: of 70 packets 64 go out behind the first of two.
 #[test]
-fn drains(rt: HostRuntime) {
-    hold(&rt, first_wrong_drain(rt.alloc()));
+fn drains(rt: HostRuntime) -> Result<(), Fail> {
+    none_is_wrong(first_wrong_drain(rt.alloc()))
 }
 
 /// CONNECT and so many SYNCH, each in its frame.
@@ -287,11 +288,12 @@ fn first_wrong_number() -> Option<usize> {
 }
 
 #[test]
-fn numbers(rt: HostRuntime) {
-    hold(&rt, first_wrong_number());
+fn numbers(rt: HostRuntime) -> Result<(), Fail> {
+    none_is_wrong(first_wrong_number())?;
     let refusals = [
         StationError::Memory.number(),
         StationError::JournalFull.number(),
     ];
     assert!(rt; refusals == [1, 2]);
+    Ok(())
 }

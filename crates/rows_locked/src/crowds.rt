@@ -9,7 +9,7 @@ use std::sync::atomic::{AtomicU32, Ordering};
 use std::sync::{Mutex, Wait};
 use std::test::Fail;
 use std::thread::Threads;
-use together::{Work, run_both};
+use together::{Work, run_crews};
 use xcp_locked::{Caller, Locked, Name, Opening, Reader, Settled, Unnamed};
 
 // How many rounds a tool has, and how many looks a reader has at most.
@@ -133,27 +133,6 @@ fn are_all(bytes: &[u8], byte: u8) -> bool {
     true
 }
 
-// A tool for each caller: their blocks are at 0x1000 and 0x1018.
-fn tools<'l, 'd, N: Name>(
-    alloc: Global,
-    lock: &'l Mutex<Locked<N>>,
-    callers: Vec<Caller<N>>,
-    done: &'d AtomicU32,
-) -> Result<Vec<Writes<'l, 'd, N>>, AllocError> {
-    let mut all = Vec::new(alloc);
-    let mut address = 0;
-    for caller in callers {
-        all.push(Writes {
-            lock,
-            caller,
-            address,
-            done,
-        })?;
-        address = 24;
-    }
-    Ok(all)
-}
-
 // A watcher for each reader.
 fn watchers<'a, N: Name>(
     alloc: Global,
@@ -165,6 +144,39 @@ fn watchers<'a, N: Name>(
         all.push(Looks { reader, done })?;
     }
     Ok(all)
+}
+
+// A tool and two watchers.
+type Crew<'l, 'd, N> = (Writes<'l, 'd, N>, Looks<'d, N>, Looks<'d, N>);
+
+// Crews, and single watchers.
+type Crowd<'l, 'd, N> = Result<(Vec<Crew<'l, 'd, N>>, Vec<Looks<'d, N>>), AllocError>;
+
+// A crew for each caller, whose tools have their blocks at 0x1000 and 0x1018; the other watchers are single.
+fn make_crowd<'l, 'd, N: Name>(
+    alloc: Global,
+    lock: &'l Mutex<Locked<N>>,
+    callers: Vec<Caller<N>>,
+    readers: [Reader<N>; 6],
+    done: &'d AtomicU32,
+) -> Crowd<'l, 'd, N> {
+    let mut watchers = watchers(alloc, readers, done)?;
+    let mut crews = Vec::new(alloc);
+    let mut address = 0;
+    for caller in callers {
+        let tool = Writes {
+            lock,
+            caller,
+            address,
+            done,
+        };
+        let (Some(left), Some(right)) = (watchers.pop(), watchers.pop()) else {
+            break;
+        };
+        crews.push((tool, left, right))?;
+        address = 24;
+    }
+    Ok((crews, watchers))
 }
 
 // Whether all calls of the tools were good, all images whole, and all settles; and how many calls there
@@ -198,9 +210,8 @@ fn meet_opening<N: Name + Send + Sync, R: Threads + Wait + Sync>(
     let connected = connects(&mut locked, &mut callers);
     let lock = Mutex::new(locked);
     let done = AtomicU32::new(0);
-    let tools = tools(alloc, &lock, callers, &done);
-    let watchers = watchers(alloc, readers, &done);
-    let met = run_all(rt, alloc, tools, watchers);
+    let crowd = make_crowd(alloc, &lock, callers, readers, &done);
+    let met = run_all(rt, alloc, crowd);
     came(&mut lock.lock(rt), met, connected)
 }
 
@@ -217,10 +228,17 @@ type Met<N> = Result<(Vec<(Caller<N>, bool)>, Vec<(Reader<N>, bool)>), AllocErro
 fn run_all<'l, 'd, N: Name + Send + Sync, R: Threads + Wait + Sync>(
     rt: &R,
     alloc: Global,
-    tools: Result<Vec<Writes<'l, 'd, N>>, AllocError>,
-    watchers: Result<Vec<Looks<'d, N>>, AllocError>,
+    crowd: Crowd<'l, 'd, N>,
 ) -> Met<N> {
-    run_both(rt, alloc, tools?, watchers?)
+    let (crews, watchers) = crowd?;
+    let (crews, mut looked) = run_crews(rt, alloc, crews, watchers)?;
+    let mut wrote = Vec::new(alloc);
+    for (tool, left, right) in crews {
+        wrote.push(tool)?;
+        looked.push(left)?;
+        looked.push(right)?;
+    }
+    Ok((wrote, looked))
 }
 
 fn came<N: Name>(locked: &mut Locked<N>, met: Met<N>, connected: bool) -> Result<Came, Fail> {

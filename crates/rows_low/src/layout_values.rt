@@ -1,6 +1,6 @@
 //! What a layout tells, and the texts of its faults.
-use crate::layouts::{Kind, USUAL, layout};
-use crate::rows::{WrongRow, so};
+use holding::{WrongRow, so};
+use small_layouts::{COUNTED, SECOND, Small, TWO_SEGMENTS, layout};
 use std::alloc::Global;
 use std::test::Fail;
 use xcp_memory::{Area, ChecksumKind, Key, Layout, LayoutFault};
@@ -65,12 +65,22 @@ fn has_its_values(layout: &Layout) -> bool {
 /// Whether a layout of the other byte order has that.
 fn has_its_order(alloc: Global) -> Result<(), Fail> {
     let order = Order::Motorola;
-    let swapped = layout(alloc, Kind { order, ..USUAL })?;
+    let swapped = layout(
+        alloc,
+        Small {
+            order,
+            ..TWO_SEGMENTS
+        },
+    )?;
     so(swapped.order() == order, "a layout has another byte order")
 }
 
 fn values_are_told(alloc: Global) -> Result<(), Fail> {
-    let layout = layout(alloc, Kind { pages: 3, ..USUAL })?;
+    let small = Small {
+        segments: &[(0x1000, &COUNTED, 3), SECOND],
+        ..TWO_SEGMENTS
+    };
+    let layout = layout(alloc, small)?;
     so(has_its_values(&layout), "a layout has other values")
 }
 
@@ -111,7 +121,7 @@ fn all_are_found(layout: &Layout) -> Result<(), Fail> {
 
 #[test]
 fn ranges_lie_in_areas(rt: HostRuntime) -> Result<(), Fail> {
-    all_are_found(&layout(rt.alloc(), USUAL)?)
+    all_are_found(&layout(rt.alloc(), TWO_SEGMENTS)?)
 }
 
 static FAULTS: [(LayoutFault, &str); 3] = [

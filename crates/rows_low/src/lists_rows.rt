@@ -1,8 +1,9 @@
 //! What rows ask of acquisition lists: each command by its name, and an event by its channel.
 //! Addresses have four bytes in an answer, lists, events and counts of them two, the high one first.
 use crate::answers::{answer, byte, refused, told};
-use crate::layouts::{Kind, USUAL, pages};
+use crate::layouts::pages;
 use crate::rows::{Subject, words};
+use small_layouts::{Small, TWO_SEGMENTS};
 use std::alloc::Global;
 use std::test::Fail;
 use xcp_daq::{Daq, ListMode};
@@ -19,7 +20,13 @@ pub struct Lists {
 
 /// No lists yet, over pages whose signals are 1 to 8.
 pub(crate) fn opened_lists(alloc: Global, max_dto: i64) -> Result<Lists, Fail> {
-    let mut pages = pages(alloc, Kind { max_dto, ..USUAL })?;
+    let mut pages = pages(
+        alloc,
+        Small {
+            max_dto,
+            ..TWO_SEGMENTS
+        },
+    )?;
     if pages.layout().signals_length() == 8 {
         pages.set_signals(&[1, 2, 3, 4, 5, 6, 7, 8]);
     }

@@ -1,7 +1,8 @@
 //! Acquisition lists against worked rows.
 use crate::answers::{refused, told};
 use crate::lists_rows::{Lists, opened_lists};
-use crate::rows::{Subject, all_hold, both_hold, so};
+use crate::rows::{Subject, all_hold, both_hold};
+use holding::so;
 use std::alloc::Global;
 use std::test::Fail;
 use xcp_packet::Code;

@@ -1,5 +1,5 @@
 //! Replies against their bytes.
-use crate::rows::{none_is_wrong, so};
+use holding::{none_is_wrong, so};
 use std::test::Fail;
 use xcp_packet::{Code, Data, Order, Reply, encode_reply};
 

@@ -1,5 +1,5 @@
 //! Blocks against their packets.
-use crate::rows::{none_is_wrong, so};
+use holding::{none_is_wrong, so};
 use std::test::Fail;
 use xcp_packet::{Data, Packet, Train, Width};
 

@@ -1,17 +1,18 @@
 //! Pages against worked rows.
-use crate::layouts::{Kind, USUAL, pages};
+use crate::layouts::pages;
 use crate::rows::{all_hold, both_hold};
+use small_layouts::{FOUR_PAGES, Small, TWO_SEGMENTS};
 use std::alloc::Global;
 use std::test::Fail;
 
 /// Whether pages of such a layout answer so.
-fn hold_on(alloc: Global, kind: Kind, rows: &str) -> Result<(), Fail> {
-    all_hold(&mut pages(alloc, kind)?, rows)
+fn hold_on(alloc: Global, small: Small, rows: &str) -> Result<(), Fail> {
+    all_hold(&mut pages(alloc, small)?, rows)
 }
 
 /// Whether pages of the usual layout do.
 fn hold(alloc: Global, rows: &str) -> Result<(), Fail> {
-    hold_on(alloc, USUAL, rows)
+    hold_on(alloc, TWO_SEGMENTS, rows)
 }
 
 #[test]
@@ -97,7 +98,13 @@ const REFUSED_SUMS: &str = "
 
 /// Whether the sums of such a type are so.
 fn sums_hold(alloc: Global, checksum: i64, row: &str) -> Result<(), Fail> {
-    let mut pages = pages(alloc, Kind { checksum, ..USUAL })?;
+    let mut pages = pages(
+        alloc,
+        Small {
+            checksum,
+            ..TWO_SEGMENTS
+        },
+    )?;
     both_hold(&mut pages, row, REFUSED_SUMS)
 }
 
@@ -123,7 +130,7 @@ fn the_image_is_the_controllers(rt: HostRuntime) -> Result<(), Fail> {
 
 /// Whether audited pages of the usual layout answer so.
 fn hold_and_audit(alloc: Global, rows: &str) -> Result<(), Fail> {
-    let mut pages = pages(alloc, USUAL)?;
+    let mut pages = pages(alloc, TWO_SEGMENTS)?;
     let held = all_hold(&mut pages, rows);
     pages.audit();
     held
@@ -164,10 +171,9 @@ fn pages_are_copied(rt: HostRuntime) -> Result<(), Fail> {
 }
 
 /// Two segments of 8 bytes, all 01 and all 02.
-const TWINS: Kind = Kind {
-    first: &[1; 8],
-    second: &[2; 8],
-    ..USUAL
+const TWINS: Small = Small {
+    segments: &[(0x1000, &[1; 8], 2), (0x2000, &[2; 8], 2)],
+    ..TWO_SEGMENTS
 };
 
 #[test]
@@ -240,5 +246,5 @@ fn pages_behind_the_second(rt: HostRuntime) -> Result<(), Fail> {
         content 0 0 1 > FF CD
         content 0 1 1 > FF 01
     ";
-    hold_on(rt.alloc(), Kind { pages: 4, ..USUAL }, rows)
+    hold_on(rt.alloc(), FOUR_PAGES, rows)
 }

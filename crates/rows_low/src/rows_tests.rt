@@ -1,5 +1,6 @@
 //! The reader of rows hides no failure.
-use crate::rows::{Subject, first_wrong, packet};
+use crate::rows::{Subject, first_wrong};
+use holding::bytes_of;
 use std::test::Fail;
 use xcp_packet::Packet;
 
@@ -9,7 +10,7 @@ struct Echo;
 
 impl Subject for Echo {
     fn told(&mut self, question: &str) -> Option<Packet> {
-        packet(question)
+        bytes_of(question)
     }
 }
 

@@ -1,7 +1,8 @@
 //! Blocks of each length.
-use crate::layouts::{Kind, USUAL, pages};
+use crate::layouts::pages;
 use crate::rows::first_wrong;
 use crate::transfer_rows::sent;
+use small_layouts::{SECOND, Small, TWO_SEGMENTS};
 use std::alloc::Global;
 use std::test::Fail;
 use xcp_packet::Packet;
@@ -61,10 +62,10 @@ fn is_written_whole(transfer: &mut Transfer, n: u8) -> bool {
 }
 
 /// A segment of 49 bytes.
-const LONG: Kind = Kind {
+const LONG: Small = Small {
     max_cto: 8,
-    first: &[0; 49],
-    ..USUAL
+    segments: &[(0x1000, &[0; 49], 2), SECOND],
+    ..TWO_SEGMENTS
 };
 
 /// Whether a block of this length is, with MAX_CTO 8.

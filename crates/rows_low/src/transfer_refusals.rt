@@ -1,6 +1,7 @@
 //! Of several refusals that hold the first of the row is answered, and the MTA stays.
-use crate::rows::{WrongRow, first_wrong};
+use crate::rows::first_wrong;
 use crate::transfer_rows::transfer;
+use holding::WrongRow;
 use std::alloc::Global;
 use std::test::Fail;
 use xcp_transfer::{Mta, TextId, Transfer};

@@ -1,7 +1,9 @@
 //! What rows ask of transfers: a command packet, new signals, or that the pages are stored.
 use crate::answers::{answer, refused, told};
-use crate::layouts::{Kind, USUAL, pages};
-use crate::rows::{Subject, packet};
+use crate::layouts::pages;
+use crate::rows::Subject;
+use holding::bytes_of;
+use small_layouts::{Small, TWO_SEGMENTS};
 use std::alloc::Global;
 use std::test::Fail;
 use xcp_packet::{Command, Fault, Packet, Sent, Width, decode, write_fault};
@@ -9,7 +11,13 @@ use xcp_transfer::{Mta, Transfer};
 
 /// Transfers with such a MAX_CTO.
 pub(crate) fn transfer(alloc: Global, max_cto: i64) -> Result<Transfer, Fail> {
-    Ok(Transfer::new(pages(alloc, Kind { max_cto, ..USUAL })?))
+    Ok(Transfer::new(pages(
+        alloc,
+        Small {
+            max_cto,
+            ..TWO_SEGMENTS
+        },
+    )?))
 }
 
 /// What comes of a command whose reply stands in a packet that is lent; none for other commands.
@@ -128,9 +136,9 @@ fn signals(transfer: &mut Transfer, bytes: &Packet) -> Option<Packet> {
 impl Subject for Transfer {
     fn told(&mut self, question: &str) -> Option<Packet> {
         match question.split_once(' ') {
-            Some(("signals", bytes)) => signals(self, &packet(bytes)?),
+            Some(("signals", bytes)) => signals(self, &bytes_of(bytes)?),
             None if question == "store" => Some(told(&[self.freeze()])),
-            _ => sent(self, &packet(question)?),
+            _ => sent(self, &bytes_of(question)?),
         }
     }
 }

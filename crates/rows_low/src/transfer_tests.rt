@@ -1,7 +1,8 @@
 //! Worked rows of the transfers, as command packets and the packets that answer them.
-use crate::layouts::{Kind, USUAL, pages};
+use crate::layouts::pages;
 use crate::rows::all_hold;
 use crate::transfer_rows::transfer;
+use small_layouts::{Small, TWO_SEGMENTS};
 use std::alloc::Global;
 use std::test::Fail;
 use xcp_transfer::Transfer;
@@ -207,7 +208,13 @@ static SUMS: [(i64, &str); 4] = [
 
 /// Whether transfers with such a type of checksums answer so.
 fn sums_hold(alloc: Global, checksum: i64, rows: &str) -> Result<(), Fail> {
-    let pages = pages(alloc, Kind { checksum, ..USUAL })?;
+    let pages = pages(
+        alloc,
+        Small {
+            checksum,
+            ..TWO_SEGMENTS
+        },
+    )?;
     all_hold(&mut Transfer::new(pages), rows)
 }
 

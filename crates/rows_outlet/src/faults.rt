@@ -42,10 +42,10 @@ fn short_sender<R: Wait>(rt: &R, alloc: Global) -> Result<SendEnd, AllocError> {
     Ok(sender)
 }
 
-// A sender of eight packets of 255 bytes. Seven of their frames are written together.
+// A sender of sixteen packets of 255 bytes. Fifteen of their frames are written together.
 fn long_sender<R: Wait>(rt: &R, alloc: Global) -> Result<SendEnd, AllocError> {
     let (mut replies, data, sender) = outlet(alloc)?;
-    for number in 0..8 {
+    for number in 0..16 {
         let mut packet = Packet::new();
         for _ in 0..255 {
             let _ = packet.try_push(number);
@@ -121,13 +121,13 @@ fn tells<R: Wait>(
     count == wanted && text.len() == written
 }
 
-// How many bytes may be written of eight long packets, and what is told.
+// How many bytes may be written of sixteen long packets, and what is told.
 static ROOMS: [(usize, Result<u64, SendError>); 5] = [
     (0, Err(SendError::Write(0))),
-    (1812, Err(SendError::Write(0))),
-    (1813, Err(SendError::Write(7))),
-    (2071, Err(SendError::Write(7))),
-    (2072, Ok(8)),
+    (3884, Err(SendError::Write(0))),
+    (3885, Err(SendError::Write(15))),
+    (4143, Err(SendError::Write(15))),
+    (4144, Ok(16)),
 ];
 
 fn are_counted<R: Wait>(rt: &R, alloc: Global) -> bool {

@@ -1,38 +1,4 @@
-//! The layout files that the tests read.
-use std::alloc::{AllocError, Global};
-
-/// The document that the rows change: one line for each line of it.
-static LINES: [&str; 16] = [
-    "id = \"ECU1\"",
-    "max_cto = 32",
-    "max_dto = 64",
-    "[[segment]]",
-    "address = 0x1000",
-    "data = \"000102030405060708090A0B0C0D0E0F\"",
-    "[[segment]]",
-    "address = 0x2000",
-    "data = \"AAAAAAAAAAAAAAAA\"",
-    "[signals]",
-    "address = 0x8000",
-    "length = 8",
-    "[[event]]",
-    "name = \"10ms\"",
-    "cycle = 10",
-    "unit = 6",
-];
-
-/// The document with one line in the place of another.
-pub fn changed(alloc: Global, place: usize, line: &str) -> Result<String, AllocError> {
-    let mut text = String::new(alloc);
-    for (i, old) in LINES.iter().enumerate() {
-        text.push_str(if i == place { line } else { *old })?;
-        text.push_str("\n")?;
-    }
-    Ok(text)
-}
-
-/// No line's place, at which `changed` leaves the document as it stands.
-pub const WHOLE: usize = LINES.len();
+//! A layout file that the tests read.
 
 /// The document `data/engine.toml` of the program.
 pub const ENGINE: &str = r#"# The controller of a four-cylinder engine, as it left the factory.

@@ -3,8 +3,6 @@
 #![tactic(auto)]
 
 #[cfg(test)]
-mod holding;
-#[cfg(test)]
 mod layouts;
 #[cfg(test)]
 mod periods;

@@ -1,7 +1,9 @@
 //! Replays of scripts.
-use crate::holding::hold;
-use crate::layouts::{ENGINE, WHOLE, changed};
+use crate::layouts::ENGINE;
+use holding::none_is_wrong;
+use small_layouts::{WHOLE, changed};
 use std::alloc::{AllocError, Global};
+use std::test::Fail;
 use xcp_framing::Watched;
 use xcp_program::{Fault, replay};
 
@@ -72,8 +74,8 @@ static WORKED: [Row; 5] = [
 ];
 
 #[test]
-fn the_worked_run(rt: HostRuntime) {
-    hold(&rt, first_other_by(rt.alloc(), WHOLE, "", &WORKED));
+fn the_worked_run(rt: HostRuntime) -> Result<(), Fail> {
+    none_is_wrong(first_other_by(rt.alloc(), WHOLE, "", &WORKED)?)
 }
 
 /// CONNECT, SET_MTA, an UPLOAD of 16 bytes with MAX_CTO 8, one behind the segment, and one of none.
@@ -84,8 +86,8 @@ static BLOCK: [Row; 1] = [(
 )];
 
 #[test]
-fn packets_of_a_block_stand_on_one_line(rt: HostRuntime) {
-    hold(&rt, first_other_by(rt.alloc(), 1, "max_cto = 8", &BLOCK));
+fn packets_of_a_block_stand_on_one_line(rt: HostRuntime) -> Result<(), Fail> {
+    none_is_wrong(first_other_by(rt.alloc(), 1, "max_cto = 8", &BLOCK)?)
 }
 
 /// BUILD_CHECKSUM of segment 0; SET_CAL_PAGE, MODIFY_BITS and UPLOAD on its working page.
@@ -96,9 +98,9 @@ static WORDS: [Row; 1] = [(
 )];
 
 #[test]
-fn a_motorola_slave(rt: HostRuntime) {
+fn a_motorola_slave(rt: HostRuntime) -> Result<(), Fail> {
     let names = "max_dto = 64\nbyte_order = \"motorola\"\nchecksum = \"ADD_24\"";
-    hold(&rt, first_other_by(rt.alloc(), 2, names, &WORDS));
+    none_is_wrong(first_other_by(rt.alloc(), 2, names, &WORDS)?)
 }
 
 const FIVE: &str =
@@ -127,8 +129,8 @@ fn first_other_configuration(alloc: Global) -> Result<Option<usize>, AllocError>
 }
 
 #[test]
-fn each_fault_of_a_configuration_has_its_number(rt: HostRuntime) {
-    hold(&rt, first_other_configuration(rt.alloc()));
+fn each_fault_of_a_configuration_has_its_number(rt: HostRuntime) -> Result<(), Fail> {
+    none_is_wrong(first_other_configuration(rt.alloc())?)
 }
 
 static TURNS: [Row; 3] = [
@@ -138,8 +140,8 @@ static TURNS: [Row; 3] = [
 ];
 
 #[test]
-fn turns_bound_the_reads(rt: HostRuntime) {
-    hold(&rt, first_other_by(rt.alloc(), WHOLE, "", &TURNS));
+fn turns_bound_the_reads(rt: HostRuntime) -> Result<(), Fail> {
+    none_is_wrong(first_other_by(rt.alloc(), WHOLE, "", &TURNS)?)
 }
 
 /// CONNECT; SHORT_UPLOAD of the first bytes of each segment, and of the signals.
@@ -150,8 +152,8 @@ static UPLOADS: [Row; 1] = [(
 )];
 
 #[test]
-fn the_engine_that_is_shipped(rt: HostRuntime) {
-    hold(&rt, first_other(rt.alloc(), ENGINE, &UPLOADS));
+fn the_engine_that_is_shipped(rt: HostRuntime) -> Result<(), Fail> {
+    none_is_wrong(first_other(rt.alloc(), ENGINE, &UPLOADS)?)
 }
 
 /// Faults, and their texts with their statuses.
@@ -180,6 +182,6 @@ fn first_other_fault(alloc: Global) -> Result<Option<usize>, AllocError> {
 }
 
 #[test]
-fn faults_are_told(rt: HostRuntime) {
-    hold(&rt, first_other_fault(rt.alloc()));
+fn faults_are_told(rt: HostRuntime) -> Result<(), Fail> {
+    none_is_wrong(first_other_fault(rt.alloc())?)
 }

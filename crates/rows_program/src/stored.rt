@@ -1,9 +1,10 @@
 //! Replays that begin with stored pages.
-use crate::holding::hold;
-use crate::layouts::{WHOLE, changed};
 use crate::replays::told;
+use holding::none_is_wrong;
 use sha2::{Digest, Sha256};
+use small_layouts::{WHOLE, changed};
 use std::alloc::{AllocError, Global};
+use std::test::Fail;
 
 /// A page for the first segment of the document.
 const FIRST: [u8; 16] = [
@@ -86,8 +87,8 @@ fn first_restored(alloc: Global) -> Result<Option<usize>, AllocError> {
 }
 
 #[test]
-fn an_altered_file_is_refused(rt: HostRuntime) {
-    hold(&rt, first_restored(rt.alloc()));
+fn an_altered_file_is_refused(rt: HostRuntime) -> Result<(), Fail> {
+    none_is_wrong(first_restored(rt.alloc())?)
 }
 
 /// Whether files that are cut short, too long, empty, of another layout file and of pages of another size are refused.

@@ -1,6 +1,7 @@
 //! The words of `audit`.
-use crate::holding::hold;
 use crate::told::{Row, first_other};
+use holding::none_is_wrong;
+use std::test::Fail;
 
 const AUDIT_HELP: &str =
     "0 Checks the file of a journal: executes each of its calls again, and compares the answers
@@ -79,6 +80,6 @@ static AUDITS: [Row; 13] = [
 ];
 
 #[test]
-fn the_words_of_an_audit(rt: HostRuntime) {
-    hold(&rt, first_other(rt.alloc(), &AUDITS));
+fn the_words_of_an_audit(rt: HostRuntime) -> Result<(), Fail> {
+    none_is_wrong(first_other(rt.alloc(), &AUDITS)?)
 }

@@ -1,6 +1,7 @@
 //! The words of `describe`.
-use crate::holding::hold;
 use crate::told::{Row, first_other};
+use holding::none_is_wrong;
+use std::test::Fail;
 
 const DESCRIBE_HELP: &str = "0 Prints the A2L file of the slave: ASAP2 1.6, on standard output
 
@@ -76,6 +77,6 @@ static DESCRIPTIONS: [Row; 13] = [
 ];
 
 #[test]
-fn the_words_of_a_description(rt: HostRuntime) {
-    hold(&rt, first_other(rt.alloc(), &DESCRIPTIONS));
+fn the_words_of_a_description(rt: HostRuntime) -> Result<(), Fail> {
+    none_is_wrong(first_other(rt.alloc(), &DESCRIPTIONS)?)
 }

@@ -1,7 +1,8 @@
 //! The words of the command line without a subcommand and of `replay`, and what is told where they ask for nothing.
-use crate::holding::hold;
 use crate::told::{Row, first_other, first_other_beginning};
+use holding::none_is_wrong;
 use std::alloc::{AllocError, Global};
+use std::test::Fail;
 use xcp_program::Unasked;
 
 const PROGRAM_HELP: &str = "0 A calibration slave: XCP of ASAM MCD-1, major version 1
@@ -66,8 +67,8 @@ static REPLAYS: [Row; 9] = [
 ];
 
 #[test]
-fn the_words_of_the_command_line(rt: HostRuntime) {
-    hold(&rt, first_other(rt.alloc(), &REPLAYS));
+fn the_words_of_the_command_line(rt: HostRuntime) -> Result<(), Fail> {
+    none_is_wrong(first_other(rt.alloc(), &REPLAYS)?)
 }
 
 /// What it tells of such words that are wrong.
@@ -102,8 +103,8 @@ static WRONG_REPLAYS: [Row; 9] = [
 ];
 
 #[test]
-fn the_faults_of_words(rt: HostRuntime) {
-    hold(&rt, first_other_beginning(rt.alloc(), &WRONG_REPLAYS));
+fn the_faults_of_words(rt: HostRuntime) -> Result<(), Fail> {
+    none_is_wrong(first_other_beginning(rt.alloc(), &WRONG_REPLAYS)?)
 }
 
 fn told_of_memory(alloc: Global) -> Result<String, AllocError> {

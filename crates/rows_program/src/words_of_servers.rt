@@ -1,7 +1,8 @@
 //! The words of `serve`.
-use crate::holding::hold;
 use crate::told::{Row, first_other, first_other_beginning};
+use holding::none_is_wrong;
 use std::alloc::{AllocError, Global};
+use std::test::Fail;
 use xcp_program::options;
 
 const SERVE_HELP: &str =
@@ -271,9 +272,9 @@ static WRONG_SERVERS: [Row; 33] = [
 ];
 
 #[test]
-fn the_words_of_a_server(rt: HostRuntime) {
-    hold(&rt, first_other(rt.alloc(), &SERVERS));
-    hold(&rt, first_other_beginning(rt.alloc(), &WRONG_SERVERS));
+fn the_words_of_a_server(rt: HostRuntime) -> Result<(), Fail> {
+    none_is_wrong(first_other(rt.alloc(), &SERVERS)?)?;
+    none_is_wrong(first_other_beginning(rt.alloc(), &WRONG_SERVERS)?)
 }
 
 /// What it does with words of `serve` that have `--stay`.
@@ -337,8 +338,8 @@ static STAYING: [Row; 14] = [
 ];
 
 #[test]
-fn the_words_of_a_server_that_stays(rt: HostRuntime) {
-    hold(&rt, first_other(rt.alloc(), &STAYING));
+fn the_words_of_a_server_that_stays(rt: HostRuntime) -> Result<(), Fail> {
+    none_is_wrong(first_other(rt.alloc(), &STAYING)?)
 }
 
 /// The number of the fault of words of `serve` that want so many tools, or 0 where there is none.
@@ -368,6 +369,6 @@ fn first_other_number(alloc: Global) -> Result<Option<usize>, AllocError> {
 }
 
 #[test]
-fn the_faults_of_words_have_numbers(rt: HostRuntime) {
-    hold(&rt, first_other_number(rt.alloc()));
+fn the_faults_of_words_have_numbers(rt: HostRuntime) -> Result<(), Fail> {
+    none_is_wrong(first_other_number(rt.alloc())?)
 }

@@ -1,21 +1,18 @@
 //! A small slave, and journals of its calls.
 
 use arrayvec::ArrayVec;
-use small_layouts::{Small, USUAL, parts};
+use small_layouts::{COUNTED, Small, USUAL, parts};
 use std::alloc::{AllocError, Global};
 use xcp_memory::Layout;
 use xcp_packet::Packet;
 use xcp_slave::{Request, Slave};
 use xcp_trace::Journal;
 
-/// What the segment has at the opening.
-const BYTES: [u8; 16] = [0, 1, 2, 3, 4, 5, 6, 7, 8, 9, 10, 11, 12, 13, 14, 15];
-
-/// MAX_CTO 8, one segment at 0x1000 with two pages of these bytes, and 2 bytes of signals.
+/// MAX_CTO 8, one segment at 0x1000 with two pages of the bytes 00 to 0F, and 2 bytes of signals.
 const NARROW: Small = Small {
     max_cto: 8,
     signals: 2,
-    segments: &[(0x1000, &BYTES, 2)],
+    segments: &[(0x1000, &COUNTED, 2)],
     ..USUAL
 };
 

@@ -187,7 +187,7 @@ fn serve_named<'a, N: Name + Send + Sync, G: Gate + Sync, R: Threads + Wait + Cl
         (),
     )?;
     let settled = settle_all(&mut closing);
-    Ok((closing.ends, closing.fault, settled))
+    Ok((closing.outcomes, closing.fault, settled))
 }
 
 // What comes of a server of these connections and tasks.
@@ -281,12 +281,12 @@ fn a_connection_ends_for_itself(rt: HostRuntime) -> Result<(), Fail> {
     let ends = Vec::from_array(alloc, [first, second])?;
     let unnamed = engine(alloc, 6)?;
     let came = serve_all(&rt, alloc, unnamed, ends, (2, 3), &gate)?;
-    let quiet = Ok(Served { frames: 0, sent: 0 });
+    let silent = Ok(Served { frames: 0, sent: 0 });
     let end = Ok(Served {
         frames: 19,
         sent: 20,
     });
-    let wanted: Came = (Vec::from_array(alloc, [quiet, end])?, None, Ok(32));
+    let wanted: Came = (Vec::from_array(alloc, [silent, end])?, None, Ok(32));
     assert!(rt; came == wanted);
     Ok(())
 }

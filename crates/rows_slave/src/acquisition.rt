@@ -1,13 +1,14 @@
 //! Rows of the commands of acquisition lists, and of events.
-use crate::layouts::{Kind, USUAL, connected};
+use crate::layouts::connected;
 use crate::rows::{hold, hold_again, hold_around, hold_on_new};
+use small_layouts::{Small, TWO_SEGMENTS};
 use std::alloc::Global;
 use std::test::Fail;
 
 /// The outbox takes 64 packets: so many events are sampled, and the next overruns.
 fn hold_behind_64(alloc: Global, rows: &[&str; 3]) -> Result<(), Fail> {
     let [opening, event, rest] = *rows;
-    let mut slave = connected(alloc, USUAL)?;
+    let mut slave = connected(alloc, TWO_SEGMENTS)?;
     hold_around(&mut slave, opening, 64, event, rest)
 }
 
@@ -85,7 +86,7 @@ const ALLOCATED: &str = "
 
 /// Whether a slave answers so behind those.
 fn hold_behind(alloc: Global, rows: &str) -> Result<(), Fail> {
-    let mut slave = connected(alloc, USUAL)?;
+    let mut slave = connected(alloc, TWO_SEGMENTS)?;
     hold_again(&mut slave, ALLOCATED, 1, rows)
 }
 
@@ -191,11 +192,11 @@ fn an_odt_that_a_packet_does_not_hold(rt: HostRuntime) -> Result<(), Fail> {
         DE 00 00 00 > FF 00
         DE 03 00 00 > FE 27
     ";
-    let kind = Kind {
+    let small = Small {
         max_dto: 8,
-        ..USUAL
+        ..TWO_SEGMENTS
     };
-    hold_on_new(rt.alloc(), kind, rows)
+    hold_on_new(rt.alloc(), small, rows)
 }
 
 #[test]
@@ -214,11 +215,11 @@ fn a_selected_list_may_outgrow_a_packet(rt: HostRuntime) -> Result<(), Fail> {
         DD 01 > FE 2A
         DF 00 00 00 > FF 01 00 00 00 00 01 00
     ";
-    let kind = Kind {
+    let small = Small {
         max_dto: 8,
-        ..USUAL
+        ..TWO_SEGMENTS
     };
-    hold_on_new(rt.alloc(), kind, rows)
+    hold_on_new(rt.alloc(), small, rows)
 }
 
 #[test]

@@ -1,6 +1,6 @@
 //! Downloads of as many bytes as one may name.
-use crate::layouts::{Kind, USUAL, connected};
-use crate::rows::{adds_data, answer, first_wrong, hold_on, packet_of};
+use crate::layouts::connected_long;
+use crate::rows::{adds_data, all_hold, answer, first_wrong, packet_of};
 use std::alloc::Global;
 use std::test::Fail;
 use xcp_packet::{Packet, Train};
@@ -124,17 +124,8 @@ static LENGTHS: [Row; 9] = [
     (255, 253, 255, 2),
 ];
 
-/// A segment of 255 bytes.
-fn long(max_cto: i64) -> Kind {
-    Kind {
-        max_cto,
-        length: 255,
-        ..USUAL
-    }
-}
-
 fn is_so(alloc: Global, (max_cto, room, n, packets): &Row) -> Result<bool, Fail> {
-    let mut slave = connected(alloc, long(*max_cto))?;
+    let mut slave = connected_long(alloc, *max_cto)?;
     Ok(came(&mut slave, *room, *n) == Some(*packets))
 }
 
@@ -164,7 +155,7 @@ static TOO_MANY: [(i64, &str); 3] = [
 #[test]
 fn a_download_of_nine_packets_is_refused(rt: HostRuntime) -> Result<(), Fail> {
     for (max_cto, row) in &TOO_MANY {
-        hold_on(rt.alloc(), long(*max_cto), row)?;
+        all_hold(&mut connected_long(rt.alloc(), *max_cto)?, row)?;
     }
     Ok(())
 }
@@ -181,5 +172,5 @@ fn a_download_of_all_that_a_packet_holds(rt: HostRuntime) -> Result<(), Fail> {
         F4 07 00 00 00 10 00 00 > FF 00 D1 D2 D3 D4 D5 D6
         F5 02 > FF D7 08
     ";
-    hold_on(rt.alloc(), long(8), rows)
+    all_hold(&mut connected_long(rt.alloc(), 8)?, rows)
 }

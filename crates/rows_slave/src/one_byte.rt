@@ -1,13 +1,15 @@
 //! Command packets of one byte.
-use crate::layouts::{USUAL, connected};
-use crate::rows::{answer, hold, packet_of, so};
+use crate::layouts::connected;
+use crate::rows::{answer, hold, packet_of};
+use holding::so;
+use small_layouts::TWO_SEGMENTS;
 use std::alloc::Global;
 use std::test::Fail;
 use xcp_slave::{Answer, Request};
 
 /// What a packet of one byte is answered behind CONNECT.
 fn told(alloc: Global, first: u8) -> Result<Answer, Fail> {
-    let mut slave = connected(alloc, USUAL)?;
+    let mut slave = connected(alloc, TWO_SEGMENTS)?;
     Ok(slave.submit(&Request::Command(packet_of(&[first]))))
 }
 

@@ -1,6 +1,6 @@
 //! Rows of the commands that tell of pages, switch and copy them.
-use crate::layouts::{Kind, USUAL};
 use crate::rows::{hold, hold_on};
+use small_layouts::FOUR_PAGES;
 use std::test::Fail;
 
 /// Each is a fresh start.
@@ -121,8 +121,7 @@ fn four_pages_are_told_and_switched(rt: HostRuntime) -> Result<(), Fail> {
         EB 83 00 01 > FF
         EA 02 00 > FF 00 00 01
     ";
-    let kind = Kind { pages: 4, ..USUAL };
-    hold_on(rt.alloc(), kind, rows)
+    hold_on(rt.alloc(), FOUR_PAGES, rows)
 }
 
 #[test]
@@ -146,6 +145,5 @@ fn four_pages_have_bytes_of_their_own(rt: HostRuntime) -> Result<(), Fail> {
         E4 00 03 00 04 > FE 26
         E4 00 03 01 01 > FE 22
     ";
-    let kind = Kind { pages: 4, ..USUAL };
-    hold_on(rt.alloc(), kind, rows)
+    hold_on(rt.alloc(), FOUR_PAGES, rows)
 }

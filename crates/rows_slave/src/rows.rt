@@ -1,36 +1,16 @@
 //! Rows as texts. A line is what is asked of a slave, a `>`, and what it answers: packets in hex, a `|`
 //! between those of one answer; `event C HEX`, `drain`, `store`, `hangup`, or `image` of its first 24
 //! bytes; `-` where nothing is sent. Empty lines and comments (`#`) are skipped.
-use crate::layouts::{Kind, USUAL, connected, slave};
-use arrayvec::ArrayVec;
+use crate::layouts::{connected, slave};
+use holding::{bytes_of, first_wrong_line, no_line_is_wrong};
+use small_layouts::{Small, TWO_SEGMENTS};
 use std::alloc::Global;
 use std::test::Fail;
 use xcp_packet::{Packet, Train, Width};
 use xcp_slave::{Answer, Request, Slave};
 
-/// Adds the bytes of a text, if all its words are bytes and there is room.
-fn adds<const N: usize>(bytes: &mut ArrayVec<u8, N>, text: &str) -> bool {
-    for word in text.split_whitespace() {
-        match u8::from_str_radix(word, 16) {
-            Ok(byte) if bytes.try_push(byte).is_ok() => {}
-            _ => return false,
-        }
-    }
-    true
-}
-
-/// The bytes of a text, if all its words are bytes.
-fn bytes<const N: usize>(text: &str) -> Option<ArrayVec<u8, N>> {
-    let mut bytes = ArrayVec::new();
-    if adds(&mut bytes, text) {
-        Some(bytes)
-    } else {
-        None
-    }
-}
-
 fn command(text: &str) -> Option<Request> {
-    match bytes(text) {
+    match bytes_of(text) {
         Some(packet) => Some(Request::Command(packet)),
         None => None,
     }
@@ -39,7 +19,7 @@ fn command(text: &str) -> Option<Request> {
 fn event(text: &str) -> Option<Request> {
     let (channel, signals) = text.split_once(' ')?;
     let channel = u16::from_str_radix(channel, 16).ok()?;
-    match bytes(signals) {
+    match bytes_of(signals) {
         Some(signals) => Some(Request::Event(channel, signals)),
         None => None,
     }
@@ -76,7 +56,7 @@ pub(crate) fn adds_data(data: &mut Packet, packet: &[u8]) -> bool {
 }
 
 fn adds_part(data: &mut Packet, part: &str) -> bool {
-    match bytes::<255>(part) {
+    match bytes_of::<255>(part) {
         Some(packet) => adds_data(data, &packet),
         None => false,
     }
@@ -103,7 +83,7 @@ fn joined(text: &str) -> Option<Packet> {
 
 /// Whether this is the packet of that number, if there are so many.
 fn is_at(train: &Train, number: u8, part: &str) -> bool {
-    match bytes::<255>(part) {
+    match bytes_of::<255>(part) {
         Some(packet) => number < train.count() && train.at(number) == packet,
         None => false,
     }
@@ -138,14 +118,14 @@ fn block(text: &str, full: usize) -> Option<Train> {
 
 /// How many bytes a text of bytes has.
 fn length(text: &str) -> usize {
-    match bytes::<255>(text) {
+    match bytes_of::<255>(text) {
         Some(packet) => packet.len(),
         None => 0,
     }
 }
 
 fn one(text: &str) -> Option<Train> {
-    match bytes(text) {
+    match bytes_of(text) {
         Some(packet) => Some(Train::one(packet)),
         None => None,
     }
@@ -226,70 +206,27 @@ fn holds(slave: &mut Slave, line: &str) -> bool {
 
 /// The first line, counted from 1, that isn't answered as it says; 0 where no line asks.
 pub(crate) fn first_wrong(slave: &mut Slave, rows: &str) -> Option<u32> {
-    let mut number = 0u32;
-    let mut asked = false;
-    for line in rows.lines() {
-        number = number.wrapping_add(1);
-        let line = line.trim();
-        if line.is_empty() || line.starts_with('#') {
-            continue;
-        }
-        if !holds(slave, line) {
-            return Some(number);
-        }
-        asked = true;
-    }
-    if asked { None } else { Some(0) }
-}
-
-/// The line of this number, counted from 1.
-fn line_at(rows: &str, number: u32) -> &str {
-    for (before, line) in rows.lines().enumerate() {
-        if before == (number as usize).wrapping_sub(1) {
-            return line.trim();
-        }
-    }
-    "no row asks"
+    first_wrong_line(rows, |line| holds(slave, line))
 }
 
 /// Fails with the first row that isn't answered as it says.
 pub(crate) fn all_hold(slave: &mut Slave, rows: &str) -> Result<(), Fail> {
-    match first_wrong(slave, rows) {
-        None => Ok(()),
-        Some(number) => Err(Fail::new(line_at(rows, number))),
-    }
-}
-
-/// The row of a table, counted from 0, that isn't so.
-#[derive(Debug, Drop)]
-pub struct WrongRow(pub usize);
-
-/// Fails with the row that was found wrong.
-pub(crate) fn none_is_wrong(wrong: Option<usize>) -> Result<(), Fail> {
-    match wrong {
-        None => Ok(()),
-        Some(row) => Err(WrongRow(row).into()),
-    }
-}
-
-/// Fails with these words where it isn't so.
-pub(crate) fn so(holds: bool, words: &str) -> Result<(), Fail> {
-    if holds { Ok(()) } else { Err(Fail::new(words)) }
+    no_line_is_wrong(rows, first_wrong(slave, rows))
 }
 
 /// Whether a slave that was just made answers so.
-pub(crate) fn hold_on_new(alloc: Global, kind: Kind, rows: &str) -> Result<(), Fail> {
-    all_hold(&mut slave(alloc, kind)?, rows)
+pub(crate) fn hold_on_new(alloc: Global, small: Small, rows: &str) -> Result<(), Fail> {
+    all_hold(&mut slave(alloc, small)?, rows)
 }
 
 /// Whether a connected slave answers so.
-pub(crate) fn hold_on(alloc: Global, kind: Kind, rows: &str) -> Result<(), Fail> {
-    all_hold(&mut connected(alloc, kind)?, rows)
+pub(crate) fn hold_on(alloc: Global, small: Small, rows: &str) -> Result<(), Fail> {
+    all_hold(&mut connected(alloc, small)?, rows)
 }
 
 /// Whether a connected slave of the usual layout does.
 pub(crate) fn hold(alloc: Global, rows: &str) -> Result<(), Fail> {
-    hold_on(alloc, USUAL, rows)
+    hold_on(alloc, TWO_SEGMENTS, rows)
 }
 
 /// Whether some rows hold, and then others so many times.

@@ -1,6 +1,8 @@
 //! The reader of rows hides no failure.
-use crate::layouts::{USUAL, connected};
-use crate::rows::{answer, first_wrong, none_is_wrong, so};
+use crate::layouts::connected;
+use crate::rows::{answer, first_wrong};
+use holding::{none_is_wrong, so};
+use small_layouts::TWO_SEGMENTS;
 use std::alloc::Global;
 use std::test::Fail;
 use xcp_slave::Answer;
@@ -28,7 +30,7 @@ static TEXTS: [(&str, Option<u32>); 18] = [
 ];
 
 fn is_found(alloc: Global, text: &str, wrong: Option<u32>) -> Result<(), Fail> {
-    let mut slave = connected(alloc, USUAL)?;
+    let mut slave = connected(alloc, TWO_SEGMENTS)?;
     so(first_wrong(&mut slave, text) == wrong, text)
 }
 

@@ -1,6 +1,8 @@
 //! A slave that is copied is the same one, until one of both is asked something.
-use crate::layouts::{Kind, USUAL, slave};
-use crate::rows::{request, so};
+use crate::layouts::long_slave;
+use crate::rows::request;
+use holding::so;
+use small_layouts::USUAL;
 use std::alloc::Global;
 use std::test::Fail;
 use xcp_slave::{Request, Slave};
@@ -67,15 +69,9 @@ fn shown(alloc: Global, slave: &mut Slave, lines: &str) -> Result<u32, Fail> {
     Ok(shown)
 }
 
-/// A segment of 64 bytes.
-const LONG: Kind = Kind {
-    length: 64,
-    ..USUAL
-};
-
-/// Whether all of them are shown of a slave that was just made.
+/// Whether all of them are shown of a slave that was just made, whose first segment has 64 bytes.
 fn all_are_shown(alloc: Global) -> Result<(), Fail> {
-    let mut slave = slave(alloc, LONG)?;
+    let mut slave = long_slave(alloc, USUAL.max_cto, 64)?;
     so(
         shown(alloc, &mut slave, CHANGES)? == 20,
         "there are 20 changes",

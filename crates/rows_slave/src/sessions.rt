@@ -1,6 +1,8 @@
 //! Rows of the begin and the end of a session.
-use crate::layouts::{Kind, USUAL, slave};
-use crate::rows::{hold, hold_on_new, so};
+use crate::layouts::slave;
+use crate::rows::{hold, hold_on_new};
+use holding::so;
+use small_layouts::{Small, TWO_SEGMENTS};
 use std::alloc::Global;
 use std::test::Fail;
 use xcp_packet::Order;
@@ -12,7 +14,7 @@ fn limits_of(slave: &Slave) -> (u8, u8) {
 
 /// Whether MAX_CTO and MAX_DTO of a slave are told.
 fn limits_are_told(alloc: Global) -> Result<(), Fail> {
-    let slave = slave(alloc, USUAL)?;
+    let slave = slave(alloc, TWO_SEGMENTS)?;
     so(limits_of(&slave) == (32, 64), "a slave has other limits")
 }
 
@@ -28,14 +30,14 @@ fn a_slave_that_is_not_connected_heeds_a_whole_connect_alone(rt: HostRuntime) ->
         FF 00 > FF 05 C0 20 40 00 01 01
     ";
     limits_are_told(rt.alloc())?;
-    hold_on_new(rt.alloc(), USUAL, rows)
+    hold_on_new(rt.alloc(), TWO_SEGMENTS, rows)
 }
 
 #[test]
 fn a_motorola_slave_has_the_highest_byte_first(rt: HostRuntime) -> Result<(), Fail> {
-    let kind = Kind {
+    let small = Small {
         order: Order::Motorola,
-        ..USUAL
+        ..TWO_SEGMENTS
     };
     let rows = "
         FF 00 > FF 05 C1 20 00 40 01 01
@@ -44,7 +46,7 @@ fn a_motorola_slave_has_the_highest_byte_first(rt: HostRuntime) -> Result<(), Fa
         EC 08 FF FE 00 02 > FF
         F5 04 > FF 00 01 00 03
     ";
-    hold_on_new(rt.alloc(), kind, rows)
+    hold_on_new(rt.alloc(), small, rows)
 }
 
 #[test]

@@ -1,6 +1,7 @@
 //! Rows of the commands that freeze segments and have their pages stored.
-use crate::layouts::{Kind, USUAL, connected};
+use crate::layouts::connected;
 use crate::rows::{hold, hold_around, hold_on};
+use small_layouts::{COUNTED, FOUR_PAGES, SECOND, Small, TWO_SEGMENTS};
 use std::alloc::Global;
 use std::test::Fail;
 
@@ -58,8 +59,7 @@ fn the_last_page_is_stored(rt: HostRuntime) -> Result<(), Fail> {
         EB 02 00 02 > FF
         F4 02 00 00 00 10 00 00 > FF 00 01
     ";
-    let kind = Kind { pages: 4, ..USUAL };
-    hold_on(rt.alloc(), kind, rows)
+    hold_on(rt.alloc(), FOUR_PAGES, rows)
 }
 
 #[test]
@@ -93,11 +93,11 @@ fn stored_segments_are_counted(rt: HostRuntime) -> Result<(), Fail> {
         F9 01 00 00 > FF
         store > stored 2
     ";
-    let kind = Kind {
-        third: true,
-        ..USUAL
+    let small = Small {
+        segments: &[(0x1000, &COUNTED, 2), SECOND, (0x3000, &[0xBB; 4], 2)],
+        ..TWO_SEGMENTS
     };
-    hold_on(rt.alloc(), kind, rows)
+    hold_on(rt.alloc(), small, rows)
 }
 
 #[test]
@@ -122,11 +122,11 @@ fn a_block_goes_on_behind_a_store(rt: HostRuntime) -> Result<(), Fail> {
         F4 02 00 00 00 10 00 00 > FF 00 01
         F4 02 00 00 06 10 00 00 > FF 06 07
     ";
-    let kind = Kind {
+    let small = Small {
         max_cto: 8,
-        ..USUAL
+        ..TWO_SEGMENTS
     };
-    hold_on(rt.alloc(), kind, rows)
+    hold_on(rt.alloc(), small, rows)
 }
 
 #[test]
@@ -147,7 +147,7 @@ const STORE: &str = "
 
 /// Whether a slave answers so whose outbox has all 64 packets that it takes.
 fn hold_behind_64(alloc: Global, rest: &str) -> Result<(), Fail> {
-    let mut slave = connected(alloc, USUAL)?;
+    let mut slave = connected(alloc, TWO_SEGMENTS)?;
     hold_around(&mut slave, STORE, 63, STORE, rest)
 }
 

@@ -1,15 +1,16 @@
 //! Uploads whose bytes go over several packets.
-use crate::layouts::{Kind, USUAL, connected};
+use crate::layouts::connected_long;
 use crate::rows::{first_wrong, hold_on, packet_of};
+use small_layouts::{Small, TWO_SEGMENTS};
 use std::alloc::Global;
 use std::test::Fail;
 use xcp_packet::Train;
 use xcp_slave::{Answer, Request, Slave};
 
 /// MAX_CTO 8: seven bytes in a packet.
-const NARROW: Kind = Kind {
+const NARROW: Small = Small {
     max_cto: 8,
-    ..USUAL
+    ..TWO_SEGMENTS
 };
 
 #[test]
@@ -92,12 +93,7 @@ static LENGTHS: [Row; 12] = [
 
 /// Whether a slave with a segment of 255 bytes tells one of them so.
 fn is_so(alloc: Global, (max_cto, n, packets, last): &Row) -> Result<bool, Fail> {
-    let kind = Kind {
-        max_cto: *max_cto,
-        length: 255,
-        ..USUAL
-    };
-    let mut slave = connected(alloc, kind)?;
+    let mut slave = connected_long(alloc, *max_cto)?;
     Ok(uploaded(&mut slave, *n) == Some((*packets, *last, *n)))
 }
 

@@ -1,6 +1,6 @@
 //! Rows of sessions, uploads, downloads, blocks and checksums.
-use crate::layouts::{Kind, USUAL};
 use crate::rows::{hold, hold_on};
+use small_layouts::{Small, TWO_SEGMENTS};
 use std::alloc::Global;
 use std::test::Fail;
 
@@ -132,11 +132,11 @@ fn blocks(rt: HostRuntime) -> Result<(), Fail> {
         EF 02 07 08 > FF
         F4 02 00 00 06 10 00 00 > FF 07 08
     ";
-    let kind = Kind {
+    let small = Small {
         max_cto: 8,
-        ..USUAL
+        ..TWO_SEGMENTS
     };
-    hold_on(rt.alloc(), kind, rows)
+    hold_on(rt.alloc(), small, rows)
 }
 
 /// Whether slaves with types of checksums from this one on answer so.
@@ -147,8 +147,11 @@ fn sums_hold(alloc: Global, first: i64, rows: &[&str; 3]) -> Result<(), Fail> {
     hold_on(alloc, summing(first.wrapping_add(2)), three)
 }
 
-fn summing(checksum: i64) -> Kind {
-    Kind { checksum, ..USUAL }
+fn summing(checksum: i64) -> Small<'static> {
+    Small {
+        checksum,
+        ..TWO_SEGMENTS
+    }
 }
 
 static SUMS: [&str; 3] = [

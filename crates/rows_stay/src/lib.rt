@@ -6,6 +6,6 @@ mod flood;
 #[cfg(test)]
 mod lines;
 #[cfg(test)]
-mod quiet;
+mod silent;
 #[cfg(test)]
 mod visits;

@@ -1,7 +1,7 @@
 // Tools that come and go.
 ghost use Rattle.std.specs.Prelude.{◌≡◌};
 
-use crate::quiet::Quiet;
+use crate::silent::Silent;
 use fixtures::unnamed;
 use std::alloc::Global;
 use std::io::{Read, Write};
@@ -90,9 +90,12 @@ pub fn serve<R: Threads + Wait + Clock + Sync>(
         periods: [0; 6],
         patience: Duration::from_secs(patience),
     };
-    let quiet = Quiet { rt, port };
+    let silent = Silent { rt, port };
     let scribe = Counting(0);
-    let (report, scribe) = stay(handle, alloc, unnamed, listener, plan, scribe, halt, &quiet).ok()?;
+    let (report, scribe) = stay(
+        handle, alloc, unnamed, listener, plan, scribe, halt, &silent,
+    )
+    .ok()?;
     if scribe.0 == report.chapters {
         Some(report)
     } else {

@@ -1,9 +1,16 @@
-//! Small layouts, of whose slaves tests are.
+//! Small layouts, of whose slaves tests are, and the layout file of one.
 #![tactic(auto)]
 
+mod document;
+
+pub use document::{WHOLE, changed};
 use std::alloc::{AllocError, Global};
-use xcp_memory::{EventPart, Parts, SegmentPart};
+use std::test::Fail;
+use xcp_memory::{EventPart, Layout, Parts, SegmentPart};
 use xcp_packet::Order;
+
+/// A segment's address, its bytes and how many pages it has.
+pub type Segment<'a> = (i64, &'a [u8], i64);
 
 /// What differs from one small layout to another.
 #[derive(Clone, Copy)]
@@ -15,8 +22,7 @@ pub struct Small<'a> {
     pub order: Order,
     /// How many bytes of signals there are.
     pub signals: i64,
-    /// Each segment's address, its bytes and how many pages it has.
-    pub segments: &'a [(i64, &'a [u8], i64)],
+    pub segments: &'a [Segment<'a>],
 }
 
 /// MAX_CTO 32, MAX_DTO 64, checksums of type ADD_14, Intel byte order, 8 bytes of signals, and no segment.
@@ -28,6 +34,29 @@ pub const USUAL: Small = Small {
     signals: 8,
     segments: &[],
 };
+
+/// The bytes 00 to 0F.
+pub const COUNTED: [u8; 16] = [0, 1, 2, 3, 4, 5, 6, 7, 8, 9, 10, 11, 12, 13, 14, 15];
+
+/// Eight bytes AA at 0x2000, in two pages.
+pub const SECOND: Segment = (0x2000, &[0xAA; 8], 2);
+
+/// The usual values, and two segments of two pages: the bytes 00 to 0F at 0x1000, and the second one.
+pub const TWO_SEGMENTS: Small = Small {
+    segments: &[(0x1000, &COUNTED, 2), SECOND],
+    ..USUAL
+};
+
+/// The same with four pages of the first.
+pub const FOUR_PAGES: Small = Small {
+    segments: &[(0x1000, &COUNTED, 4), SECOND],
+    ..USUAL
+};
+
+/// A small layout.
+pub fn layout(alloc: Global, small: Small) -> Result<Layout, Fail> {
+    Ok(Layout::new(parts(alloc, small)?)?)
+}
 
 /// The parts of a small layout: the identification `ECU1`, its segments, its signals at 0x8000, and the event channel
 /// `10ms`, whose cycle is 10 milliseconds.
@@ -50,11 +79,7 @@ pub fn parts(alloc: Global, small: Small) -> Result<Parts, AllocError> {
 }
 
 /// Adds what takes memory.
-fn fill(
-    parts: &mut Parts,
-    alloc: Global,
-    segments: &[(i64, &[u8], i64)],
-) -> Result<(), AllocError> {
+fn fill(parts: &mut Parts, alloc: Global, segments: &[Segment]) -> Result<(), AllocError> {
     parts.id.extend_from_slice(b"ECU1")?;
     for (address, bytes, pages) in segments {
         add_segment(parts, alloc, *address, bytes, *pages)?;

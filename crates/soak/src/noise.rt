@@ -1,4 +1,5 @@
 //! Frames of a tool that sends a session and then its commands in any order, some of them cut or altered.
+use holding::bytes_of;
 use std::alloc::AllocError;
 use std::io;
 use xcp_packet::Packet;
@@ -69,12 +70,7 @@ impl Dice {
 
 // The command of a line, from 0.
 fn command(line: u32) -> Option<Packet> {
-    let mut packet = Packet::new();
-    for word in COMMANDS.lines().nth(line as usize)?.split_whitespace() {
-        let byte = u8::from_str_radix(word, 16).ok()?;
-        packet.try_push(byte).ok()?;
-    }
-    Some(packet)
+    bytes_of(COMMANDS.lines().nth(line as usize)?)
 }
 
 // One of four commands is cut, and one has another byte.

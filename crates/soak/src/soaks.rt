@@ -116,7 +116,7 @@ fn soaked_of<N: Name>(
     let checks = Checks {
         tasks: closing.fault.is_none(),
         callers: settled,
-        tools: are_told_all(sides, &closing.ends, &closing.callers) == Some(true),
+        tools: are_told_all(sides, &closing.outcomes, &closing.callers) == Some(true),
         replay: replays(alloc, layout(alloc)?, &closing.locked, &closing.callers)?,
         readers: last.is_some(),
     };

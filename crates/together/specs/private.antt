@@ -1,4 +1,4 @@
 -- Words that contracts of private functions and invariants cite. No contract of a public function needs them.
+pub mod StandingCrews
+pub mod StandingWorks
 pub mod ThreadRoom
-pub mod Works
-pub mod Crews

@@ -20,8 +20,24 @@ type Results<X, Y, Z, T> = Result<(Vec<(X, Y, Z)>, Vec<T>), AllocError>;
 type Outcomes<X, Y, Z, T, U> = Result<(Vec<(X, Y, Z)>, Vec<T>, U), AllocError>;
 
 /// Does each work in a thread of its own, all of them at the same time: none begins before all
-/// threads stand, and all are joined. Crews of three works are taken, which have something to do
-/// with each other, and single works.
+/// threads stand, and all are joined.
+///
+/// Where memory or a thread is refused the answer is `Err`, none of the works has begun, and
+/// nothing hangs; the works are gone then.
+pub fn run_works<T: Send + Drop, W: Work<T>, R: Threads + Wait + Sync>(
+    rt: &R,
+    alloc: Global,
+    works: Vec<W>,
+) -> Result<Vec<T>, AllocError>
+    ensures { IfOk result (λ r. GivesEach W.Work works.items r.items) }
+{
+    let none: Vec<(W, W, W)> = Vec::new(alloc);
+    let (_none, results) = run_crews(rt, alloc, none, works)?;
+    Ok(results)
+}
+
+/// Does each work in a thread of its own, as `run_works` does. Crews of three works are taken, which
+/// have something to do with each other, and single works.
 ///
 /// Where memory or a thread is refused the answer is `Err`, none of the works has begun, and
 /// nothing hangs; the works are gone then.

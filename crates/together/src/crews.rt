@@ -1,6 +1,6 @@
 //! Threads for crews of three works.
 ghost use Rattle.std.specs.Prelude.{◌≡◌, ◌≤◌, IfSome, true, vec_len, vec_capacity};
-ghost use Rattle.together.specs.private.Crews.{CrewKeeps, CrewStands, CrewsKeep, CrewsStand};
+ghost use Rattle.together.specs.private.StandingCrews.{CrewKeeps, CrewStands, CrewsKeep, CrewsStand};
 
 use crate::threads::start_one;
 use crate::work::{Given, Work};

@@ -1,12 +1,12 @@
 //! Works at the same time: each in a thread of its own, or none.
 //!
-//! A [`Work`] says what a thread does. [`run_both`] makes a thread for each work of two kinds, lets
-//! them begin together, and joins them all; [`run_crews`] does so for crews of three works, which have
-//! something to do with each other, and for single works, and [`run_crews_and`] does something else [`Meanwhile`]. That threads run beside one another, and that none
-//! begins before all stand, no clause can say; tests show it.
+//! A [`Work`] says what a thread does. [`run_works`] makes a thread for each work, lets them begin
+//! together, and joins them all; [`run_crews`] does so for crews of three works, which have something
+//! to do with each other, and for single works, and [`run_crews_and`] does something else [`Meanwhile`].
+//! That threads run beside one another, and that none begins before all stand, no clause can say; tests
+//! show it.
 #![tactic(auto)]
 
-mod both;
 mod crewing;
 mod crews;
 mod meanwhile;
@@ -14,7 +14,6 @@ mod room;
 mod threads;
 mod work;
 
-pub use both::run_both;
-pub use crewing::{run_crews, run_crews_and};
+pub use crewing::{run_crews, run_crews_and, run_works};
 pub use meanwhile::Meanwhile;
 pub use work::{Given, Work};

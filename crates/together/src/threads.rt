@@ -1,7 +1,7 @@
 //! A thread for each work of one kind.
 ghost use Rattle.std.specs.Prelude.{◌≡◌, ◌≤◌, IfSome, true, vec_len, vec_capacity};
 ghost use Rattle.std.specs.PromisedHandle.{KeepsEach};
-ghost use Rattle.together.specs.private.Works.{AllStand};
+ghost use Rattle.together.specs.private.StandingWorks.{AllStand};
 
 use crate::work::{Given, Work};
 use std::snapshot::Snapshot;

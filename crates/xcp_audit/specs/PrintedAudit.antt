@@ -49,7 +49,7 @@ pub record Reading : Type 0 where
 -- a read failed exactly where the audit says so
 pub record ReadsTo (old new : Reading) (said : Result ℕ AuditFault) : Type 0 where
   pub failed : said ≡ Err found.Read → old.failures < new.failures
-  pub quiet : said ≢ Err found.Read → new.failures ≡ old.failures
+  pub unfailed : said ≢ Err found.Read → new.failures ≡ old.failures
 
 -- An audit of a file by a new slave of this layout, whose file has these bytes. What it says is printed, and where lines are wanted the
 -- lines of its calls before that; then it is answered.

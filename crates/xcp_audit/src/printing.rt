@@ -69,7 +69,7 @@ fn audited<R: Read, W: Write>(
         × Prints (stand_of W.contents printer.old) (stand_of W.contents printer.new)
         (if lines then lines_of calls else [])
         × Hears layout.now read result calls }
-    ensures quiet { result ≢ Err AuditFault.Read → reader.new.failures ≡ reader.old.failures }
+    ensures unfailed { result ≢ Err AuditFault.Read → reader.new.failures ≡ reader.old.failures }
     ensures failed { result ≡ Err AuditFault.Read → reader.old.failures < reader.new.failures }
     ensures settles { IfSome (R.remaining reader.old.inner) (λ all. (n : ℕ)
         → HoldsRun layout.now slave all n → SaysSettled n result) }

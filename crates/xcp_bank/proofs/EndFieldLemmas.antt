@@ -7,7 +7,7 @@ use Rattle.xcp_bank.specs.SeatKnowledge.{Reading, Writing, Known}
 use Rattle.xcp_bank.specs.private.ReaderSteps.{Seat, Follows}
 use Rattle.xcp_bank.specs.private.SeatSteps.{IsReaderSeat, IsWriterSeat, Rests, buffer_held}
 use Rattle.xcp_bank.specs.EndFields.{first_reader, the_writing, reader_in, writer_in}
-use Rattle.xcp_bank.specs.private.EndFields.{ReaderKept, WriterKept}
+use Rattle.xcp_bank.specs.private.KeptEnds.{ReaderKept, WriterKept}
 
 -- a seat that stands for a reader gives this reader, with its number and what it knows
 pub reader_is : (token : Token (Unit {0}) Known) (bank : TableId) (r : ℕ) (y : Reading) → IsReaderSeat token bank r y → reader_in (Some token) ≡ (r, y)

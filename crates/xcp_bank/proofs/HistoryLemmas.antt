@@ -5,7 +5,8 @@ use Rattle.pin_core.specs.declared.events.Seen.{Seen}
 use Rattle.pin_core.specs.State.{PinState}
 use Rattle.pin_core.specs.Steps.{Steps, Runs}
 use Rattle.xcp_bank.specs.PinHistory.{Deed, events_of, answers_of, doer, deeds_by, Grows, Does, AllScans, has_scanned, has_read, reads_of}
-use Rattle.xcp_bank.specs.SeatKnowledge.{Begins, Reading}
+use mathlib.Core.List.{IsPrefix}
+use Rattle.xcp_bank.specs.SeatKnowledge.{Reading}
 use Rattle.xcp_bank.specs.TableRule.{RecordsAll, StandsForAll}
 
 -- equal lists of answers have the same first answer
@@ -106,12 +107,12 @@ pub does_pending : (who : ℕ) (a p : List Deed) (d : Deed) → Does who a p a (
 does_pending who a p d = record { more = []; is = sym (append-nil a); own_is = refl }
 
 -- what begins the history begins it with one deed more
-pub begins_more : (a h : List Deed) (d : Deed) → Begins a h → Begins a (h ++ d ∷ [])
-begins_more a h d g = (g.0 ++ d ∷ [], ap (λ (l : List Deed). l ++ d ∷ []) g.1 ∙ append_assoc a g.0 (d ∷ []))
+pub begins_more : (a h : List Deed) (d : Deed) → IsPrefix a h → IsPrefix a (h ++ d ∷ [])
+begins_more a h d g = (g.0 ++ d ∷ [], sym (append_assoc a g.0 (d ∷ [])) ∙ ap (λ (l : List Deed). l ++ d ∷ []) g.1)
 
 -- a history that grew by no deed of the writer's, and then by any one deed, begins with what it was
-pub begins_whole : (a h : List Deed) (d : Deed) → Grows 0 a h [] → Begins a (h ++ d ∷ [])
-begins_whole a h d g = begins_more a h d (g.more, g.is)
+pub begins_whole : (a h : List Deed) (d : Deed) → Grows 0 a h [] → IsPrefix a (h ++ d ∷ [])
+begins_whole a h d g = begins_more a h d (g.more, sym g.is)
 
 -- those whose own deed this isn't
 pub records_still : (h : List Deed) (d : Deed) (s : PinState) (own : ℕ → ℕ) (j : ℕ) (xs : List (ℕ × Reading)) → StandsForAll s own j xs → RecordsAll h xs → ((q : ℕ) → own q ≡ j → suc q ≢ doer d.0) → RecordsAll (h ++ d ∷ []) xs

@@ -10,7 +10,7 @@ use Rattle.pin_core.proofs.OpeningLaws.{opening_lawful, alike, within, none_ther
 use Rattle.xcp_bank.specs.PinHistory.{Grows}
 use Rattle.xcp_bank.proofs.HistoryLemmas.{grows_none}
 use Rattle.xcp_bank.specs.SeatKnowledge.{Writing, Known, beginning}
-use Rattle.xcp_bank.specs.private.SeatKnowledge.{waiting, everybody}
+use Rattle.xcp_bank.specs.private.Everybody.{waiting, everybody}
 use Rattle.xcp_bank.specs.TableRule.{RecordsAll, IsNumbered, StandsForAll, Leads, Banked}
 
 module _ (W : ℕ) (image ws : List ℕ) (wide : length image ≡ W) (more : 0 < W) (few : W ≤ 256) (last : get_or image (W - 1) 0 ≡ 0) (size : length ws ≡ 9 + 8 * W)

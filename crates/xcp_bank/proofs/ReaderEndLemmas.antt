@@ -14,19 +14,20 @@ use Rattle.pin_core.specs.State.{Reader, newcomer, opening}
 use Rattle.xcp_bank.specs.BankId.{bank_of}
 use Rattle.xcp_bank.specs.private.ReaderSteps.{UpToDate, Follows, GivesUp}
 use Rattle.xcp_bank.specs.Images.{image_of, images}
-use Rattle.xcp_bank.specs.SeatKnowledge.{Begins, AllBegin, Reading, Writing, Known, starting}
+use mathlib.Core.List.{IsPrefix}
+use Rattle.xcp_bank.specs.SeatKnowledge.{AllBegin, Reading, Writing, Known, starting}
 use Rattle.xcp_bank.specs.private.SeatSplits.{when_joined, when_parted}
 use Rattle.xcp_bank.specs.PinHistory.{looked_at}
 use Rattle.xcp_bank.specs.private.SeatSteps.{IsReaderSeat, Acquired, HasRead, buffer_of}
 use Rattle.xcp_bank.specs.BankEnds.{ReaderEnd, reader_end, WriterEnd, writer_end, HoldsNumber, image_at, image_held, IsRun, AcquireDoes, FollowsTold, KnowsMore, ReadDoes, ReaderDoes, GivesBack, TellsTaken}
 use Rattle.xcp_bank.specs.EndFields.{reader_in, shown_reader}
-use Rattle.xcp_bank.specs.private.EndFields.{ReaderKept}
+use Rattle.xcp_bank.specs.private.KeptEnds.{ReaderKept}
 use Rattle.xcp_bank.proofs.EndFieldLemmas.{reader_is, kept_by, sits_at, sits_here}
 use Rattle.xcp_bank.proofs.ReaderSeatLemmas.{same≢newer, held_at}
 
 -- where a list of publications begins another, its images begin the other's images
-pub images_begin : (a b : List (List ℕ)) → Begins a b → Begins (images a) (images b)
-images_begin a b g = (images g.0, ap images g.1 ∙ map-append image_of a g.0)
+pub images_begin : (a b : List (List ℕ)) → IsPrefix a b → IsPrefix (images a) (images b)
+images_begin a b g = (images g.0, sym (map-append image_of a g.0) ∙ ap images g.1)
 
 -- the same of several lists of publications that all begin one
 pub images_all : (ls : List (List (List ℕ))) (b : List (List ℕ)) → AllBegin ls b → AllBegin (map images ls) (images b)
@@ -120,7 +121,7 @@ reads_kept bank held seat k token from n p y s g = kept_by token bank (reader_in
 
 -- What `read` and `number` say of the reader, with n words from word k on.
 pub record ReadEnd (k n : ℕ) (old new : ReaderEnd) : Type 0 where
-  pub same_reader : (new.bank ≡ old.bank) × (new.place ≡ old.place)
+  pub same_reader : (new.bank ≡ old.bank) × (new.index ≡ old.index)
   pub same : (new.held ≡ old.held) × (new.seen ≡ old.seen)
   pub does : ReadDoes k n old new
   pub run : IsRun new
@@ -144,7 +145,7 @@ read_end bank r k n b p x y holds follows g =
         words = get_or x.list p [];
         image = sym (image_held_is bank r x b p holds);
         did = g.did;
-        same = λ i. record { bank = bank_of bank; place = r; held = (g.pins i).held; looked = (g.pins i).looked; seen = images (g.list i); past = map images (g.past i); history = y.history; pending = y.pending; heard = g.heard_is i };
+        same = λ i. record { bank = bank_of bank; index = r; held = (g.pins i).held; looked = (g.pins i).looked; seen = images (g.list i); past = map images (g.past i); history = y.history; pending = y.pending; heard = g.heard_is i };
       };
       run = run_of bank r y (g.follows follows);
       follows = λ some. record {
@@ -166,14 +167,14 @@ follows_told r x w k = record { state = k.state; ran = k.ran; held = k.held; gon
 
 -- What `tell` says.
 pub record ToldEnd (writer : WriterEnd) (old new : ReaderEnd) : Type 0 where
-  pub same_reader : (new.bank ≡ old.bank) × (new.place ≡ old.place)
+  pub same_reader : (new.bank ≡ old.bank) × (new.index ≡ old.index)
   pub seen : new.seen ≡ writer.publications
   pub past : new.past ≡ old.seen ∷ old.past
   pub held : new.held ≡ old.held
   pub looked : new.looked ≡ writer.current
   pub history : new.history ≡ old.history
   pub heard : new.heard ≡ writer.history
-  pub does : ReaderDoes old new (looked_at old.place writer.current ∷ looked_at old.place writer.current ∷ [])
+  pub does : ReaderDoes old new (looked_at old.index writer.current ∷ looked_at old.index writer.current ∷ [])
 
 -- a reader that the writer told when they were joined, and again when they were cut apart, is as `tell` says
 pub told_end : (bank bank' : TableId) (r : ℕ) (x : Reading) (w : Writing) → ToldEnd (writer_end bank' w) (reader_end bank r x) (reader_end bank r (when_parted w r (when_joined w r x)))

@@ -13,7 +13,8 @@ use Rattle.pin_core.specs.Effects.{looking, after_look, CanPin, pinning, after_p
 use Rattle.pin_core.specs.StateInvariant.{Lawful, holders, at_buffer}
 use Rattle.pin_core.proofs.HolderCountLemmas.{same_sum, at_other}
 use Rattle.pin_core.proofs.ReaderStepLemmas.{look_keeps, pin_keeps, unpin_keeps}
-use Rattle.xcp_bank.specs.SeatKnowledge.{Begins, Reading, Known, one_reader}
+use mathlib.Core.List.{IsPrefix}
+use Rattle.xcp_bank.specs.SeatKnowledge.{Reading, Known, one_reader}
 use Rattle.xcp_bank.specs.TableRule.{Shows, IsNumbered, Stands, Records, Banked}
 use Rattle.xcp_bank.specs.private.ReaderSteps.{Seat, reader_plays, Finds, Pinned, reading_after_pin, Looked, reading_after_look, Unpinned, GivesUp, reading_after_unpin, ReadAt, reading_after_read}
 use Rattle.xcp_bank.proofs.PrefixLemmas.{all_again}
@@ -29,10 +30,10 @@ use Rattle.xcp_bank.specs.private.ReaderSteps.{UpToDate, Reaches, Follows}
 use Rattle.xcp_bank.proofs.HistoryLemmas.{grows_none, begins_more, runs_more}
 
 -- what a reader has seen begins what is published
-pub stands_begins : (s : PinState) (own : ℕ → ℕ) (id r : ℕ) (x : Reading) → Stands s own id r x → Begins x.list s.writer.publications
+pub stands_begins : (s : PinState) (own : ℕ → ℕ) (id r : ℕ) (x : Reading) → Stands s own id r x → IsPrefix x.list s.writer.publications
 stands_begins s own id r x mine =
     let rest : List (List ℕ) = drop x.pins.seen s.writer.publications in
-    (rest, sym (ap (λ (l : List (List ℕ)). l ++ rest) mine.list ∙ take-append-drop x.pins.seen s.writer.publications))
+    (rest, ap (λ (l : List (List ℕ)). l ++ rest) mine.list ∙ take-append-drop x.pins.seen s.writer.publications)
 
 -- readers whose numbers plus one are equal are the same reader
 pub same_suc : (q r : ℕ) → suc q ≡ suc r → q ≡ r
@@ -52,7 +53,7 @@ module _ (W : ℕ) (t : State (Unit {0}) Known) (b : Banked W t) (id r : ℕ) (x
   records_next d y history pending heard = record {
     grows = subst (λ (l : List Deed). Grows (suc r) y.history (b.history ++ d ∷ []) l) (sym pending)
         (subst (λ (l : List Deed). Grows (suc r) l (b.history ++ d ∷ []) []) (sym history) (grows_none (suc r) (b.history ++ d ∷ [])));
-    heard = subst (λ (l : List Deed). Begins l (b.history ++ d ∷ [])) (sym heard) (begins_more x.heard b.history d reached.heard);
+    heard = subst (λ (l : List Deed). IsPrefix l (b.history ++ d ∷ [])) (sym heard) (begins_more x.heard b.history d reached.heard);
   }
 
 module _ (W : ℕ) (t : State (Unit {0}) Known) (b : Banked W t) where
@@ -111,7 +112,7 @@ module _ (W : ℕ) (t : State (Unit {0}) Known) (b : Banked W t) where
       (λ w e. absurd (none-some w e)) (λ _ e. writes_none r e)
 
   -- all that the reader had seen is published, and what it had seen before that too
-  pub begins : (id r : ℕ) (x : Reading) → get_elem? t.views id ≡ some (one_reader r x) → Begins x.list b.core.writer.publications
+  pub begins : (id r : ℕ) (x : Reading) → get_elem? t.views id ≡ some (one_reader r x) → IsPrefix x.list b.core.writer.publications
   begins id r x at = stands_begins b.core b.own id r x (b.readers id (one_reader r x) at).0
 
   pub found : (id r : ℕ) (x : Reading) → get_elem? t.views id ≡ some (one_reader r x) → Finds r x (get_or t.words 0 0) b.core.index b.core.writer.publications b.history
@@ -206,12 +207,12 @@ module _ (W : ℕ) (t : State (Unit {0}) Known) (b : Banked W t) (id r : ℕ) (x
   inside = let l = b.lawful.sizes.seats in let i = mine.inside in omega arith
 
   -- a step that changes no word, and of the reader neither what it holds nor whether it is gone
-  pub quiet_step : (i : ℕ) (y : Reading) (u : PinState) → Lawful W u → Shows W t.words u
+  pub plain_step : (i : ℕ) (y : Reading) (u : PinState) → Lawful W u → Shows W t.words u
       → Stands u b.own id r y
       → ((q : ℕ) → q ≢ r → reader u q ≡ reader b.core q) → u.writer ≡ b.core.writer → u.index ≡ b.core.index → ((c : ℕ) → holders c u.readers ≡ holders c b.core.readers)
       → (d : Deed) → Steps W b.core d.0 d.1 u → Records (b.history ++ d ∷ []) r y → doer d.0 ≡ suc r
       → Banked W record { words = set t.words i (get_or t.words i 0); homes = t.homes; views = set t.views id (one_reader r y) }
-  quiet_step i y u law shows stands others same index held d step records doer_is =
+  plain_step i y u law shows stands others same index held d step records doer_is =
       seat_step W t b id (one_reader r y) (set t.words i (get_or t.words i 0)) u law
       (subst (λ (ws : List ℕ). Shows W ws u) (sym (set-get_or t.words i 0)) shows)
       (λ p l. subst (λ (z : Writer). IsNumbered W p (get_or z.publications p [])) (sym same) (b.numbered p (subst (λ (z : Writer). p < length z.publications) same l)))
@@ -227,7 +228,7 @@ module _ (W : ℕ) (t : State (Unit {0}) Known) (b : Banked W t) (id r : ℕ) (x
   look_step here =
       let z : Reader = looking s.index (published s) (reader s r) in
       let some_one = b.lawful.latest.some in
-      quiet_step 0 (reading_after_look r x b.core.index b.core.writer.publications b.history) (after_look s r)
+      plain_step 0 (reading_after_look r x b.core.index b.core.writer.publications b.history) (after_look s r)
       (look_keeps W s r b.lawful (mine.inside, ap (λ (y : Reader). y.gone) mine.pins ∙ here))
       record { size = b.shows.size; head = b.shows.head; left = b.shows.left; image = b.shows.image }
       record {
@@ -263,7 +264,7 @@ module _ (W : ℕ) (t : State (Unit {0}) Known) (b : Banked W t) (id r : ℕ) (x
 
   -- a step that reads
   pub read_step : (i c p k : ℕ) → x.pins.held ≡ Some (c, p) → k < W → i ≡ 9 + (c * W + k) → Banked W record { words = set t.words i (get_or t.words i 0); homes = t.homes; views = set t.views id (one_reader r (reading_after_read r k (get_or t.words i 0) b.history x)) }
-  read_step i c p k holds low place = quiet_step i (reading_after_read r k (get_or t.words i 0) b.history x) s b.lawful b.shows record { inside = mine.inside; mine = mine.mine; pins = mine.pins; list = mine.list; past = mine.past } (λ q ne. refl) refl refl (λ c. refl)
+  read_step i c p k holds low place = plain_step i (reading_after_read r k (get_or t.words i 0) b.history x) s b.lawful b.shows record { inside = mine.inside; mine = mine.mine; pins = mine.pins; list = mine.list; past = mine.past } (λ q ne. refl) refl refl (λ c. refl)
       (has_read r k (get_or t.words i 0)) (c, p, (mine.inside, ap (λ (y : Reader). y.held) mine.pins ∙ holds, low), ap an.Word (shown i c p k holds low place), refl)
       (records_next W t b id r x at (has_read r k (get_or t.words i 0)) (reading_after_read r k (get_or t.words i 0) b.history x) refl refl refl) refl
 

@@ -5,7 +5,8 @@ use Rattle.atomic_table.specs.Seated.{TableId}
 use Rattle.atomic_table.specs.Table.{Step}
 use Rattle.atomic_table.specs.declared.shared.Seat.{Seat as Token}
 use Rattle.xcp_bank.specs.TableRule.{IsNumbered}
-use Rattle.xcp_bank.specs.SeatKnowledge.{Begins, AllBegin, Reading, Known, one_reader}
+use mathlib.Core.List.{IsPrefix}
+use Rattle.xcp_bank.specs.SeatKnowledge.{AllBegin, Reading, Known, one_reader}
 use Rattle.xcp_bank.specs.PinHistory.{Deed, Grows, Does, has_read, reads_of, looked_at, pinned_at, given_up}
 use Rattle.xcp_bank.specs.private.ReaderSteps.{Seat, reader_plays, Finds, GivesUp, UpToDate, Follows, reading_after_unpin}
 use Rattle.xcp_bank.specs.declared.taken.Taken.{Taken}
@@ -113,7 +114,7 @@ acquired_other r x y z u other old buffer p here holds l ne v m =
     let known = g.known old p holds in
     let unlike : p + 1 ≢ length g.list = λ e. apart (g.newest old p holds e) in
     let list_is : y.list ≡ g.list = ap (λ (v : Reading). v.list) g.is in
-    let begins : Begins g.list k.list = subst (λ (v : List (List ℕ)). Begins v k.list) list_is k.finds.begins in
+    let begins : IsPrefix g.list k.list = subst (λ (v : List (List ℕ)). IsPrefix v k.list) list_is k.finds.begins in
     let more = begins_length g.list k.list begins in
     let some = k.finds.some in
     let h : List Deed = g.before ++ looked_at r g.index ∷ [] in
@@ -135,7 +136,7 @@ acquired_other r x y z u other old buffer p here holds l ne v m =
       here = ap (λ (t : Bool). t || false) (gone_is ∙ here);
       placed = refl;
       heard_is = heard_is;
-      heard = subst (λ (l : List Deed). Begins l (k.before ++ pinned_at r k.index ∷ [])) heard_is (begins_more y.heard k.before (pinned_at r k.index) k.finds.reaches.heard);
+      heard = subst (λ (l : List Deed). IsPrefix l (k.before ++ pinned_at r k.index ∷ [])) heard_is (begins_more y.heard k.before (pinned_at r k.index) k.finds.reaches.heard);
       up_to_date = subst (UpToDate 256 r) k.is k.up_to_date;
       deeds = looked_at r g.index ∷ given_up r false ∷ pinned_at r k.index ∷ [];
       did = does_again (suc r) x.history x.pending (v.before ++ given_up r false ∷ []) [] (k.before ++ pinned_at r k.index ∷ []) [] (looked_at r g.index ∷ given_up r false ∷ []) (pinned_at r k.index ∷ []) did_both did_pin;
@@ -177,7 +178,7 @@ read_more r x y z from n m p k v g w at next =
       follows = λ _. subst (Follows 256 r) w.is w.follows;
       numbered = λ _. subst (λ (l : List (List ℕ)). IsNumbered 256 p (get_or l p [])) g.list w.numbered;
       pasts = λ _. subst (λ (l : List (List ℕ)). AllBegin x.past l) g.list (subst (λ (ls : List (List (List ℕ))). AllBegin ls y.list) g.past w.pasts);
-      heard = λ _. subst (λ (l : List Deed). Begins l h) g.heard_is (begins_more y.heard w.before (has_read r k v) w.reaches.heard);
+      heard = λ _. subst (λ (l : List Deed). IsPrefix l h) g.heard_is (begins_more y.heard w.before (has_read r k v) w.reaches.heard);
       did = subst (λ (j : ℕ). Does (suc r) x.history x.pending h [] (reads_of r words from j)) next
           (subst (Does (suc r) x.history x.pending h []) (reads_more r words from n k v at value)
           (does_again (suc r) x.history x.pending y.history y.pending h [] (reads_of r words from n) (has_read r k v ∷ []) g.did (does_step (suc r) y.history y.pending w.before (has_read r k v) refl w.reaches.grows)));

@@ -10,8 +10,9 @@ use Rattle.pin_core.specs.Effects.{looking, after_look}
 use Rattle.pin_core.specs.StateInvariant.{Lawful, at_buffer}
 use Rattle.pin_core.proofs.HolderCountLemmas.{same_sum}
 use Rattle.pin_core.proofs.ReaderStepLemmas.{look_keeps}
-use Rattle.xcp_bank.specs.SeatKnowledge.{Begins, AllBegin, Reading, Writing, Known, one_reader, nobody}
-use Rattle.xcp_bank.specs.private.SeatKnowledge.{the_writer}
+use mathlib.Core.List.{IsPrefix}
+use Rattle.xcp_bank.specs.SeatKnowledge.{AllBegin, Reading, Writing, Known, one_reader, nobody}
+use Rattle.xcp_bank.specs.private.Everybody.{the_writer}
 use Rattle.xcp_bank.specs.TableRule.{Shows, Stands, StandsForAll, Leads, Banked}
 use Rattle.xcp_bank.specs.private.SeatSplits.{when_joined, when_parted, together, writer_alone, readers_apart, both_of}
 use Rattle.xcp_bank.proofs.PrefixLemmas.{all_again}
@@ -59,8 +60,8 @@ module _ (W : ℕ) (t : State (Unit {0}) Known) (b : Banked W t) (id r m : ℕ) 
       }
 
   -- what it had seen is published
-  begins : Begins x.list w.pins.publications
-  begins = subst (λ (u : Writer). Begins x.list u.publications) leads.pins (stands_begins s b.own id r x mine)
+  begins : IsPrefix x.list w.pins.publications
+  begins = subst (λ (u : Writer). IsPrefix x.list u.publications) leads.pins (stands_begins s b.own id r x mine)
 
   pub stands : Stands after own' m r (when_joined w r x)
   stands = stands_by (when_joined w r x) refl refl (begins, all_again x.past x.list w.pins.publications mine.past begins)

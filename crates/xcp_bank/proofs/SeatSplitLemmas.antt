@@ -7,7 +7,7 @@ use Rattle.atomic_table.specs.Table.{Splits}
 use Rattle.atomic_table.proofs.Lists.{at_set}
 use Rattle.pin_core.specs.State.{PinState, reader, published}
 use Rattle.xcp_bank.specs.SeatKnowledge.{Writing, Known, one_reader, starting}
-use Rattle.xcp_bank.specs.private.SeatKnowledge.{waiting, everybody}
+use Rattle.xcp_bank.specs.private.Everybody.{waiting, everybody}
 use Rattle.xcp_bank.specs.TableRule.{RecordsAll, Stands, StandsForAll, Leads, Banked}
 use Rattle.xcp_bank.specs.private.SeatSplits.{without_first, only_first}
 use Rattle.xcp_bank.proofs.OtherSeatLemmas.{stands_still, all_still}

@@ -13,7 +13,7 @@ use Rattle.pin_core.specs.StateInvariant.{Lawful, holders}
 use Rattle.pin_core.proofs.WriterStepLemmas.{scan_keeps, reset_keeps, write_keeps, publish_keeps}
 use Rattle.pin_core.proofs.IdleBufferLaws.{some_idle}
 use Rattle.xcp_bank.specs.SeatKnowledge.{Writing, Known}
-use Rattle.xcp_bank.specs.private.SeatKnowledge.{the_writer}
+use Rattle.xcp_bank.specs.private.Everybody.{the_writer}
 use Rattle.xcp_bank.specs.TableRule.{Shows, IsNumbered, Leads, Banked}
 use Rattle.xcp_bank.specs.private.ReaderSteps.{Seat}
 use Rattle.xcp_bank.specs.private.WriterSteps.{writer_plays, Scanned, writing_after_scan, WasReset, writing_after_reset, Written, writing_after_write, Published, writing_after_publish}

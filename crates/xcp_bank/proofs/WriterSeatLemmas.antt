@@ -5,7 +5,7 @@ use Rattle.atomic_table.specs.Seated.{TableId}
 use Rattle.atomic_table.specs.Table.{Step}
 use Rattle.atomic_table.specs.declared.shared.Seat.{Seat as Token}
 use Rattle.xcp_bank.specs.SeatKnowledge.{Writing, Known}
-use Rattle.xcp_bank.specs.private.SeatKnowledge.{the_writer}
+use Rattle.xcp_bank.specs.private.Everybody.{the_writer}
 use Rattle.xcp_bank.specs.private.ReaderSteps.{Seat}
 use Rattle.xcp_bank.specs.private.WriterSteps.{writer_plays}
 use Rattle.xcp_bank.specs.private.SeatSteps.{IsWriterSeat, WriterMoves}

@@ -6,7 +6,8 @@ use Rattle.xcp_bank.specs.PinHistory.{Deed, Grows, Does, Ran, Ends, AllScans, lo
 use Rattle.xcp_bank.specs.HeldBufferCount.{others, scanned_buffer, scan_of, unquiet}
 use Rattle.xcp_bank.specs.declared.taken.Taken.{Taken}
 use Rattle.xcp_bank.specs.declared.taken.Taken.TheVariants.{Same, Newer}
-use Rattle.xcp_bank.specs.SeatKnowledge.{AllBegin, Begins, Reading, Writing}
+use mathlib.Core.List.{IsPrefix}
+use Rattle.xcp_bank.specs.SeatKnowledge.{AllBegin, Reading, Writing}
 use Rattle.pin_core.specs.State.{PinState, reader}
 use Rattle.xcp_bank.specs.Images.{image_of, images}
 
@@ -14,7 +15,7 @@ use Rattle.xcp_bank.specs.Images.{image_of, images}
 pub record ReaderEnd : Type 0 where
   -- its bank, and which of the six it is, from 0
   pub bank : BankId
-  pub place : ℕ
+  pub index : ℕ
   -- the buffer that it holds, and the number of the publication there
   pub held : Option (ℕ × ℕ)
   -- the buffer that was current at its last Look or Pin
@@ -44,7 +45,7 @@ pub record WriterEnd : Type 0 where
 abbrev pub reader_end : TableId → ℕ → Reading → ReaderEnd
 reader_end table r x = record {
   bank = bank_of table;
-  place = r;
+  index = r;
   held = x.pins.held;
   looked = x.pins.looked;
   seen = images x.list;
@@ -64,7 +65,7 @@ writer_end table w = record {
 
 -- A reader that has seen this image published and holds nothing.
 abbrev pub new_reader : BankId → List ℕ → ℕ → ReaderEnd
-new_reader bank image r = record { bank = bank; place = r; held = None; looked = 0; seen = image ∷ []; past = []; history = []; pending = []; heard = [] }
+new_reader bank image r = record { bank = bank; index = r; held = None; looked = 0; seen = image ∷ []; past = []; history = []; pending = []; heard = [] }
 
 abbrev pub six_readers : BankId → List ℕ → List ReaderEnd
 six_readers bank image = new_reader bank image 0 ∷ new_reader bank image 1 ∷ new_reader bank image 2 ∷ new_reader bank image 3 ∷ new_reader bank image 4 ∷ new_reader bank image 5 ∷ []
@@ -95,17 +96,17 @@ words_in at n = (at + n + 7) / 8 - at / 8
 
 -- From one call's end to another's, this reader did these deeds, in this order, and no others.
 abbrev pub ReaderDoes : ReaderEnd → ReaderEnd → List Deed → Type 0
-ReaderDoes old new deeds = Does (suc old.place) old.history old.pending new.history new.pending deeds
+ReaderDoes old new deeds = Does (suc old.index) old.history old.pending new.history new.pending deeds
 
 -- What a reader knows by a Look or a Pin, beside what it knew.
 pub record KnowsMore (old new : ReaderEnd) : Type 0 where
   -- the images that it had seen are the first ones of those that it has seen now, and so is each list of which it was told since
   -- its last Look or Pin
-  pub seen : Begins old.seen new.seen
+  pub seen : IsPrefix old.seen new.seen
   pub past : AllBegin old.past new.seen
   pub settled : new.past ≡ []
   -- its history begins with the writer's, as it was told last
-  pub heard : (new.heard ≡ old.heard) × Begins old.heard new.history
+  pub heard : (new.heard ≡ old.heard) × IsPrefix old.heard new.history
 
 -- What an acquire answers.
 pub record TellsTaken (taken : Taken) (old new : ReaderEnd) : Type 0 where
@@ -127,42 +128,42 @@ pub record AcquireDoes (taken : Taken) (old new : ReaderEnd) : Type 0 where
   pub ran : Ran 256 new.history state
   pub current : state.index ≡ buffer
   pub seen : images state.writer.publications ≡ new.seen
-  pub holds : (reader state old.place).held ≡ new.held
+  pub holds : (reader state old.index).held ≡ new.held
   -- the same: a Look
-  pub once : taken ≡ Same → (deeds ≡ looked_at old.place buffer ∷ []) × Ends new.history (looked_at old.place buffer)
+  pub once : taken ≡ Same → (deeds ≡ looked_at old.index buffer ∷ []) × Ends new.history (looked_at old.index buffer)
   -- a newer one: a Pin, and a Look and an Unpin before it where something was held
-  pub first : old.held ≡ None → deeds ≡ pinned_at old.place buffer ∷ []
-  pub other : taken ≡ Newer → (b p : ℕ) → old.held ≡ Some (b, p) → (i : ℕ) × (i ≢ b) × (deeds ≡ looked_at old.place i ∷ given_up old.place false ∷ pinned_at old.place buffer ∷ [])
-  pub last : taken ≡ Newer → Ends new.history (pinned_at old.place buffer)
+  pub first : old.held ≡ None → deeds ≡ pinned_at old.index buffer ∷ []
+  pub other : taken ≡ Newer → (b p : ℕ) → old.held ≡ Some (b, p) → (i : ℕ) × (i ≢ b) × (deeds ≡ looked_at old.index i ∷ given_up old.index false ∷ pinned_at old.index buffer ∷ [])
+  pub last : taken ≡ Newer → Ends new.history (pinned_at old.index buffer)
 
 -- Its history is a run of the core to a state in which it holds what it says.
 pub record IsRun (x : ReaderEnd) : Type 0 where
   pub state : PinState
   pub ran : Ran 256 x.history state
-  pub holds : (reader state x.place).held ≡ x.held
+  pub holds : (reader state x.index).held ≡ x.held
 
 -- Reads of n words from word k on, of the image that it holds: nothing changes but the history.
 pub record ReadDoes (k n : ℕ) (old new : ReaderEnd) : Type 0 where
   pub words : List ℕ
   pub image : image_of words ≡ image_held old
-  pub did : ReaderDoes old new (reads_of old.place words k n)
+  pub did : ReaderDoes old new (reads_of old.index words k n)
   pub same : new ≡ record old { history = new.history; pending = new.pending }
 
 -- What a reader knows by a Read: what it was told stands first in what it knows, and the image that it held has all its bytes.
 pub record FollowsTold (old new : ReaderEnd) : Type 0 where
   pub past : AllBegin old.past new.seen
-  pub heard : Begins old.heard new.history
+  pub heard : IsPrefix old.heard new.history
   pub whole : length (image_held old) ≡ 2040
 
 -- The reader has given back what it held by one last Unpin, after which the core has it as gone.
 pub record GivesBack (old new : ReaderEnd) : Type 0 where
   pub before : List Deed
-  pub did : Grows (suc old.place) old.history before old.pending
-  pub is : new ≡ record old { held = None; history = before ++ given_up old.place true ∷ []; pending = [] }
-  pub heard : Begins old.heard before
+  pub did : Grows (suc old.index) old.history before old.pending
+  pub is : new ≡ record old { held = None; history = before ++ given_up old.index true ∷ []; pending = [] }
+  pub heard : IsPrefix old.heard before
   pub state : PinState
   pub ran : Ran 256 new.history state
-  pub gone : (reader state old.place).gone ≡ true
+  pub gone : (reader state old.index).gone ≡ true
 
 -- What leaving does: where nothing is held, nothing.
 abbrev pub LeavesBy : Option (ℕ × ℕ) → ReaderEnd → ReaderEnd → Type 0

@@ -1,16 +1,13 @@
 -- What a seat of the bank knows. Nobody else changes it.
-use Rattle.std.specs.Prelude.{◌≡◌, ℕ, List, [], ◌∷◌, ◌++◌, Option, None}
+use Rattle.std.specs.Prelude.{ℕ, List, [], ◌∷◌, Option, None}
+use Rattle.std.specs.List.{AllByRecursion}
+use mathlib.Core.List.{IsPrefix}
 use Rattle.pin_core.specs.State.{Reader, Writer, newcomer, opening}
 use Rattle.xcp_bank.specs.PinHistory.{Deed}
 
--- The new list begins with the old one.
-abbrev pub Begins : {A : Type 0} → List A → List A → Type 0
-Begins {A} old new = (rest : List A) × (new ≡ old ++ rest)
-
--- It begins with each of these.
+-- The new list begins with each of these.
 abbrev pub AllBegin : List (List (List ℕ)) → List (List ℕ) → Type 0
-AllBegin [] new = Unit {0}
-AllBegin (old ∷ olds) new = Begins old new × AllBegin olds new
+AllBegin olds new = AllByRecursion (λ (old : List (List ℕ)). IsPrefix old new) olds
 
 -- A reader of the bank.
 pub record Reading : Type 0 where

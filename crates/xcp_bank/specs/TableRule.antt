@@ -8,7 +8,8 @@ use Rattle.pin_core.specs.State.{PinState, reader, words_of, leavings_of, publis
 use Rattle.pin_core.specs.CurrentWord.{head_of}
 use Rattle.pin_core.specs.StateInvariant.{Lawful, holders}
 use Rattle.xcp_bank.specs.PinHistory.{Deed, events_of, answers_of, Grows}
-use Rattle.xcp_bank.specs.SeatKnowledge.{Begins, AllBegin, Reading, Writing, Known}
+use mathlib.Core.List.{IsPrefix}
+use Rattle.xcp_bank.specs.SeatKnowledge.{AllBegin, Reading, Writing, Known}
 
 -- Word 0 is the current buffer and its pins, words 1 to 8 are the leavings, and buffer b begins at word 9 + b * W.
 pub record Shows (W : ℕ) (ws : List ℕ) (s : PinState) : Type 0 where
@@ -46,7 +47,7 @@ pub record Leads (s : PinState) (w : Writing) : Type 0 where
 -- the writer is a beginning too.
 pub record Records (history : List Deed) (r : ℕ) (x : Reading) : Type 0 where
   pub grows : Grows (suc r) x.history history x.pending
-  pub heard : Begins x.heard history
+  pub heard : IsPrefix x.heard history
 
 abbrev pub RecordsAll : List Deed → List (ℕ × Reading) → Type 0
 RecordsAll history [] = Unit {0}

@@ -1,8 +1,8 @@
 -- Words that contracts of private functions and invariants cite. No contract of a public function needs them.
-pub mod Images
-pub mod SeatKnowledge
+pub mod Everybody
+pub mod ImageWords
+pub mod KeptEnds
 pub mod ReaderSteps
-pub mod WriterSteps
 pub mod SeatSplits
 pub mod SeatSteps
-pub mod EndFields
+pub mod WriterSteps

@@ -31,7 +31,7 @@ impl Model for Reader {
     ghost use Rattle.std.specs.Arc.{arc_value};
     ghost use Rattle.xcp_bank.specs.BankEnds.{ReaderEnd};
     ghost use Rattle.xcp_bank.specs.EndFields.{shown_reader};
-    ghost use Rattle.xcp_bank.specs.private.EndFields.{ReaderKept};
+    ghost use Rattle.xcp_bank.specs.private.KeptEnds.{ReaderKept};
 
     ghost Value = { ReaderEnd };
 
@@ -57,7 +57,7 @@ impl Reader {
     ///
     /// One step where it is, or where nothing is held, else three.
     pub fn acquire(&mut self) -> Taken
-        ensures same_reader { (self.new.bank ≡ self.old.bank) × (self.new.place ≡ self.old.place) }
+        ensures same_reader { (self.new.bank ≡ self.old.bank) × (self.new.index ≡ self.old.index) }
         ensures holds_the_last { HoldsNumber self.new (length self.new.seen - 1) }
         ensures has_seen { 0 < length self.new.seen }
         ensures knows { KnowsMore self.old self.new }
@@ -88,7 +88,7 @@ impl Reader {
         requires holds { Holds self.old }
         requires inside { at + length out.old ≤ IMAGE_BYTES }
         ensures bytes { out.new ≡ take (length out.old) (drop at (image_held self.old)) }
-        ensures same_reader { (self.new.bank ≡ self.old.bank) × (self.new.place ≡ self.old.place) }
+        ensures same_reader { (self.new.bank ≡ self.old.bank) × (self.new.index ≡ self.old.index) }
         ensures same { (self.new.held ≡ self.old.held) × (self.new.seen ≡ self.old.seen) }
         ensures does { ReadDoes (at / 8) (words_in at (length out.old)) self.old self.new }
         ensures run { IsRun self.new }
@@ -107,7 +107,7 @@ impl Reader {
     pub fn number(&mut self) -> u64
         requires { Holds self.old }
         ensures number { (b p : ℕ) → self.old.held ≡ Some (b, p) → result ≡ p % 18446744073709551616 }
-        ensures same_reader { (self.new.bank ≡ self.old.bank) × (self.new.place ≡ self.old.place) }
+        ensures same_reader { (self.new.bank ≡ self.old.bank) × (self.new.index ≡ self.old.index) }
         ensures same { (self.new.held ≡ self.old.held) × (self.new.seen ≡ self.old.seen) }
         ensures does { ReadDoes 255 1 self.old self.new }
         ensures run { IsRun self.new }
@@ -129,7 +129,7 @@ impl Reader {
     /// next step.
     pub fn tell(&mut self, writer: &mut Writer)
         requires { self.old.bank ≡ writer.old.bank }
-        ensures same_reader { (self.new.bank ≡ self.old.bank) × (self.new.place ≡ self.old.place) }
+        ensures same_reader { (self.new.bank ≡ self.old.bank) × (self.new.index ≡ self.old.index) }
         ensures writer { writer.new ≡ writer.old }
         ensures seen { self.new.seen ≡ writer.old.publications }
         ensures past { self.new.past ≡ self.old.seen ∷ self.old.past }
@@ -137,7 +137,7 @@ impl Reader {
         ensures looked { self.new.looked ≡ writer.old.current }
         ensures history { self.new.history ≡ self.old.history }
         ensures heard { self.new.heard ≡ writer.old.history }
-        ensures does { ReaderDoes self.old self.new (looked_at self.old.place writer.old.current ∷ looked_at self.old.place writer.old.current ∷ []) }
+        ensures does { ReaderDoes self.old self.new (looked_at self.old.index writer.old.current ∷ looked_at self.old.index writer.old.current ∷ []) }
     {
         let Some(seat) = self.seat.take() else {
             unreachable!()

@@ -7,7 +7,7 @@ ghost use Rattle.std.specs.Prelude.{◌≡◌, ◌≢◌, ℕ, suc, ◌%◌, ◌
 ghost use Rattle.std.specs.Arc.{arc_value};
 ghost use Rattle.atomic_table.specs.Table.{opening};
 ghost use Rattle.xcp_bank.specs.SeatKnowledge.{Reading, Writing, starting};
-ghost use Rattle.xcp_bank.specs.private.SeatKnowledge.{everybody};
+ghost use Rattle.xcp_bank.specs.private.Everybody.{everybody};
 ghost use Rattle.xcp_bank.specs.TableRule.{Banked};
 ghost use Rattle.xcp_bank.specs.private.ReaderSteps.{GivesUp};
 ghost use Rattle.xcp_bank.specs.private.WriterSteps.{Scanned, WasReset, Written, Published};

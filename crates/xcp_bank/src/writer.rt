@@ -32,7 +32,7 @@ impl Model for Writer {
     ghost use Rattle.std.specs.Arc.{arc_value};
     ghost use Rattle.xcp_bank.specs.BankEnds.{WriterEnd};
     ghost use Rattle.xcp_bank.specs.EndFields.{shown_writer};
-    ghost use Rattle.xcp_bank.specs.private.EndFields.{WriterKept};
+    ghost use Rattle.xcp_bank.specs.private.KeptEnds.{WriterKept};
 
     ghost Value = { WriterEnd };
 

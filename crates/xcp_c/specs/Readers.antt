@@ -1,7 +1,8 @@
 -- What a task in C does with a reader.
 use Rattle.std.specs.Prelude.{◌≡◌, ◌↔◌, ◌⊎◌, ℕ, ◌+◌, ◌-◌, ◌/◌, ◌%◌, ◌<◌, List, [], length, take, drop, Option, Some, None}
 use Rattle.xcp_bank.specs.BankEnds.{AcquireDoes, FollowsTold, Holds, HoldsNumber, IsRun, KnowsMore, ReadDoes, ReaderEnd, TellsTaken, image_held, words_in}
-use Rattle.xcp_bank.specs.SeatKnowledge.{AllBegin, Begins}
+use mathlib.Core.List.{IsPrefix}
+use Rattle.xcp_bank.specs.SeatKnowledge.{AllBegin}
 use Rattle.xcp_bank.specs.declared.taken.Taken.{Taken}
 use Rattle.xcp_bank.specs.declared.taken.Taken.TheVariants.{Newer, Same}
 
@@ -11,7 +12,7 @@ pub record Acquired (taken : Taken) (old new : Option ReaderEnd) : Type 0 where
   pub after : ReaderEnd
   pub was : old ≡ Some before
   pub is : new ≡ Some after
-  pub same_reader : (after.bank ≡ before.bank) × (after.place ≡ before.place)
+  pub same_reader : (after.bank ≡ before.bank) × (after.index ≡ before.index)
   pub holds_the_last : HoldsNumber after (length after.seen - 1)
   pub has_seen : 0 < length after.seen
   pub knows : KnowsMore before after
@@ -26,7 +27,7 @@ pub record Reads (at : ℕ) (old : Option ReaderEnd) (out : List ℕ) (new : Opt
   pub was : old ≡ Some before
   pub is : new ≡ Some after
   pub bytes : out ≡ take (length out) (drop at (image_held before))
-  pub same_reader : (after.bank ≡ before.bank) × (after.place ≡ before.place)
+  pub same_reader : (after.bank ≡ before.bank) × (after.index ≡ before.index)
   pub same : (after.held ≡ before.held) × (after.seen ≡ before.seen)
   pub does : ReadDoes (at / 8) (words_in at (length out)) before after
   pub run : IsRun after
@@ -40,7 +41,7 @@ pub record Numbered (n : ℕ) (old new : Option ReaderEnd) : Type 0 where
   pub is : new ≡ Some after
   pub number : (b p : ℕ) → before.held ≡ Some (b, p) → n ≡ p % 18446744073709551616
   pub known : (b p : ℕ) → before.held ≡ Some (b, p) → p < length after.seen
-  pub same_reader : (after.bank ≡ before.bank) × (after.place ≡ before.place)
+  pub same_reader : (after.bank ≡ before.bank) × (after.index ≡ before.index)
   pub same : (after.held ≡ before.held) × (after.seen ≡ before.seen)
   pub does : ReadDoes 255 1 before after
   pub run : IsRun after

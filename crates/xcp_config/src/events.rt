@@ -8,10 +8,10 @@ ghost use Rattle.xcp_config.specs.TableChecks.{event_checks, events_checks};
 ghost use Rattle.xcp_config.specs.private.PartsRead.{event_read, event_written};
 
 use crate::ConfigError;
-use crate::limits::{MAX_EVENTS, MAX_NAME};
 use crate::values::{read_setting, read_text, tables_in};
 use std::alloc::Global;
 use toml::Value;
+use xcp_memory::limits::{MAX_EVENTS, MAX_NAME};
 use xcp_memory::{EventPart, Key};
 
 /// The event channel that a table describes.

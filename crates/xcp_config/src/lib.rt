@@ -5,7 +5,6 @@
 
 mod config_error;
 mod events;
-mod limits;
 mod own;
 mod reading;
 mod segments;

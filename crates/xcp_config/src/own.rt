@@ -11,10 +11,10 @@ ghost use Rattle.xcp_config.specs.TableLayout.{byte_order_of, checksum_in, check
 ghost use Rattle.xcp_config.specs.TableChecks.{own_checks, name_checks};
 
 use crate::ConfigError;
-use crate::limits::MAX_ID;
 use crate::values::{read_integer, read_text, text_in};
 use std::alloc::Global;
 use toml::Value;
+use xcp_memory::limits::MAX_ID;
 use xcp_memory::{ChecksumKind, Key};
 use xcp_packet::Order;
 

@@ -9,11 +9,18 @@ ghost use Rattle.xcp_config.specs.TableChecks.{checks_in, segment_checks, segmen
 ghost use Rattle.xcp_config.specs.private.PartsRead.{segment_read, segment_written};
 
 use crate::ConfigError;
-use crate::limits::{DEFAULT_PAGES, LAST_ADDRESS, MAX_BYTES, MAX_PAGES, MAX_SEGMENTS, MIN_PAGES};
 use crate::values::{read_bytes, read_integer, read_setting, tables_in};
 use std::alloc::Global;
 use toml::Value;
+use xcp_memory::limits::{LAST_ADDRESS, MAX_BYTES, MAX_PAGES, MAX_SEGMENTS, MIN_PAGES};
 use xcp_memory::{Key, SegmentPart};
+
+/// How many pages a segment has at least and at most, and where its table doesn't say it.
+const LEAST_PAGES: u32 = MIN_PAGES as u32;
+
+const MOST_PAGES: u32 = MAX_PAGES as u32;
+
+const DEFAULT_PAGES: u32 = 2;
 
 /// Checks how many bytes there are, with `before` in the segments before, and where the last one lies.
 fn check_size(address: i64, size: usize, number: u8, before: usize) -> Result<(), ConfigError>
@@ -52,8 +59,8 @@ fn read_segment(
         table,
         "pages",
         Key::Pages(number),
-        MIN_PAGES,
-        MAX_PAGES,
+        LEAST_PAGES,
+        MOST_PAGES,
         DEFAULT_PAGES,
     )?;
     Ok(SegmentPart {

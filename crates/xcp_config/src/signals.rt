@@ -7,10 +7,10 @@ ghost use Rattle.xcp_config.specs.TableLayout.{address_of, length_of, signals_of
 ghost use Rattle.xcp_config.specs.TableChecks.{end_checks, place_checks, signals_checks};
 
 use crate::ConfigError;
-use crate::limits::{LAST_ADDRESS, MAX_SIGNALS};
 use crate::values::{read_integer, table_in};
 use toml::Value;
 use xcp_memory::Key;
+use xcp_memory::limits::{LAST_ADDRESS, MAX_SIGNALS};
 
 /// Where the signals stand: their first address, and how many bytes they have.
 #[derive(Clone, Copy)]

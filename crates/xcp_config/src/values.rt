@@ -3,17 +3,17 @@ ghost use Rattle.std.specs.Prelude.{◌≡◌, ◌≤◌, ◌⊎◌, length, map
 ghost use Rattle.std.specs.List.{list_all};
 ghost use Rattle.toml.specs.Data.{get, integer};
 ghost use Rattle.toml.specs.View.{view};
-ghost use Rattle.xcp_memory.specs.Limits.{is_within, is_text, is_printable, text_limit, number_limit, least_limit, count_limits};
+ghost use Rattle.xcp_memory.specs.Limits.{is_within, text_limit, number_limit, least_limit, count_limits};
 ghost use Rattle.xcp_packet.specs.Rows.{first_holding};
 ghost use Rattle.xcp_config.specs.TomlValues.{bytes_of, integer_of, is_table, members_of, optional, text_of};
 ghost use Rattle.xcp_config.specs.TableChecks.{array_checks, data_checks, integer_checks, table_checks, text_checks};
-ghost use Rattle.xcp_config.specs.private.TableChecks.{text_there};
+ghost use Rattle.xcp_config.specs.private.TextThere.{text_there};
 
 use crate::ConfigError;
 use hex::FromHexError;
 use std::alloc::Global;
 use toml::Value;
-use xcp_memory::Key;
+use xcp_memory::{Key, is_text};
 
 /// A text, of whatever range.
 pub(crate) fn text_in<'a>(table: &'a Value, name: &str, key: Key) -> Result<&'a str, ConfigError>
@@ -28,20 +28,6 @@ pub(crate) fn text_in<'a>(table: &'a Value, name: &str, key: Key) -> Result<&'a 
         Some(text) => Ok(text),
         None => Err(ConfigError::Kind(key)),
     }
-}
-
-/// Whether all bytes are printable characters of ASCII.
-fn all_printable(bytes: &[u8]) -> bool
-    ensures { result ≡ list_all is_printable bytes.now }
-{
-    bytes.iter().all(|b| (0x20..=0x7E).contains(b))
-}
-
-/// Whether there are 1 to `most` printable characters.
-fn is_text(bytes: &[u8], most: usize) -> bool
-    ensures { result ≡ is_text most bytes.now }
-{
-    !bytes.is_empty() && bytes.len() <= most && all_printable(bytes)
 }
 
 /// A text of 1 to `most` printable characters.

@@ -8,7 +8,7 @@ use Rattle.xcp_daq.specs.declared.pointer.Pointer.{Pointer}
 use Rattle.xcp_daq.specs.declared.allocation.Allocation.{Allocation}
 use Rattle.xcp_daq.specs.DaqLists.{DaqValue, DaqList, no_list, list_at, any_running, all_odts, all_entries, first_pid}
 use Rattle.xcp_daq.specs.Pools.{joined, list_of, lists_of}
-use Rattle.xcp_daq.specs.private.Pools.{spliced, synchronised_mode, counted_mode}
+use Rattle.xcp_daq.specs.private.SplicedPools.{spliced, synchronised_mode, counted_mode}
 use Rattle.std.specs.Prelude.{if◌then◌else◌, not, ◌&&◌, ◌==◌, ◌%◌}
 use Rattle.xcp_daq.specs.Starting.{stopped, started, synchronised}
 use Rattle.xcp_daq.specs.Sample.{counted}

@@ -4,7 +4,7 @@ use Rattle.std.specs.Prelude.{replicate}
 use Rattle.std.proofs.lemmas.List.{length-set, length-replicate, length-take-le, take-append-drop, drop-drop, take-replicate, drop-replicate, length-map, take-take}
 use Rattle.xcp_daq.specs.declared.element.Element.{Element}
 use Rattle.xcp_daq.specs.Pools.{parts, joined}
-use Rattle.xcp_daq.specs.private.Pools.{total, spliced, IsFit}
+use Rattle.xcp_daq.specs.private.SplicedPools.{total, spliced, IsFit}
 use Rattle.xcp_daq.proofs.PoolPartLemmas.{length-parts, parts-cons, parts-grown, parts-set, parts-blank, get-part, joined-parts, length-part, length-spliced, spliced-end, total-spliced, total-zeros, total-set, total-append, total-take, end-le-total}
 use Rattle.std.specs.Prelude.{Bool, true, false, ◌||◌, nat_lt}
 use Rattle.std.proofs.lemmas.Bool.Decides.{nat_tests}

@@ -4,7 +4,7 @@ use Rattle.std.proofs.lemmas.List.{length-take-le, take-append-drop, set-append_
 use Rattle.std.proofs.Math.Seq.{take-append_seam, take-append-add, drop-append_seam, drop-append-add}
 use Rattle.std.specs.Prelude.{replicate}
 use Rattle.xcp_daq.specs.Pools.{parts, joined}
-use Rattle.xcp_daq.specs.private.Pools.{total, spliced}
+use Rattle.xcp_daq.specs.private.SplicedPools.{total, spliced}
 
 module _ {A : Type 0} where
   pub parts-cons : (n : ℕ) (ns : List ℕ) (us bs : List A) → length us ≡ n → parts (n ∷ ns) (us ++ bs) ≡ us ∷ parts ns bs

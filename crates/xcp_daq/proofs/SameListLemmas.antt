@@ -5,7 +5,7 @@ use Rattle.xcp_daq.specs.declared.element.Element.{Element}
 use Rattle.xcp_daq.specs.declared.mode.Mode.{Mode}
 use Rattle.xcp_daq.specs.DaqLists.{DaqList}
 use Rattle.xcp_daq.specs.Pools.{parts, joined, list_of, lists_of}
-use Rattle.xcp_daq.specs.private.Pools.{total, IsFit}
+use Rattle.xcp_daq.specs.private.SplicedPools.{total, IsFit}
 use Rattle.xcp_daq.proofs.PoolPartLemmas.{joined-parts, length-parts}
 use Rattle.xcp_daq.proofs.OdtLemmas.{tree, all_joined}
 

@@ -1,3 +1,3 @@
 -- Words that contracts of private functions and invariants cite. No contract of a public function needs them.
-pub mod Configuring
-pub mod Pools
+pub mod ElementRefusal
+pub mod SplicedPools

@@ -30,7 +30,7 @@ impl Model for Odts {
     ghost use Rattle.std.specs.Prelude.{List, Option};
     ghost use Rattle.xcp_daq.specs.declared.element.Element.{Element};
     ghost use Rattle.xcp_daq.specs.Pools.{parts};
-    ghost use Rattle.xcp_daq.specs.private.Pools.{IsFit};
+    ghost use Rattle.xcp_daq.specs.private.SplicedPools.{IsFit};
 
     ghost Value = { List (List (List (Option Element))) };
 

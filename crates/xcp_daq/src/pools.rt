@@ -1,7 +1,7 @@
 //! Flat pools, cut into parts by counts.
 ghost use Rattle.std.specs.Prelude.{◌≡◌, ◌≤◌, ◌<◌, ◌+◌, ◌-◌, ◌^◌, None, length, take, drop, ◌++◌, replicate, slice_index, slice_set};
 ghost use Rattle.arrayvec.specs.ArrayVec.{array_vec_len};
-ghost use Rattle.xcp_daq.specs.private.Pools.{spliced, total};
+ghost use Rattle.xcp_daq.specs.private.SplicedPools.{spliced, total};
 
 use crate::Element;
 use arrayvec::ArrayVec;

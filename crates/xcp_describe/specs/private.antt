@@ -1,3 +1,3 @@
 -- Words that contracts of private functions and invariants cite. No contract of a public function needs them.
-pub mod UnreadKeys
-pub mod Findings
+pub mod Document
+pub mod TableKeys

@@ -7,7 +7,7 @@ ghost use Rattle.xcp_memory.specs.Layout.{LayoutValue};
 ghost use Rattle.xcp_config.specs.ConfigText.{HasLayout};
 ghost use Rattle.xcp_config.specs.TableChecks.{first_fault};
 ghost use Rattle.xcp_describe.specs.Findings.{IsChecked, IsClean, IsEntry, IsUnreadable, clean_text, unreadable};
-ghost use Rattle.xcp_describe.specs.private.Findings.{IsDocument};
+ghost use Rattle.xcp_describe.specs.private.Document.{IsDocument};
 
 use crate::findings::Findings;
 use crate::refusal::DescribeError;
@@ -43,7 +43,7 @@ pub fn check<W: Write>(
     // A fault of the writer comes exactly where a write failed, and want of memory before anything is written.
     ensures write { result ≡ Err (Fault.Stream 2) → writer.new.failures ≡ writer.old.failures + 1 }
     ensures front { result ≡ Err (Fault.Stream 2) → (text : List ℕ) × AppendsFront (W.contents writer.old.inner) (W.contents writer.new.inner) text }
-    ensures quiet { result ≢ Err (Fault.Stream 2) → writer.new.failures ≡ writer.old.failures }
+    ensures unfailed { result ≢ Err (Fault.Stream 2) → writer.new.failures ≡ writer.old.failures }
     ensures unwritten { result ≡ Err Fault.Memory → writer.new ≡ writer.old }
 {
     let (findings, text) = findings_in(alloc, file)?;

@@ -50,7 +50,7 @@ pub fn describe<W: Write>(
     // A fault of the writer comes exactly where a write failed, and any other before anything is written.
     ensures write { result ≡ Err (DescribeError.Program (Fault.Stream 2)) → writer.new.failures ≡ writer.old.failures + 1 }
     ensures front { result ≡ Err (DescribeError.Program (Fault.Stream 2)) → (text : List ℕ) × AppendsFront (W.contents writer.old.inner) (W.contents writer.new.inner) text }
-    ensures quiet { result ≢ Err (DescribeError.Program (Fault.Stream 2)) → writer.new.failures ≡ writer.old.failures }
+    ensures unfailed { result ≢ Err (DescribeError.Program (Fault.Stream 2)) → writer.new.failures ≡ writer.old.failures }
     ensures unwritten { OnErr result (result ≢ Err (DescribeError.Program (Fault.Stream 2)) → writer.new ≡ writer.old) }
 {
     let layout = layout_of(alloc, config)?;

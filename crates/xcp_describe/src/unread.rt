@@ -5,7 +5,7 @@ ghost use Rattle.toml.specs.Data.{get};
 ghost use Rattle.toml.specs.View.{table_view, view};
 ghost use Rattle.xcp_config.specs.TomlValues.{members_of};
 ghost use Rattle.xcp_describe.specs.UnreadKeys.{is_among, unread_each, unread_keys, unread_members, unread_of, unread_signals};
-ghost use Rattle.xcp_describe.specs.private.UnreadKeys.{keys_of};
+ghost use Rattle.xcp_describe.specs.private.TableKeys.{keys_of};
 
 use crate::place::Place;
 use std::alloc::{AllocError, Global};

@@ -10,7 +10,7 @@ use Rattle.xcp_framing.specs.Frames.{frames, rest}
 use Rattle.xcp_framing.specs.FramerInput.{Feeds}
 use Rattle.xcp_framing.specs.Serve.{OnRead, EndsStream}
 use Rattle.xcp_framing.specs.ServeParts.{IsInterruption}
-use Rattle.xcp_framing.specs.private.ServeParts.{EndsPiece}
+use Rattle.xcp_framing.specs.private.GrowingOutput.{EndsPiece}
 use Rattle.xcp_framing.specs.private.AnsweredStream.{Streams, outcome}
 use Rattle.xcp_framing.proofs.PieceLemmas.{ahead, ahead_none, bad_stays}
 use Rattle.xcp_framing.proofs.StreamLemmas.{read_none, read_kept, keeps_end, read_more, ends_as}

@@ -14,7 +14,7 @@ use Rattle.xcp_framing.specs.ServeRefusal.{Refused}
 use Rattle.xcp_framing.specs.ServeParts.{IsInterruption}
 use Rattle.xcp_framing.specs.Pump.{AllDrains, Pumped, Pumps, DrainAgain}
 use Rattle.xcp_framing.specs.private.PutOutput.{Moves, MovesSoFar}
-use Rattle.xcp_framing.specs.private.Pump.{PumpsHeld}
+use Rattle.xcp_framing.specs.private.HeldPump.{PumpsHeld}
 use Rattle.xcp_framing.proofs.PutOutputLemmas.{all_put, back_on, both_move, lost_in, moves_back, moves_in, moves_more, moves_none, moves_put, put_on}
 use Rattle.xcp_framing.proofs.ExchangeLemmas.{packets_of-append}
 

@@ -10,11 +10,11 @@ use Rattle.xcp_framing.specs.declared.serving.ServeError.TheVariants as errors
 use Rattle.xcp_framing.specs.declared.station.StationError.{StationError}
 use Rattle.xcp_framing.specs.declared.station.StationError.TheVariants as refusals
 use Rattle.std.specs.Io.KnownBytes.{Appends}
-use Rattle.xcp_framing.specs.private.FrameOutput.{Gathers, Output, Sends}
+use Rattle.xcp_framing.specs.FrameOutput.{Gathers, Output, Sends}
 use Rattle.xcp_framing.specs.Wire.{wire_from, frame_bytes}
 use Rattle.xcp_framing.specs.Serve.{packet_of, packets_of, GavePacket, AnswersAll, AnswersStart, AnswersPart, AnswersSoFar, most_drains, refused_with}
 use Rattle.xcp_framing.specs.ServeParts.{IsInterruption}
-use Rattle.xcp_framing.specs.private.ServeParts.{Grows, DrainsSoFar, EndsPiece, fine}
+use Rattle.xcp_framing.specs.private.GrowingOutput.{Grows, DrainsSoFar, EndsPiece, fine}
 use Rattle.xcp_framing.specs.Prefix.{AppendsFront}
 use Rattle.xcp_framing.proofs.FrameOutputLemmas.{gathers_more, gathers_none, sends_flushed, sends_more, sends_none, sends_unflushed}
 
@@ -72,8 +72,8 @@ grows_more r {old = old} {a = a} {b = b} {c = c} {from = from} {at = at} {to = t
     }
 
 -- one exchange with no packet
-pub grows_quiet : {old new : List Exchange} (x : Exchange) (a : Output) (from : ℕ) → new ≡ old ++ x ∷ [] → packet_of x.answer ≡ [] → Grows fine (λ xs. xs ≡ x ∷ []) old new a a from from
-grows_quiet x a from h e =
+pub grows_unsent : {old new : List Exchange} (x : Exchange) (a : Output) (from : ℕ) → new ≡ old ++ x ∷ [] → packet_of x.answer ≡ [] → Grows fine (λ xs. xs ≡ x ∷ []) old new a a from from
+grows_unsent x a from h e =
     let none : packets_of (x ∷ []) ≡ [] = rw e refl in
     record {
       exchanges = x ∷ [];
@@ -124,7 +124,7 @@ pub front_longer : (before after : Option (List ℕ)) (t more : List ℕ) → Ap
 front_longer before after t more h = record {
   written = h.written;
   grown = h.grown;
-  front = record { rest = h.front.rest ++ more; joined = sym (append_assoc h.written h.front.rest more) ∙ ap (λ (z : List ℕ). z ++ more) h.front.joined };
+  front = (h.front.0 ++ more, sym (append_assoc h.written h.front.0 more) ∙ ap (λ (z : List ℕ). z ++ more) h.front.1);
 }
 
 -- packets that were sent, one more behind them, and the others of a block

@@ -5,7 +5,7 @@ use Rattle.std.specs.Io.KnownBytes.{Appends, Keeps}
 use Rattle.xcp_framing.specs.declared.serving.ServeError.{ServeError}
 use Rattle.xcp_framing.specs.declared.serving.ServeError.TheVariants as errors
 use Rattle.xcp_framing.specs.Prefix.{AppendsFront}
-use Rattle.xcp_framing.specs.private.FrameOutput.{Output, Gathers, Sends}
+use Rattle.xcp_framing.specs.FrameOutput.{Output, Gathers, Sends}
 use Rattle.xcp_framing.specs.Serve.{Writes}
 use Rattle.xcp_framing.proofs.KnownBytesLemmas.{appends_none, appends_more, appends_kept, keeps_none}
 
@@ -32,7 +32,7 @@ front_behind : (a b c : Output) (t u : List ℕ) → Gathers a b t → AppendsFr
 front_behind a b c t u x y = record {
   written = x.written ++ y.written;
   grown = appends_more a.contents b.contents c.contents x.written y.written x.grown y.grown;
-  front = record { rest = y.front.rest; joined = joined_behind a b t y.written y.front.rest u x y.front.joined };
+  front = (y.front.0, joined_behind a b t y.written y.front.0 u x y.front.1);
 }
 
 -- a text that was gathered, and another one sent behind it, are sent as one text, whatever the result
@@ -49,7 +49,7 @@ sends_more (Err errors.JournalFull) a b c t u h k = gathers_more a b c t u h k
 -- nothing to send
 pub sends_none : {A : Type 0} (r : Result A ServeError) (a : Output) → Sends r a a []
 sends_none (Ok v) a = gathers_none a
-sends_none (Err errors.Write) a = record { written = []; grown = appends_none a.contents; front = record { rest = a.held ++ []; joined = refl } }
+sends_none (Err errors.Write) a = record { written = []; grown = appends_none a.contents; front = (a.held ++ [], refl) }
 sends_none (Err errors.Read) a = gathers_none a
 sends_none (Err (errors.BadLength n)) a = gathers_none a
 sends_none (Err errors.Truncated) a = gathers_none a
@@ -85,10 +85,10 @@ unflushed : (a b c : Output) (t : List ℕ) → Gathers a b t → AppendsFront b
 unflushed a b c t x y = record {
   written = x.written ++ y.written;
   grown = appends_more a.contents b.contents c.contents x.written y.written x.grown y.grown;
-  front = record {
-    rest = y.front.rest;
-    joined = append_assoc x.written y.written y.front.rest ∙ ap (λ (z : List ℕ). x.written ++ z) y.front.joined ∙ x.rest;
-  };
+  front = (
+    y.front.0,
+    append_assoc x.written y.written y.front.0 ∙ ap (λ (z : List ℕ). x.written ++ z) y.front.1 ∙ x.rest,
+  );
 }
 
 none_before : (w rest : List ℕ) → w ++ rest ≡ [] → w ≡ []
@@ -97,7 +97,7 @@ none_before (b ∷ w) rest h = absurd (cc)
 
 front_of_none : (a b c : Output) (t : List ℕ) → AppendsFront a.contents b.contents t → AppendsFront b.contents c.contents b.held → b.held ≡ [] → AppendsFront a.contents c.contents t
 front_of_none a b c t x y e =
-    let none : y.written ≡ [] = none_before y.written y.front.rest (y.front.joined ∙ e) in
+    let none : y.written ≡ [] = none_before y.written y.front.0 (y.front.1 ∙ e) in
     record {
       written = x.written;
       grown = appends_kept a.contents b.contents c.contents x.written x.grown (keeps_none b.contents c.contents (subst (λ (z : List ℕ). Appends b.contents c.contents z) none y.grown));

@@ -34,7 +34,7 @@ pub front_kept : (a b c : Option (List ℕ)) (t : List ℕ) (i : ℕ) → Append
 front_kept a b c t i h k = record {
   written = take i t;
   grown = appends_kept a b c (take i t) h k;
-  front = record { rest = drop i t; joined = take-append-drop i t };
+  front = (drop i t, take-append-drop i t);
 }
 
 -- a text after what was written before it
@@ -46,8 +46,8 @@ pub written_front : (a b c : Option (List ℕ)) (before texts text whole : List 
 written_front a b c before texts text whole h k p q = record {
   written = before ++ k.written;
   grown = appends_more a b c before k.written h k.grown;
-  front = record {
-    rest = k.front.rest;
-    joined = append_assoc before k.written k.front.rest ∙ ap (λ (z : List ℕ). before ++ z) (k.front.joined ∙ p) ∙ q;
-  };
+  front = (
+    k.front.0,
+    append_assoc before k.written k.front.0 ∙ ap (λ (z : List ℕ). before ++ z) (k.front.1 ∙ p) ∙ q,
+  );
 }

@@ -5,8 +5,8 @@ use Rattle.std.proofs.lemmas.Bool.Decides.{nat_tests}
 use Rattle.std.proofs.Math.Seq.{take-add}
 use Rattle.xcp_framing.specs.Wire.{len_of, is_frame, packet_in, IsUnfinished, IsBadLength}
 use Rattle.xcp_framing.specs.Frames.{frames, rest}
-use Rattle.xcp_framing.specs.FramerInput.{IsQuiet, Feeds}
-use Rattle.xcp_framing.specs.private.FramerInput.{missing_of}
+use Rattle.xcp_framing.specs.FramerInput.{BringsNone, Feeds}
+use Rattle.xcp_framing.specs.private.MissingBytes.{missing_of}
 use Rattle.xcp_framing.proofs.FrameCutLaws.{stays, whole_frame, is_frame-is, len_of-append, cuts_alike}
 
 -- what is no frame
@@ -40,24 +40,24 @@ held_packet m a h k e =
     (w.0 ∙ rw t refl, w.1)
 
 -- no frame, and no LEN too great
-pub unfinished_quiet : (m : ℕ) (a : List ℕ) → IsUnfinished m a → ¬ IsBadLength m a → IsQuiet m a
-unfinished_quiet m a u f = let w = held_unfinished m a u in record { no_packet = w.0; no_fault = rw (← w.1) f }
+pub unfinished_none : (m : ℕ) (a : List ℕ) → IsUnfinished m a → ¬ IsBadLength m a → BringsNone m a
+unfinished_none m a u f = let w = held_unfinished m a u in record { no_packet = w.0; no_fault = rw (← w.1) f }
 
 -- fewer bytes than are missing bring nothing
-pub quiet_below : (m k : ℕ) (h s : List ℕ) → k < missing_of m h → IsQuiet m (h ++ take k s)
-quiet_below m k h s b =
-    elim (nat_lt (length h) 2) as (λ t. nat_lt (length h) 2 ≡ t → IsQuiet m (h ++ take k s)) [
+pub none_below : (m k : ℕ) (h s : List ℕ) → k < missing_of m h → BringsNone m (h ++ take k s)
+none_below m k h s b =
+    elim (nat_lt (length h) 2) as (λ t. nat_lt (length h) 2 ≡ t → BringsNone m (h ++ take k s)) [
       | true ↦ λ e.
           let short : k < 2 - length h = rw e at b in
           let total : length (h ++ take k s) < 2 = omega (arith, short, length-append h (take k s), length-take k s) in
-          unfinished_quiet m (h ++ take k s) (λ w. omega (arith, total)) (λ w. omega (arith, total, w.there))
+          unfinished_none m (h ++ take k s) (λ w. omega (arith, total)) (λ w. omega (arith, total, w.there))
       | false ↦ λ e.
           let two : 2 ≤ length h = grind (arith, nat_tests, e) in
           let same = len_of-append h (take k s) two in
           let rest_of : k < (if nat_lt m (len_of h) then 0 else (4 + len_of h) - length h) = rw e at b in
           let fine : (len_of h ≤ m) × (k < (4 + len_of h) - length h) = (grind (arith, nat_tests, rest_of), grind (arith, nat_tests, rest_of)) in
           let total : length (h ++ take k s) < 4 + len_of h = omega (arith, fine.1, length-append h (take k s), length-take k s) in
-          unfinished_quiet m (h ++ take k s) (λ w. omega (arith, total, same)) (λ w. omega (arith, fine.0, same, w.above))
+          unfinished_none m (h ++ take k s) (λ w. omega (arith, total, same)) (λ w. omega (arith, fine.0, same, w.above))
     ] refl
 
 -- no more than what is missing is no more than a frame
@@ -105,7 +105,7 @@ feeds_once m k h s a e g f r = record {
   front = omega (arith, e);
   brings = rw (← g) f;
   leaves = rw (← g) r;
-  first = λ j b. quiet_below m j h s (omega (arith, e, b));
+  first = λ j b. none_below m j h s (omega (arith, e, b));
 }
 
 -- where no LEN is too great, some of a piece is used
@@ -136,9 +136,9 @@ cut_at m i j h s r f =
     let cut = cuts_alike m (h ++ take i s) (take j (drop i s)) in
     (ap (frames m) parts ∙ cut.0 ∙ rw (f.brings, ← f.leaves) refl, ap (rest m) parts ∙ cut.1 ∙ rw (← f.leaves) refl)
 
--- a front is quiet where its first part brings no packet and its last part is quiet behind what that left
-pub quiet_behind : (m i j : ℕ) (h s r : List ℕ) → Feeds m h s i [] r → IsQuiet m (r ++ take j (drop i s)) → IsQuiet m (h ++ take (i + j) s)
-quiet_behind m i j h s r f q = let c = cut_at m i j h s r f in record { no_packet = c.0 ∙ q.no_packet; no_fault = rw c.1 q.no_fault }
+-- a front brings none where its first part brings no packet and its last part brings none behind what that left
+pub none_behind : (m i j : ℕ) (h s r : List ℕ) → Feeds m h s i [] r → BringsNone m (r ++ take j (drop i s)) → BringsNone m (h ++ take (i + j) s)
+none_behind m i j h s r f q = let c = cut_at m i j h s r f in record { no_packet = c.0 ∙ q.no_packet; no_fault = rw c.1 q.no_fault }
 
 -- a front that brings no packet and the front behind it are one front, which brings what the second does
 pub feeds_more : (m i j : ℕ) (h s r t : List ℕ) {packets : List (List ℕ)} {left : List ℕ} → Feeds m h s i [] r → t ≡ drop i s → Feeds m r t j packets left → Feeds m h s (i + j) packets left
@@ -150,12 +150,12 @@ feeds_more m i j h s r t f e g =
       brings = c.0 ∙ g'.brings;
       leaves = g'.leaves ∙ sym c.1;
       first = λ k b.
-          elim (nat_lt k i) as (λ x. nat_lt k i ≡ x → IsQuiet m (h ++ take k s)) [
+          elim (nat_lt k i) as (λ x. nat_lt k i ≡ x → BringsNone m (h ++ take k s)) [
             | true ↦ λ e. f.first k (grind (arith, nat_tests, e))
             | false ↦ λ e.
                 let above : i ≤ k = grind (arith, nat_tests, e) in
                 let split : i + (k - i) ≡ k = omega (arith, above) in
-                let q = quiet_behind m i (k - i) h s r f (g'.first (k - i) (omega (arith, above, b))) in
+                let q = none_behind m i (k - i) h s r f (g'.first (k - i) (omega (arith, above, b))) in
                 rw split at q
           ] refl;
     }

@@ -14,7 +14,7 @@ use Rattle.xcp_framing.specs.ServeRefusal.{OnRefusal, Refused}
 use Rattle.xcp_framing.specs.ServeBy.{command, commands, PutsSoFar, ServesBy, CommandNext}
 use Rattle.xcp_framing.specs.private.AnsweredStream.{Stand, Streams, outcome}
 use Rattle.xcp_framing.specs.private.PutOutput.{Moves, MovesSoFar}
-use Rattle.xcp_framing.specs.private.ServeBy.{NextCommand, AsksFirst, AsksSoFar, AnswersByPut, HandsBatchOn}
+use Rattle.xcp_framing.specs.private.AnsweredByPut.{NextCommand, AsksFirst, AsksSoFar, AnswersByPut, HandsBatchOn}
 use Rattle.xcp_framing.proofs.ExchangeLemmas.{packets_of-append}
 use Rattle.xcp_framing.proofs.PutOutputLemmas.{all_put, lost_in, moves_back, moves_in, moves_more, moves_none, moves_put}
 use Rattle.xcp_framing.proofs.StreamLemmas.{read_none}

@@ -10,7 +10,7 @@ use Rattle.xcp_framing.specs.declared.serving.ServeError.TheVariants as errors
 use Rattle.xcp_framing.specs.Serve.{packets_of, AnswersAll, AnswersSoFar, Writes, Counts, Serves}
 use Rattle.xcp_framing.specs.ServeRefusal.{OnRefusal, Refused, AsksNext, ReadsNext}
 use Rattle.xcp_framing.specs.ServeParts.{IsInterruption}
-use Rattle.xcp_framing.specs.private.FrameOutput.{FrameWriterValue, Output, Sends, output}
+use Rattle.xcp_framing.specs.FrameOutput.{FrameWriterValue, Output, Sends, output}
 use Rattle.xcp_framing.specs.private.AnsweredStream.{Stand, Streams, outcome}
 use Rattle.xcp_framing.specs.private.FramesAnswered.{AnswersInFrames, HandsFramesOn}
 use Rattle.xcp_framing.proofs.KnownBytesLemmas.{appends_none}
@@ -40,7 +40,7 @@ module _ {S K O : Type 0} (exchanges_of : S → List Exchange) (refuses : S → 
   pub frames_none : (a : Stand S K O) → AnswersInFrames exchanges_of refuses frames_of contents_of failures_of (Ok tt) [] a a
   frames_none a = record {
     grows = grows_none (AnswersAll []) (exchanges_of a.station) (output (contents_of a.out) (frames_of a.state)) (frames_of a.state).sent refl;
-    quiet = λ n. refl;
+    unfailed = λ n. refl;
     write = λ e. absurd (cc);
     dropped = λ e. absurd (cc);
     refused = tt;
@@ -50,11 +50,11 @@ module _ {S K O : Type 0} (exchanges_of : S → List Exchange) (refuses : S → 
   pub frames_more : (r : Result (Unit {0}) ServeError) (ps qs : List (List ℕ)) (a b c : Stand S K O)
       → AnswersInFrames exchanges_of refuses frames_of contents_of failures_of (Ok tt) ps a b → AnswersInFrames exchanges_of refuses frames_of contents_of failures_of r qs b c → AnswersInFrames exchanges_of refuses frames_of contents_of failures_of r (ps ++ qs) a c
   frames_more r ps qs a b c x y =
-      let quiet : failures_of b.out ≡ failures_of a.out = x.quiet (λ e. cc) in
+      let unfailed : failures_of b.out ≡ failures_of a.out = x.unfailed (λ e. cc) in
       record {
         grows = grows_more r x.grows y.grows (λ xs ys h k. answers_more r ps qs xs ys h k);
-        quiet = λ n. y.quiet n ∙ quiet;
-        write = λ e. (let risen = y.write e in omega (arith, quiet, risen));
+        unfailed = λ n. y.unfailed n ∙ unfailed;
+        write = λ e. (let risen = y.write e in omega (arith, unfailed, risen));
         dropped = y.dropped;
         refused = on_refusal_all (Unit {0}) r _ _ (λ e k. refused_more exchanges_of refuses e (AsksNext qs) (AsksNext (ps ++ qs)) x.grows.exchanges x.grows.grown (λ ys q n. asks_more ps qs x.grows.exchanges ys q x.grows.fact n) k) y.refused;
       }
@@ -64,7 +64,7 @@ module _ {S K O : Type 0} (exchanges_of : S → List Exchange) (refuses : S → 
       → AnswersInFrames exchanges_of refuses frames_of contents_of failures_of (Err e) ps a b → AnswersInFrames exchanges_of refuses frames_of contents_of failures_of (Err e) (ps ++ qs) a b
   frames_before e ps qs a b i x = record {
     grows = record { exchanges = x.grows.exchanges; grown = x.grows.grown; fact = answers_before (Unit {0}) e ps qs x.grows.exchanges i x.grows.fact; sends = x.grows.sends; counts = tt };
-    quiet = x.quiet;
+    unfailed = x.unfailed;
     write = x.write;
     dropped = x.dropped;
     refused = on_refusal_all (Unit {0}) (Err e) _ _ (λ f k. refused_as exchanges_of refuses f (AsksNext ps) (AsksNext (ps ++ qs)) (exchanges_of a.station) b.station (λ xs q n. asks_before ps qs xs q n) k) x.refused;
@@ -76,7 +76,7 @@ module _ {S K O : Type 0} (exchanges_of : S → List Exchange) (refuses : S → 
       → AnswersInFrames exchanges_of refuses frames_of contents_of failures_of r ps a (record { station = b.station; state = k; out = o })
   frames_handed r ps a b k o x h = record {
     grows = rw (h.sent) (grows_flushed r (output (contents_of o) (frames_of k)) x.grows x.dropped h.writes h.held);
-    quiet = λ n. h.fine ∙ x.quiet n;
+    unfailed = λ n. h.fine ∙ x.unfailed n;
     write = λ e. (let risen = x.write e in omega (arith, h.fine, risen));
     dropped = λ e. h.held;
     refused = x.refused;
@@ -87,12 +87,12 @@ module _ {S K O : Type 0} (exchanges_of : S → List Exchange) (refuses : S → 
       → AnswersInFrames exchanges_of refuses frames_of contents_of failures_of r ps a b → HandsFramesOn frames_of contents_of failures_of (Err e) b.state b.out k o
       → AnswersInFrames exchanges_of refuses frames_of contents_of failures_of (Err e) ps a (record { station = b.station; state = k; out = o })
   frames_held r e ps a b k o x h =
-      let risen = rises r _ _ x.quiet x.write in
+      let risen = rises r _ _ x.unfailed x.write in
       let writes = rw (h.err.0) at h.writes in
       let front = grows_unflushed r (output (contents_of o) (frames_of k)) x.grows x.dropped writes in
       rw (h.err.0) (record {
         grows = record { exchanges = front.exchanges; grown = front.grown; fact = front.fact; sends = front.sends; counts = tt };
-        quiet = λ n. absurd (n refl);
+        unfailed = λ n. absurd (n refl);
         write = λ is. omega (arith, risen, h.err.1);
         dropped = λ is. h.held;
         refused = tt;

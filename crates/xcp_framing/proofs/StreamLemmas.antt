@@ -6,7 +6,7 @@ use Rattle.xcp_framing.specs.declared.serving.ServeError.{ServeError}
 use Rattle.xcp_framing.specs.declared.serving.ServeError.TheVariants as errors
 use Rattle.xcp_framing.specs.Frames.{frames, rest}
 use Rattle.xcp_framing.specs.Serve.{OnRead, EndsStream, EndsReader}
-use Rattle.xcp_framing.specs.private.ServeParts.{EndsPiece}
+use Rattle.xcp_framing.specs.private.GrowingOutput.{EndsPiece}
 use Rattle.xcp_framing.proofs.FrameCutLaws.{cuts_alike}
 use Rattle.xcp_framing.proofs.ExchangeLemmas.{cons≢nil}
 

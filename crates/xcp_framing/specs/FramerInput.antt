@@ -26,7 +26,7 @@ got_in broughts.Packet packet = gots.Packet packet
 got_in (broughts.BadLength n) packet = gots.BadLength n
 
 -- no packet is whole yet, and no LEN is above m
-pub record IsQuiet (m : ℕ) (stream : List ℕ) : Type 0 where
+pub record BringsNone (m : ℕ) (stream : List ℕ) : Type 0 where
   pub no_packet : frames m stream ≡ []
   pub no_fault : ¬ IsBadLength m (rest m stream)
 
@@ -36,4 +36,4 @@ pub record Feeds (m : ℕ) (held piece : List ℕ) (used : ℕ) (packets : List 
   pub front : used ≤ length piece
   pub brings : frames m (held ++ take used piece) ≡ packets
   pub leaves : left ≡ rest m (held ++ take used piece)
-  pub first : (k : ℕ) → k < used → IsQuiet m (held ++ take k piece)
+  pub first : (k : ℕ) → k < used → BringsNone m (held ++ take k piece)

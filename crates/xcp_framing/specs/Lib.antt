@@ -1,4 +1,5 @@
 pub mod Desk
+pub mod FrameOutput
 pub mod FramerInput
 pub mod Frames
 pub mod Prefix

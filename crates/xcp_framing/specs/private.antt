@@ -1,10 +1,9 @@
 -- Words that contracts of private functions and invariants cite. No contract of a public function needs them.
+pub mod AnsweredByPut
 pub mod AnsweredStream
-pub mod FramerInput
-pub mod FrameOutput
 pub mod FramesAnswered
-pub mod Pump
+pub mod GrowingOutput
+pub mod HeldPump
+pub mod MissingBytes
+pub mod MostPackets
 pub mod PutOutput
-pub mod Serve
-pub mod ServeBy
-pub mod ServeParts

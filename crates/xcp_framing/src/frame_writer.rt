@@ -1,9 +1,10 @@
 //! Frames that are gathered, so that one write takes many of them.
-ghost use Rattle.std.specs.Prelude.{◌≡◌, ◌<◌, ◌≤◌, ◌+◌, ◌^◌, [], ◌∷◌, OnOk, OnErr, IfOk, IfErr, length};
-ghost use Rattle.xcp_framing.specs.private.FrameOutput.{Sends, output};
+ghost use Rattle.std.specs.Prelude.{◌≡◌, ◌<◌, ◌≤◌, ◌+◌, ◌%◌, ◌^◌, [], ◌∷◌, ◌++◌, OnOk, OnErr, IfOk, IfErr, false, length, true};
+ghost use Rattle.xcp_framing.specs.FrameOutput.{Fits, Sends, output};
 ghost use Rattle.xcp_framing.specs.Serve.{Writes};
-ghost use Rattle.xcp_framing.specs.Wire.{wire_from};
+ghost use Rattle.xcp_framing.specs.Wire.{frame_bytes, wire_from};
 
+use crate::wire::HEADER_SIZE;
 use crate::{ServeError, Watched, frame};
 use std::alloc::{AllocError, Global};
 use std::io::Write;
@@ -16,14 +17,14 @@ const GATHERED_BYTES: usize = 4096;
 /// Puts packets into frames, numbers them, and gathers the frames until they are written. What
 /// can't be written is given up.
 #[derive(Drop)]
-pub(crate) struct FrameWriter {
+pub struct FrameWriter {
     sent: u64,
     held: Vec<u8>,
 }
 
 impl Model for FrameWriter {
     ghost use Rattle.std.specs.Prelude.{◌≤◌, vec_capacity, vec_len};
-    ghost use Rattle.xcp_framing.specs.private.FrameOutput.{FrameWriterValue};
+    ghost use Rattle.xcp_framing.specs.FrameOutput.{FrameWriterValue};
 
     ghost Value = { FrameWriterValue };
 
@@ -35,7 +36,7 @@ impl Model for FrameWriter {
 
 impl FrameWriter {
     /// A writer that has sent nothing. It takes all its memory at once.
-    pub(crate) fn new(alloc: Global) -> Result<FrameWriter, AllocError>
+    pub fn new(alloc: Global) -> Result<FrameWriter, AllocError>
         ensures { IfOk result (λ frames. frames ≡ record { sent = 0; held = [] }) }
     {
         Ok(FrameWriter {
@@ -44,14 +45,36 @@ impl FrameWriter {
         })
     }
 
-    /// How many packets were sent.
-    pub(crate) fn sent(&self) -> u64
+    /// How many packets were sent, modulo 2^64.
+    pub fn sent(&self) -> u64
         ensures { result ≡ self.now.sent }
     {
         self.sent
     }
 
-    /// Sends one packet. CTR is the number of packets sent before, modulo 65,536.
+    /// Whether the packet's frame finds room beside those that are held. Where none is held, each does.
+    pub fn has_room(&self, packet: &Packet) -> bool
+        ensures some { result ≡ true → Fits self.now packet.now.items }
+        ensures none { result ≡ false → ¬ Fits self.now packet.now.items }
+        ensures each { 4 + length packet.now.items ≤ 4096 }
+    {
+        self.held.len() + (HEADER_SIZE + packet.len()) <= GATHERED_BYTES
+    }
+
+    /// Makes the packet's frame, and holds it behind the others. CTR is the number of packets sent
+    /// before, modulo 65,536.
+    #[inline(always)]
+    pub fn push(&mut self, packet: &Packet)
+        requires { Fits self.old packet.now.items }
+        ensures held { self.new.held ≡ self.old.held ++ frame_bytes self.old.sent packet.now.items }
+        ensures counts { self.new.sent ≡ (self.old.sent + 1) % 2 ^ 64 }
+    {
+        let frame = frame((self.sent % 65_536) as u16, packet);
+        let _ = self.held.extend_from_slice(frame.as_slice());
+        self.sent = self.sent.wrapping_add(1);
+    }
+
+    /// Sends one packet: its frame is held, behind a write of those before it where it finds no room.
     #[inline(always)]
     pub(crate) fn send<W: Write>(
         &mut self,
@@ -69,45 +92,42 @@ impl FrameWriter {
         ensures err { IfErr result (λ e.
             (e ≡ ServeError.Write) × (writer.old.failures < writer.new.failures)) }
     {
-        let frame = frame((self.sent % 65_536) as u16, packet);
-        self.make_room(writer, frame.len())?;
-        let _ = self.held.extend_from_slice(frame.as_slice());
-        self.sent += 1;
+        self.make_room(writer, packet)?;
+        self.push(packet);
         Ok(())
     }
 
-    /// Writes what is held where it leaves no room for so many bytes.
+    /// Writes what is held where it leaves no room for the packet's frame.
     fn make_room<W: Write>(
         &mut self,
         writer: &mut Watched<W>,
-        count: usize,
+        packet: &Packet,
     ) -> Result<(), ServeError>
-        requires { count ≤ GATHERED_BYTES }
         ensures sends { Sends result
             (output (W.contents writer.old.inner) self.old)
             (output (W.contents writer.new.inner) self.new) [] }
-        ensures room { OnOk result (length self.new.held + count ≤ GATHERED_BYTES) }
+        ensures room { OnOk result (Fits self.new packet.now.items) }
         ensures sent { self.new.sent ≡ self.old.sent }
         ensures fine { OnOk result (writer.new.failures ≡ writer.old.failures) }
         ensures dropped { OnErr result (self.new.held ≡ []) }
         ensures err { IfErr result (λ e.
             (e ≡ ServeError.Write) × (writer.old.failures < writer.new.failures)) }
     {
-        if self.held.len() + count <= GATHERED_BYTES {
+        if self.has_room(packet) {
             return Ok(());
         }
         self.flush(writer)
     }
 
     /// Writes what is held. Nothing is held then, also where the write failed.
-    pub(crate) fn flush<W: Write>(&mut self, writer: &mut Watched<W>) -> Result<(), ServeError>
+    pub fn flush<W: Write>(&mut self, writer: &mut Watched<W>) -> Result<(), ServeError>
         ensures writes { Writes result (W.contents writer.old.inner) (W.contents writer.new.inner)
             self.old.held }
         ensures held { self.new.held ≡ [] }
         ensures sent { self.new.sent ≡ self.old.sent }
         ensures fine { OnOk result (writer.new.failures ≡ writer.old.failures) }
         ensures err { IfErr result (λ e.
-            (e ≡ ServeError.Write) × (writer.old.failures < writer.new.failures)) }
+            (e ≡ ServeError.Write) × (writer.new.failures ≡ writer.old.failures + 1)) }
     {
         let written = writer.write_all(&self.held);
         self.held.clear();

@@ -3,7 +3,7 @@ ghost use Rattle.std.specs.Prelude.{◌≡◌, ◌≢◌, ◌<◌, ◌≤◌, �
 ghost use Rattle.xcp_framing.specs.Wire.{IsBadLength, len_of};
 ghost use Rattle.xcp_framing.specs.Frames.{frames, rest};
 ghost use Rattle.xcp_framing.specs.FramerInput.{Feeds, got_in, packets_given};
-ghost use Rattle.xcp_framing.specs.private.FramerInput.{missing_of};
+ghost use Rattle.xcp_framing.specs.private.MissingBytes.{missing_of};
 
 use crate::wire::{FRAME_SIZE, HEADER_SIZE, LEN_SIZE};
 use arrayvec::ArrayVec;

@@ -4,7 +4,7 @@ ghost use Rattle.xcp_packet.specs.PacketTrains.{block_packets};
 ghost use Rattle.xcp_slave.specs.AnswerInBytes.{answer_in};
 ghost use Rattle.xcp_framing.specs.Serve.{packet_of};
 ghost use Rattle.xcp_framing.specs.private.PutOutput.{MovesSoFar};
-ghost use Rattle.xcp_framing.specs.private.Serve.{most_train};
+ghost use Rattle.xcp_framing.specs.private.MostPackets.{most_train};
 
 use crate::{Batch, End, ServeError};
 use std::alloc::{AllocError, Global};

@@ -28,6 +28,7 @@ mod wire;
 pub use batch::{Batch, Packets};
 pub use desk::Desk;
 pub use end::End;
+pub use frame_writer::FrameWriter;
 pub use framer::{Brought, Cut, Fed, Framer, Got};
 pub use law::a_desk_is_never_full;
 pub use pumping::pump;

@@ -3,8 +3,8 @@ ghost use Rattle.std.specs.Prelude.{◌≡◌, ◌<◌, ◌≤◌, ◌+◌, ◌*
 ghost use Rattle.xcp_framing.specs.Frames.{frames, rest};
 ghost use Rattle.xcp_framing.specs.Serve.{EndsReader, ReadsWithin};
 ghost use Rattle.xcp_framing.specs.ServeParts.{IsInterruption};
-ghost use Rattle.xcp_framing.specs.private.Serve.{most_packets};
-ghost use Rattle.xcp_framing.specs.private.ServeParts.{EndsPiece};
+ghost use Rattle.xcp_framing.specs.private.MostPackets.{most_packets};
+ghost use Rattle.xcp_framing.specs.private.GrowingOutput.{EndsPiece};
 ghost use Rattle.xcp_framing.specs.private.AnsweredStream.{JoinsHandingOn, JoinsPackets, Stand, Streams, outcome};
 
 use crate::{Brought, Framer, ServeError, Served, Watched};

@@ -3,8 +3,8 @@ ghost use Rattle.std.specs.Prelude.{◌≡◌, ◌≤◌, IfOk, IfErr};
 ghost use Rattle.xcp_framing.specs.Pump.{DrainAgain, Pumps};
 ghost use Rattle.xcp_framing.specs.ServeRefusal.{OnRefusal, Refused};
 ghost use Rattle.xcp_framing.specs.ServeParts.{IsInterruption};
-ghost use Rattle.xcp_framing.specs.private.Pump.{PumpsHeld};
-ghost use Rattle.xcp_framing.specs.private.Serve.{most_train};
+ghost use Rattle.xcp_framing.specs.private.HeldPump.{PumpsHeld};
+ghost use Rattle.xcp_framing.specs.private.MostPackets.{most_train};
 
 use crate::gathering::{gather_told, hand_on, make_room};
 use crate::{Batch, End, ServeError, Station};

@@ -3,13 +3,13 @@ ghost use Rattle.std.specs.Prelude.{◌≡◌, ◌≢◌, ◌<◌, ◌≤◌, �
 ghost use Rattle.arrayvec.specs.ArrayVec.{ArrayVec};
 ghost use Rattle.xcp_packet.specs.PacketTrains.{block_packets};
 ghost use Rattle.xcp_slave.specs.AnswerInBytes.{answer_in};
-ghost use Rattle.xcp_framing.specs.private.FrameOutput.{Sends, output};
+ghost use Rattle.xcp_framing.specs.FrameOutput.{Sends, output};
 ghost use Rattle.xcp_framing.specs.Serve.{AnswersSoFar, EndsReader, ReadsWithin, Serves, most_drains, number_of, packet_of};
-ghost use Rattle.xcp_framing.specs.private.Serve.{most_packets, most_train};
+ghost use Rattle.xcp_framing.specs.private.MostPackets.{most_packets, most_train};
 ghost use Rattle.xcp_framing.specs.Wire.{wire_from};
 ghost use Rattle.xcp_framing.specs.ServeRefusal.{AsksNext, DrainsNext, OnRefusal, ReadsNext, Refused};
 ghost use Rattle.xcp_framing.specs.ServeParts.{IsInterruption};
-ghost use Rattle.xcp_framing.specs.private.ServeParts.{Grows, DrainsSoFar};
+ghost use Rattle.xcp_framing.specs.private.GrowingOutput.{Grows, DrainsSoFar};
 
 use crate::frame_writer::FrameWriter;
 use crate::passage::{Answerer, READ_SIZE, answer_stream};
@@ -177,7 +177,7 @@ fn drain<W: Write, S: Station>(
         (output (W.contents writer.new.inner) sender.new)
         sender.old.sent sender.new.sent }
     ensures bound { OnOk result (sender.new.sent ≤ sender.old.sent + most_train * most_drains) }
-    ensures quiet { result ≢ Err ServeError.Write → writer.new.failures ≡ writer.old.failures }
+    ensures unfailed { result ≢ Err ServeError.Write → writer.new.failures ≡ writer.old.failures }
     ensures stops { IfErr result IsInterruption }
     ensures write { result ≡ Err ServeError.Write → writer.old.failures < writer.new.failures }
     ensures dropped { result ≡ Err ServeError.Write → sender.new.held ≡ [] }
@@ -209,7 +209,7 @@ fn exchange<W: Write, S: Station>(
         (output (W.contents writer.new.inner) sender.new)
         sender.old.sent sender.new.sent }
     ensures bound { OnOk result (sender.new.sent ≤ sender.old.sent + most_packets) }
-    ensures quiet { result ≢ Err ServeError.Write → writer.new.failures ≡ writer.old.failures }
+    ensures unfailed { result ≢ Err ServeError.Write → writer.new.failures ≡ writer.old.failures }
     ensures stops { IfErr result IsInterruption }
     ensures write { result ≡ Err ServeError.Write → writer.old.failures < writer.new.failures }
     ensures dropped { result ≡ Err ServeError.Write → sender.new.held ≡ [] }
@@ -297,7 +297,7 @@ pub fn serve<R: Read, W: Write, S: Station>(
     // When the others come. A stream fails only where the call ends with it.
     ensures reads { ReadsWithin turns result reader.old reader.new }
     ensures write { result ≡ Err ServeError.Write → writer.old.failures < writer.new.failures }
-    ensures write_quiet { result ≢ Err ServeError.Write
+    ensures write_unfailed { result ≢ Err ServeError.Write
         → writer.new.failures ≡ writer.old.failures }
     // Memory and JournalFull come where the station refused the request that comes next. Memory
     // also comes where there was no buffer, before anything was done.

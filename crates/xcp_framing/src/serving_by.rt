@@ -25,7 +25,7 @@ struct ByCommand;
 
 impl<S: Station, E: End> Answerer<S, Putting, E> for ByCommand {
     ghost use Rattle.std.specs.Prelude.{◌≡◌, []};
-    ghost use Rattle.xcp_framing.specs.private.ServeBy.{AnswersByPut, HandsBatchOn};
+    ghost use Rattle.xcp_framing.specs.private.AnsweredByPut.{AnswersByPut, HandsBatchOn};
 
     ghost sent_of = { λ k. k.sent };
 

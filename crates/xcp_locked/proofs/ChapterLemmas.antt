@@ -13,7 +13,7 @@ use Rattle.xcp_locked.specs.declared.publisher.Publisher.{Publisher}
 use Rattle.xcp_locked.specs.Journal.{exchanges}
 use Rattle.xcp_locked.specs.LockedSlave.{IsReached}
 use Rattle.xcp_locked.specs.Publications.{Publication, publication, image_of, images_of, Published}
-use Rattle.xcp_locked.specs.private.PublishingCalls.{IsKept}
+use Rattle.xcp_locked.specs.private.OfferedImages.{IsKept}
 use Rattle.xcp_locked.proofs.PublicationLemmas.{exchanges_length, published_first}
 use Rattle.xcp_locked.proofs.PublicationLaws.{published_end}
 use Rattle.xcp_locked.proofs.SettledReaderLemmas.{images_length, places_length}

@@ -15,18 +15,18 @@ pub pace_handed : (result : Bool) (old new : Option HandingValue) (cs : List Cha
 pace_handed result None new cs c was did = subst (λ h. KeepsPace result h (cs ++ c ∷ [])) (sym did) tt
 pace_handed true (Some h) new cs c was did =
     let all : h.given ++ excerpt_of c ∷ [] ≡ excerpts_of (cs ++ c ∷ []) = ap (λ es. es ++ excerpt_of c ∷ []) (was.all refl) ∙ one_more cs c in
-    subst (λ z. KeepsPace true z (cs ++ c ∷ [])) (sym did) (record { first = record { rest = []; joined = append-nil (h.given ++ excerpt_of c ∷ []) ∙ all }; all = λ _. all })
+    subst (λ z. KeepsPace true z (cs ++ c ∷ [])) (sym did) (record { first = ([], append-nil (h.given ++ excerpt_of c ∷ []) ∙ all); all = λ _. all })
 pace_handed false (Some h) new cs c was did =
     let all : h.given ++ excerpt_of c ∷ [] ≡ excerpts_of (cs ++ c ∷ []) = ap (λ es. es ++ excerpt_of c ∷ []) (was.all refl) ∙ one_more cs c in
-    subst (λ z. KeepsPace false z (cs ++ c ∷ [])) (sym did) (record { first = record { rest = excerpt_of c ∷ []; joined = all }; all = λ e. absurd (true≢false (sym e)) })
+    subst (λ z. KeepsPace false z (cs ++ c ∷ [])) (sym did) (record { first = (excerpt_of c ∷ [], all); all = λ e. absurd (true≢false (sym e)) })
 
 -- an excerpt that isn't handed in stands behind those that were
 pub pace_behind : (whole : Bool) (handing : Option HandingValue) (cs : List ChapterValue) (c : ChapterValue) → KeepsPace whole handing cs → KeepsPace false handing (cs ++ c ∷ [])
 pace_behind whole None cs c was = tt
 pace_behind whole (Some h) cs c was = record {
-  first = record {
-    rest = was.first.rest ++ excerpt_of c ∷ [];
-    joined = sym (append_assoc h.given was.first.rest (excerpt_of c ∷ [])) ∙ (ap (λ (es : List ExcerptValue). es ++ excerpt_of c ∷ []) was.first.joined ∙ one_more cs c);
-  };
+  first = (
+    was.first.0 ++ excerpt_of c ∷ [],
+    sym (append_assoc h.given was.first.0 (excerpt_of c ∷ [])) ∙ (ap (λ (es : List ExcerptValue). es ++ excerpt_of c ∷ []) was.first.1 ∙ one_more cs c),
+  );
   all = λ e. absurd (true≢false (sym e));
 }

@@ -5,7 +5,7 @@ use Rattle.std.specs.Prelude.{Some}
 use Rattle.xcp_memory.specs.Layout.{LayoutValue}
 use Rattle.xcp_slave.specs.SlaveValue.{SlaveValue, opening}
 use Rattle.xcp_locked.specs.Chapters.{AreJoined, Follows, IsFirstGap, LeadTo}
-use Rattle.xcp_locked.specs.private.Chapters.{no_chapter}
+use Rattle.xcp_locked.specs.private.NoChapter.{no_chapter}
 use Rattle.xcp_locked.specs.LockedSlave.{ChapterValue}
 use Rattle.xcp_locked.proofs.JoiningLemmas.{AreFirst, end_before, take_whole}
 use Rattle.xcp_locked.proofs.TallyLemmas.{none≢some, some_same}

@@ -5,7 +5,7 @@ use Rattle.xcp_locked.specs.Excerpts.{ChaptersValue, Way, cuts_at_stores}
 use Rattle.xcp_locked.specs.LockedSlave.{ChapterValue, LockedValue}
 use Rattle.xcp_locked.specs.Tasks.{HasCut}
 use Rattle.std.specs.Prelude.{Option, Some}
-use Rattle.xcp_locked.specs.private.Tasks.{CutsFull}
+use Rattle.xcp_locked.specs.private.TaskSteps.{CutsFull}
 
 -- a chapter of at least so many calls
 abbrev HasCalls : ℕ → ChapterValue → Type 0

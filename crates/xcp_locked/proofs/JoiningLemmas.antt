@@ -7,7 +7,7 @@ use Rattle.xcp_slave.specs.Run.{Run}
 use Rattle.xcp_slave.specs.SlaveValue.{SlaveValue, opening}
 use Rattle.xcp_trace.specs.declared.Entry.{Entry}
 use Rattle.xcp_locked.specs.Chapters.{AreJoined, LeadTo, entries_of}
-use Rattle.xcp_locked.specs.private.Chapters.{no_chapter}
+use Rattle.xcp_locked.specs.private.NoChapter.{no_chapter}
 use Rattle.xcp_locked.specs.Journal.{exchanges}
 use Rattle.xcp_locked.specs.LockedSlave.{ChapterValue, IsReached}
 use Rattle.xcp_locked.proofs.ChapterLemmas.{run_joined}

@@ -1,6 +1,7 @@
 -- Lists that belong together, and loops over what is handed over.
 use Rattle.std.proofs.Common.{◌≡◌, ℕ, suc, ◌+◌, ◌<◌, List, [], ◌∷◌, ◌++◌, length, map, slice_index_or, refl, sym, ap, ◌∙◌, subst, append_assoc, append-nil, arith}
 use Rattle.std.specs.Prelude.{All, Option, Some, None}
+use Rattle.std.specs.List.{AllZip}
 use Rattle.std.proofs.lemmas.List.Elements.{All-append, All-cons, All-nil}
 use Rattle.std.specs.Option.{option_or}
 use Rattle.xcp_locked.specs.PairedLists.{EachFrom}
@@ -25,14 +26,37 @@ each_more R k [] (b ∷ ys) x y h r = absurd h
 each_more R k (a ∷ xs) [] x y h r = absurd h
 
 -- lists as long as each other belong together where the two elements at each place are related
-pub each_of : {A B : Type 0} (R : A → B → Type 0) (k : ℕ) (xs : List A) (ys : List B) → length ys ≡ length xs → ((i : ℕ) (x : A) (y : B) → i < length xs → R (slice_index_or xs i x) (slice_index_or ys i y)) → EachFrom (λ n x y. R x y) k xs ys
-each_of R k [] [] l h = tt
-each_of R k (x ∷ xs) (y ∷ ys) l h = (h 0 x y (omega arith), each_of R (k + 1) xs ys (omega (arith, l)) (λ i a b low. h (suc i) a b (omega (arith, low))))
-each_of R k [] (y ∷ ys) l h = absurd (omega (arith, l))
-each_of R k (x ∷ xs) [] l h = absurd (omega (arith, l))
+pub zip_of : {A B : Type 0} (R : A → B → Type 0) (xs : List A) (ys : List B) → length ys ≡ length xs → ((i : ℕ) (x : A) (y : B) → i < length xs → R (slice_index_or xs i x) (slice_index_or ys i y)) → AllZip R xs ys
+zip_of R [] [] l h = tt
+zip_of R (x ∷ xs) (y ∷ ys) l h = (h 0 x y (omega arith), zip_of R xs ys (omega (arith, l)) (λ i a b low. h (suc i) a b (omega (arith, low))))
+zip_of R [] (y ∷ ys) l h = absurd (omega (arith, l))
+zip_of R (x ∷ xs) [] l h = absurd (omega (arith, l))
+
+-- with one more element each, where these two are related
+pub zip_more : {A B : Type 0} (R : A → B → Type 0) (xs : List A) (ys : List B) (x : A) (y : B) → AllZip R xs ys → R x y → AllZip R (xs ++ x ∷ []) (ys ++ y ∷ [])
+zip_more R [] [] x y h r = (r, tt)
+zip_more R (a ∷ xs) (b ∷ ys) x y h r = (h.0, zip_more R xs ys x y h.1 r)
+zip_more R [] (b ∷ ys) x y h r = absurd h
+zip_more R (a ∷ xs) [] x y h r = absurd h
+
+-- lists of which each place says the same belong together at whichever places
+pub zip_from : {A B : Type 0} (R : A → B → Type 0) (k : ℕ) (xs : List A) (ys : List B) → AllZip R xs ys → EachFrom (λ n x y. R x y) k xs ys
+zip_from R k [] [] h = tt
+zip_from R k (x ∷ xs) (y ∷ ys) h = (h.0, zip_from R (k + 1) xs ys h.1)
+zip_from R k [] (y ∷ ys) h = absurd h
+zip_from R k (x ∷ xs) [] h = absurd h
 
 -- two lists belong together through one between them, where the relations at each place give theirs
-pub each_through : {A B C : Type 0} (R : ℕ → A → B → Type 0) (S : ℕ → B → C → Type 0) (T : ℕ → A → C → Type 0) → ((n : ℕ) (a : A) (b : B) (c : C) → R n a b → S n b c → T n a c) → (k : ℕ) (xs : List A) (ys : List B) (zs : List C) → EachFrom R k xs ys → EachFrom S k ys zs → EachFrom T k xs zs
+pub zip_through : {A B C : Type 0} (R : A → B → Type 0) (S : B → C → Type 0) (T : A → C → Type 0) → ((a : A) (b : B) (c : C) → R a b → S b c → T a c) → (xs : List A) (ys : List B) (zs : List C) → AllZip R xs ys → AllZip S ys zs → AllZip T xs zs
+zip_through R S T f [] [] [] r s = tt
+zip_through R S T f [] [] (z ∷ zs) r s = absurd s
+zip_through R S T f [] (y ∷ ys) zs r s = absurd r
+zip_through R S T f (x ∷ xs) [] zs r s = absurd r
+zip_through R S T f (x ∷ xs) (y ∷ ys) [] r s = absurd s
+zip_through R S T f (x ∷ xs) (y ∷ ys) (z ∷ zs) r s = (f x y z r.0 s.0, zip_through R S T f xs ys zs r.1 s.1)
+
+-- the same where the first relation is of the place
+pub each_through : {A B C : Type 0} (R : ℕ → A → B → Type 0) (S : B → C → Type 0) (T : ℕ → A → C → Type 0) → ((n : ℕ) (a : A) (b : B) (c : C) → R n a b → S b c → T n a c) → (k : ℕ) (xs : List A) (ys : List B) (zs : List C) → EachFrom R k xs ys → AllZip S ys zs → EachFrom T k xs zs
 each_through R S T f k [] [] [] r s = tt
 each_through R S T f k [] [] (z ∷ zs) r s = absurd s
 each_through R S T f k [] (y ∷ ys) zs r s = absurd r

@@ -14,7 +14,7 @@ use Rattle.xcp_trace.specs.declared.Entry.{Entry}
 use Rattle.xcp_locked.specs.declared.publisher.Publisher.{Publisher}
 use Rattle.xcp_locked.specs.Journal.{entry, exchanges}
 use Rattle.xcp_locked.specs.Publications.{Publication, publication, image_of, images_of, LeadsThrough, Changes, Published}
-use Rattle.xcp_locked.specs.private.PublishingCalls.{IsKept, Offers}
+use Rattle.xcp_locked.specs.private.OfferedImages.{IsKept, Offers}
 use Rattle.xcp_locked.proofs.JournalLemmas.{exchanges_snoc}
 
 -- the image of the last of these states, behind one with the image `before`

@@ -3,9 +3,10 @@ use Rattle.std.proofs.Common.{◌≡◌, ◌≢◌, ℕ, zero, suc, ◌+◌, ◌
 use Rattle.std.proofs.lemmas.List.{length-map, get_or-append_right}
 use Rattle.std.specs.List.{slice_get}
 use Rattle.xcp_bank.specs.BankEnds.{ReaderEnd, image_at, image_held}
-use Rattle.xcp_bank.specs.SeatKnowledge.{Begins, AllBegin}
+use mathlib.Core.List.{IsPrefix}
+use Rattle.xcp_bank.specs.SeatKnowledge.{AllBegin}
 use Rattle.xcp_locked.specs.Publications.{Publication, publication, images_of}
-use Rattle.xcp_locked.specs.private.Publications.{places_of}
+use Rattle.xcp_locked.specs.private.PublicationPlaces.{places_of}
 use Rattle.xcp_locked.proofs.TallyLemmas.{some_same}
 
 -- an option of two numbers that isn't None has them
@@ -40,9 +41,9 @@ stays_at (x ∷ xs) rest zero some = refl
 stays_at (x ∷ xs) rest (suc i) some = stays_at xs rest i some
 
 -- what is held of a list is held of one that begins with it
-held_stays : (held : Option (ℕ × ℕ)) (old new : List (List ℕ)) → Begins old new → 0 < length (image_at held old) → image_at held new ≡ image_at held old
+held_stays : (held : Option (ℕ × ℕ)) (old new : List (List ℕ)) → IsPrefix old new → 0 < length (image_at held old) → image_at held new ≡ image_at held old
 held_stays None old new b some = refl
-held_stays (Some h) old new b some = ap (λ (z : List (List ℕ)). slice_index_or z h.1 []) b.1 ∙ stays_at old b.0 h.1 some
+held_stays (Some h) old new b some = ap (λ (z : List (List ℕ)). slice_index_or z h.1 []) (sym b.1) ∙ stays_at old b.0 h.1 some
 
 -- a reader that holds what it held, and has seen the same first, holds the same image
 pub settled_image : (old new : ReaderEnd) → new.held ≡ old.held → AllBegin (old.seen ∷ old.past) new.seen → 0 < length (image_held old) → image_held new ≡ image_held old

@@ -5,7 +5,8 @@ use Rattle.std.proofs.lemmas.List.Sums.{sum_by-append}
 use Rattle.std.specs.Prelude.{Option, Some, None, slice_index}
 use Rattle.xcp_bank.specs.PinHistory.{Deed, Does, has_read, reads_of}
 use Rattle.xcp_bank.specs.BankEnds.{AcquireDoes, Holds, HoldsNumber, ReadDoes, ReaderEnd, image_at, image_held}
-use Rattle.xcp_bank.specs.SeatKnowledge.{AllBegin, Begins}
+use mathlib.Core.List.{IsPrefix}
+use Rattle.xcp_bank.specs.SeatKnowledge.{AllBegin}
 use Rattle.xcp_bank.specs.declared.taken.Taken.{Taken}
 use Rattle.xcp_bank.specs.declared.taken.Taken.TheVariants.{Same, Newer}
 use Rattle.xcp_bank.proofs.PrefixLemmas.{begins_again}
@@ -15,7 +16,7 @@ use Rattle.xcp_slave.specs.declared.Request.{Request}
 use Rattle.xcp_locked.specs.declared.receipt.Receipt.{Receipt}
 use Rattle.xcp_locked.specs.TaskImages.{Took, is_look, looks}
 use Rattle.xcp_locked.specs.Tasks.{Duty, IsFresh, closing_of, event_of}
-use Rattle.xcp_locked.specs.private.Tasks.{Adds, IsTold, TookImage}
+use Rattle.xcp_locked.specs.private.TaskSteps.{Adds, IsTold, TookImage}
 use Rattle.xcp_locked.proofs.TallyLemmas.{none≢some, some_same}
 
 -- looks of two rows of steps
@@ -37,9 +38,9 @@ pub took_nothing : (n : ℕ) (whole : Bool) (a : ReaderEnd) (x : List ℕ) → (
 took_nothing n whole a x none = record {
   same_reader = (refl, refl);
   deeds = [];
-  did = does_none (suc a.place) a.history a.pending;
+  did = does_none (suc a.index) a.history a.pending;
   looked = λ t. let e = none t in omega (arith, e);
-  seen = ([], sym (append-nil a.seen));
+  seen = ([], append-nil a.seen);
   holds = λ h. h;
   rises = λ p q g h. let e = same_number a p q g h in omega (arith, e);
   last = inl (refl, refl);
@@ -49,10 +50,10 @@ took_nothing n whole a x none = record {
 -- one cycle more
 pub took_more : (n : ℕ) (whole : Bool) (a b c : ReaderEnd) (x y z : List ℕ) → Took n true a b x y → Took 1 whole b c y z → Took (n + 1) whole a c x z
 took_more n whole a b c x y z g h =
-    let did : Does (suc a.place) b.history b.pending c.history c.pending h.deeds = subst (λ k. Does (suc k) b.history b.pending c.history c.pending h.deeds) g.same_reader.1 h.did in record {
+    let did : Does (suc a.index) b.history b.pending c.history c.pending h.deeds = subst (λ k. Does (suc k) b.history b.pending c.history c.pending h.deeds) g.same_reader.1 h.did in record {
       same_reader = (h.same_reader.0 ∙ g.same_reader.0, h.same_reader.1 ∙ g.same_reader.1);
       deeds = g.deeds ++ h.deeds;
-      did = does_again (suc a.place) a.history a.pending b.history b.pending c.history c.pending g.deeds h.deeds g.did did;
+      did = does_again (suc a.index) a.history a.pending b.history b.pending c.history c.pending g.deeds h.deeds g.did did;
       looked = λ t. let e = looks_both g.deeds h.deeds in let m = g.looked refl in let k = h.looked t in omega (arith, e, m, k);
       seen = begins_again a.seen b.seen c.seen g.seen h.seen;
       holds = λ k. h.holds (g.holds k);
@@ -102,16 +103,16 @@ reads_look_at_nothing r words k (suc n) =
     omega (arith, e, f)
 
 -- the current image is taken, and all of it is read
-pub took_image : (t : Taken) (a b c : ReaderEnd) (y : List ℕ) (k n size : ℕ) → size ≡ 2040 → (b.bank ≡ a.bank) × (b.place ≡ a.place) → AcquireDoes t a b → ((p q : ℕ) → HoldsNumber a p → HoldsNumber b q → p ≤ q)
-    → ReadDoes k n b c → (c.bank ≡ b.bank) × (c.place ≡ b.place) → (c.held ≡ b.held) × (c.seen ≡ b.seen) → length (image_held b) ≡ 2040 → y ≡ take size (drop 0 (image_held b)) → TookImage a c y
+pub took_image : (t : Taken) (a b c : ReaderEnd) (y : List ℕ) (k n size : ℕ) → size ≡ 2040 → (b.bank ≡ a.bank) × (b.index ≡ a.index) → AcquireDoes t a b → ((p q : ℕ) → HoldsNumber a p → HoldsNumber b q → p ≤ q)
+    → ReadDoes k n b c → (c.bank ≡ b.bank) × (c.index ≡ b.index) → (c.held ≡ b.held) × (c.seen ≡ b.seen) → length (image_held b) ≡ 2040 → y ≡ take size (drop 0 (image_held b)) → TookImage a c y
 took_image t a b c y k n size all reader acquires rises reads again same whole bytes =
-    let more = reads_of b.place reads.words k n in
-    let did : Does (suc a.place) b.history b.pending c.history c.pending more = subst (λ j. Does (suc j) b.history b.pending c.history c.pending more) reader.1 reads.did in
+    let more = reads_of b.index reads.words k n in
+    let did : Does (suc a.index) b.history b.pending c.history c.pending more = subst (λ j. Does (suc j) b.history b.pending c.history c.pending more) reader.1 reads.did in
     let image : image_held b ≡ image_held c = (λ i. image_at (sym same.0 i) (sym same.1 i)) in
     record {
       same_reader = (again.0 ∙ reader.0, again.1 ∙ reader.1);
       deeds = acquires.deeds ++ more;
-      did = does_again (suc a.place) a.history a.pending b.history b.pending c.history c.pending acquires.deeds more acquires.did did;
+      did = does_again (suc a.index) a.history a.pending b.history b.pending c.history c.pending acquires.deeds more acquires.did did;
       looked = let one = acquire_looks t a b acquires in let e = looks_both acquires.deeds more in omega (arith, one, e);
       holds = λ e. none≢some _ (sym e ∙ (same.0 ∙ acquires.held));
       rises = λ p q old new. rises p q old (new.0, sym same.0 ∙ new.1);
@@ -119,21 +120,21 @@ took_image t a b c y k n size all reader acquires rises reads again same whole b
     }
 
 -- what was taken is the newest of what was published when the reader was told
-pub newest : (a b c : ReaderEnd) (number : ℕ) → Begins a.seen b.seen → 0 < length b.seen → HoldsNumber b (length b.seen - 1) → c.held ≡ b.held → HoldsNumber c number → length a.seen ≤ number + 1
+pub newest : (a b c : ReaderEnd) (number : ℕ) → IsPrefix a.seen b.seen → 0 < length b.seen → HoldsNumber b (length b.seen - 1) → c.held ≡ b.held → HoldsNumber c number → length a.seen ≤ number + 1
 newest a b c number seen some last held holds =
     let same = same_number b number (length b.seen - 1) (holds.0, sym held ∙ holds.1) last in
-    let longer = ap length seen.1 ∙ length-append a.seen seen.0 in
+    let longer = sym (ap length seen.1) ∙ length-append a.seen seen.0 in
     omega (arith, same, longer, some)
 
 -- one cycle: a reader is told, and takes the current image
 pub took_told : (layout : LayoutValue) (caller : ℕ) (event : Request) (old new : List Receipt) (a b c : ReaderEnd) (x y : List ℕ) → IsTold layout caller event old new a b → AllBegin (b.seen ∷ b.past) c.seen → TookImage b c y → Took 1 true a c x y
 took_told layout caller event old new a b c x y told begins took =
-    let did : Does (suc a.place) b.history b.pending c.history c.pending took.deeds = subst (λ j. Does (suc j) b.history b.pending c.history c.pending took.deeds) told.same_reader.1 took.did in
+    let did : Does (suc a.index) b.history b.pending c.history c.pending took.deeds = subst (λ j. Does (suc j) b.history b.pending c.history c.pending took.deeds) told.same_reader.1 took.did in
     let all : AllBegin (a.seen ∷ a.past) c.seen = subst (λ s. AllBegin s c.seen) told.past begins.1 in
     record {
       same_reader = (took.same_reader.0 ∙ told.same_reader.0, took.same_reader.1 ∙ told.same_reader.1);
       deeds = told.deeds ++ took.deeds;
-      did = does_again (suc a.place) a.history a.pending b.history b.pending c.history c.pending told.deeds took.deeds told.did did;
+      did = does_again (suc a.index) a.history a.pending b.history b.pending c.history c.pending told.deeds took.deeds told.did did;
       looked = λ _. let e = looks_both told.deeds took.deeds in let two = told.twice in let one = took.looked in omega (arith, e, two, one);
       seen = all.0;
       holds = λ _. took.holds;

@@ -1,28 +1,29 @@
 -- Tasks that ran, one by one.
 use Rattle.std.proofs.Common.{◌≡◌, ℕ, List, [], ◌∷◌, ◌++◌, refl, ap, ◌∙◌, subst}
 use Rattle.std.specs.Prelude.{Option, Some, None, is_none, true, unwrap_or}
+use Rattle.std.specs.Option.{option_or}
 use Rattle.xcp_memory.specs.Layout.{LayoutValue}
 use Rattle.xcp_locked.specs.declared.tasks.TaskError.{TaskError}
 use Rattle.xcp_locked.specs.declared.tasks.TaskError.TheVariants as faults
 use Rattle.xcp_locked.specs.declared.tasks.Done.{Done}
 use Rattle.xcp_locked.specs.declared.worker.Worker.{Worker}
 use Rattle.xcp_locked.specs.Excerpts.{ChaptersValue, none_cut}
-use Rattle.xcp_locked.specs.TaskOutcome.{chapters_of, first_fault, or_else}
+use Rattle.xcp_locked.specs.TaskOutcome.{chapters_of, first_fault}
 use Rattle.xcp_locked.specs.Tasks.{IsOwn, Worked}
 use Rattle.xcp_locked.proofs.PairedListLemmas.{first_of}
 
-or_else_assoc : (a b c : Option TaskError) → or_else a (or_else b c) ≡ or_else (or_else a b) c
-or_else_assoc None b c = refl
-or_else_assoc (Some e) b c = refl
+first_of_three : (a b c : Option TaskError) → option_or a (option_or b c) ≡ option_or (option_or a b) c
+first_of_three None b c = refl
+first_of_three (Some e) b c = refl
 
-or_else_none : (a : Option TaskError) → or_else a None ≡ a
-or_else_none None = refl
-or_else_none (Some e) = refl
+nothing_behind : (a : Option TaskError) → option_or a None ≡ a
+nothing_behind None = refl
+nothing_behind (Some e) = refl
 
 -- one more task's fault comes behind the others
-pub first_fault-more : {N : Type 0} (done : List (Done N)) (d : Done N) → first_fault (done ++ d ∷ []) ≡ or_else (first_fault done) d.fault
-first_fault-more [] d = or_else_none d.fault
-first_fault-more (x ∷ done) d = ap (λ z. or_else x.fault z) (first_fault-more done d) ∙ or_else_assoc x.fault (first_fault done) d.fault
+pub first_fault-more : {N : Type 0} (done : List (Done N)) (d : Done N) → first_fault (done ++ d ∷ []) ≡ option_or (first_fault done) d.fault
+first_fault-more [] d = nothing_behind d.fault
+first_fault-more (x ∷ done) d = ap (λ z. option_or x.fault z) (first_fault-more done d) ∙ first_of_three x.fault (first_fault done) d.fault
 
 -- what a task did, said of its worker
 pub worked_as : {N : Type 0} (layout : LayoutValue) (may_end : Type 0) (cycles cycles' chapter chapter' task task' : ℕ) (w w' new : Worker N) (fault : Option TaskError) → task' ≡ task → cycles' ≡ cycles → chapter' ≡ chapter → w' ≡ w → Worked layout may_end cycles' chapter' task' w' new fault → Worked layout may_end cycles chapter task w new fault
@@ -37,9 +38,9 @@ own_anyway may_end task faults.JournalFull h = tt
 own_anyway may_end task (faults.GateSpent of) h = absurd h.1
 
 -- a fault that is there stays the first
-pub or_else_stays : (a b : Option TaskError) → ¬ (a ≡ None) → or_else a b ≡ a
-or_else_stays None b h = absurd (h refl)
-or_else_stays (Some e) b h = refl
+pub first_stays : (a b : Option TaskError) → ¬ (a ≡ None) → option_or a b ≡ a
+first_stays None b h = absurd (h refl)
+first_stays (Some e) b h = refl
 
 -- nothing was told
 pub none_left : {A : Type 0} (o : Option A) → ((x : A) → o ≡ Some x → ⊥) → is_none o ≡ true

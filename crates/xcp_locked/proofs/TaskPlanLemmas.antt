@@ -5,7 +5,7 @@ use Rattle.std.specs.Prelude.{Result, Ok, Err, IfOk}
 use Rattle.xcp_slave.specs.declared.request.Request.{Request}
 use Rattle.xcp_slave.specs.declared.request.Request.TheVariants as requests
 use Rattle.xcp_locked.specs.Tasks.{Duty, duty, requests_of, event_of, closing_of, cycle_of, plan, Grew, Same}
-use Rattle.xcp_locked.specs.private.Tasks.{Adds}
+use Rattle.xcp_locked.specs.private.TaskSteps.{Adds}
 use Rattle.xcp_locked.specs.Caller.{CallerValue}
 
 reqs_append : (xs ys : List Receipt) → requests_of (xs ++ ys) ≡ requests_of xs ++ requests_of ys

@@ -1,7 +1,7 @@
 -- Excerpts of chapters, as they go to whoever writes them down.
 use Rattle.std.specs.Prelude.{◌≡◌, Bool, true, false, ⊤, List, [], map, Option, Some, None, MatchOption}
 use Rattle.relay.specs.Ends.{RelayId}
-use Rattle.xcp_framing.specs.Prefix.{IsFront}
+use mathlib.Core.List.{IsPrefix}
 use Rattle.xcp_slave.specs.SlaveValue.{SlaveValue}
 use Rattle.xcp_trace.specs.declared.Entry.{Entry}
 use Rattle.xcp_locked.specs.LockedSlave.{ChapterValue}
@@ -57,7 +57,7 @@ cuts_at_stores (Some way) = way.each_store
 
 -- The excerpts that were handed in are of the first of these chapters, and of all of them where none was refused.
 pub record AreHandedIn (whole : Bool) (given : List ExcerptValue) (chapters : List ChapterValue) : Type 0 where
-  pub first : IsFront given (excerpts_of chapters)
+  pub first : IsPrefix given (excerpts_of chapters)
   pub all : whole ≡ true → given ≡ excerpts_of chapters
 
 -- the same of who hands them in, if there is somebody

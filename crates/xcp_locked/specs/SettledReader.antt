@@ -19,7 +19,7 @@ pub record IsSettledAt (v : SlaveValue) (xs : List Exchange) (first : ℕ) (read
 
 -- The reader was told of these images, all that were published. What it holds stays.
 pub record WasTold (published : List (List ℕ)) (old new : ReaderEnd) : Type 0 where
-  pub same_reader : (new.bank ≡ old.bank) × (new.place ≡ old.place)
+  pub same_reader : (new.bank ≡ old.bank) × (new.index ≡ old.index)
   pub held : new.held ≡ old.held
   pub seen : new.seen ≡ published
   pub past : new.past ≡ old.seen ∷ old.past

@@ -5,7 +5,7 @@ use Rattle.pin_core.specs.declared.events.Event.{Event}
 use Rattle.pin_core.specs.declared.events.Event.TheVariants as events
 use Rattle.xcp_bank.specs.PinHistory.{Deed}
 use Rattle.xcp_bank.specs.BankEnds.{Holds, HoldsNumber, ReaderDoes, ReaderEnd, image_held}
-use Rattle.xcp_bank.specs.SeatKnowledge.{Begins}
+use mathlib.Core.List.{IsPrefix}
 use Rattle.xcp_memory.specs.Layout.{LayoutValue}
 use Rattle.xcp_slave.specs.SlaveValue.{SlaveValue}
 use Rattle.xcp_trace.specs.declared.Entry.{Entry}
@@ -26,14 +26,14 @@ looks deeds = count_by (λ d. is_look d.0) deeds
 
 -- What a reader did in so many cycles, and the image that was read last, before them and after.
 pub record Took (cycles : ℕ) (whole : Bool) (old new : ReaderEnd) (before after : List ℕ) : Type 0 where
-  pub same_reader : (new.bank ≡ old.bank) × (new.place ≡ old.place)
+  pub same_reader : (new.bank ≡ old.bank) × (new.index ≡ old.index)
   -- its own steps, all of them and in order: for each cycle two Looks where it is told what was published, and a Look or a Pin
   -- where it takes the image, if the whole work was done
   pub deeds : List Deed
   pub did : ReaderDoes old new deeds
   pub looked : whole ≡ true → 3 * cycles ≤ looks deeds
   -- what it has seen only grows, and the number of what it holds never falls
-  pub seen : Begins old.seen new.seen
+  pub seen : IsPrefix old.seen new.seen
   pub holds : Holds old → Holds new
   pub rises : (p q : ℕ) → HoldsNumber old p → HoldsNumber new q → p ≤ q
   -- the image read last is that of the publication that it holds, unless nothing was done
@@ -53,5 +53,5 @@ pub record IsNotOlder (layout : LayoutValue) (caller : ℕ) (call : Receipt) (re
   pub first : ℕ
   pub published : List (List ℕ)
   pub images : AreImagesFrom first base (exchanges (earlier ++ entry caller call.request call.answer ∷ [])) published
-  pub seen : Begins published reader.seen
+  pub seen : IsPrefix published reader.seen
   pub holds : (number : ℕ) → HoldsNumber reader number → length published ≤ number + 1

@@ -1,5 +1,6 @@
 -- What comes of tasks that run at the same time.
-use Rattle.std.specs.Prelude.{◌≡◌, ℕ, List, [], ◌∷◌, map, Option, Some, None}
+use Rattle.std.specs.Prelude.{◌≡◌, ℕ, List, [], ◌∷◌, map, Option, None}
+use Rattle.std.specs.Option.{option_or}
 use Rattle.xcp_memory.specs.Layout.{LayoutValue}
 use Rattle.xcp_locked.specs.declared.tasks.Task.{Task}
 use Rattle.xcp_locked.specs.declared.tasks.TaskError.{TaskError}
@@ -21,19 +22,14 @@ pub record IsTaskOf {N G : Type 0} (cycles chapter task : ℕ) (w : Worker N) (t
   pub chapter_is : t.chapter ≡ chapter
   pub worker : t.worker ≡ w
 
--- what came of a task, at whichever place
-abbrev pub DoneAs : {N G : Type 0} → LayoutValue → Type 0 → ℕ → Task N G → Done N → Type 0
-DoneAs layout may_end place t d = Worked layout may_end t.cycles t.chapter t.task t.worker d.worker d.fault
-
--- the first of two faults
-abbrev pub or_else : Option TaskError → Option TaskError → Option TaskError
-or_else (Some e) other = Some e
-or_else None other = other
+-- what came of a task
+abbrev pub DoneAs : {N G : Type 0} → LayoutValue → Type 0 → Task N G → Done N → Type 0
+DoneAs layout may_end t d = Worked layout may_end t.cycles t.chapter t.task t.worker d.worker d.fault
 
 -- the fault of the least task number that has one
 abbrev pub first_fault : {N : Type 0} → List (Done N) → Option TaskError
 first_fault [] = None
-first_fault (d ∷ more) = or_else d.fault (first_fault more)
+first_fault (d ∷ more) = option_or d.fault (first_fault more)
 
 -- the chapters that the first worker has cut, or none where there is no worker
 abbrev pub chapters_of : {N : Type 0} → List (Worker N) → ChaptersValue

@@ -1,7 +1,7 @@
 -- Words that contracts of private functions and invariants cite. No contract of a public function needs them.
-pub mod Chapters
-pub mod UnnamedSlave
+pub mod NoChapter
+pub mod NoLayout
+pub mod OfferedImages
 pub mod PlacedExchanges
-pub mod Publications
-pub mod PublishingCalls
-pub mod Tasks
+pub mod PublicationPlaces
+pub mod TaskSteps

@@ -2,7 +2,7 @@
 ghost use Rattle.std.specs.Prelude.{◌≡◌, ◌<◌, ◌++◌, [], ◌∷◌, IfOk, IfErr, IfSome, MatchBool, MatchOption, None, OnErr, OnSome, Some, false, true, vec_capacity, vec_len};
 ghost use Rattle.xcp_locked.specs.Excerpts.{HandsNone, KeepsPace, cuts_at_stores, excerpt_of, none_cut, way_of};
 ghost use Rattle.xcp_locked.specs.Tasks.{HasCut};
-ghost use Rattle.xcp_locked.specs.private.Tasks.{CutsFull};
+ghost use Rattle.xcp_locked.specs.private.TaskSteps.{CutsFull};
 
 use crate::chapter::LAST_CHAPTER;
 use crate::{Chapter, Handing, Locked, LockedError, Name, TaskError};

@@ -1,6 +1,6 @@
 //! By which way excerpts of chapters go to whoever writes them down.
 ghost use Rattle.std.specs.Prelude.{◌≡◌, ◌++◌, [], ◌∷◌, IfOk, MatchBool, MatchOption, length};
-ghost use Rattle.xcp_framing.specs.Prefix.{IsFront};
+ghost use mathlib.Core.List.{IsPrefix};
 
 use crate::Excerpt;
 use relay::{Giver, Relay, Taker, items_are_of_their_tag};
@@ -95,7 +95,7 @@ impl Excerpts {
     /// Looks at what was handed in: what was taken are the first of it.
     pub fn follow(&mut self, rt: &impl Wait, handing: &mut Handing)
         requires relay { handing.old.relay ≡ self.old.relay }
-        ensures first { IsFront self.new.taken handing.new.given }
+        ensures first { IsPrefix self.new.taken handing.new.given }
         ensures same { (self.new ≡ self.old) × (handing.new ≡ handing.old) }
     {
         self.relay

@@ -2,7 +2,7 @@
 ghost use Rattle.std.specs.Prelude.{◌≡◌, ◌≢◌, ◌≤◌, ◌<◌, ◌-◌, ◌++◌, OnOk, IfOk, IfErr, length, true, false, sum_by, slice_index_or as get_or};
 ghost use Rattle.xcp_locked.specs.Caller.{accepted_by};
 ghost use Rattle.xcp_locked.specs.Chapters.{AreJoined, Disagree, IsFirstGap, IsWhole, entries_of};
-ghost use Rattle.xcp_locked.specs.private.Chapters.{no_chapter};
+ghost use Rattle.xcp_locked.specs.private.NoChapter.{no_chapter};
 ghost use Rattle.xcp_locked.specs.SettledReceipts.{AreSettledFor, FirstUnsettledFor};
 
 use crate::{Caller, Chapter, Locked, Name, Unsettled};

@@ -12,7 +12,7 @@ ghost use Rattle.xcp_locked.specs.Journal.{entry, exchanges, journal_limit};
 ghost use Rattle.xcp_locked.specs.LockedSlave.{IsReached, SameChapter};
 ghost use Rattle.xcp_locked.specs.Publications.{image_of};
 ghost use Rattle.xcp_locked.specs.PublishingCalls.{AreImagesFrom, Publishes};
-ghost use Rattle.xcp_locked.specs.private.PublishingCalls.{Offers};
+ghost use Rattle.xcp_locked.specs.private.OfferedImages.{Offers};
 ghost use Rattle.xcp_locked.specs.Receipts.{receipt};
 ghost use Rattle.xcp_trace.specs.EntrySpelling.{room_for_any_entry};
 ghost use Rattle.xcp_trace.specs.ExchangeSpelling.{room_for_any};
@@ -60,7 +60,7 @@ impl<N: Name> Model for Locked<N> {
     ghost use Rattle.xcp_slave.specs.SlaveValue.{layout_of};
     ghost use Rattle.xcp_locked.specs.LockedSlave.{IsReached, LockedValue};
     ghost use Rattle.xcp_locked.specs.Journal.{exchanges, journal_limit, last_chapter};
-    ghost use Rattle.xcp_locked.specs.private.PublishingCalls.{IsKept};
+    ghost use Rattle.xcp_locked.specs.private.OfferedImages.{IsKept};
 
     ghost Value = { LockedValue };
 

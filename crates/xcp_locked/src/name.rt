@@ -18,7 +18,7 @@ pub trait Name: Ledger {
 
 impl Name for Brand {
     ghost use Rattle.xcp_bank.specs.BankId.{no_bank};
-    ghost use Rattle.xcp_locked.specs.private.UnnamedSlave.{no_layout};
+    ghost use Rattle.xcp_locked.specs.private.NoLayout.{no_layout};
 
     ghost layout = { no_layout };
 

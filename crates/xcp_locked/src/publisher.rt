@@ -1,7 +1,7 @@
 //! The images that are published for the readers, each with its place.
 ghost use Rattle.std.specs.Prelude.{◌≡◌, ◌<◌, ◌+◌, ◌-◌, [], ◌∷◌, IfOk, OnErr, OnOk, vec_capacity, vec_len};
 ghost use Rattle.xcp_locked.specs.Publications.{image_of};
-ghost use Rattle.xcp_locked.specs.private.PublishingCalls.{Offers};
+ghost use Rattle.xcp_locked.specs.private.OfferedImages.{Offers};
 
 use std::alloc::{AllocError, Global};
 use xcp_bank::Writer;

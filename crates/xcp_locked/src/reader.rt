@@ -1,6 +1,7 @@
 //! A reader of a slave's images.
 ghost use Rattle.std.specs.Prelude.{◌≡◌, ◌↔◌, ℕ, ◌+◌, ◌-◌, ◌/◌, ◌%◌, ◌<◌, ◌≤◌, [], length, take, drop, Some, IsTrue};
-ghost use Rattle.xcp_bank.specs.SeatKnowledge.{AllBegin, Begins};
+ghost use mathlib.Core.List.{IsPrefix};
+ghost use Rattle.xcp_bank.specs.SeatKnowledge.{AllBegin};
 ghost use Rattle.xcp_bank.specs.BankEnds.{AcquireDoes, FollowsTold, Holds, HoldsNumber, IsRun, KnowsMore, LeavesBy, ReadDoes, TellsTaken, image_held, words_in};
 
 use crate::Name;
@@ -41,7 +42,7 @@ impl<N: Name> Reader<N> {
     /// Takes the current image, where the one held isn't current any more. The number of what it
     /// holds never falls. It waits for nobody.
     pub fn acquire(&mut self) -> Taken
-        ensures same_reader { (self.new.bank ≡ self.old.bank) × (self.new.place ≡ self.old.place) }
+        ensures same_reader { (self.new.bank ≡ self.old.bank) × (self.new.index ≡ self.old.index) }
         ensures holds_the_last { HoldsNumber self.new (length self.new.seen - 1) }
         ensures has_seen { 0 < length self.new.seen }
         ensures rises { (p q : ℕ) → HoldsNumber self.old p → HoldsNumber self.new q → p ≤ q }
@@ -66,7 +67,7 @@ impl<N: Name> Reader<N> {
         requires holds { Holds self.old }
         requires inside { at + length out.old ≤ 2040 }
         ensures bytes { out.new ≡ take (length out.old) (drop at (image_held self.old)) }
-        ensures same_reader { (self.new.bank ≡ self.old.bank) × (self.new.place ≡ self.old.place) }
+        ensures same_reader { (self.new.bank ≡ self.old.bank) × (self.new.index ≡ self.old.index) }
         ensures same { (self.new.held ≡ self.old.held) × (self.new.seen ≡ self.old.seen) }
         ensures does { ReadDoes (at / 8) (words_in at (length out.old)) self.old self.new }
         ensures run { IsRun self.new }
@@ -79,7 +80,7 @@ impl<N: Name> Reader<N> {
     pub fn number(&mut self) -> u64
         requires { Holds self.old }
         ensures number { (b p : ℕ) → self.old.held ≡ Some (b, p) → result ≡ p % 18446744073709551616 }
-        ensures same_reader { (self.new.bank ≡ self.old.bank) × (self.new.place ≡ self.old.place) }
+        ensures same_reader { (self.new.bank ≡ self.old.bank) × (self.new.index ≡ self.old.index) }
         ensures same { (self.new.held ≡ self.old.held) × (self.new.seen ≡ self.old.seen) }
         ensures does { ReadDoes 255 1 self.old self.new }
         ensures run { IsRun self.new }

@@ -7,7 +7,7 @@ use crate::{Done, Gate, Locked, Name, Ran, Task, TaskError, Worker};
 use std::alloc::{AllocError, Global};
 use std::sync::{Mutex, Wait};
 use std::thread::Threads;
-use together::run_both;
+use together::run_works;
 
 /// Runs a task for each worker, at most 16 of them, all at the same time. They are numbered from 0.
 /// In each of its cycles a task asks the gate, submits an event on the channel of its number (modulo
@@ -34,8 +34,7 @@ pub fn run_tasks<N: Name + Send + Sync, G: Gate + Sync, R: Threads + Wait + Sync
 {
     let back = Vec::with_capacity(alloc, workers.len())?;
     let tasks = number_tasks(alloc, lock, workers, cycles, chapter, gate)?;
-    let none: Vec<Task<N, G>> = Vec::new(alloc);
-    let (_none, done) = run_both(rt, alloc, none, tasks)?;
+    let done = run_works(rt, alloc, tasks)?;
     Ok(collect_workers(done, back))
 }
 

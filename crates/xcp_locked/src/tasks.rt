@@ -5,7 +5,7 @@ ghost use Rattle.xcp_bank.specs.SeatKnowledge.{AllBegin};
 ghost use Rattle.xcp_locked.specs.FaultNumbers.{task_number};
 ghost use Rattle.xcp_locked.specs.TaskImages.{Took};
 ghost use Rattle.xcp_locked.specs.Tasks.{Grew, HasCut, IsFresh, IsOwn, Same, closing_of, duty, event_of};
-ghost use Rattle.xcp_locked.specs.private.Tasks.{Adds, IsTold, TookImage};
+ghost use Rattle.xcp_locked.specs.private.TaskSteps.{Adds, IsTold, TookImage};
 
 use crate::{Caller, Gate, Locked, LockedError, Name, Reader, Worker};
 use arrayvec::ArrayVec;

@@ -27,11 +27,11 @@ impl<N: Name> Locked<N> {
         ensures past { reader.new.past ≡ reader.old.seen ∷ reader.old.past }
         ensures history { reader.new.history ≡ reader.old.history }
         ensures held { reader.new.held ≡ reader.old.held }
-        ensures does { ReaderDoes reader.old reader.new (looked_at reader.old.place self.old.writer.current
-            ∷ looked_at reader.old.place self.old.writer.current ∷ []) }
+        ensures does { ReaderDoes reader.old reader.new (looked_at reader.old.index self.old.writer.current
+            ∷ looked_at reader.old.index self.old.writer.current ∷ []) }
         ensures same { self.new ≡ self.old }
         ensures same_reader { (reader.new.bank ≡ reader.old.bank)
-            × (reader.new.place ≡ reader.old.place) }
+            × (reader.new.index ≡ reader.old.index) }
     {
         let writer = &mut self.publisher.writer;
         reader.inner.tell(writer);

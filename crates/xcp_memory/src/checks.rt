@@ -34,7 +34,7 @@ fn all_printable(bytes: &[u8]) -> bool
 }
 
 /// Whether there are 1 to `most` printable ASCII bytes.
-fn is_text(bytes: &[u8], most: usize) -> bool
+pub fn is_text(bytes: &[u8], most: usize) -> bool
     ensures { result ≡ is_text most bytes.now }
 {
     !bytes.is_empty() && bytes.len() <= most && all_printable(bytes)

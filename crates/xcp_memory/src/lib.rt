@@ -13,7 +13,7 @@ mod extent;
 mod key;
 mod layout;
 mod layout_laws;
-mod limits;
+pub mod limits;
 mod page_set;
 mod pages;
 mod parts;
@@ -24,6 +24,7 @@ mod switch_mode;
 pub use access_laws::{
     a_checksum_is_a_sum, controller_is_read, tool_is_read, tool_is_written, writes_are_refused,
 };
+pub use checks::is_text;
 pub use checksum_kind::ChecksumKind;
 pub use key::{Area, Key, LayoutFault};
 pub use layout::Layout;

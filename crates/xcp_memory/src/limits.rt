@@ -1,34 +1,34 @@
-//! The limits of a layout.
+//! The limits of a layout. Whoever reads the parts of one from a file checks by the same.
 
 /// How many segments there are at most.
-pub(crate) const MAX_SEGMENTS: usize = 4;
+pub const MAX_SEGMENTS: usize = 4;
 
 /// How many bytes the segments have at most, in all.
-pub(crate) const MAX_BYTES: usize = 2040;
+pub const MAX_BYTES: usize = 2040;
 
 /// How many pages a segment has at least: the reference page and a working page.
-pub(crate) const MIN_PAGES: u8 = 2;
+pub const MIN_PAGES: u8 = 2;
 
 /// How many pages a segment has at most.
-pub(crate) const MAX_PAGES: u8 = 4;
+pub const MAX_PAGES: u8 = 4;
 
 /// How many event channels there are at most.
-pub(crate) const MAX_EVENTS: usize = 8;
+pub const MAX_EVENTS: usize = 8;
 
 /// How many areas there are at most: the segments and the signals.
-pub(crate) const MAX_AREAS: usize = 5;
+pub const MAX_AREAS: usize = 5;
 
 /// How many bytes of signals there are at most.
-pub(crate) const MAX_SIGNALS: u32 = 64;
+pub const MAX_SIGNALS: u32 = 64;
 
 /// How long the identification is at most.
-pub(crate) const MAX_ID: usize = 64;
+pub const MAX_ID: usize = 64;
 
 /// How long the name of an event channel is at most.
-pub(crate) const MAX_NAME: usize = 32;
+pub const MAX_NAME: usize = 32;
 
 /// What MAX_CTO and MAX_DTO are at least.
-pub(crate) const MIN_PACKET: u8 = 8;
+pub const MIN_PACKET: u8 = 8;
 
 /// The last address that an area may have.
-pub(crate) const LAST_ADDRESS: u32 = 0xFFFF_FFFE;
+pub const LAST_ADDRESS: u32 = 0xFFFF_FFFE;

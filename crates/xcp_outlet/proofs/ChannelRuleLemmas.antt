@@ -7,10 +7,10 @@ use Rattle.crossbeam_channel.specs.Fifo.{Pushes, Pops, Forks, Merges, Learns}
 use Rattle.atomic_table.proofs.Lists.{at_set, at_snoc}
 use Rattle.xcp_outlet.specs.declared.message.Message.{Message}
 use Rattle.xcp_outlet.specs.PassKnowledge.{Half, Known, half}
-use Rattle.xcp_outlet.specs.private.PassKnowledge.{nobody, everything, one_half, message, more, after_put_on, after_put, after_take, both_of}
+use Rattle.xcp_outlet.specs.private.KnownHalves.{nobody, everything, one_half, message, more, after_put_on, after_put, after_take, both_of}
 use Rattle.xcp_outlet.specs.ChannelRule.{keep, of, parts}
-use Rattle.xcp_outlet.specs.private.ChannelRule.{mark, sent, Owned, Routed, Compares}
-use Rattle.xcp_framing.specs.Prefix.{IsFront}
+use Rattle.xcp_outlet.specs.private.OwnedChannel.{mark, sent, Owned, Routed, Compares}
+use mathlib.Core.List.{IsPrefix}
 use Rattle.xcp_outlet.specs.OutletEnds.{packets, has_mark}
 
 some_is : {X : Type 0} → {x y : X} → Some x ≡ Some y → x ≡ y
@@ -308,11 +308,11 @@ whole (p ∷ ps) e (Some q ∷ a) b is has = λ i. sym (some_is (ap heads is)) i
 
 -- what a meeting tells
 pub meeting : (side e : Bool) (ps : List (List ℕ)) (t : List Message) (v u : Known) → v.taken ≡ Some t → u ≡ both_of v (one_half side (half ps e)) → ((items : List Message) × Compares u items)
-    → IsFront (packets (of side t)) ps × (has_mark (of side t) ≡ true → packets (of side t) ≡ ps)
+    → IsPrefix (packets (of side t)) ps × (has_mark (of side t) ≡ true → packets (of side t) ≡ ps)
 meeting side e ps t v u has is c =
     let items = c.0 in
     let all = met side (half ps e) t v items has (subst (λ (z : Known). Compares z items) is c.1) in
     let cut = all ∙ of_append side t items in (
-      record { rest = packets (of side items); joined = sym (sym (packets_sent ps e) ∙ (ap packets cut ∙ packets_append (of side t) (of side items))) },
+      (packets (of side items), sym (sym (packets_sent ps e) ∙ (ap packets cut ∙ packets_append (of side t) (of side items)))),
       whole ps e (of side t) (of side items) cut,
     )

@@ -3,16 +3,16 @@ use Rattle.std.proofs.Common.{◌≡◌, ℕ, ◌+◌, ◌%◌, Bool, true, fals
 use Rattle.std.specs.Prelude.{Option}
 use Rattle.std.specs.Io.KnownBytes.{Appends}
 use Rattle.std.proofs.lemmas.List.{append-nil}
-use Rattle.arrayvec.specs.ArrayVec.{ArrayVec}
+use Rattle.xcp_framing.specs.FrameOutput.{FrameWriterValue}
 use Rattle.xcp_framing.specs.Prefix.{AppendsFront}
 use Rattle.xcp_framing.specs.Wire.{wire, wire_from, frame_bytes}
 use Rattle.xcp_outlet.specs.declared.message.Message.{Message}
 use Rattle.xcp_outlet.specs.declared.line.Line.{Line}
-use Rattle.xcp_outlet.specs.private.PassKnowledge.{message}
+use Rattle.xcp_outlet.specs.private.KnownHalves.{message}
 use Rattle.xcp_outlet.specs.ChannelRule.{of}
 use Rattle.xcp_outlet.specs.OutletEnds.{packet_list, all_packets, has_mark}
 use Rattle.xcp_outlet.specs.Sending.{BothEnded, WritesAll, WritesPart}
-use Rattle.xcp_outlet.specs.private.Sending.{Holds, Wrote, Progress, NoneInHand}
+use Rattle.xcp_outlet.specs.private.SendingProgress.{Holds, Wrote, Progress, NoneInHand}
 use Rattle.xcp_outlet.proofs.ChannelRuleLemmas.{of_append}
 use Rattle.xcp_outlet.proofs.WireLemmas.{appends_no_byte, appends_both, wire_of_both, frame_counts, no_frames}
 
@@ -60,27 +60,27 @@ mark_wrote b n k held t from before after old new w = subst (λ (z : List (List 
 
 -- the data end's end mark, once taken, is noted in the line and brings no packet
 pub data_ends : (line : Line) (t : List Message) {before after : Option (List ℕ)} {old new : ℕ} → Progress line t before after old new
-    → Progress (record { sent = line.sent; flushed = line.flushed; held = line.held; broken = line.broken; replies_ended = line.replies_ended; data_ended = true }) (t ++ message true None ∷ []) before after old new
+    → Progress (record { frames = line.frames; flushed = line.flushed; broken = line.broken; replies_ended = line.replies_ended; data_ended = true }) (t ++ message true None ∷ []) before after old new
 data_ends line t {before = before} {after = after} {old = old} {new = new} g = record {
-  wrote = mark_wrote line.broken line.flushed line.sent line.held.items t true before after old new g.wrote;
+  wrote = mark_wrote line.broken line.flushed line.frames.sent line.frames.held t true before after old new g.wrote;
   reply_mark = g.reply_mark ∙ still false t (message true None) refl;
   data_mark = gets true t (message true None) refl;
 }
 
 -- the same of the reply end's end mark
 pub replies_end : (line : Line) (t : List Message) {before after : Option (List ℕ)} {old new : ℕ} → Progress line t before after old new
-    → Progress (record { sent = line.sent; flushed = line.flushed; held = line.held; broken = line.broken; replies_ended = true; data_ended = line.data_ended }) (t ++ message false None ∷ []) before after old new
+    → Progress (record { frames = line.frames; flushed = line.flushed; broken = line.broken; replies_ended = true; data_ended = line.data_ended }) (t ++ message false None ∷ []) before after old new
 replies_end line t {before = before} {after = after} {old = old} {new = new} g = record {
-  wrote = mark_wrote line.broken line.flushed line.sent line.held.items t false before after old new g.wrote;
+  wrote = mark_wrote line.broken line.flushed line.frames.sent line.frames.held t false before after old new g.wrote;
   reply_mark = gets false t (message false None) refl;
   data_mark = g.data_mark ∙ still true t (message false None) refl;
 }
 
 -- CTR is the number of packets sent before, modulo 65,536, and so is that number modulo 2^64
-counter : (n k : ℕ) (p : List ℕ) → n ≡ k % 18446744073709551616 → frame_bytes (n % 65536) p ≡ frame_bytes k p
+counter : (n k : ℕ) (p : List ℕ) → n ≡ k % 18446744073709551616 → frame_bytes n p ≡ frame_bytes k p
 counter n k p h =
-    let same : (n % 65536) % 65536 ≡ k % 65536 = omega (arith, h) in
-    frame_counts (n % 65536) k p same
+    let same : n % 65536 ≡ k % 65536 = omega (arith, h) in
+    frame_counts n k p same
 
 wire_snoc : (ps : List (List ℕ)) (p : List ℕ) → wire (ps ++ p ∷ []) ≡ wire ps ++ frame_bytes (length ps) p
 wire_snoc ps p =
@@ -88,7 +88,7 @@ wire_snoc ps p =
     wire_of_both 0 ps (p ∷ []) ∙ ap (λ (z : List ℕ). wire ps ++ z) (append-nil (frame_bytes (0 + length ps) p) ∙ ap (λ (k : ℕ). frame_bytes k p) same)
 
 -- a packet more is held
-holds_more : (f n : ℕ) (held : List ℕ) (ps : List (List ℕ)) (p : List ℕ) {a b : Option (List ℕ)} {old new : ℕ} → Holds f n held ps a b old new → Holds f ((n + 1) % 18446744073709551616) (held ++ frame_bytes (n % 65536) p) (ps ++ p ∷ []) a b old new
+holds_more : (f n : ℕ) (held : List ℕ) (ps : List (List ℕ)) (p : List ℕ) {a b : Option (List ℕ)} {old new : ℕ} → Holds f n held ps a b old new → Holds f ((n + 1) % 18446744073709551616) (held ++ frame_bytes n p) (ps ++ p ∷ []) a b old new
 holds_more f n held ps p w =
     let size : length w.whole + length w.later ≡ length ps = omega (arith, ap (λ (z : List (List ℕ)). length z) w.all, length-append w.whole w.later) in
     record {
@@ -98,15 +98,15 @@ holds_more f n held ps p w =
       count = w.count;
       total = omega (arith, w.total, length-append ps (p ∷ []));
       writes = w.writes;
-      held_is = ap (λ (z : List ℕ). z ++ frame_bytes (n % 65536) p) w.held_is
+      held_is = ap (λ (z : List ℕ). z ++ frame_bytes n p) w.held_is
           ∙ (ap (λ (z : List ℕ). wire_from (length w.whole) w.later ++ z) (counter n (length ps) p w.total ∙ (ap (λ (k : ℕ). frame_bytes k p) (sym size) ∙ sym (append-nil (frame_bytes (length w.whole + length w.later) p))))
           ∙ sym (wire_of_both (length w.whole) w.later (p ∷ [])));
-      quiet = w.quiet;
+      unfailed = w.unfailed;
     }
 
 -- all that was held is written
 holds_flushed : (f n : ℕ) (held : List ℕ) (ps : List (List ℕ)) (a b c : Option (List ℕ)) {old new last : ℕ} → Holds f n held ps a b old new → Appends b c held → last ≡ new → Holds n n [] ps a c old last
-holds_flushed f n held ps a b c w h quiet =
+holds_flushed f n held ps a b c w h unfailed =
     let start : 0 + length w.whole ≡ length w.whole = omega arith in
     record {
       whole = ps;
@@ -118,7 +118,7 @@ holds_flushed f n held ps a b c w h quiet =
           (ap (λ (z : List ℕ). wire w.whole ++ z) (w.held_is ∙ ap (λ (k : ℕ). wire_from k w.later) (sym start)) ∙ (sym (wire_of_both 0 w.whole w.later) ∙ ap wire (sym w.all)))
           (appends_both a b c (wire w.whole) held w.writes h);
       held_is = refl;
-      quiet = quiet ∙ w.quiet;
+      unfailed = unfailed ∙ w.unfailed;
     }
 
 -- the write of what was held failed
@@ -130,8 +130,8 @@ holds_broken f n held ps a b c w h failed = record {
   count = w.count;
   part = h.written;
   writes = appends_both a b c (wire w.whole) h.written w.writes h.grown;
-  front = record { rest = h.front.rest; joined = h.front.joined ∙ w.held_is };
-  failed = failed ∙ ap (λ (k : ℕ). k + 1) w.quiet;
+  front = (h.front.0, h.front.1 ∙ w.held_is);
+  failed = failed ∙ ap (λ (k : ℕ). k + 1) w.unfailed;
 }
 
 -- nothing is held
@@ -139,7 +139,7 @@ holds_all : (f n : ℕ) (held : List ℕ) (ps : List (List ℕ)) (a b : Option (
 holds_all f n held ps a b none w =
     let later : w.later ≡ [] = no_frames (length w.whole) w.later (sym none ∙ w.held_is) in
     let same : w.whole ≡ ps = sym (w.all ∙ (ap (λ (z : List (List ℕ)). w.whole ++ z) later ∙ append-nil w.whole)) in
-    record { count = w.total; writes = subst (λ (z : List (List ℕ)). Appends a b (wire z)) same w.writes; quiet = w.quiet }
+    record { count = w.total; writes = subst (λ (z : List (List ℕ)). Appends a b (wire z)) same w.writes; unfailed = w.unfailed }
 
 -- a packet more after a write failed
 part_more : (n : ℕ) (ps : List (List ℕ)) (p : List ℕ) {a b : Option (List ℕ)} {old new : ℕ} → WritesPart n ps a b old new → WritesPart n (ps ++ p ∷ []) a b old new
@@ -150,82 +150,83 @@ part_more n ps p w = record {
   count = w.count;
   part = w.part;
   writes = w.writes;
-  front = record {
-    rest = w.front.rest ++ wire_from (length w.whole + length w.later) (p ∷ []);
-    joined = sym (append_assoc w.part w.front.rest (wire_from (length w.whole + length w.later) (p ∷ []))) ∙ (ap (λ (z : List ℕ). z ++ wire_from (length w.whole + length w.later) (p ∷ [])) w.front.joined ∙ sym (wire_of_both (length w.whole) w.later (p ∷ [])));
-  };
+  front = (
+    w.front.0 ++ wire_from (length w.whole + length w.later) (p ∷ []),
+    sym (append_assoc w.part w.front.0 (wire_from (length w.whole + length w.later) (p ∷ []))) ∙ (ap (λ (z : List ℕ). z ++ wire_from (length w.whole + length w.later) (p ∷ [])) w.front.1 ∙ sym (wire_of_both (length w.whole) w.later (p ∷ []))),
+  );
   failed = w.failed;
 }
 
 -- of a batch no packet yet
 pub begun : (line : Line) (t : List Message) (from : Bool) {a b : Option (List ℕ)} {old new : ℕ} → Progress line t a b old new → Progress line (t ++ message from (Some []) ∷ []) a b old new
 begun line t from {a = a} {b = b} {old = old} {new = new} g = record {
-  wrote = subst (λ (z : List (List ℕ)). Wrote line.broken line.flushed line.sent line.held.items z a b old new) (sym (all_snoc t (message from (Some [])) ∙ append-nil (all_packets t))) g.wrote;
+  wrote = subst (λ (z : List (List ℕ)). Wrote line.broken line.flushed line.frames.sent line.frames.held z a b old new) (sym (all_snoc t (message from (Some [])) ∙ append-nil (all_packets t))) g.wrote;
   reply_mark = g.reply_mark ∙ still false t (message from (Some [])) (packet_marks false from []);
   data_mark = g.data_mark ∙ still true t (message from (Some [])) (packet_marks true from []);
 }
 
 -- the frame of a packet is held
-pub added : (line : Line) (t : List Message) (from : Bool) (ps : List (List ℕ)) (p : List ℕ) (held : ArrayVec ℕ) {a b : Option (List ℕ)} {old new : ℕ} → line.broken ≡ false → held.items ≡ line.held.items ++ frame_bytes (line.sent % 65536) p
-    → Progress line (t ++ message from (Some ps) ∷ []) a b old new
-    → Progress (record { sent = (line.sent + 1) % 18446744073709551616; flushed = line.flushed; held = held; broken = line.broken; replies_ended = line.replies_ended; data_ended = line.data_ended }) (t ++ message from (Some (ps ++ p ∷ [])) ∷ []) a b old new
-added line t from ps p held {a = a} {b = b} {old = old} {new = new} well is g =
+pub added : (line : Line) (t : List Message) (from : Bool) (ps : List (List ℕ)) (p : List ℕ) (frames : FrameWriterValue) {a b : Option (List ℕ)} {old new : ℕ} → line.broken ≡ false → frames.held ≡ line.frames.held ++ frame_bytes line.frames.sent p
+    → frames.sent ≡ (line.frames.sent + 1) % 18446744073709551616 → Progress line (t ++ message from (Some ps) ∷ []) a b old new
+    → Progress (record { frames = frames; flushed = line.flushed; broken = line.broken; replies_ended = line.replies_ended; data_ended = line.data_ended }) (t ++ message from (Some (ps ++ p ∷ [])) ∷ []) a b old new
+added line t from ps p frames {a = a} {b = b} {old = old} {new = new} well is counts g =
     let u : List Message = t ++ message from (Some ps) ∷ [] in
-    let was : Holds line.flushed line.sent line.held.items (all_packets u) a b old new = subst (λ (x : Bool). Wrote x line.flushed line.sent line.held.items (all_packets u) a b old new) well g.wrote in
-    let now : Holds line.flushed ((line.sent + 1) % 18446744073709551616) held.items (all_packets (t ++ message from (Some (ps ++ p ∷ [])) ∷ [])) a b old new =
-    rw (is, all_more t from ps p) (holds_more line.flushed line.sent line.held.items (all_packets u) p was) in
+    let was : Holds line.flushed line.frames.sent line.frames.held (all_packets u) a b old new = subst (λ (x : Bool). Wrote x line.flushed line.frames.sent line.frames.held (all_packets u) a b old new) well g.wrote in
+    let now : Holds line.flushed frames.sent frames.held (all_packets (t ++ message from (Some (ps ++ p ∷ [])) ∷ [])) a b old new =
+    rw (is, counts, all_more t from ps p) (holds_more line.flushed line.frames.sent line.frames.held (all_packets u) p was) in
     record {
-      wrote = subst (λ (x : Bool). Wrote x line.flushed ((line.sent + 1) % 18446744073709551616) held.items (all_packets (t ++ message from (Some (ps ++ p ∷ [])) ∷ [])) a b old new) (sym well) now;
+      wrote = subst (λ (x : Bool). Wrote x line.flushed frames.sent frames.held (all_packets (t ++ message from (Some (ps ++ p ∷ [])) ∷ [])) a b old new) (sym well) now;
       reply_mark = g.reply_mark ∙ marks_same false from t ps (ps ++ p ∷ []);
       data_mark = g.data_mark ∙ marks_same true from t ps (ps ++ p ∷ []);
     }
 
 -- what is held is written
-pub flushed : (line : Line) (t : List Message) (held : ArrayVec ℕ) (a b c : Option (List ℕ)) {old new last : ℕ} → line.broken ≡ false → held.items ≡ [] → Appends b c line.held.items → last ≡ new → Progress line t a b old new
-    → Progress (record { sent = line.sent; flushed = line.sent; held = held; broken = line.broken; replies_ended = line.replies_ended; data_ended = line.data_ended }) t a c old last
-flushed line t held a b c {old = old} {new = new} {last = last} well none h quiet g =
-    let was : Holds line.flushed line.sent line.held.items (all_packets t) a b old new = subst (λ (x : Bool). Wrote x line.flushed line.sent line.held.items (all_packets t) a b old new) well g.wrote in
-    let now : Holds line.sent line.sent held.items (all_packets t) a c old last = rw none (holds_flushed line.flushed line.sent line.held.items (all_packets t) a b c was h quiet) in
+pub flushed : (line : Line) (t : List Message) (frames : FrameWriterValue) (count : ℕ) (a b c : Option (List ℕ)) {old new last : ℕ} → line.broken ≡ false → frames.held ≡ [] → frames.sent ≡ line.frames.sent → count ≡ frames.sent
+    → Appends b c line.frames.held → last ≡ new → Progress line t a b old new
+    → Progress (record { frames = frames; flushed = count; broken = line.broken; replies_ended = line.replies_ended; data_ended = line.data_ended }) t a c old last
+flushed line t frames count a b c {old = old} {new = new} {last = last} well none same all h unfailed g =
+    let was : Holds line.flushed line.frames.sent line.frames.held (all_packets t) a b old new = subst (λ (x : Bool). Wrote x line.flushed line.frames.sent line.frames.held (all_packets t) a b old new) well g.wrote in
+    let now : Holds count frames.sent frames.held (all_packets t) a c old last = rw (none, all, same) (holds_flushed line.flushed line.frames.sent line.frames.held (all_packets t) a b c was h unfailed) in
     record {
-      wrote = subst (λ (x : Bool). Wrote x line.sent line.sent held.items (all_packets t) a c old last) (sym well) now;
+      wrote = subst (λ (x : Bool). Wrote x count frames.sent frames.held (all_packets t) a c old last) (sym well) now;
       reply_mark = g.reply_mark;
       data_mark = g.data_mark;
     }
 
 -- its write failed
-pub broken : (line : Line) (t : List Message) (a b c : Option (List ℕ)) {old new last : ℕ} → line.broken ≡ false → AppendsFront b c line.held.items → last ≡ new + 1 → Progress line t a b old new
-    → Progress (record { sent = line.sent; flushed = line.flushed; held = line.held; broken = true; replies_ended = line.replies_ended; data_ended = line.data_ended }) t a c old last
-broken line t a b c {old = old} {new = new} {last = last} well h failed g =
-    let was : Holds line.flushed line.sent line.held.items (all_packets t) a b old new = subst (λ (x : Bool). Wrote x line.flushed line.sent line.held.items (all_packets t) a b old new) well g.wrote in
-    record { wrote = holds_broken line.flushed line.sent line.held.items (all_packets t) a b c was h failed; reply_mark = g.reply_mark; data_mark = g.data_mark }
+pub broken : (line : Line) (t : List Message) (frames : FrameWriterValue) (a b c : Option (List ℕ)) {old new last : ℕ} → line.broken ≡ false → AppendsFront b c line.frames.held → last ≡ new + 1 → Progress line t a b old new
+    → Progress (record { frames = frames; flushed = line.flushed; broken = true; replies_ended = line.replies_ended; data_ended = line.data_ended }) t a c old last
+broken line t frames a b c {old = old} {new = new} {last = last} well h failed g =
+    let was : Holds line.flushed line.frames.sent line.frames.held (all_packets t) a b old new = subst (λ (x : Bool). Wrote x line.flushed line.frames.sent line.frames.held (all_packets t) a b old new) well g.wrote in
+    record { wrote = holds_broken line.flushed line.frames.sent line.frames.held (all_packets t) a b c was h failed; reply_mark = g.reply_mark; data_mark = g.data_mark }
 
 -- a packet after a write failed
 pub passed : (line : Line) (t : List Message) (from : Bool) (ps : List (List ℕ)) (p : List ℕ) {a b : Option (List ℕ)} {old new : ℕ} → line.broken ≡ true
     → Progress line (t ++ message from (Some ps) ∷ []) a b old new → Progress line (t ++ message from (Some (ps ++ p ∷ [])) ∷ []) a b old new
 passed line t from ps p {a = a} {b = b} {old = old} {new = new} off g =
     let u : List Message = t ++ message from (Some ps) ∷ [] in
-    let was : WritesPart line.flushed (all_packets u) a b old new = subst (λ (x : Bool). Wrote x line.flushed line.sent line.held.items (all_packets u) a b old new) off g.wrote in
+    let was : WritesPart line.flushed (all_packets u) a b old new = subst (λ (x : Bool). Wrote x line.flushed line.frames.sent line.frames.held (all_packets u) a b old new) off g.wrote in
     let now : WritesPart line.flushed (all_packets (t ++ message from (Some (ps ++ p ∷ [])) ∷ [])) a b old new = subst (λ (z : List (List ℕ)). WritesPart line.flushed z a b old new) (sym (all_more t from ps p)) (part_more line.flushed (all_packets u) p was) in
     record {
-      wrote = subst (λ (x : Bool). Wrote x line.flushed line.sent line.held.items (all_packets (t ++ message from (Some (ps ++ p ∷ [])) ∷ [])) a b old new) (sym off) now;
+      wrote = subst (λ (x : Bool). Wrote x line.flushed line.frames.sent line.frames.held (all_packets (t ++ message from (Some (ps ++ p ∷ [])) ∷ [])) a b old new) (sym off) now;
       reply_mark = g.reply_mark ∙ marks_same false from t ps (ps ++ p ∷ []);
       data_mark = g.data_mark ∙ marks_same true from t ps (ps ++ p ∷ []);
     }
 
 -- all is written
-pub all_written : (line : Line) (t : List Message) (a b : Option (List ℕ)) {old new : ℕ} → line.broken ≡ false → line.held.items ≡ [] → Progress line t a b old new → WritesAll line.sent (all_packets t) a b old new
+pub all_written : (line : Line) (t : List Message) (a b : Option (List ℕ)) {old new : ℕ} → line.broken ≡ false → line.frames.held ≡ [] → Progress line t a b old new → WritesAll line.frames.sent (all_packets t) a b old new
 all_written line t a b {old = old} {new = new} well none g =
-    holds_all line.flushed line.sent line.held.items (all_packets t) a b none (subst (λ (x : Bool). Wrote x line.flushed line.sent line.held.items (all_packets t) a b old new) well g.wrote)
+    holds_all line.flushed line.frames.sent line.frames.held (all_packets t) a b none (subst (λ (x : Bool). Wrote x line.flushed line.frames.sent line.frames.held (all_packets t) a b old new) well g.wrote)
 
 -- after a failed write, the first packets taken are written whole, and of the others' frames a front
 pub part_written : (line : Line) (t : List Message) (a b : Option (List ℕ)) {old new : ℕ} → line.broken ≡ true → Progress line t a b old new → WritesPart line.flushed (all_packets t) a b old new
-part_written line t a b {old = old} {new = new} off g = subst (λ (x : Bool). Wrote x line.flushed line.sent line.held.items (all_packets t) a b old new) off g.wrote
+part_written line t a b {old = old} {new = new} off g = subst (λ (x : Bool). Wrote x line.flushed line.frames.sent line.frames.held (all_packets t) a b old new) off g.wrote
 
 -- before the first message
-pub nothing_yet : (line : Line) (a : Option (List ℕ)) (n : ℕ) → line.broken ≡ false → line.sent ≡ 0 → line.flushed ≡ 0 → line.held.items ≡ [] → line.replies_ended ≡ false → line.data_ended ≡ false → Progress line [] a a n n
+pub nothing_yet : (line : Line) (a : Option (List ℕ)) (n : ℕ) → line.broken ≡ false → line.frames.sent ≡ 0 → line.flushed ≡ 0 → line.frames.held ≡ [] → line.replies_ended ≡ false → line.data_ended ≡ false → Progress line [] a a n n
 nothing_yet line a n well s f h r d =
-    let now : Holds line.flushed line.sent line.held.items [] a a n n = record { whole = []; later = []; all = refl; count = f; total = s; writes = appends_no_byte a; held_is = h; quiet = refl } in
-    record { wrote = subst (λ (x : Bool). Wrote x line.flushed line.sent line.held.items [] a a n n) (sym well) now; reply_mark = r; data_mark = d }
+    let now : Holds line.flushed line.frames.sent line.frames.held [] a a n n = record { whole = []; later = []; all = refl; count = f; total = s; writes = appends_no_byte a; held_is = h; unfailed = refl } in
+    record { wrote = subst (λ (x : Bool). Wrote x line.flushed line.frames.sent line.frames.held [] a a n n) (sym well) now; reply_mark = r; data_mark = d }
 
 -- what is known of a message holds of one that is equal
 pub for_message : (line : Line) (t : List Message) (m m' : Message) {before after : Option (List ℕ)} {old new : ℕ} → m ≡ m' → Progress line (t ++ m ∷ []) before after old new → Progress line (t ++ m' ∷ []) before after old new
@@ -244,9 +245,9 @@ pub no_data_end : (line : Line) (t : List Message) (a b : Option (List ℕ)) {ol
 no_data_end line t a b missing g = λ both. absurd (true≢false (sym both.1 ∙ (sym g.data_mark ∙ missing)))
 
 -- with no frame held, no packet is in hand
-pub none_in_hand : (line : Line) (t : List Message) (a b : Option (List ℕ)) {old new : ℕ} → (line.broken ≡ false → line.held.items ≡ []) → Progress line t a b old new → NoneInHand line t
+pub none_in_hand : (line : Line) (t : List Message) (a b : Option (List ℕ)) {old new : ℕ} → (line.broken ≡ false → line.frames.held ≡ []) → Progress line t a b old new → NoneInHand line t
 none_in_hand line t a b {old = old} {new = new} none g well =
-    let w : Holds line.flushed line.sent line.held.items (all_packets t) a b old new = subst (λ (x : Bool). Wrote x line.flushed line.sent line.held.items (all_packets t) a b old new) well g.wrote in
+    let w : Holds line.flushed line.frames.sent line.frames.held (all_packets t) a b old new = subst (λ (x : Bool). Wrote x line.flushed line.frames.sent line.frames.held (all_packets t) a b old new) well g.wrote in
     let later : w.later ≡ [] = no_frames (length w.whole) w.later (sym (none well) ∙ w.held_is) in
     let same : w.whole ≡ all_packets t = sym (w.all ∙ (ap (λ (z : List (List ℕ)). w.whole ++ z) later ∙ append-nil w.whole)) in
     (none well, w.count ∙ ap (λ (z : List (List ℕ)). length z % 18446744073709551616) same)

@@ -1,7 +1,7 @@
 -- What the end that takes has done with the packets that it took.
 use Rattle.std.specs.Prelude.{◌≡◌, ◌+◌, ◌%◌, ◌^◌, ℕ, true, false, List, ◌++◌, length, Option, Result, Ok, Err}
 use Rattle.std.specs.Io.KnownBytes.{Appends}
-use Rattle.xcp_framing.specs.Prefix.{IsFront}
+use mathlib.Core.List.{IsPrefix}
 use Rattle.xcp_framing.specs.Wire.{wire, wire_from}
 use Rattle.xcp_outlet.specs.declared.message.Message.{Message}
 use Rattle.xcp_outlet.specs.declared.fault.SendError.{SendError}
@@ -13,7 +13,7 @@ use Rattle.xcp_outlet.specs.OutletEnds.{all_packets, has_mark}
 pub record WritesAll (n : ℕ) (packets : List (List ℕ)) (before after : Option (List ℕ)) (old new : ℕ) : Type 0 where
   pub count : n ≡ length packets % 2 ^ 64
   pub writes : Appends before after (wire packets)
-  pub quiet : new ≡ old
+  pub unfailed : new ≡ old
 
 -- One write failed. The first n packets are written whole, and of what follows a front.
 pub record WritesPart (n : ℕ) (packets : List (List ℕ)) (before after : Option (List ℕ)) (old new : ℕ) : Type 0 where
@@ -23,7 +23,7 @@ pub record WritesPart (n : ℕ) (packets : List (List ℕ)) (before after : Opti
   pub count : n ≡ length whole % 2 ^ 64
   pub part : List ℕ
   pub writes : Appends before after (wire whole ++ part)
-  pub front : IsFront part (wire_from (length whole) later)
+  pub front : IsPrefix part (wire_from (length whole) later)
   pub failed : new ≡ old + 1
 
 -- both ends' end marks are among the messages

@@ -1,5 +1,5 @@
 -- Words that contracts of private functions and invariants cite. No contract of a public function needs them.
-pub mod PassKnowledge
-pub mod ChannelRule
-pub mod OutletEnds
-pub mod Sending
+pub mod EndOfPass
+pub mod KnownHalves
+pub mod OwnedChannel
+pub mod SendingProgress

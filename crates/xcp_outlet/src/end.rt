@@ -32,9 +32,9 @@ impl<S: Side> Model for PutEnd<S> {
     ghost use Rattle.crossbeam_channel.specs.Claims.{IsSeatAt};
     ghost use Rattle.crossbeam_channel.specs.Ends.{sends_on};
     ghost use Rattle.xcp_outlet.specs.PassKnowledge.{half};
-    ghost use Rattle.xcp_outlet.specs.private.PassKnowledge.{one_half};
+    ghost use Rattle.xcp_outlet.specs.private.KnownHalves.{one_half};
     ghost use Rattle.xcp_outlet.specs.OutletEnds.{EndSeen, knows};
-    ghost use Rattle.xcp_outlet.specs.private.OutletEnds.{end_of};
+    ghost use Rattle.xcp_outlet.specs.private.EndOfPass.{end_of};
 
     ghost Value = { EndSeen };
 

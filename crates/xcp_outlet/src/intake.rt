@@ -1,6 +1,6 @@
 //! The end that takes.
 ghost use Rattle.std.specs.Prelude.{◌≡◌, ◌++◌, [], ◌∷◌, IfSome, IfNone};
-ghost use Rattle.xcp_outlet.specs.private.Sending.{NoneInHand};
+ghost use Rattle.xcp_outlet.specs.private.SendingProgress.{NoneInHand};
 
 use crate::line::Line;
 use crate::message::Message;
@@ -9,11 +9,13 @@ use crate::rule::Takes;
 use crate::took::Took;
 use std::marker::Model;
 use std::sync::Wait;
+use xcp_framing::FrameWriter;
 
-/// The end that takes. It has taken nothing yet.
+/// The end that takes. It has taken nothing and sent nothing yet.
 #[derive(Drop)]
 pub struct SendEnd {
     pub(crate) intake: Intake,
+    pub(crate) frames: FrameWriter,
 }
 
 impl Model for SendEnd {
@@ -24,14 +26,16 @@ impl Model for SendEnd {
 
     ghost view = { λ s. s.intake };
 
-    ghost invariant = { λ s. s.intake.taken ≡ [] };
+    ghost invariant = { λ s. (s.intake.taken ≡ []) × (s.frames ≡ record { sent = 0; held = [] }) };
 }
 
 impl SendEnd {
-    pub(crate) fn open(self) -> Intake
-        ensures { (result ≡ self) × (result.taken ≡ []) }
+    pub(crate) fn open(self) -> (Intake, FrameWriter)
+        ensures intake { (result.0 ≡ self) × (result.0.taken ≡ []) }
+        ensures frames { result.1 ≡ record { sent = 0; held = [] } }
     {
-        self.intake
+        let SendEnd { intake, frames } = self;
+        (intake, frames)
     }
 }
 

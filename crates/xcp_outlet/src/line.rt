@@ -1,29 +1,24 @@
 //! Frames of packets that were taken, from their making to their writing.
-ghost use Rattle.std.specs.Prelude.{◌≡◌, ℕ, Bool, List, Option, Some, [], ◌∷◌, ◌++◌, ◌+◌, ◌≤◌, false, length};
+ghost use Rattle.std.specs.Prelude.{◌≡◌, ℕ, Bool, List, Option, Some, [], ◌∷◌, ◌++◌, false};
+ghost use Rattle.xcp_framing.specs.FrameOutput.{Fits};
 ghost use Rattle.xcp_outlet.specs.declared.message.Message.{Message};
 ghost use Rattle.xcp_outlet.specs.Sending.{Sends};
-ghost use Rattle.xcp_outlet.specs.private.PassKnowledge.{message};
-ghost use Rattle.xcp_outlet.specs.private.Sending.{NoneInHand, Progress};
+ghost use Rattle.xcp_outlet.specs.private.KnownHalves.{message};
+ghost use Rattle.xcp_outlet.specs.private.SendingProgress.{NoneInHand, Progress};
 
 use crate::fault::SendError;
 use crate::message::Message;
-use arrayvec::ArrayVec;
 use std::io::Write;
-use xcp_framing::{Batch, FRAME_SIZE, Watched, frame};
+use xcp_framing::{Batch, FrameWriter, Watched};
 use xcp_packet::Packet;
-
-/// The most bytes of frames that are written together.
-const HELD_SIZE: usize = 2048;
 
 /// How far the sending is.
 #[derive(Drop)]
 pub(crate) struct Line {
-    /// The packets whose frames were made.
-    pub(crate) sent: u64,
-    /// Those of them whose frames were written.
+    /// The packets whose frames were made, and the frames that were made and not written.
+    pub(crate) frames: FrameWriter,
+    /// Those of the packets whose frames were written.
     pub(crate) flushed: u64,
-    /// The frames that were made and not written.
-    pub(crate) held: ArrayVec<u8, HELD_SIZE>,
     /// A write failed.
     pub(crate) broken: bool,
     pub(crate) replies_ended: bool,
@@ -31,14 +26,15 @@ pub(crate) struct Line {
 }
 
 impl Line {
-    pub(crate) fn new() -> Line
+    /// Nothing was sent yet.
+    pub(crate) fn new(frames: FrameWriter) -> Line
+        requires { frames ≡ record { sent = 0; held = [] } }
         ensures { (before : Option (List ℕ)) (failures : ℕ)
             → Progress result [] before before failures failures }
     {
         Line {
-            sent: 0,
+            frames,
             flushed: 0,
-            held: ArrayVec::new(),
             broken: false,
             replies_ended: false,
             data_ended: false,
@@ -52,7 +48,7 @@ impl Line {
             before (W.contents writer.old.inner) failures writer.old.failures
             → Progress self.new taken
             before (W.contents writer.new.inner) failures writer.new.failures }
-        ensures empty { self.new.broken ≡ false → self.new.held.items ≡ [] }
+        ensures empty { self.new.broken ≡ false → self.new.frames.held ≡ [] }
         ensures written { (before : Option (List ℕ)) (failures : ℕ) (taken : List Message)
             → Progress self.old taken
             before (W.contents writer.old.inner) failures writer.old.failures
@@ -61,30 +57,28 @@ impl Line {
         if self.broken {
             return;
         }
-        if writer.write_all(self.held.as_slice()).is_err() {
-            self.broken = true;
-            return;
+        match self.frames.flush(writer) {
+            Ok(()) => self.flushed = self.frames.sent(),
+            Err(_) => self.broken = true,
         }
-        self.held.clear();
-        self.flushed = self.sent;
     }
 
-    /// Writes what is held where it leaves no room for the longest frame.
-    fn make_room<W: Write>(&mut self, writer: &mut Watched<W>)
+    /// Writes what is held where it leaves no room for the packet's frame.
+    fn make_room<W: Write>(&mut self, packet: &Packet, writer: &mut Watched<W>)
         ensures goes_on { (before : Option (List ℕ)) (failures : ℕ) (taken : List Message)
             → Progress self.old taken
             before (W.contents writer.old.inner) failures writer.old.failures
             → Progress self.new taken
             before (W.contents writer.new.inner) failures writer.new.failures }
-        ensures room { self.new.broken ≡ false → length self.new.held.items + 259 ≤ 2048 }
+        ensures room { self.new.broken ≡ false → Fits self.new.frames packet.now.items }
     {
-        if self.held.remaining_capacity() < FRAME_SIZE {
+        if !self.frames.has_room(packet) {
             self.flush(writer);
         }
     }
 
-    /// Makes the frame of a packet that was taken. CTR is the number of packets before, of both ends,
-    /// modulo 65,536. After a failed write it makes no frame.
+    /// Makes the frame of a packet that was taken, whose number is that of the packets before, of both
+    /// ends. After a failed write it makes no frame.
     fn add_packet<W: Write>(&mut self, packet: &Packet, writer: &mut Watched<W>)
         ensures { (before : Option (List ℕ)) (failures : ℕ) (taken : List Message) (from : Bool)
             (done : List (List ℕ))
@@ -93,13 +87,11 @@ impl Line {
             → Progress self.new (taken ++ message from (Some (done ++ packet.now.items ∷ [])) ∷ [])
             before (W.contents writer.new.inner) failures writer.new.failures }
     {
-        self.make_room(writer);
+        self.make_room(packet, writer);
         if self.broken {
             return;
         }
-        let frame = frame((self.sent % 65_536) as u16, packet);
-        let _ = self.held.try_extend_from_slice(frame.as_slice());
-        self.sent = self.sent.wrapping_add(1);
+        self.frames.push(packet);
     }
 
     /// Makes the frames of the packets of a batch that was taken, in order.
@@ -141,7 +133,7 @@ impl Line {
 
     /// What the sender tells at its end, where it holds no frame.
     pub(crate) fn counted(&self) -> Result<u64, SendError>
-        requires { self.now.broken ≡ false → self.now.held.items ≡ [] }
+        requires { self.now.broken ≡ false → self.now.frames.held ≡ [] }
         ensures { (before after : Option (List ℕ)) (old new : ℕ) (taken : List Message)
             → Progress self.now taken before after old new
             → Sends result taken before after old new }
@@ -150,11 +142,11 @@ impl Line {
             return Err(SendError::Write(self.flushed));
         }
         if !self.replies_ended {
-            return Err(SendError::Cut(self.sent));
+            return Err(SendError::Cut(self.frames.sent()));
         }
         if !self.data_ended {
-            return Err(SendError::Cut(self.sent));
+            return Err(SendError::Cut(self.frames.sent()));
         }
-        Ok(self.sent)
+        Ok(self.frames.sent())
     }
 }

@@ -10,6 +10,7 @@ use crate::view::View;
 use crossbeam_channel::{Pass, RuledReceiver, RuledSender, bounded_with};
 use std::alloc::{AllocError, Global};
 use std::marker::PhantomData;
+use xcp_framing::FrameWriter;
 
 /// What an end knows of the channel.
 pub(crate) type Token = Pass<Message, View>;
@@ -27,6 +28,7 @@ pub fn outlet(alloc: Global) -> Result<(ReplyEnd, DataEnd, SendEnd), AllocError>
     ensures data { IfOk result (λ r. r.1 ≡ record { outlet = r.2.outlet; side = true; put = [] }) }
     ensures taken { IfOk result (λ r. r.2.taken ≡ []) }
 {
+    let frames = FrameWriter::new(alloc)?;
     let (sender, receiver, mut pass) = bounded_with::<Message, View, Routes, Global>(
         alloc, CAPACITY,
     )?;
@@ -50,6 +52,7 @@ pub fn outlet(alloc: Global) -> Result<(ReplyEnd, DataEnd, SendEnd), AllocError>
         },
         SendEnd {
             intake: Intake { receiver, pass },
+            frames,
         },
     ))
 }

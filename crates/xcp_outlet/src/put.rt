@@ -16,7 +16,7 @@ impl Model for Put {
     ghost use Rattle.crossbeam_channel.specs.Claims.{IsSeatAt};
     ghost use Rattle.crossbeam_channel.specs.Ends.{sends_on};
     ghost use Rattle.xcp_outlet.specs.PassKnowledge.{half};
-    ghost use Rattle.xcp_outlet.specs.private.PassKnowledge.{one_half};
+    ghost use Rattle.xcp_outlet.specs.private.KnownHalves.{one_half};
     ghost use Rattle.xcp_outlet.specs.OutletEnds.{Putting, putting_of, knows};
 
     ghost Value = { Putting };

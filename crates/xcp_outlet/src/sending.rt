@@ -29,8 +29,8 @@ impl SendEnd {
             (W.contents writer.old.inner) (W.contents writer.new.inner)
             writer.old.failures writer.new.failures }
     {
-        let mut intake = self.open();
-        let mut line = Line::new();
+        let (mut intake, frames) = self.open();
+        let mut line = Line::new(frames);
         for _ in rt.forever() {
             if line.replies_ended && line.data_ended {
                 break;
@@ -60,9 +60,10 @@ impl SendEnd {
         ensures none { result.took.taken ≡ [] }
         ensures cut { result.count ≡ Err (SendError.Cut 0) }
     {
+        let (intake, _frames) = self.open();
         Sent {
             count: Err(SendError::Cut(0)),
-            took: self.open().close(),
+            took: intake.close(),
         }
     }
 }

@@ -1,6 +1,6 @@
 //! What was taken, and the meeting with what was put.
 ghost use Rattle.std.specs.Prelude.{◌≡◌, true};
-ghost use Rattle.xcp_framing.specs.Prefix.{IsFront};
+ghost use mathlib.Core.List.{IsPrefix};
 ghost use Rattle.xcp_outlet.specs.OutletEnds.{packets, has_mark};
 ghost use Rattle.xcp_outlet.specs.ChannelRule.{of};
 
@@ -33,7 +33,7 @@ impl Took {
     pub fn meet(&mut self, put: Put)
         requires outlet { self.old.outlet ≡ put.outlet }
         ensures same { self.new ≡ self.old }
-        ensures begins { IsFront (packets (of put.side self.old.taken)) put.put }
+        ensures begins { IsPrefix (packets (of put.side self.old.taken)) put.put }
         ensures all { has_mark (of put.side self.old.taken) ≡ true
             → packets (of put.side self.old.taken) ≡ put.put }
     {

@@ -1,6 +1,6 @@
 -- What holds of each row that clap makes of a subcommand's words: it has a value that its argument takes, which the words gave.
 use Rattle.std.proofs.Common.{◌≡◌, ◌∙◌, ◌||◌, ◌++◌, Bool, true, false, not, refl, sym, ap, subst, true≢false, List, [], ◌∷◌, fold, Option, Some, None, IfSome, if◌then◌else◌, find, slice_get, bytes_eq, unwrap_or}
-use Rattle.std.specs.List.{list_all}
+use Rattle.std.specs.List.{AllByRecursion, list_all}
 use Rattle.std.proofs.lemmas.Slice.Eq.{bytes_eq-Decides}
 use Rattle.clap.specs.Facts.{explicit_source}
 use Rattle.clap.specs.Walk.{Row, Rule, Text, action_of, arg_by_id, at_row, default_rows, has_row, more_values, reading_by, stronger, takes_values, used, used_as, with_default, with_values, without}
@@ -25,22 +25,12 @@ parts (k ∷ ks) b e = absurd (no_kinds k ks e)
 
 -- ---- each row
 
--- P holds of each row
-abbrev pub Each : (Row → Type 0) → List Row → Type 0
-Each P [] = Unit {0}
-Each P (r ∷ rs) = P r × Each P rs
-
 -- a use of the argument that has no fault leaves rows of which P holds
 abbrev pub Keeps : (Row → Type 0) → Rule → Type 0
-Keeps P a = (again : Bool) (values : List Text) (rows : List Row) → use_fault again a values rows ≡ [] → Each P rows → Each P (used a values rows)
-
--- Q holds of each rule
-abbrev pub EachRule : (Rule → Type 0) → List Rule → Type 0
-EachRule Q [] = Unit {0}
-EachRule Q (a ∷ rest) = Q a × EachRule Q rest
+Keeps P a = (again : Bool) (values : List Text) (rows : List Row) → use_fault again a values rows ≡ [] → AllByRecursion P rows → AllByRecursion P (used a values rows)
 
 -- a rule that is found is one of them
-pub found_rule : (Q : Rule → Type 0) (c : List Rule) → EachRule Q c → (p : Rule → Bool) → IfSome (find p c) Q
+pub found_rule : (Q : Rule → Type 0) (c : List Rule) → AllByRecursion Q c → (p : Rule → Bool) → IfSome (find p c) Q
 found_rule Q [] h p = tt
 found_rule Q (a ∷ rest) h p = go (p a) (found_rule Q rest h.1 p)
   where
@@ -49,19 +39,19 @@ found_rule Q (a ∷ rest) h p = go (p a) (found_rule Q rest h.1 p)
     go false later = later
 
 module _ (P : Row → Type 0) where
-  joined : (xs ys : List Row) → Each P xs → Each P ys → Each P (xs ++ ys)
+  joined : (xs ys : List Row) → AllByRecursion P xs → AllByRecursion P ys → AllByRecursion P (xs ++ ys)
   joined [] ys v w = w
   joined (x ∷ xs) ys v w = (v.0, joined xs ys v.1 w)
 
-  changed : (id : Text) (change : Row → List Row) (missing rows : List Row) → ((r : Row) → P r → Each P (change r)) → Each P missing → Each P rows → Each P (at_row id change missing rows)
+  changed : (id : Text) (change : Row → List Row) (missing rows : List Row) → ((r : Row) → P r → AllByRecursion P (change r)) → AllByRecursion P missing → AllByRecursion P rows → AllByRecursion P (at_row id change missing rows)
   changed id change missing [] f m v = m
   changed id change missing (r ∷ rs) f m v = go (bytes_eq r.id id) (changed id change missing rs f m v.1)
     where
-      go : (b : Bool) → Each P (at_row id change missing rs) → Each P (if b then change r ++ rs else r ∷ at_row id change missing rs)
+      go : (b : Bool) → AllByRecursion P (at_row id change missing rs) → AllByRecursion P (if b then change r ++ rs else r ∷ at_row id change missing rs)
       go true later = joined (change r) rs (f r v.0) v.1
       go false later = (v.0, later)
 
-  pub found_row : (id : Text) (rows : List Row) → Each P rows → IfSome (find (λ r. bytes_eq r.id id) rows) (λ r. P r × (bytes_eq r.id id ≡ true))
+  pub found_row : (id : Text) (rows : List Row) → AllByRecursion P rows → IfSome (find (λ r. bytes_eq r.id id) rows) (λ r. P r × (bytes_eq r.id id ≡ true))
   found_row id [] v = tt
   found_row id (r ∷ rs) v = go (bytes_eq r.id id) refl (found_row id rs v.1)
     where
@@ -93,7 +83,7 @@ words_are_explicit None = refl
 words_are_explicit (Some CommandLine) = refl
 words_are_explicit (Some DefaultValue) = refl
 
-more_is_good : (c : List Rule) (values : List Text) (r : Row) → Good c r → Each (Good c) (more_values CommandLine values r)
+more_is_good : (c : List Rule) (values : List Text) (r : Row) → Good c r → AllByRecursion (Good c) (more_values CommandLine values r)
 more_is_good c values r h = (go (arg_by_id c r.id) h, tt)
   where
     go : (o : Option Rule) → IfSome o (λ a. IsGiven a r) → IfSome o (λ a. IsGiven a (record r { values = r.values ++ values; source = Some (stronger r.source CommandLine) }))
@@ -106,7 +96,7 @@ accepted false k e = absurd (no_kinds k [] e)
 
 -- values of which the first passes keep the rows good
 keeps_values : (c : List Rule) (a : Rule) → arg_by_id c a.id ≡ Some a → (x : Text) (xs : List Text) (rows : List Row) → value_passes a x ≡ true → (takes_values a ≡ false → a.missing ≡ x ∷ [])
-    → Each (Good c) rows → Each (Good c) (with_values a.id (reading_by a) CommandLine (x ∷ xs) (without a.id rows))
+    → AllByRecursion (Good c) rows → AllByRecursion (Good c) (with_values a.id (reading_by a) CommandLine (x ∷ xs) (without a.id rows))
 keeps_values c a one x xs rows passes flag v =
     let row : IsGiven a (record { id = a.id; values = x ∷ xs; count = None; source = Some CommandLine; reading = reading_by a }) = record { text = x; value = refl; passes = passes; flag = flag; explicit = refl } in
     let fresh : IfSome (arg_by_id c a.id) (λ b. IsGiven b (record { id = a.id; values = x ∷ xs; count = None; source = Some CommandLine; reading = reading_by a })) =
@@ -122,7 +112,7 @@ keeps_set c a one set takes wants again (x ∷ xs) rows e v =
     let as_set : action_fault Set again a (x ∷ xs) rows ≡ [] = subst (λ (act : ArgAction). action_fault act again a (x ∷ xs) rows ≡ []) set used_up in
     let passes = accepted _ _ (parts _ _ (parts _ _ as_set).1).0 in
     let all = keeps_values c a one x xs rows passes (λ none. absurd (true≢false (sym takes ∙ none))) v in
-    subst (λ (act : ArgAction). Each (Good c) (used_as act a.id (reading_by a) (x ∷ xs) rows)) (sym set) all
+    subst (λ (act : ArgAction). AllByRecursion (Good c) (used_as act a.id (reading_by a) (x ∷ xs) rows)) (sym set) all
 
 -- and so does a flag, which takes no value, by the one that stands for a use
 pub keeps_flag : (c : List Rule) (a : Rule) (x : Text) → arg_by_id c a.id ≡ Some a → action_of a ≡ SetTrue → a.missing ≡ x ∷ [] → value_passes a x ≡ true
@@ -130,9 +120,9 @@ pub keeps_flag : (c : List Rule) (a : Rule) (x : Text) → arg_by_id c a.id ≡ 
 keeps_flag c a x one set missing passes takes again (y ∷ ys) rows e v = absurd (takes again y ys rows e)
 keeps_flag c a x one set missing passes takes again [] rows e v =
     let all = keeps_values c a one x [] rows passes (λ none. missing) v in
-    let by_missing : Each (Good c) (with_values a.id (reading_by a) CommandLine a.missing (without a.id rows)) =
-    subst (λ (values : List Text). Each (Good c) (with_values a.id (reading_by a) CommandLine values (without a.id rows))) (sym missing) all in
-    subst (λ (act : ArgAction). Each (Good c) (used_as act a.id (reading_by a) a.missing rows)) (sym set) by_missing
+    let by_missing : AllByRecursion (Good c) (with_values a.id (reading_by a) CommandLine a.missing (without a.id rows)) =
+    subst (λ (values : List Text). AllByRecursion (Good c) (with_values a.id (reading_by a) CommandLine values (without a.id rows))) (sym missing) all in
+    subst (λ (act : ArgAction). AllByRecursion (Good c) (used_as act a.id (reading_by a) a.missing rows)) (sym set) by_missing
 
 -- ---- rows with their defaults
 

@@ -1,6 +1,6 @@
 -- Words in which clap finds no fault name a replay with its file, a server with its file and its numbers, a description, or an audit.
 use Rattle.std.proofs.Common.{◌≡◌, ◌==◌, ◌⊎◌, inl, inr, ◌∙◌, ◌||◌, ℕ, suc, length, Bool, codes, true, false, not, refl, sym, ap, subst, true≢false, List, [], ◌∷◌, ◌++◌, drop, fold, take, Option, Some, None, IfSome, is_some, if◌then◌else◌, option_and_then, option_map, find, slice_get, bytes_eq, unwrap_or}
-use Rattle.std.specs.List.{list_all}
+use Rattle.std.specs.List.{AllByRecursion, list_all}
 use Rattle.std.specs.Option.{option_map_or}
 use Rattle.std.proofs.Math.Dec.{eqb-zero-suc}
 use Rattle.std.proofs.lemmas.Slice.Eq.{bytes_eq-Decides}
@@ -15,8 +15,8 @@ use Rattle.clap.proofs.ValueTestLemmas.{accepts-Accepts}
 use Rattle.clap.specs.declared.builder.value_parser.ValueParser.TheVariants.{Unsigned}
 use Rattle.clap.specs.declared.error.kind.ErrorKind.TheVariants as kind
 use Rattle.xcp_program.specs.CommandLine.{HasNumber, HasNumberIn, Numeric, chapter, cycles, host_default, named_port, patience, period, port, program, tasks, tools}
-use Rattle.xcp_program.specs.private.CommandLine.{AsksAudit, AsksDescription, AsksReplay, AsksRun, AsksSomething, HasFlag, IsChosen}
-use Rattle.xcp_program.proofs.ClapRowLemmas.{Each, EachRule, Good, IsGiven, Keeps, default_row, defaults_leave, found_row, found_rule, keeps_flag, keeps_set, leaves_row, no_kinds, default_among, parts, row_for}
+use Rattle.xcp_program.specs.private.AppArguments.{AsksAudit, AsksDescription, AsksReplay, AsksRun, AsksSomething, HasFlag, IsChosen}
+use Rattle.xcp_program.proofs.ClapRowLemmas.{Good, IsGiven, Keeps, default_row, defaults_leave, found_row, found_rule, keeps_flag, keeps_set, leaves_row, no_kinds, default_among, parts, row_for}
 use Rattle.xcp_program.proofs.ClapWalkLemmas.{NoHelp, settles, walk_kept, walk_stops}
 
 -- ---- the program as clap builds it: `replay`, `serve`, `describe`, `audit` and `help`, and the arguments of each
@@ -57,7 +57,7 @@ no_values n e = go (0 == suc n) (eqb-zero-suc n) e
     go true f e = true≢false f
 
 -- a use of an option with no fault keeps the rows good, and so does `--help`, of which each use is a fault
-keeps_replay : EachRule (Keeps (Good replay_shape.rules)) replay_shape.rules
+keeps_replay : AllByRecursion (Keeps (Good replay_shape.rules)) replay_shape.rules
 keeps_replay = (
   keeps_set replay_shape.rules (nth 0 replay_shape) refl refl refl (λ again rows e. no_kinds _ _ e),
   (
@@ -66,7 +66,7 @@ keeps_replay = (
   ),
 )
 
-keeps_serve : EachRule (Keeps (Good serve_shape.rules)) serve_shape.rules
+keeps_serve : AllByRecursion (Keeps (Good serve_shape.rules)) serve_shape.rules
 keeps_serve = (
   keeps_set serve_shape.rules (nth 0 serve_shape) refl refl refl (λ again rows e. no_kinds _ _ e),
   (
@@ -108,7 +108,7 @@ keeps_serve = (
   ),
 )
 
-keeps_describe : EachRule (Keeps (Good describe_shape.rules)) describe_shape.rules
+keeps_describe : AllByRecursion (Keeps (Good describe_shape.rules)) describe_shape.rules
 keeps_describe = (
   keeps_set describe_shape.rules (nth 0 describe_shape) refl refl refl (λ again rows e. no_kinds _ _ e),
   (
@@ -123,7 +123,7 @@ keeps_describe = (
   ),
 )
 
-keeps_audit : EachRule (Keeps (Good audit_shape.rules)) audit_shape.rules
+keeps_audit : AllByRecursion (Keeps (Good audit_shape.rules)) audit_shape.rules
 keeps_audit = (
   keeps_set audit_shape.rules (nth 0 audit_shape) refl refl refl (λ again rows e. no_kinds _ _ e),
   (
@@ -147,7 +147,7 @@ given_rows s words = (settled s.rules (walk s.rules [] nothing_held words).held)
 abbrev all_rows : Shape → List Text → List Row
 all_rows s words = rows_after s.rules [] words
 
-module _ (s : Shape) (words : List Text) (kept : EachRule (Keeps (Good s.rules)) s.rules) (e : level_fault s [] nothing_held words false [] ≡ []) where
+module _ (s : Shape) (words : List Text) (kept : AllByRecursion (Keeps (Good s.rules)) s.rules) (e : level_fault s [] nothing_held words false [] ≡ []) where
   abbrev held : Held
   held = (walk s.rules [] nothing_held words).held
 
@@ -161,7 +161,7 @@ module _ (s : Shape) (words : List Text) (kept : EachRule (Keeps (Good s.rules))
   pub checked : check_fault s (all_rows s words) false ≡ []
   checked = steps.2
 
-  rows_are_good : Each (Good s.rules) (given_rows s words)
+  rows_are_good : AllByRecursion (Good s.rules) (given_rows s words)
   rows_are_good =
       let good : (p : Rule → Bool) → IfSome (find p s.rules) (Keeps (Good s.rules)) = found_rule (Keeps (Good s.rules)) s.rules kept in
       settles (Good s.rules) s.rules s.args_override_self good held steps.1 (walk_kept (Good s.rules) s [] good words (walk_from nothing_held) steps.0 tt)
@@ -234,7 +234,7 @@ choice_stands a rows all same good = go (row_for a.id rows) refl good
 
 -- ---- an option of a subcommand whose words have no fault
 
-module _ (s : Shape) (words : List Text) (kept : EachRule (Keeps (Good s.rules)) s.rules) (e : level_fault s [] nothing_held words false [] ≡ []) where
+module _ (s : Shape) (words : List Text) (kept : AllByRecursion (Keeps (Good s.rules)) s.rules) (e : level_fault s [] nothing_held words false [] ≡ []) where
   by_words : (a : Rule) → arg_by_id s.rules a.id ≡ Some a → list_all (leaves_row a.id) s.rules ≡ true → is_given a.id (all_rows s words) ≡ true → Stands a (all_rows s words) None
   by_words a one leaves given = wanted_stands a (given_rows s words) (all_rows s words) (defaults_leave a.id s.rules (given_rows s words) leaves) (row_is_good s words kept e a one) given
 

@@ -5,7 +5,7 @@ ghost use Rattle.clap.specs.Words.{app_of, kind_of, rule_of, subcommand_of, subc
 ghost use Rattle.clap.specs.Words.{fault_of as faults_in};
 ghost use Rattle.clap.specs.declared.builder.command.Command.TheViews.{out-Command as fields_of};
 ghost use Rattle.xcp_program.specs.CommandLine.{Asks, AsksTooMany, InRange, HasChoice, HasText, IsMistake, Spells, SpellsIn, gives};
-ghost use Rattle.xcp_program.specs.private.CommandLine.{AsksAudit, AsksDescription, AsksReplay, AsksServe, AsksSomething, HasFlag, IsChosen, IsRefusal, counted_app, front_app, placed_app};
+ghost use Rattle.xcp_program.specs.private.AppArguments.{AsksAudit, AsksDescription, AsksReplay, AsksServe, AsksSomething, HasFlag, IsChosen, IsRefusal, counted_app, front_app, placed_app};
 ghost use Rattle.xcp_program.specs.CommandLine.{audit_app, choice_rule, config_rule, describe_app, file_rule, flag_rule, host_rule, numeric_rule, program, replay_app, serve_app};
 
 use crate::purpose::{Options, OptionsFault};

@@ -32,10 +32,10 @@ pub fn replay<R: Read, W: Write>(
     ensures ends { Ends config.now (option_map (λ f. f.now) flash.entry) (R.remaining reader.old.inner) (W.contents writer.old.inner) (W.contents writer.new.inner) result }
     // A fault of a stream comes only where that stream failed, or the turns are spent.
     ensures read { result ≡ Err (Fault.Stream 1) → (reader.old.failures < reader.new.failures) ⊎ (reader.new.calls ≡ reader.old.calls + turns) }
-    ensures read_quiet { result ≢ Err (Fault.Stream 1) → reader.new.failures ≡ reader.old.failures }
+    ensures read_unfailed { result ≢ Err (Fault.Stream 1) → reader.new.failures ≡ reader.old.failures }
     ensures reads { reader.new.calls ≤ reader.old.calls + turns }
     ensures write { result ≡ Err (Fault.Stream 2) → writer.old.failures < writer.new.failures }
-    ensures write_quiet { result ≢ Err (Fault.Stream 2) → writer.new.failures ≡ writer.old.failures }
+    ensures write_unfailed { result ≢ Err (Fault.Stream 2) → writer.new.failures ≡ writer.old.failures }
     // Memory comes before anything is read or written, or at a request of the script.
     ensures memory { result ≡ Err Fault.Memory
         → ((reader.new ≡ reader.old) × (writer.new ≡ writer.old))
@@ -63,10 +63,10 @@ fn answer_script<R: Read, W: Write>(
 ) -> Result<u64, ReplayError>
     ensures answered { AnswersScript layout (R.remaining reader.old.inner) (W.contents writer.old.inner) (W.contents writer.new.inner) result }
     ensures read { result ≡ Err ReplayError.Read → (reader.old.failures < reader.new.failures) ⊎ (reader.new.calls ≡ reader.old.calls + turns) }
-    ensures read_quiet { result ≢ Err ReplayError.Read → reader.new.failures ≡ reader.old.failures }
+    ensures read_unfailed { result ≢ Err ReplayError.Read → reader.new.failures ≡ reader.old.failures }
     ensures reads { reader.new.calls ≤ reader.old.calls + turns }
     ensures write { result ≡ Err ReplayError.Write → writer.old.failures < writer.new.failures }
-    ensures write_quiet { result ≢ Err ReplayError.Write → writer.new.failures ≡ writer.old.failures }
+    ensures write_unfailed { result ≢ Err ReplayError.Write → writer.new.failures ≡ writer.old.failures }
     ensures memory { result ≡ Err ReplayError.Memory
         → ((reader.new ≡ reader.old) × (writer.new ≡ writer.old))
         ⊎ RunsShort layout (R.remaining reader.old.inner) (W.contents writer.old.inner) (W.contents writer.new.inner) }

@@ -16,7 +16,7 @@ use Rattle.xcp_slave.specs.Step.{Answers}
 use Rattle.xcp_trace.specs.declared.Entry.{Entry}
 use Rattle.xcp_trace.specs.EntrySpelling.{entry_in}
 use Rattle.xcp_trace.specs.Tape.{spelt}
-use Rattle.xcp_framing.specs.Prefix.{IsFront}
+use mathlib.Core.List.{IsPrefix}
 use Rattle.xcp_record.specs.declared.fault.AuditFault.{AuditFault}
 use Rattle.xcp_record.specs.declared.fault.AuditFault.TheVariants as faults
 use Rattle.xcp_record.specs.FileFormat.{chapter_bytes, chapter_head, chapter_in, head, size_in}
@@ -53,11 +53,11 @@ ends_not rest size is long (inl few) = absurd (omega (arith, long, few))
 ends_not rest size is long (inr few) = absurd (omega (arith, is, long, few))
 
 -- a head stands at the head of what was read
-head_front : (layout read left more : List ℕ) → length (head layout) ≡ 38 → read ++ left ≡ head layout ++ more → (left ≡ []) ⊎ (38 ≤ length read) → IsFront (head layout) read
-head_front layout read left more is h (inl none) = record { rest = more; joined = sym h ∙ ap (λ b. read ++ b) none ∙ append-nil read }
+head_front : (layout read left more : List ℕ) → length (head layout) ≡ 38 → read ++ left ≡ head layout ++ more → (left ≡ []) ⊎ (38 ≤ length read) → IsPrefix (head layout) read
+head_front layout read left more is h (inl none) = (more, sym h ∙ ap (λ b. read ++ b) none ∙ append-nil read)
 head_front layout read left more is h (inr long) =
     let front : take 38 read ≡ head layout = sym (take-append-le 38 read left long) ∙ ap (take 38) h ∙ ap (λ k. take k (head layout ++ more)) (sym is) ∙ take-append_seam (head layout) more in
-    record { rest = drop 38 read; joined = ap (λ b. b ++ drop 38 read) (sym front) ∙ take-append-drop 38 read }
+    (drop 38 read, ap (λ b. b ++ drop 38 read) (sym front) ∙ take-append-drop 38 read)
 
 -- nor is the file of a run cut
 not_cut : (before rest : List ℕ) (n : ℕ) (tail : List (List (List ℕ))) → AllByRecursion IsChapter tail → rest ≡ behind before n tail → 0 < length rest → EndsInside rest → ⊥
@@ -83,9 +83,9 @@ not_altered before rest left n [] each h none =
     let e = ap length h ∙ refl in
     let l = length-append rest left in
     let no : rest ≡ [] = nothing rest (omega (arith, e, l)) in
-    none [] (chapter_in before n []) (record { each = tt; few = omega arith }) (record { rest = []; joined = append-nil (chapter_in before n []) ∙ ap (λ b. b ++ chapter_in before n []) (sym no) })
+    none [] (chapter_in before n []) (record { each = tt; few = omega arith }) ([], append-nil (chapter_in before n []) ∙ ap (λ b. b ++ chapter_in before n []) (sym no))
 not_altered before rest left n (t ∷ tail) each h none =
-    none t left each.0 (record { rest = behind (before ++ chapter_in before n t) (suc n) tail; joined = sym h })
+    none t left each.0 (behind (before ++ chapter_in before n t) (suc n) tail, sym h)
 
 -- nor foreign
 not_foreign : (layout read left more : List ℕ) → length layout ≡ 32 → read ++ left ≡ head layout ++ more → IsForeign (left ≡ []) read → ⊥

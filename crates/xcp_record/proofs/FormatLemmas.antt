@@ -8,7 +8,7 @@ use Rattle.std.proofs.lemmas.Nat.{from_le_bytes-to_le_bytes_4}
 use Rattle.sha2.specs.Sha256.{digest_bytes, sha256}
 use Rattle.xcp_trace.specs.Tape.{framed, spelt}
 use Rattle.xcp_trace.specs.EntrySpelling.{IsEntryString}
-use Rattle.xcp_framing.specs.Prefix.{IsFront}
+use mathlib.Core.List.{IsPrefix}
 use Rattle.xcp_record.specs.FileFormat.{chapter_bytes, chapter_head, chapter_in, head, magic, most_call, most_calls, size_in}
 use Rattle.xcp_record.specs.JournalFile.{EndsInside, IsChapter, IsNoChapter}
 use Rattle.xcp_record.specs.private.Calls.{Spells}
@@ -63,17 +63,17 @@ chapter_short ss c = let h = spelt_short ss c.each in let few = c.few in omega (
 -- What stands where a chapter stands: its head, its calls' bytes and its digest are these.
 pub parts_are : (before : List ℕ) (number : ℕ) (strings : List (List ℕ)) (first calls digest more : List ℕ)
     → length first ≡ 16 → length calls ≡ size_in first → length digest ≡ 32 → IsChapter strings
-    → IsFront (chapter_in before number strings) ((first ++ calls ++ digest) ++ more)
+    → IsPrefix (chapter_in before number strings) ((first ++ calls ++ digest) ++ more)
     → (chapter_head number (length strings) (length (spelt strings)) ≡ first) × (spelt strings ≡ calls) × (sha256 (before ++ chapter_bytes number strings) ≡ digest)
 parts_are before number strings first calls digest more is_first is_size is_digest chapter front =
     let h = chapter_head number (length strings) (length (spelt strings)) in
     let sum = sha256 (before ++ chapter_bytes number strings) in
     let short = chapter_short strings chapter in
-    let left : chapter_in before number strings ++ front.rest ≡ h ++ (spelt strings ++ (sum ++ front.rest)) =
-    append_assoc (h ++ spelt strings) sum front.rest ∙ append_assoc h (spelt strings) (sum ++ front.rest) in
+    let left : chapter_in before number strings ++ front.0 ≡ h ++ (spelt strings ++ (sum ++ front.0)) =
+    append_assoc (h ++ spelt strings) sum front.0 ∙ append_assoc h (spelt strings) (sum ++ front.0) in
     let right : (first ++ calls ++ digest) ++ more ≡ first ++ (calls ++ (digest ++ more)) =
     append_assoc (first ++ calls) digest more ∙ append_assoc first calls (digest ++ more) in
-    let one = append_same h first _ _ (head_length _ _ _ ∙ sym is_first) (sym left ∙ front.joined ∙ right) in
+    let one = append_same h first _ _ (head_length _ _ _ ∙ sym is_first) (sym left ∙ front.1 ∙ right) in
     let size : length (spelt strings) ≡ length calls = sym (size_again number (length strings) (length (spelt strings)) (omega (arith, short))) ∙ ap size_in one.0 ∙ sym is_size in
     let two = append_same (spelt strings) calls _ _ size one.1 in
     let three = append_same sum digest _ _ (sha256_length _ ∙ sym is_digest) two.1 in
@@ -85,9 +85,9 @@ too_large before number rest is large strings more chapter front =
     let h = chapter_head number (length strings) (length (spelt strings)) in
     let sum = sha256 (before ++ chapter_bytes number strings) in
     let short = chapter_short strings chapter in
-    let left : chapter_in before number strings ++ front.rest ≡ h ++ (spelt strings ++ (sum ++ front.rest)) =
-    append_assoc (h ++ spelt strings) sum front.rest ∙ append_assoc h (spelt strings) (sum ++ front.rest) in
-    let one = append_same h rest _ _ (head_length _ _ _ ∙ sym is) (sym left ∙ front.joined) in
+    let left : chapter_in before number strings ++ front.0 ≡ h ++ (spelt strings ++ (sum ++ front.0)) =
+    append_assoc (h ++ spelt strings) sum front.0 ∙ append_assoc h (spelt strings) (sum ++ front.0) in
+    let one = append_same h rest _ _ (head_length _ _ _ ∙ sym is) (sym left ∙ front.1) in
     let size : length (spelt strings) ≡ size_in rest = sym (size_again number (length strings) (length (spelt strings)) (omega (arith, short))) ∙ ap size_in one.0 in
     absurd (omega (arith, short, size, large))
 
@@ -137,20 +137,20 @@ unfolding head
 head_ends layout = refl
 
 -- others are no head
-pub no_head : (bytes layout : List ℕ) → (take 6 bytes ≡ magic → ⊥) → IsFront (head layout) bytes → ⊥
-no_head bytes layout none front = none (ap (take 6) (sym front.joined) ∙ head_begins layout front.rest)
+pub no_head : (bytes layout : List ℕ) → (take 6 bytes ≡ magic → ⊥) → IsPrefix (head layout) bytes → ⊥
+no_head bytes layout none front = none (ap (take 6) (sym front.1) ∙ head_begins layout front.0)
 
 -- nor are fewer
-pub short_head : (bytes layout : List ℕ) → length bytes < 38 → length layout ≡ 32 → IsFront (head layout) bytes → ⊥
+pub short_head : (bytes layout : List ℕ) → length bytes < 38 → length layout ≡ 32 → IsPrefix (head layout) bytes → ⊥
 short_head bytes layout short is front =
-    let a = ap length front.joined in
-    let b = length-append (head layout) front.rest in
+    let a = ap length front.1 in
+    let b = length-append (head layout) front.0 in
     let c = file_head_length layout is in
     absurd (omega (arith, a, b, c, short))
 
 -- whether bytes begin with the magic tells whether they are a head
 pub is_head : (b : Bool) (bytes front : List ℕ) → length bytes ≡ 38 → front ≡ take 6 bytes → MatchBool b (front ≡ magic) (front ≡ magic → ⊥)
-    → MatchBool b ((layout : List ℕ) × (length layout ≡ 32) × (bytes ≡ head layout)) ((layout : List ℕ) → IsFront (head layout) bytes → ⊥)
+    → MatchBool b ((layout : List ℕ) × (length layout ≡ 32) × (bytes ≡ head layout)) ((layout : List ℕ) → IsPrefix (head layout) bytes → ⊥)
 is_head true bytes front size is said = head_of bytes size (sym is ∙ said)
 is_head false bytes front size is said = λ layout. no_head bytes layout (λ h. said (is ∙ h))
 

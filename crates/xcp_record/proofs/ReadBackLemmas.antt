@@ -6,7 +6,7 @@ use Rattle.sha2.specs.Sha256.{sha256}
 use Rattle.xcp_trace.specs.declared.Entry.{Entry}
 use Rattle.xcp_trace.specs.EntrySpelling.{entry_in}
 use Rattle.xcp_trace.specs.Tape.{spelt}
-use Rattle.xcp_framing.specs.Prefix.{IsFront}
+use mathlib.Core.List.{IsPrefix}
 use Rattle.xcp_record.specs.FileFormat.{chapter_bytes, chapter_head, chapter_in, head, with_chapters}
 use Rattle.xcp_record.specs.JournalFile.{IsChapter, IsFile}
 use Rattle.xcp_record.proofs.TapeLemmas.{append_same, spelt_same}
@@ -27,7 +27,7 @@ chapter_same before n s t x y is_s is_t h =
     let first = chapter_head n (length t) (length (spelt t)) in
     let sum = sha256 (before ++ chapter_bytes n t) in
     let short = chapter_short t is_t in
-    let front : IsFront (chapter_in before n s) ((first ++ spelt t ++ sum) ++ y) = record { rest = x; joined = h } in
+    let front : IsPrefix (chapter_in before n s) ((first ++ spelt t ++ sum) ++ y) = (x, h) in
     let parts = parts_are before n s first (spelt t) sum y (head_length _ _ _) (sym (size_again n (length t) (length (spelt t)) (omega (arith, short)))) (sha256_length _) is_s front in
     let same = spelt_same s t parts.1 in
     (same, (append_same (chapter_in before n t) (chapter_in before n t) x y refl (ap (λ c. chapter_in before n c ++ x) (sym same) ∙ h)).1)

@@ -25,7 +25,7 @@ stops_here layout start now hasher count calls chapters r = record {
   between = now;
   grown = r.grown;
   strings = [];
-  front = record { written = []; grown = Appends-nil now; front = record { rest = chapter_in r.bytes (length chapters) []; joined = refl } };
+  front = record { written = []; grown = Appends-nil now; front = (chapter_in r.bytes (length chapters) [], refl) };
 }
 
 -- there are as many strings as calls

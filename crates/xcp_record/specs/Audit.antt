@@ -1,6 +1,6 @@
 -- What an audit says of a file.
 use Rattle.std.specs.Prelude.{◌≡◌, ◌≢◌, ◌<◌, ◌≤◌, ◌⊎◌, ℕ, suc, List, [], ◌∷◌, ◌++◌, length, take, Result, Ok, Err}
-use Rattle.xcp_framing.specs.Prefix.{IsFront}
+use mathlib.Core.List.{IsPrefix}
 use Rattle.xcp_slave.specs.Run.{Run}
 use Rattle.xcp_slave.specs.SlaveValue.{SlaveValue}
 use Rattle.xcp_slave.specs.Step.{Answers}
@@ -45,7 +45,7 @@ pub record SettlesUpTo (layout : List ℕ) (v : SlaveValue) (read : List ℕ) (n
 
 -- It is no head of any layout's file.
 abbrev pub IsForeign : Type 0 → List ℕ → Type 0
-IsForeign End read = (End ⊎ (38 ≤ length read)) × ((layout : List ℕ) → length layout ≡ 32 → IsFront (head layout) read → ⊥)
+IsForeign End read = (End ⊎ (38 ≤ length read)) × ((layout : List ℕ) → length layout ≡ 32 → IsPrefix (head layout) read → ⊥)
 
 -- What an audit says of a file, of which it has read these bytes; End says that there are no more.
 abbrev pub Audits : List ℕ → SlaveValue → Type 0 → List ℕ → Result ℕ AuditFault → Type 0

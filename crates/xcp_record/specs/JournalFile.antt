@@ -4,7 +4,7 @@ use Rattle.std.specs.List.{AllByRecursion, flat_map}
 use Rattle.xcp_slave.specs.declared.Exchange.{Exchange}
 use Rattle.xcp_trace.specs.declared.Entry.{Entry}
 use Rattle.xcp_trace.specs.EntrySpelling.{IsEntryString, entry_in}
-use Rattle.xcp_framing.specs.Prefix.{IsFront}
+use mathlib.Core.List.{IsPrefix}
 use Rattle.xcp_record.specs.FileFormat.{chapter_in, file_of, most_calls, size_in}
 
 -- the strings of a chapter: each spells a call
@@ -33,4 +33,4 @@ EndsInside rest = (length rest < 16) ⊎ (length rest < 48 + size_in rest)
 
 -- No chapter of this number stands there behind the bytes before, however the file goes on.
 abbrev pub IsNoChapter : ℕ → List ℕ → List ℕ → Type 0
-IsNoChapter number before rest = (strings : List (List ℕ)) (more : List ℕ) → IsChapter strings → IsFront (chapter_in before number strings) (rest ++ more) → ⊥
+IsNoChapter number before rest = (strings : List (List ℕ)) (more : List ℕ) → IsChapter strings → IsPrefix (chapter_in before number strings) (rest ++ more) → ⊥

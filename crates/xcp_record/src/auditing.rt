@@ -9,7 +9,7 @@ ghost use Rattle.xcp_record.specs.Audit.{Audits, Differs, Hears, HoldsRun, SaysS
 ghost use Rattle.xcp_trace.specs.declared.journal.Entry.{Entry};
 ghost use Rattle.xcp_trace.specs.EntrySpelling.{entry_in};
 ghost use Rattle.xcp_record.specs.FileFormat.{head, most_calls};
-ghost use Rattle.xcp_framing.specs.Prefix.{IsFront};
+ghost use mathlib.Core.List.{IsPrefix};
 ghost use Rattle.xcp_record.specs.private.Calls.{Spells};
 ghost use Rattle.xcp_record.specs.private.ReadChapter.{ReadsNext, fault_after};
 ghost use Rattle.xcp_record.specs.private.ReadHead.{ReadsHead};
@@ -48,7 +48,7 @@ pub fn audit<R: Read, T: Witness>(
         × Audits layout.now slave (IsAtEnd (R.remaining reader.new.inner)) read result
         × (calls : List Entry)
         × T.hears witness.old calls witness.new × Hears layout.now read result calls }
-    ensures quiet { result ≢ Err AuditFault.Read → reader.new.failures ≡ reader.old.failures }
+    ensures unfailed { result ≢ Err AuditFault.Read → reader.new.failures ≡ reader.old.failures }
     ensures failed { result ≡ Err AuditFault.Read → reader.old.failures < reader.new.failures }
     // Of a file that holds a run of the slave it says nothing else.
     ensures settles { IfSome (R.remaining reader.old.inner) (λ all. (n : ℕ)
@@ -73,7 +73,7 @@ fn audit_chapters<R: Read, T: Witness>(
         × Audits layout.now slave.old (IsAtEnd (R.remaining reader.new.inner)) read result
         × (calls : List Entry)
         × T.hears witness.old calls witness.new × Hears layout.now read result calls }
-    ensures quiet { result ≢ Err AuditFault.Read → reader.new.failures ≡ reader.old.failures }
+    ensures unfailed { result ≢ Err AuditFault.Read → reader.new.failures ≡ reader.old.failures }
     ensures failed { result ≡ Err AuditFault.Read → reader.old.failures < reader.new.failures }
 {
     let mut hasher = Sha256::new();
@@ -117,7 +117,7 @@ fn read_head<R: Read>(
     ensures reads { Holds256 hasher.old [] → (read : List ℕ)
         × Consumes (R.remaining reader.old.inner) (R.remaining reader.new.inner) read
         × ReadsHead layout.now (IsAtEnd (R.remaining reader.new.inner)) read hasher.new result }
-    ensures quiet { result ≢ Err AuditFault.Read → reader.new.failures ≡ reader.old.failures }
+    ensures unfailed { result ≢ Err AuditFault.Read → reader.new.failures ≡ reader.old.failures }
     ensures failed { result ≡ Err AuditFault.Read → reader.old.failures < reader.new.failures }
 {
     let mut head = [0; HEAD_BYTES];
@@ -141,7 +141,7 @@ fn read_head<R: Read>(
 fn has_magic(bytes: &[u8; HEAD_BYTES]) -> bool
     ensures { MatchBool result
         ((layout : List ℕ) × (length layout ≡ 32) × (bytes.now ≡ head layout))
-        ((layout : List ℕ) → IsFront (head layout) bytes.now → ⊥) }
+        ((layout : List ℕ) → IsPrefix (head layout) bytes.now → ⊥) }
 {
     same(&bytes[..6], &MAGIC)
 }
@@ -164,7 +164,7 @@ fn next_chapter<R: Read>(
     ensures reads { (before : List ℕ) → Holds256 hasher.old before → (read : List ℕ)
         × Consumes (R.remaining reader.old.inner) (R.remaining reader.new.inner) read
         × ReadsNext number before (IsAtEnd (R.remaining reader.new.inner)) read parts.new.calls.items hasher.new result }
-    ensures quiet { result ≢ Err ChapterFault.Read → reader.new.failures ≡ reader.old.failures }
+    ensures unfailed { result ≢ Err ChapterFault.Read → reader.new.failures ≡ reader.old.failures }
     ensures failed { result ≡ Err ChapterFault.Read → reader.old.failures < reader.new.failures }
 {
     let there = match parts.read(reader) {

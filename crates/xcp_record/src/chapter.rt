@@ -62,7 +62,7 @@ impl Parts {
         ensures read { (read : List ℕ)
             × Consumes (R.remaining reader.old.inner) (R.remaining reader.new.inner) read
             × ReadsParts (IsAtEnd (R.remaining reader.new.inner)) self.new.head self.new.calls.items self.new.digest read result }
-        ensures quiet { result ≢ Err ChapterFault.Read → reader.new.failures ≡ reader.old.failures }
+        ensures unfailed { result ≢ Err ChapterFault.Read → reader.new.failures ≡ reader.old.failures }
         ensures failed { result ≡ Err ChapterFault.Read → reader.old.failures < reader.new.failures }
     {
         let Ok(got) = fill(reader, &mut self.head) else {
@@ -136,7 +136,7 @@ fn read_calls<R: Read>(
     ensures ended { IfOk result (λ n. n < size → IsAtEnd (R.remaining reader.new.inner)) }
     ensures lost { OnErr result ((read : List ℕ) × Consumes (R.remaining reader.old.inner) (R.remaining reader.new.inner) read) }
     ensures refused { IfErr result (λ e. (e ≡ ChapterFault.Read) ⊎ (e ≡ ChapterFault.Memory)) }
-    ensures quiet { result ≢ Err ChapterFault.Read → reader.new.failures ≡ reader.old.failures }
+    ensures unfailed { result ≢ Err ChapterFault.Read → reader.new.failures ≡ reader.old.failures }
     ensures failed { result ≡ Err ChapterFault.Read → reader.old.failures < reader.new.failures }
 {
     calls.clear();

@@ -102,7 +102,7 @@ impl<W: Write> Recorder<W> {
             → (result ≡ Err RecordFault.Stopped) × (self.new ≡ self.old) }
         ensures write { result ≡ Err RecordFault.Write
             → self.old.writer.failures < self.new.writer.failures }
-        ensures quiet { result ≢ Err RecordFault.Write
+        ensures unfailed { result ≢ Err RecordFault.Write
             → self.new.writer.failures ≡ self.old.writer.failures }
         ensures number { result ≡ Err RecordFault.Number
             → (number ≢ self.old.chapters) ⊎ (last_chapter < number) }

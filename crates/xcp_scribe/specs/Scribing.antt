@@ -1,7 +1,7 @@
 -- What stands in the file of a recording.
 use Rattle.std.specs.Prelude.{◌≡◌, ◌<◌, ◌⊎◌, ⊤, ℕ, List, [], Option, None, Some, MatchOption, true, false, length}
 use Rattle.xcp_trace.specs.declared.Entry.{Entry}
-use Rattle.xcp_framing.specs.Prefix.{IsFront}
+use mathlib.Core.List.{IsPrefix}
 use Rattle.xcp_record.specs.FileFormat.{last_chapter}
 use Rattle.xcp_record.specs.JournalFile.{calls_of}
 use Rattle.xcp_record.specs.Recording.{Records, StopsInside}
@@ -24,7 +24,7 @@ pub record StandsCut {W : Type 0} (contents : W → Option (List ℕ)) (r : Reco
   pub faulty : IsFaulty r
   pub stopped : r.recorder.stopped ≡ true
   pub whole : List (List Entry)
-  pub first : IsFront whole chapters
+  pub first : IsPrefix whole chapters
   pub calls : r.recorder.calls ≡ length (calls_of whole)
   pub stops : StopsInside r.layout (contents r.start.value) (contents r.recorder.writer.inner) whole
 

@@ -1,5 +1,6 @@
 -- Where memory is short, told of a part of a script and of all of it.
-use Rattle.std.proofs.Common.{◌≡◌, ℕ, List, [], ◌∷◌, ◌++◌, inl, inr, Option, Some, None, Result, Err, refl, sym, ap, subst, ◌∙◌, append_assoc}
+use Rattle.std.proofs.Common.{◌≡◌, ℕ, false, List, [], ◌∷◌, ◌++◌, inl, inr, Option, Some, None, Result, Err, refl, sym, ap, subst, ◌∙◌, append_assoc}
+use Rattle.std.proofs.lemmas.Grind.{flat_map-append}
 use Rattle.std.proofs.lemmas.List.{map-append}
 use Rattle.std.specs.Io.KnownBytes.{Consumes, IsAtEnd}
 use Rattle.xcp_slave.specs.declared.Exchange.{Exchange}
@@ -7,28 +8,41 @@ use Rattle.xcp_slave.specs.declared.Request.{Request}
 use Rattle.xcp_slave.specs.Run.{requests_of}
 use Rattle.xcp_script.specs.declared.fault.ReplayError.{ReplayError}
 use Rattle.xcp_script.specs.declared.fault.ReplayError.TheVariants as errors
-use Rattle.xcp_framing.specs.Prefix.{IsFront, AppendsFront}
+use mathlib.Core.List.{IsPrefix}
+use Rattle.xcp_framing.specs.Prefix.{AppendsFront}
 use Rattle.xcp_script.specs.Lines.{unless_empty}
 use Rattle.xcp_script.specs.private.LineReading.{asked_before, lines_from, OfRead, ShortOf}
-use Rattle.xcp_script.specs.Replay.{asked, EndsShort, Tells}
-use Rattle.xcp_script.specs.AnswerText.{answers_text}
+use Rattle.xcp_script.specs.Replay.{asked, asked_by, is_faulty, EndsShort, Tells}
+use Rattle.xcp_script.specs.ScriptLine.{meaning}
+use Rattle.xcp_script.specs.AnswerText.{answers_text, text_of}
 use Rattle.xcp_script.proofs.FrontLemmas.{front_all}
 use Rattle.xcp_script.proofs.ScriptProgressLemmas.{Midway}
 
 -- one more request was taken, of those that are asked
-pub front_taken : (old new : List Exchange) (x : Exchange) (later : List Request) → new ≡ old ++ x ∷ [] → IsFront (requests_of new) (requests_of old ++ x.request ∷ later)
+pub front_taken : (old new : List Exchange) (x : Exchange) (later : List Request) → new ≡ old ++ x ∷ [] → IsPrefix (requests_of new) (requests_of old ++ x.request ∷ later)
 front_taken old new x later e =
     let more : requests_of new ≡ requests_of old ++ x.request ∷ [] = ap requests_of e ∙ map-append (λ (y : Exchange). y.request) old (x ∷ []) in
-    record { rest = later; joined = ap (λ (qs : List Request). qs ++ later) more ∙ append_assoc (requests_of old) (x.request ∷ []) later }
+    (later, ap (λ (qs : List Request). qs ++ later) more ∙ append_assoc (requests_of old) (x.request ∷ []) later)
+
+-- one more answer stands behind the texts of the others
+pub kept_more : (old new : List Exchange) (x : Exchange) (text : List ℕ) → new ≡ old ++ x ∷ [] → IsPrefix text (answers_text old) → IsPrefix text (answers_text new)
+kept_more old new x text is front = (
+  front.0 ++ answers_text (x ∷ []),
+  sym (append_assoc text front.0 (answers_text (x ∷ []))) ∙ (ap (λ (t : List ℕ). t ++ answers_text (x ∷ [])) front.1 ∙ sym (ap answers_text is ∙ flat_map-append (λ (y : Exchange). text_of y.answer) old (x ∷ []))),
+)
+
+-- a line that isn't faulty asks one request, before those of the lines behind it
+pub front_of_line : (new old : List Request) (q : Request) (m : ℕ) (line : List ℕ) (later : List (List ℕ)) → ((more : List Request) → IsPrefix new (old ++ q ∷ more)) → is_faulty (meaning m line) ≡ false → asked_by (meaning m line) ≡ q ∷ [] → IsPrefix new (old ++ asked_before m (line ∷ later))
+front_of_line new old q m line later front fine by = rw (fine, by) (front (asked_before m later))
 
 -- the same, told from an earlier place on
-pub short_since : (asks asks' : List Request) (old now new : List Exchange) → asks ≡ asks' → ((text : List ℕ) → IsFront text (answers_text old) → IsFront text (answers_text now)) → ShortOf asks now new → ShortOf asks' old new
+pub short_since : (asks asks' : List Request) (old now new : List Exchange) → asks ≡ asks' → ((text : List ℕ) → IsPrefix text (answers_text old) → IsPrefix text (answers_text now)) → ShortOf asks now new → ShortOf asks' old new
 short_since asks asks' old now new e k (inl h) = inl (record { next = h.next; more = h.more; joined = sym e ∙ h.joined })
 short_since asks asks' old now new e k (inr h) = inr (record { earlier = h.earlier; last = h.last; joined = h.joined; kept = λ text f. h.kept text (k text f) })
 
 -- what was written then
 abbrev pub Written : List Exchange → Option (List ℕ) → Option (List ℕ) → Type 0
-Written old a b = (text : List ℕ) → IsFront (answers_text old) text → AppendsFront a b text
+Written old a b = (text : List ℕ) → IsPrefix (answers_text old) text → AppendsFront a b text
 
 short_ends : (asks asks' : List Request) (old new : List Exchange) (a b : Option (List ℕ)) → asks ≡ asks' → Written old a b → ShortOf asks old new → EndsShort asks' new a b
 short_ends asks asks' old new a b e f (inl h) = inl (record { next = h.next; more = h.more; joined = sym e ∙ h.joined })

@@ -7,7 +7,7 @@ use Rattle.xcp_script.specs.declared.script.LineError.{LineError}
 use Rattle.xcp_script.specs.declared.script.LineError.TheVariants as ends
 use Rattle.xcp_script.specs.declared.fault.ReplayError.{ReplayError}
 use Rattle.xcp_script.specs.declared.fault.ReplayError.TheVariants as errors
-use Rattle.xcp_framing.specs.Prefix.{IsFront}
+use mathlib.Core.List.{IsPrefix}
 use Rattle.xcp_script.specs.Lines.{unless_empty}
 use Rattle.xcp_script.specs.private.LineReading.{asked_before, faulty_from, lines_from, OfRead}
 use Rattle.xcp_script.specs.Replay.{asked, first_faulty, Replayed}
@@ -40,22 +40,22 @@ midway_step m (Some input) (Some xs) (Some ys) chunk line line' count count' req
 
 -- a replay that ends between two pieces
 pub midway_front : (m : ℕ) (i o : Option (List ℕ)) (line : List ℕ) (count : ℕ) (requests : List Request)
-    → Midway m i o line count requests → OfRead i (λ lines. IsFront requests (asked m lines))
+    → Midway m i o line count requests → OfRead i (λ lines. IsPrefix requests (asked m lines))
 midway_front m None o line count requests h = tt
 midway_front m (Some input) None line count requests h = absurd h
-midway_front m (Some input) (Some rest) line count requests h = record { rest = asked_before m (lines_from line rest); joined = h.0 }
+midway_front m (Some input) (Some rest) line count requests h = (asked_before m (lines_from line rest), h.0)
 
 -- What was asked by some lines, by what became of them: all stands for what all lines ask, fault
 -- for the first faulty one, and count is how many lines came before the faulty one of these.
 record Outcome (outcome : Result (Unit {0}) LineError) (requests all : List Request) (fault : Option ℕ) (count : ℕ) : Type 0 where
-  ok : OnOk outcome (IsFront requests all)
+  ok : OnOk outcome (IsPrefix requests all)
   faulty : outcome ≡ Err ends.Faulty → (requests ≡ all) × (fault ≡ Some (count + 1))
-  memory : outcome ≡ Err ends.Memory → IsFront requests all
+  memory : outcome ≡ Err ends.Memory → IsPrefix requests all
 
 outcome_front : (outcome : Result (Unit {0}) LineError) (requests all : List Request) (fault : Option ℕ) (count : ℕ)
-    → Outcome outcome requests all fault count → IsFront requests all
+    → Outcome outcome requests all fault count → IsPrefix requests all
 outcome_front (Ok u) requests all fault count h = h.ok
-outcome_front (Err ends.Faulty) requests all fault count h = record { rest = []; joined = append-nil requests ∙ (h.faulty refl).0 }
+outcome_front (Err ends.Faulty) requests all fault count h = ([], append-nil requests ∙ (h.faulty refl).0)
 outcome_front (Err ends.Memory) requests all fault count h = h.memory refl
 
 -- which error it is that a faulty line makes
@@ -81,7 +81,7 @@ pub fed_error : (m : ℕ) (i o n : Option (List ℕ)) (chunk line line' : List �
     → Midway m i o line count requests → Consumes o n chunk
     → OnOk outcome ((rest : List ℕ) → requests' ++ asked_before m (lines_from line' rest) ≡ requests ++ asked_before m (lines_from line (chunk ++ rest)))
     → (outcome ≡ Err ends.Faulty → (rest : List ℕ) → (requests' ≡ requests ++ asked_before m (lines_from line (chunk ++ rest))) × (faulty_from m count (lines_from line (chunk ++ rest)) ≡ Some (count' + 1)))
-    → (outcome ≡ Err ends.Memory → (rest : List ℕ) → IsFront requests' (requests ++ asked_before m (lines_from line (chunk ++ rest))))
+    → (outcome ≡ Err ends.Memory → (rest : List ℕ) → IsPrefix requests' (requests ++ asked_before m (lines_from line (chunk ++ rest))))
     → LineIs outcome e count'
     → OfRead i (λ lines. Replayed m lines (Err e) requests')
 fed_error m None o n chunk line line' count count' requests requests' outcome e h k a f g l = tt
@@ -91,9 +91,9 @@ fed_error m (Some input) (Some xs) (Some ys) chunk line line' count count' reque
     let all = rw k at h.0 in
     let fault = rw k at h.1 in
     outcome_error m (lines_from [] input) outcome requests' count' e (record {
-      ok = on_ok outcome _ _ a (λ b. record { rest = asked_before m (lines_from line' ys); joined = b ys ∙ all });
+      ok = on_ok outcome _ _ a (λ b. (asked_before m (lines_from line' ys), b ys ∙ all));
       faulty = λ q. ((f q ys).0 ∙ all, sym fault ∙ (f q ys).1);
-      memory = λ q. subst (λ (qs : List Request). IsFront requests' qs) all (g q ys);
+      memory = λ q. subst (λ (qs : List Request). IsPrefix requests' qs) all (g q ys);
     }) l
 
 -- a read of nothing at the end of the input
@@ -107,7 +107,7 @@ pub last_error : (m : ℕ) (i o : Option (List ℕ)) (line : List ℕ) (count : 
     → Midway m i o line count requests → IsAtEnd o
     → OnOk outcome (requests' ≡ requests ++ asked_before m (unless_empty line))
     → (outcome ≡ Err ends.Faulty → (requests' ≡ requests ++ asked_before m (unless_empty line)) × ((count : ℕ) → faulty_from m count (unless_empty line) ≡ Some (count + 1)))
-    → (outcome ≡ Err ends.Memory → IsFront requests' (requests ++ asked_before m (unless_empty line)))
+    → (outcome ≡ Err ends.Memory → IsPrefix requests' (requests ++ asked_before m (unless_empty line)))
     → LineIs outcome e count
     → OfRead i (λ lines. Replayed m lines (Err e) requests')
 last_error m None o line count requests requests' outcome e h k a f g l = tt
@@ -116,9 +116,9 @@ last_error m (Some input) (Some xs) line count requests requests' outcome e h k 
     let all = rw k at h.0 in
     let fault = rw k at h.1 in
     outcome_error m (lines_from [] input) outcome requests' count e (record {
-      ok = on_ok outcome _ _ a (λ b. record { rest = []; joined = append-nil requests' ∙ b ∙ all });
+      ok = on_ok outcome _ _ a (λ b. ([], append-nil requests' ∙ b ∙ all));
       faulty = λ q. ((f q).0 ∙ all, sym fault ∙ (f q).1 count);
-      memory = λ q. subst (λ (qs : List Request). IsFront requests' qs) all (g q);
+      memory = λ q. subst (λ (qs : List Request). IsPrefix requests' qs) all (g q);
     }) l
 
 -- the same at an equal limit

@@ -10,7 +10,8 @@ use Rattle.xcp_script.specs.declared.line.Line.TheVariants.{Ask, Faulty}
 use Rattle.xcp_script.specs.declared.fault.ReplayError.{ReplayError}
 use Rattle.xcp_script.specs.declared.fault.ReplayError.TheVariants as errors
 use Rattle.xcp_framing.specs.CountedCalls.{Watched}
-use Rattle.xcp_framing.specs.Prefix.{IsFront, AppendsFront}
+use mathlib.Core.List.{IsPrefix}
+use Rattle.xcp_framing.specs.Prefix.{AppendsFront}
 use Rattle.xcp_script.specs.Lines.{Lines}
 use Rattle.xcp_script.specs.ScriptLine.{meaning}
 use Rattle.xcp_script.specs.AnswerText.{answers_text}
@@ -43,7 +44,7 @@ Replayed max_cto lines (Ok n) requests =
     (first_faulty max_cto lines ≡ None) × (requests ≡ asked max_cto lines) × (n ≡ length requests)
 Replayed max_cto lines (Err (errors.Line k)) requests =
     (first_faulty max_cto lines ≡ Some k) × (requests ≡ asked max_cto lines)
-Replayed max_cto lines (Err e) requests = IsFront requests (asked max_cto lines)
+Replayed max_cto lines (Err e) requests = IsPrefix requests (asked max_cto lines)
 
 -- a fact about the lines of an input whose bytes are known
 abbrev pub OfLines : Option (List ℕ) → (List (List ℕ) → Type 0) → Type 0
@@ -82,8 +83,8 @@ pub record UsesStreams {A R W : Type 0} (turns : ℕ) (result : Result A ReplayE
   -- there was at most one read in each turn
   pub reads : reader'.calls ≤ reader.calls + turns
   -- at any other end than `Read` no read failed
-  pub read_quiet : result ≢ Err errors.Read → reader'.failures ≡ reader.failures
+  pub read_unfailed : result ≢ Err errors.Read → reader'.failures ≡ reader.failures
   -- at `Write` a write failed
   pub write : result ≡ Err errors.Write → writer.failures < writer'.failures
   -- at any other end than `Write` no write failed
-  pub write_quiet : result ≢ Err errors.Write → writer'.failures ≡ writer.failures
+  pub write_unfailed : result ≢ Err errors.Write → writer'.failures ≡ writer.failures

@@ -3,7 +3,7 @@ ghost use Rattle.std.specs.Prelude.{◌≡◌, ◌≢◌, ◌<◌, ◌≤◌, �
 ghost use Rattle.std.specs.Io.KnownBytes.{Appends, IsAtEnd};
 ghost use Rattle.xcp_slave.specs.Run.{Run, requests_of};
 ghost use Rattle.xcp_slave.specs.SlaveValue.{layout_of, opening};
-ghost use Rattle.xcp_framing.specs.Prefix.{IsFront};
+ghost use mathlib.Core.List.{IsPrefix};
 ghost use Rattle.xcp_script.specs.private.LineReading.{OfRead};
 ghost use Rattle.xcp_script.specs.Replay.{EndsShort, OfLines, Replayed, Tells, UsesStreams, asked};
 ghost use Rattle.xcp_script.specs.AnswerText.{answers_text};
@@ -22,7 +22,7 @@ fn write_texts<W: Write>(writer: &mut Watched<W>, texts: &mut Vec<u8>) -> Result
     ensures told { (start : Option (List ℕ)) (before whole : List ℕ)
         → Appends start (W.contents writer.old.inner) before → before ++ texts.old.items ≡ whole
         → Tells result start (W.contents writer.new.inner) whole }
-    ensures quiet { OnOk result (writer.new.failures ≡ writer.old.failures) }
+    ensures unfailed { OnOk result (writer.new.failures ≡ writer.old.failures) }
     ensures write { OnErr result (writer.old.failures < writer.new.failures) }
     ensures only { IfErr result (λ e. e ≡ ReplayError.Write) }
     ensures empty { OnOk result (texts.new.items ≡ []) }
@@ -50,9 +50,9 @@ fn write_out<W: Write>(
     ensures told { (start : Option (List ℕ)) (before whole : List ℕ)
         → Appends start (W.contents writer.old.inner) before
         → (outcome ≢ Err LineError.Memory → before ++ texts.old.items ≡ whole)
-        → IsFront before whole
+        → IsPrefix before whole
         → Tells result start (W.contents writer.new.inner) whole }
-    ensures quiet { result ≢ Err ReplayError.Write → writer.new.failures ≡ writer.old.failures }
+    ensures unfailed { result ≢ Err ReplayError.Write → writer.new.failures ≡ writer.old.failures }
     ensures write { result ≡ Err ReplayError.Write → writer.old.failures < writer.new.failures }
     ensures no_read { result ≢ Err ReplayError.Read }
     ensures empty { OnOk result (texts.new.items ≡ []) }

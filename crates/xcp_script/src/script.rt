@@ -4,7 +4,7 @@ ghost use Rattle.xcp_slave.specs.AskedRequest.{IsShort, request_asked};
 ghost use Rattle.xcp_slave.specs.declared.Request.{Request};
 ghost use Rattle.xcp_slave.specs.Run.{requests_of};
 ghost use Rattle.xcp_slave.specs.SlaveValue.{layout_of};
-ghost use Rattle.xcp_framing.specs.Prefix.{IsFront};
+ghost use mathlib.Core.List.{IsPrefix};
 ghost use Rattle.xcp_script.specs.Lines.{unless_empty};
 ghost use Rattle.xcp_script.specs.ScriptLine.{meaning};
 ghost use Rattle.xcp_script.specs.private.LineReading.{asked_before, faulty_from, lines_from, ShortOf};
@@ -71,7 +71,7 @@ impl Pending {
             × (faulty_from max_cto self.old.count
             (lines_from self.old.liner.held.items (piece.now ++ rest)) ≡ Some (self.new.count + 1)) }
         ensures memory { result ≡ Err LineError.Memory → (rest : List ℕ) →
-            IsFront (requests_of desk.new.exchanges) (requests_of desk.old.exchanges
+            IsPrefix (requests_of desk.new.exchanges) (requests_of desk.old.exchanges
             ++ asked_before max_cto (lines_from self.old.liner.held.items (piece.now ++ rest))) }
         ensures short { result ≡ Err LineError.Memory → (rest : List ℕ) →
             ShortOf (requests_of desk.old.exchanges
@@ -82,7 +82,7 @@ impl Pending {
             → before ++ texts.old.items ≡ answers_text desk.old.exchanges
             → before ++ texts.new.items ≡ answers_text desk.new.exchanges }
         ensures kept { (text : List ℕ)
-            → IsFront text (answers_text desk.old.exchanges) → IsFront text (answers_text desk.new.exchanges) }
+            → IsPrefix text (answers_text desk.old.exchanges) → IsPrefix text (answers_text desk.new.exchanges) }
         ensures layout { layout_of desk.new.slave ≡ layout_of desk.old.slave }
         ensures counted { self.new.count ≤ self.old.count + length piece.now }
     {
@@ -118,7 +118,7 @@ impl Pending {
             ++ asked_before max_cto (unless_empty self.now.liner.held.items))
             × ((count : ℕ)
             → faulty_from max_cto count (unless_empty self.now.liner.held.items) ≡ Some (count + 1)) }
-        ensures memory { result ≡ Err LineError.Memory → IsFront (requests_of desk.new.exchanges)
+        ensures memory { result ≡ Err LineError.Memory → IsPrefix (requests_of desk.new.exchanges)
             (requests_of desk.old.exchanges ++ asked_before max_cto (unless_empty self.now.liner.held.items)) }
         ensures short { result ≡ Err LineError.Memory → ShortOf (requests_of desk.old.exchanges
             ++ asked_before max_cto (unless_empty self.now.liner.held.items))
@@ -127,7 +127,7 @@ impl Pending {
             → before ++ texts.old.items ≡ answers_text desk.old.exchanges
             → before ++ texts.new.items ≡ answers_text desk.new.exchanges }
         ensures kept { (text : List ℕ)
-            → IsFront text (answers_text desk.old.exchanges) → IsFront text (answers_text desk.new.exchanges) }
+            → IsPrefix text (answers_text desk.old.exchanges) → IsPrefix text (answers_text desk.new.exchanges) }
         ensures layout { layout_of desk.new.slave ≡ layout_of desk.old.slave }
     {
         if self.liner.held.is_empty() {
@@ -152,7 +152,7 @@ fn answer_line(
     ensures faulty { result ≡ Err LineError.Faulty
         → (is_faulty (meaning max_cto line.now) ≡ true) × (desk.new.exchanges ≡ desk.old.exchanges) }
     ensures memory { result ≡ Err LineError.Memory → (later : List (List ℕ))
-        → IsFront (requests_of desk.new.exchanges)
+        → IsPrefix (requests_of desk.new.exchanges)
         (requests_of desk.old.exchanges ++ asked_before max_cto (line.now ∷ later)) }
     ensures short { result ≡ Err LineError.Memory → (later : List (List ℕ))
         → ShortOf (requests_of desk.old.exchanges ++ asked_before max_cto (line.now ∷ later))
@@ -161,7 +161,7 @@ fn answer_line(
         → before ++ texts.old.items ≡ answers_text desk.old.exchanges
         → before ++ texts.new.items ≡ answers_text desk.new.exchanges }
     ensures kept { (text : List ℕ)
-        → IsFront text (answers_text desk.old.exchanges) → IsFront text (answers_text desk.new.exchanges) }
+        → IsPrefix text (answers_text desk.old.exchanges) → IsPrefix text (answers_text desk.new.exchanges) }
     ensures layout { layout_of desk.new.slave ≡ layout_of desk.old.slave }
 {
     let parsed = parse_into(max_cto, line, slot);
@@ -196,7 +196,7 @@ fn answer_request(
         ≡ requests_of desk.old.exchanges ++ request_asked request.entry ∷ []) }
     ensures error { IfErr result (λ e. e ≡ LineError.Memory) }
     ensures memory { OnErr result ((later : List Request)
-        → IsFront (requests_of desk.new.exchanges)
+        → IsPrefix (requests_of desk.new.exchanges)
         (requests_of desk.old.exchanges ++ request_asked request.entry ∷ later)) }
     ensures short { OnErr result ((later : List Request)
         → ShortOf (requests_of desk.old.exchanges ++ request_asked request.entry ∷ later)
@@ -205,7 +205,7 @@ fn answer_request(
         → before ++ texts.old.items ≡ answers_text desk.old.exchanges
         → before ++ texts.new.items ≡ answers_text desk.new.exchanges) }
     ensures kept { (text : List ℕ)
-        → IsFront text (answers_text desk.old.exchanges) → IsFront text (answers_text desk.new.exchanges) }
+        → IsPrefix text (answers_text desk.old.exchanges) → IsPrefix text (answers_text desk.new.exchanges) }
     ensures layout { layout_of desk.new.slave ≡ layout_of desk.old.slave }
 {
     let Ok(told) = desk.submit_into(request, packet) else {

@@ -164,7 +164,7 @@ impl<'a, N: Name, M: Route, W> Seat<'a, N, M, W> {
         let sent = self.sent.recv(rt).ok();
         match (pumped, sent) {
             (Some(pumped), Some(sent)) => {
-                pumped.end?;
+                pumped.outcome?;
                 sent.count.map_err(|_| ServeError::Write)?;
                 Ok(())
             }

@@ -17,7 +17,7 @@ const TURNS: u32 = 1_000_000_000;
 /// What came of a connection's pump, and what it has put.
 #[derive(Drop)]
 pub struct Pumped {
-    pub end: Result<u64, ServeError>,
+    pub outcome: Result<u64, ServeError>,
     pub put: Put,
 }
 
@@ -75,10 +75,10 @@ fn pump_connection<N: Name, M: Route, R: Wait>(
 {
     let mut samples = WaitingEnd::new(rt, samples);
     let mut count: u64 = 0;
-    let mut end = Ok(0);
+    let mut outcome = Ok(0);
     for _turns in rt.forever() {
-        end = pump(station, &mut samples, stop, TURNS);
-        match end {
+        outcome = pump(station, &mut samples, stop, TURNS);
+        match outcome {
             Ok(more) => count = count.wrapping_add(more),
             Err(_) => break,
         }
@@ -88,7 +88,7 @@ fn pump_connection<N: Name, M: Route, R: Wait>(
     }
     let put = samples.into_end().finish(rt);
     Pumped {
-        end: end.map(|_| count),
+        outcome: outcome.map(|_| count),
         put,
     }
 }

@@ -19,13 +19,13 @@ use Rattle.xcp_server.specs.declared.connection.Closed.{Closed}
 use Rattle.xcp_locked.specs.declared.errors.LockedError.{LockedError}
 use Rattle.xcp_locked.specs.declared.receipt.Receipt.{Receipt}
 use Rattle.xcp_locked.specs.declared.tasks.TaskError.{TaskError}
-use Rattle.xcp_server.specs.ConnectionOutcome.{end_of}
+use Rattle.xcp_server.specs.ConnectionOutcome.{outcome_of}
 use Rattle.xcp_locked.specs.Caller.{CallerValue, accepting, callers_of, fresh_caller}
 use Rattle.xcp_locked.specs.Journal.{entry}
 use Rattle.xcp_server.specs.LastHangup.{EndsSession, HungUp}
 use Rattle.xcp_locked.specs.PairedLists.{EachFrom}
 use Rattle.xcp_locked.specs.Receipts.{exchanges_of, receipt}
-use Rattle.xcp_locked.specs.TaskOutcome.{or_else}
+use Rattle.std.specs.Option.{option_or}
 use Rattle.xcp_server.specs.ServerOutcome.{CountTheirCommands, ServedAt, commands, is_command}
 use Rattle.xcp_locked.specs.Tasks.{refused_with}
 use Rattle.xcp_locked.proofs.TallyLemmas.{none≢some, some_same}
@@ -91,7 +91,7 @@ stream_counts m end served input left old new before after h is none =
     omega (arith, all, grown, same, counted)
 
 -- a connection that ended well was heard well
-heard_well : (heard : Result Served ServeError) (pumped : Result ℕ ServeError) (sent : Result ℕ SendError) (told : Served) → end_of heard pumped sent ≡ Ok told → heard ≡ Ok told
+heard_well : (heard : Result Served ServeError) (pumped : Result ℕ ServeError) (sent : Result ℕ SendError) (told : Served) → outcome_of heard pumped sent ≡ Ok told → heard ≡ Ok told
 heard_well (Ok served) (Ok n) (Ok k) told is = is
 heard_well (Ok served) (Ok n) (Err e) told is = absurd (no_ok is)
 heard_well (Ok served) (Err e) sent told is = absurd (no_ok is)
@@ -154,19 +154,19 @@ hangup_counts_none before after old new ch journal i o c h was is = ⊎_elim acc
         (λ other. ap (λ (x : CallerValue). commands x.receipts) (sym other))
         (get_set old (accepting h.caller (receipt ch (length a.0) requests.Hangup a.1)) o c h.caller i h.first was (ap (λ cs. slice_get cs i) (sym a.3) ∙ is))
 
-    refused : (e : LockedError) × (new ≡ old) × (after ≡ or_else before (Some (refused_with e))) → commands c.receipts ≡ commands o.receipts
+    refused : (e : LockedError) × (new ≡ old) × (after ≡ option_or before (Some (refused_with e))) → commands c.receipts ≡ commands o.receipts
     refused r = ap (λ (x : CallerValue). commands x.receipts) (some_same c o (sym is ∙ (ap (λ cs. slice_get cs i) r.1 ∙ was)))
 
 -- each connection that ended well counted the commands of its tool's caller
-pub all_count : {N I O : Type 0} (remaining : I → Option (List ℕ)) (contents : O → Option (List ℕ)) (m turns : ℕ) (l : LayoutValue) (n : ℕ) (given : List (Watched I × Watched O)) (closed : List (Closed N I O)) (ends : List (Result Served ServeError)) (tools pumps hired spare others last new : List CallerValue) (ch : ℕ) (journal : List Entry) (before after : Option TaskError)
-    → callers_of l n ≡ tools ++ hired ++ pumps ++ spare → EachFrom (ServedAt remaining contents m turns tools pumps) 0 given closed → ends ≡ map (λ d. d.end) closed → HungUp before after (map (λ d. d.tool) closed ++ others ++ last ++ spare) new ch journal → CountTheirCommands ends new
-all_count remaining contents m turns l n given closed ends tools pumps hired spare others last new ch journal before after dealt served ends_are h i told c ended there =
-    let one = each_at (ServedAt remaining contents m turns tools pumps) 0 given closed (Result Served ServeError) (λ d. d.end) i (Ok told) served (ap (λ es. slice_get es i) (sym ends_are) ∙ ended) in
+pub all_count : {N I O : Type 0} (remaining : I → Option (List ℕ)) (contents : O → Option (List ℕ)) (m turns : ℕ) (l : LayoutValue) (n : ℕ) (given : List (Watched I × Watched O)) (closed : List (Closed N I O)) (outcomes : List (Result Served ServeError)) (tools pumps hired spare others last new : List CallerValue) (ch : ℕ) (journal : List Entry) (before after : Option TaskError)
+    → callers_of l n ≡ tools ++ hired ++ pumps ++ spare → EachFrom (ServedAt remaining contents m turns tools pumps) 0 given closed → outcomes ≡ map (λ d. d.outcome) closed → HungUp before after (map (λ d. d.tool) closed ++ others ++ last ++ spare) new ch journal → CountTheirCommands outcomes new
+all_count remaining contents m turns l n given closed outcomes tools pumps hired spare others last new ch journal before after dealt served outcomes_are h i told c ended there =
+    let one = each_at (ServedAt remaining contents m turns tools pumps) 0 given closed (Result Served ServeError) (λ d. d.outcome) i (Ok told) served (ap (λ es. slice_get es i) (sym outcomes_are) ∙ ended) in
     let at = one.2 in
     let a = at.attended in
     let opened : slice_get (callers_of l n) (0 + i) ≡ Some at.tool =
     ap (λ cs. slice_get cs (0 + i)) dealt ∙ get_front (tools ++ hired ++ pumps) spare (0 + i) at.tool (get_front (tools ++ hired) pumps (0 + i) at.tool (get_front tools hired (0 + i) at.tool at.tool_at)) in
-    let counted = stream_counts m one.1.heard told _ _ at.tool.receipts one.1.tool.receipts _ _ a.serves (heard_well one.1.heard one.1.pumped one.1.sent told (sym a.end ∙ one.3)) (opened_idle l n (0 + i) at.tool opened) in
+    let counted = stream_counts m one.1.heard told _ _ at.tool.receipts one.1.tool.receipts _ _ a.serves (heard_well one.1.heard one.1.pumped one.1.sent told (sym a.outcome ∙ one.3)) (opened_idle l n (0 + i) at.tool opened) in
     let old = map (λ d. d.tool) closed ++ others ++ last ++ spare in
     let front : slice_get (map (λ d. d.tool) closed) i ≡ Some one.1.tool = ap (λ cs. slice_get cs i) (sym (append-nil (map (λ d. d.tool) closed))) ∙ mapped_at (λ d. d.tool) closed [] i one.1 one.4 in
     let back : slice_get old i ≡ Some one.1.tool = get_front (map (λ d. d.tool) closed ++ others ++ last) spare i one.1.tool (get_front (map (λ d. d.tool) closed ++ others) last i one.1.tool (get_front (map (λ d. d.tool) closed) others i one.1.tool front)) in
@@ -185,6 +185,6 @@ ends_session before after old new ch journal h none = ⊎_elim
     first_set [] v x first = absurd (none≢some x first)
     first_set (a ∷ more) v x first = refl
 
-    never : (b : Option TaskError) (f : TaskError) → or_else b (Some f) ≡ None → ⊥
+    never : (b : Option TaskError) (f : TaskError) → option_or b (Some f) ≡ None → ⊥
     never None f e = none≢some f (sym e)
     never (Some b) f e = none≢some b (sym e)

@@ -1,7 +1,8 @@
 -- Connections that were served, and the callers that come back.
 use Rattle.std.proofs.Common.{◌≡◌, ℕ, zero, suc, ◌+◌, ◌≤◌, List, [], ◌∷◌, ◌++◌, length, map, refl, sym, ap, ◌∙◌, subst, append_assoc, append-nil, length-append, length-set, ⊎_elim, arith}
 use Rattle.std.specs.Prelude.{Option, Some}
-use Rattle.std.specs.List.{slice_get}
+use Rattle.std.specs.List.{AllByRecursion, AllZip, slice_get}
+use Rattle.std.proofs.lemmas.Slice.Zip.{AllZip-long}
 use Rattle.std.specs.Vec.Iter.{into_iter_items}
 use Rattle.xcp_bank.specs.BankEnds.{ReaderEnd}
 use Rattle.xcp_framing.specs.CountedCalls.{Watched}
@@ -14,19 +15,17 @@ use Rattle.xcp_server.specs.declared.dealing.Duties.{Duties}
 use Rattle.xcp_locked.specs.declared.tasks.Done.{Done}
 use Rattle.xcp_locked.specs.declared.tasks.TaskError.{TaskError}
 use Rattle.xcp_outlet.specs.OutletEnds.{EndSeen}
-use Rattle.xcp_server.specs.private.ConnectionOutcome.{AreOfOneOutlet, ClosedAs, IsClosingOf}
+use Rattle.xcp_server.specs.private.ConnectionParts.{AreOfOneOutlet, IsClosingOf}
 use Rattle.xcp_locked.specs.Caller.{CallerValue, callers_of, fresh_caller}
 use Rattle.xcp_server.specs.private.DealtCallers.{Dealt}
 use Rattle.xcp_server.specs.LastHangup.{HungUp}
 use Rattle.xcp_locked.specs.LockedSlave.{IsReached}
 use Rattle.xcp_locked.specs.PairedLists.{EachFrom}
-use Rattle.xcp_server.specs.private.PairedLists.{Each}
 use Rattle.xcp_server.specs.private.ServerRoom.{IsEndedRoom}
-use Rattle.xcp_locked.specs.TaskOutcome.{WorkedAs}
-use Rattle.xcp_locked.specs.TaskOutcome.{DoneAs, IsTaskOf}
-use Rattle.xcp_server.specs.ServerOutcome.{Connection, Parted, PartedAs, ServedAt}
-use Rattle.xcp_server.specs.private.ServerOutcome.{IsConnectionOf}
-use Rattle.xcp_locked.proofs.PairedListLemmas.{each_length, each_through}
+use Rattle.xcp_locked.specs.TaskOutcome.{DoneAs, IsTaskOf, WorkedAs}
+use Rattle.xcp_server.specs.ServerOutcome.{CameOf, Connection, Parted, ServedAt}
+use Rattle.xcp_server.specs.private.ConnectionOf.{IsConnectionOf}
+use Rattle.xcp_locked.proofs.PairedListLemmas.{each_length, each_through, zip_from, zip_through}
 use Rattle.xcp_locked.proofs.TaskOutcomeLemmas.{worked_as}
 
 -- the list of n callers that have made no call has n of them
@@ -67,30 +66,26 @@ each_at_place {A} {B} {X} R f front rest (x ∷ xs) (y ∷ ys) h =
 pub each_also : {A B X : Type 0} (R : ℕ → A → B → Type 0) (f : B → X) (xs : List A) (ys : List B) → EachFrom R 0 xs ys → EachFrom (λ i x y. R i x y × (slice_get (map f ys) i ≡ Some (f y))) 0 xs ys
 each_also R f xs ys h = subst (λ zs. EachFrom (λ i x y. R i x y × (slice_get zs i ≡ Some (f y))) 0 xs ys) (append-nil (map f ys)) (each_at_place R f [] [] xs ys h)
 
--- which place a connection has is not said of it
-pub at_any_place : {N I O : Type 0} (m turns pumps k place : ℕ) (e : Watched I × Watched O) (c : Connection N I O) → IsConnectionOf m turns pumps k e c → IsConnectionOf m turns pumps place e c
-at_any_place m turns pumps k place e c h = record { reader = h.reader; writer = h.writer; max_cto = h.max_cto; reads = h.reads; drains = h.drains; replies = h.replies; samples = h.samples }
-
 module _ {I O N : Type 0} (remaining : I → Option (List ℕ)) (contents : O → Option (List ℕ)) where
   -- the three parts of a connection have one outlet
-  pub one_outlet : (m turns pumps i : ℕ) (e : Watched I × Watched O) (c : Connection N I O) (d : Parted N I O) → IsConnectionOf m turns pumps i e c → PartedAs remaining contents i c d → AreOfOneOutlet d
-  one_outlet m turns pumps i e c d is h = record {
+  pub one_outlet : (m turns pumps : ℕ) (e : Watched I × Watched O) (c : Connection N I O) (d : Parted N I O) → IsConnectionOf m turns pumps e c → CameOf remaining contents c d → AreOfOneOutlet d
+  one_outlet m turns pumps e c d is h = record {
     replies = h.wrote.same ∙ sym (h.heard.outlet ∙ ap (λ (x : EndSeen). x.outlet) is.replies);
     samples = h.wrote.same ∙ sym (h.pumped.outlet ∙ ap (λ (x : EndSeen). x.outlet) is.samples);
     reply_side = h.heard.side ∙ ap (λ (x : EndSeen). x.side) is.replies;
     sample_side = h.pumped.side ∙ ap (λ (x : EndSeen). x.side) is.samples;
   }
 
-  pub one_outlet_each : (m turns pumps k : ℕ) (es : List (Watched I × Watched O)) (cs : List (Connection N I O)) (ds : List (Parted N I O)) → EachFrom (IsConnectionOf m turns pumps) k es cs → EachFrom (PartedAs remaining contents) k cs ds → Each AreOfOneOutlet ds
-  one_outlet_each m turns pumps k [] [] [] is h = tt
-  one_outlet_each m turns pumps k [] [] (d ∷ ds) is h = absurd h
-  one_outlet_each m turns pumps k [] (c ∷ cs) ds is h = absurd is
-  one_outlet_each m turns pumps k (e ∷ es) [] ds is h = absurd is
-  one_outlet_each m turns pumps k (e ∷ es) (c ∷ cs) [] is h = absurd h
-  one_outlet_each m turns pumps k (e ∷ es) (c ∷ cs) (d ∷ ds) is h = (one_outlet m turns pumps k e c d is.0 h.0, one_outlet_each m turns pumps (k + 1) es cs ds is.1 h.1)
+  pub one_outlet_each : (m turns pumps : ℕ) (es : List (Watched I × Watched O)) (cs : List (Connection N I O)) (ds : List (Parted N I O)) → AllZip (IsConnectionOf m turns pumps) es cs → AllZip (CameOf remaining contents) cs ds → AllByRecursion AreOfOneOutlet ds
+  one_outlet_each m turns pumps [] [] [] is h = tt
+  one_outlet_each m turns pumps [] [] (d ∷ ds) is h = absurd h
+  one_outlet_each m turns pumps [] (c ∷ cs) ds is h = absurd is
+  one_outlet_each m turns pumps (e ∷ es) [] ds is h = absurd is
+  one_outlet_each m turns pumps (e ∷ es) (c ∷ cs) [] is h = absurd h
+  one_outlet_each m turns pumps (e ∷ es) (c ∷ cs) (d ∷ ds) is h = (one_outlet m turns pumps e c d is.0 h.0, one_outlet_each m turns pumps es cs ds is.1 h.1)
 
   -- what came of a connection, said of its reader and writer
-  pub served_at : (m turns pumps : ℕ) (tools drains : List CallerValue) (i : ℕ) (e : Watched I × Watched O) (c : Connection N I O) (d : Parted N I O) (k : Closed N I O) → IsConnectionOf m turns pumps i e c → slice_get tools i ≡ Some c.0.caller → slice_get drains i ≡ Some c.1.caller → PartedAs remaining contents i c d → IsClosingOf d k → ServedAt remaining contents m turns tools drains i e k
+  pub served_at : (m turns pumps : ℕ) (tools drains : List CallerValue) (i : ℕ) (e : Watched I × Watched O) (c : Connection N I O) (d : Parted N I O) (k : Closed N I O) → IsConnectionOf m turns pumps e c → slice_get tools i ≡ Some c.0.caller → slice_get drains i ≡ Some c.1.caller → CameOf remaining contents c d → IsClosingOf d k → ServedAt remaining contents m turns tools drains i e k
   served_at m turns pumps tools drains i e c d k is at_tool at_pump h k_is = record {
     tool = c.0.caller;
     tool_at = at_tool;
@@ -103,10 +98,10 @@ module _ {I O N : Type 0} (remaining : I → Option (List ℕ)) (contents : O �
       sends = rw (k_is.sent, k_is.taken_is, sym is.writer, k_is.writer) h.wrote.sends;
       replies = k_is.replies;
       samples = k_is.samples;
-      end = k_is.end;
+      outcome = k_is.outcome;
       ends = rw (k_is.heard, k_is.reader) h.heard.ends;
       read = rw (k_is.heard, sym is.reader, k_is.reader) h.heard.read;
-      quiet = rw (k_is.heard, sym is.reader, k_is.reader) h.heard.quiet;
+      unfailed = rw (k_is.heard, sym is.reader, k_is.reader) h.heard.unfailed;
       reads = rw (sym is.reader, sym is.reads, k_is.reader) h.heard.reads;
       spent = rw (k_is.heard, sym is.reader, sym is.reads, k_is.reader) h.heard.spent;
       refused = rw (sym is.max_cto, sym is.reader, k_is.heard, k_is.reader, k_is.tool, k_is.replies_are) (rw (ap (λ (x : EndSeen). x.put) is.replies) at h.heard.refused);
@@ -116,10 +111,10 @@ module _ {I O N : Type 0} (remaining : I → Option (List ℕ)) (contents : O �
   }
 
 -- what came of a connection, and of its parts
-abbrev Came : {I O N : Type 0} → (I → Option (List ℕ)) → (O → Option (List ℕ)) → ℕ → Connection N I O → Closed N I O → Type 0
-Came {I} {O} {N} remaining contents i c k = (p : Parted N I O) × PartedAs remaining contents i c p × IsClosingOf p k
+abbrev Came : {I O N : Type 0} → (I → Option (List ℕ)) → (O → Option (List ℕ)) → Connection N I O → Closed N I O → Type 0
+Came {I} {O} {N} remaining contents c k = (p : Parted N I O) × CameOf remaining contents c p × IsClosingOf p k
 
-module _ {N G I O : Type 0} (m turns pumps cycles chapter tasks : ℕ) (opened : List CallerValue) (readers : List ReaderEnd) (ends : List (Watched I × Watched O)) (d : Duties N G I O) (deal : Dealt m turns pumps cycles chapter tasks opened readers ends d) where
+module _ {N G I O : Type 0} (m turns pumps cycles chapter tasks : ℕ) (opened : List CallerValue) (readers : List ReaderEnd) (streams : List (Watched I × Watched O)) (d : Duties N G I O) (deal : Dealt m turns pumps cycles chapter tasks opened readers streams d) where
   abbrev tools : List CallerValue
   tools = map (λ c. c.0.caller) d.connections.items
 
@@ -129,19 +124,19 @@ module _ {N G I O : Type 0} (m turns pumps cycles chapter tasks : ℕ) (opened :
   abbrev drains : List CallerValue
   drains = map (λ c. c.1.caller) d.connections.items
 
-  pub as_many_connections : length d.connections.items ≡ length ends
-  as_many_connections = each_length (IsConnectionOf m turns pumps) 0 ends d.connections.items deal.connections
+  pub as_many_connections : length d.connections.items ≡ length streams
+  as_many_connections = AllZip-long (IsConnectionOf m turns pumps) streams d.connections.items deal.connections
 
-  pub as_many_tools : length (map (λ c. c.0.caller) d.connections.items) ≡ length ends
+  pub as_many_tools : length (map (λ c. c.0.caller) d.connections.items) ≡ length streams
   as_many_tools = length_map (λ c. c.0.caller) d.connections.items ∙ as_many_connections
 
-  pub as_many_pumps : length (map (λ c. c.1.caller) d.connections.items) ≡ length ends
+  pub as_many_pumps : length (map (λ c. c.1.caller) d.connections.items) ≡ length streams
   as_many_pumps = length_map (λ c. c.1.caller) d.connections.items ∙ as_many_connections
 
   pub as_many_tasks : length d.tasks.items ≡ tasks
   as_many_tasks = each_length (IsTaskOf cycles chapter) 0 deal.workers d.tasks.items deal.numbered ∙ deal.hired
 
-  pub as_many_callers : length opened ≡ length ends + (tasks + (length ends + length (into_iter_items d.spare)))
+  pub as_many_callers : length opened ≡ length streams + (tasks + (length streams + length (into_iter_items d.spare)))
   as_many_callers =
       let whole = ap length deal.in_order in
       let a = length-append (tools ++ hired ++ drains) (into_iter_items d.spare) in
@@ -159,17 +154,17 @@ module _ {N G I O : Type 0} (m turns pumps cycles chapter tasks : ℕ) (opened :
       let n = deal.hired in omega (arith, whole, a, w, n)
 
   -- each connection was served for the callers of its place
-  pub all_served : (remaining : I → Option (List ℕ)) (contents : O → Option (List ℕ)) (parted : List (Parted N I O)) (closed : List (Closed N I O)) → EachFrom (PartedAs remaining contents) 0 d.connections.items parted → EachFrom ClosedAs 0 parted closed
-      → EachFrom (ServedAt remaining contents m turns tools drains) 0 ends closed
+  pub all_served : (remaining : I → Option (List ℕ)) (contents : O → Option (List ℕ)) (parted : List (Parted N I O)) (closed : List (Closed N I O)) → AllZip (CameOf remaining contents) d.connections.items parted → AllZip IsClosingOf parted closed
+      → EachFrom (ServedAt remaining contents m turns tools drains) 0 streams closed
   all_served remaining contents parted closed came put =
-      each_through (λ i e c. (IsConnectionOf m turns pumps i e c × (slice_get tools i ≡ Some c.0.caller)) × (slice_get drains i ≡ Some c.1.caller)) (Came remaining contents) (ServedAt remaining contents m turns tools drains)
-      (λ i e c k is h. served_at remaining contents m turns pumps tools drains i e c h.0 k is.0.0 is.0.1 is.1 h.1 h.2) 0 ends d.connections.items closed
-      (each_also (λ i e c. IsConnectionOf m turns pumps i e c × (slice_get tools i ≡ Some c.0.caller)) (λ c. c.1.caller) ends d.connections.items
-      (each_also (IsConnectionOf m turns pumps) (λ c. c.0.caller) ends d.connections.items deal.connections))
-      (each_through (PartedAs remaining contents) ClosedAs (Came remaining contents) (λ i c p k x y. (p, x, y)) 0 d.connections.items parted closed came put)
+      each_through (λ i e c. (IsConnectionOf m turns pumps e c × (slice_get tools i ≡ Some c.0.caller)) × (slice_get drains i ≡ Some c.1.caller)) (Came remaining contents) (ServedAt remaining contents m turns tools drains)
+      (λ i e c k is h. served_at remaining contents m turns pumps tools drains i e c h.0 k is.0.0 is.0.1 is.1 h.1 h.2) 0 streams d.connections.items closed
+      (each_also (λ i e c. IsConnectionOf m turns pumps e c × (slice_get tools i ≡ Some c.0.caller)) (λ c. c.1.caller) streams d.connections.items
+      (each_also (λ i e c. IsConnectionOf m turns pumps e c) (λ c. c.0.caller) streams d.connections.items (zip_from (IsConnectionOf m turns pumps) 0 streams d.connections.items deal.connections)))
+      (zip_through (CameOf remaining contents) IsClosingOf (Came remaining contents) (λ c p k x y. (p, x, y)) d.connections.items parted closed came put)
 
   -- each task was done for the worker of its place
-  pub all_worked : (layout : LayoutValue) (may_end : Type 0) (done : List (Done N)) → EachFrom (DoneAs layout may_end) 0 d.tasks.items done → EachFrom (WorkedAs layout may_end cycles chapter) 0 deal.workers done
+  pub all_worked : (layout : LayoutValue) (may_end : Type 0) (done : List (Done N)) → AllZip (DoneAs layout may_end) d.tasks.items done → EachFrom (WorkedAs layout may_end cycles chapter) 0 deal.workers done
   all_worked layout may_end done =
       each_through (IsTaskOf cycles chapter) (DoneAs layout may_end) (WorkedAs layout may_end cycles chapter)
       (λ i w t k is h. worked_as layout may_end cycles t.cycles chapter t.chapter i t.task w t.worker k.worker k.fault is.number is.cycles_are is.chapter_is is.worker h) 0 deal.workers d.tasks.items done deal.numbered
@@ -195,10 +190,10 @@ module _ {N G I O : Type 0} (m turns pumps cycles chapter tasks : ℕ) (opened :
       omega (arith, there, x, y, z, p, q, r)
 
 -- the same MAX_CTO, the same callers and the same readers
-pub dealt_as : {N G I O : Type 0} (m m' turns pumps cycles chapter tasks : ℕ) (opened opened' : List CallerValue) (readers readers' : List ReaderEnd) (ends : List (Watched I × Watched O)) (d : Duties N G I O) → m ≡ m' → opened ≡ opened' → readers ≡ readers'
-    → Dealt m turns pumps cycles chapter tasks opened readers ends d → Dealt m' turns pumps cycles chapter tasks opened' readers' ends d
-dealt_as m m' turns pumps cycles chapter tasks opened opened' readers readers' ends d e f r h =
-    subst (λ rs. Dealt m' turns pumps cycles chapter tasks opened' rs ends d) r (subst (λ k. Dealt k turns pumps cycles chapter tasks opened' readers ends d) e (subst (λ cs. Dealt m turns pumps cycles chapter tasks cs readers ends d) f h))
+pub dealt_as : {N G I O : Type 0} (m m' turns pumps cycles chapter tasks : ℕ) (opened opened' : List CallerValue) (readers readers' : List ReaderEnd) (streams : List (Watched I × Watched O)) (d : Duties N G I O) → m ≡ m' → opened ≡ opened' → readers ≡ readers'
+    → Dealt m turns pumps cycles chapter tasks opened readers streams d → Dealt m' turns pumps cycles chapter tasks opened' readers' streams d
+dealt_as m m' turns pumps cycles chapter tasks opened opened' readers readers' streams d e f r h =
+    subst (λ rs. Dealt m' turns pumps cycles chapter tasks opened' rs streams d) r (subst (λ k. Dealt k turns pumps cycles chapter tasks opened' readers streams d) e (subst (λ cs. Dealt m turns pumps cycles chapter tasks cs readers streams d) f h))
 
 -- what is left behind the first ones
 pub left_behind : {A : Type 0} (first rest all : List A) → first ++ rest ≡ all → length first + length rest ≡ length all
@@ -211,15 +206,15 @@ hung_up_as before before' after old old' new ch journal e f h = subst (λ b. Hun
 -- room for so many callers and connections is room for fewer
 pub room_for_fewer : {N I O : Type 0} (k k' e e' : ℕ) (r : Ended N I O) → k' ≤ k → e' ≤ e → IsEndedRoom k e r → IsEndedRoom k' e' r
 room_for_fewer k k' e e' r a b h =
-    let callers = h.for_callers in let pumps = h.for_pumps in let ends = h.for_ends in let left = h.for_left in
+    let callers = h.for_callers in let pumps = h.for_pumps in let streams = h.for_outcomes in let left = h.for_left in
     record {
       no_caller = h.no_caller;
       no_pump = h.no_pump;
-      no_end = h.no_end;
+      no_outcome = h.no_outcome;
       nothing_left = h.nothing_left;
       for_callers = omega (arith, a, callers);
       for_pumps = omega (arith, b, pumps);
-      for_ends = omega (arith, b, ends);
+      for_outcomes = omega (arith, b, streams);
       for_left = omega (arith, b, left);
     }
 

@@ -3,7 +3,8 @@ use Rattle.std.proofs.Common.{◌≡◌, ◌≤◌, ℕ, List, [], ◌∷◌, �
 use Rattle.std.proofs.Math.Seq.{take-append_seam}
 use Rattle.std.proofs.lemmas.List.{length-map, take-map}
 use Rattle.std.specs.Prelude.{Option, None}
-use Rattle.xcp_framing.specs.Prefix.{IsFront}
+use Rattle.std.specs.List.{AllZip}
+use mathlib.Core.List.{IsPrefix}
 use Rattle.xcp_memory.specs.Layout.{LayoutValue}
 use Rattle.xcp_locked.specs.Excerpts.{ChaptersValue, ExcerptValue, Way, excerpt_of, excerpts_of, none_cut}
 use Rattle.xcp_locked.specs.LockedSlave.{ChapterValue}
@@ -38,11 +39,11 @@ first_way_of cycles chapter k (w ∷ workers) [] h = absurd h
 first_way_of cycles chapter k (w ∷ workers) (t ∷ tasks) h = ap (λ (x : Worker _). x.chapters.way) h.0.worker
 
 -- and stays so when the task is done
-pub way_back : {N G : Type 0} (layout : LayoutValue) (may_end : Type 0) (k : ℕ) (tasks : List (Task N G)) (done : List (Done N)) → EachFrom (DoneAs layout may_end) k tasks done → (chapters_of (map (λ d. d.worker) done)).way ≡ first_way tasks
-way_back layout may_end k [] [] h = refl
-way_back layout may_end k [] (d ∷ done) h = absurd h
-way_back layout may_end k (t ∷ tasks) [] h = absurd h
-way_back layout may_end k (t ∷ tasks) (d ∷ done) h = h.0.cut.way
+pub way_back : {N G : Type 0} (layout : LayoutValue) (may_end : Type 0) (tasks : List (Task N G)) (done : List (Done N)) → AllZip (DoneAs layout may_end) tasks done → (chapters_of (map (λ d. d.worker) done)).way ≡ first_way tasks
+way_back layout may_end [] [] h = refl
+way_back layout may_end [] (d ∷ done) h = absurd h
+way_back layout may_end (t ∷ tasks) [] h = absurd h
+way_back layout may_end (t ∷ tasks) (d ∷ done) h = h.0.cut.way
 
 -- what a scribe is given of chapters is what it is given of their excerpts
 pub given_excerpts : (cs : List ChapterValue) → map given_of (excerpts_of cs) ≡ given_in cs
@@ -50,18 +51,18 @@ given_excerpts [] = refl
 given_excerpts (c ∷ cs) = ap (λ gs. (record { calls = c.entries; last = c.last }) ∷ gs) (given_excerpts cs)
 
 -- a front of a list is what is taken of it
-taken_front : {A : Type 0} (xs ys : List A) → IsFront xs ys → take (length xs) ys ≡ xs
-taken_front xs ys front = ap (λ zs. take (length xs) zs) (sym front.joined) ∙ take-append_seam xs front.rest
+taken_front : {A : Type 0} (xs ys : List A) → IsPrefix xs ys → take (length xs) ys ≡ xs
+taken_front xs ys front = ap (λ zs. take (length xs) zs) (sym front.1) ∙ take-append_seam xs front.0
 
 -- a front of chapters' excerpts is what a scribe is given of as many chapters
-pub given_front : (es : List ExcerptValue) (cs : List ChapterValue) → IsFront es (excerpts_of cs) → map given_of es ≡ given_in (take (length es) cs)
+pub given_front : (es : List ExcerptValue) (cs : List ChapterValue) → IsPrefix es (excerpts_of cs) → map given_of es ≡ given_in (take (length es) cs)
 given_front es cs front =
     ap (λ xs. map given_of xs) (sym (taken_front es (excerpts_of cs) front) ∙ take-map excerpt_of (length es) cs) ∙ given_excerpts (take (length es) cs)
 
 -- and no longer than they
-pub no_longer : (es : List ExcerptValue) (cs : List ChapterValue) → IsFront es (excerpts_of cs) → length es ≤ length cs
-no_longer es cs front = let all = ap length front.joined in let whole = length-append es front.rest in let same = length-map cs excerpt_of in omega (arith, all, whole, same)
+pub no_longer : (es : List ExcerptValue) (cs : List ChapterValue) → IsPrefix es (excerpts_of cs) → length es ≤ length cs
+no_longer es cs front = let all = ap length front.1 in let whole = length-append es front.0 in let same = length-map cs excerpt_of in omega (arith, all, whole, same)
 
 -- a front of a front is a front
-pub front_of_front : {A : Type 0} (xs ys zs : List A) → IsFront xs ys → IsFront ys zs → IsFront xs zs
-front_of_front xs ys zs f h = record { rest = f.rest ++ h.rest; joined = sym (append_assoc xs f.rest h.rest) ∙ (ap (λ z. z ++ h.rest) f.joined ∙ h.joined) }
+pub front_of_front : {A : Type 0} (xs ys zs : List A) → IsPrefix xs ys → IsPrefix ys zs → IsPrefix xs zs
+front_of_front xs ys zs f h = (f.0 ++ h.0, sym (append_assoc xs f.0 h.0) ∙ (ap (λ z. z ++ h.0) f.1 ∙ h.1))

@@ -2,7 +2,7 @@
 use Rattle.std.specs.Prelude.{◌≡◌, ◌≢◌, ◌⊎◌, ◌+◌, ◌<◌, ◌≤◌, ℕ, Bool, true, false, List, [], ◌++◌, Option, Result, Ok, Err, IfErr}
 use Rattle.xcp_slave.specs.declared.Exchange.{Exchange}
 use Rattle.xcp_slave.specs.declared.Request.{Request}
-use Rattle.xcp_framing.specs.Prefix.{IsFront}
+use mathlib.Core.List.{IsPrefix}
 use Rattle.xcp_framing.specs.Pump.{Pumps}
 use Rattle.xcp_framing.specs.Serve.{EndsReader}
 use Rattle.xcp_framing.specs.ServeBy.{CommandNext, ServesBy}
@@ -27,22 +27,22 @@ use Rattle.xcp_locked.specs.Receipts.{exchanges_of}
 use Rattle.xcp_locked.specs.Tasks.{Same}
 
 -- how a connection ended: the fault of its reading, else of its pump, else Write where its sender has one
-abbrev pub end_of : Result Served ServeError → Result ℕ ServeError → Result ℕ SendError → Result Served ServeError
-end_of (Err e) pumped sent = Err e
-end_of (Ok served) (Err e) sent = Err e
-end_of (Ok served) (Ok n) (Err e) = Err errors.Write
-end_of (Ok served) (Ok n) (Ok m) = Ok served
+abbrev pub outcome_of : Result Served ServeError → Result ℕ ServeError → Result ℕ SendError → Result Served ServeError
+outcome_of (Err e) pumped sent = Err e
+outcome_of (Ok served) (Err e) sent = Err e
+outcome_of (Ok served) (Ok n) (Err e) = Err errors.Write
+outcome_of (Ok served) (Ok n) (Ok m) = Ok served
 
 -- What the sender took of an end is, in order, a front of what that end has put, and behind its end mark all of it.
 pub record Delivered (side : Bool) (taken : List Message) (put : List (List ℕ)) : Type 0 where
-  pub begins : IsFront (packets (of side taken)) put
+  pub begins : IsPrefix (packets (of side taken)) put
   pub all : has_mark (of side taken) ≡ true → packets (of side taken) ≡ put
 
 -- What the pump of a connection did for this caller, which is the same one, and what its end has put.
 pub record PumpedFor {N : Type 0} (caller : CallerValue) (samples : EndSeen) (d : Pumped N) : Type 0 where
-  pub pumps : Pumps d.end (exchanges_of caller.receipts) (exchanges_of d.caller.receipts) samples.put d.put.put
+  pub pumps : Pumps d.outcome (exchanges_of caller.receipts) (exchanges_of d.caller.receipts) samples.put d.put.put
   -- a packet was handed back, or a Drain was refused
-  pub stops : IfErr d.end IsInterruption
+  pub stops : IfErr d.outcome IsInterruption
   pub same : Same caller d.caller
   pub outlet : d.put.outlet ≡ samples.outlet
   pub side : d.put.side ≡ samples.side
@@ -65,13 +65,13 @@ module _ {I : Type 0} (remaining : I → Option (List ℕ)) where
   -- Ok and Truncated come at the reader's end, Read only where a read failed, TurnsSpent where all reads were made, Memory and
   -- JournalFull where a command was refused.
   pub record HeardFor {N : Type 0} (m turns : ℕ) (reader : Watched I) (caller : CallerValue) (replies : EndSeen) (d : Heard N I) : Type 0 where
-    pub serves : ServesBy m d.end (remaining reader.inner) (remaining d.reader.value.inner) (exchanges_of caller.receipts) (exchanges_of d.caller.receipts) replies.put d.put.put
-    pub ends : EndsReader d.end (remaining d.reader.value.inner)
-    pub read : d.end ≡ Err errors.Read → reader.failures < d.reader.value.failures
-    pub quiet : d.end ≢ Err errors.Read → d.reader.value.failures ≡ reader.failures
+    pub serves : ServesBy m d.outcome (remaining reader.inner) (remaining d.reader.value.inner) (exchanges_of caller.receipts) (exchanges_of d.caller.receipts) replies.put d.put.put
+    pub ends : EndsReader d.outcome (remaining d.reader.value.inner)
+    pub read : d.outcome ≡ Err errors.Read → reader.failures < d.reader.value.failures
+    pub unfailed : d.outcome ≢ Err errors.Read → d.reader.value.failures ≡ reader.failures
     pub reads : d.reader.value.calls ≤ reader.calls + turns
-    pub spent : d.end ≡ Err errors.TurnsSpent → d.reader.value.calls ≡ reader.calls + turns
-    pub refused : RefusedWhere d.end ((d.reader.value ≡ reader) × (exchanges_of d.caller.receipts ≡ exchanges_of caller.receipts) × (d.put.put ≡ replies.put))
+    pub spent : d.outcome ≡ Err errors.TurnsSpent → d.reader.value.calls ≡ reader.calls + turns
+    pub refused : RefusedWhere d.outcome ((d.reader.value ≡ reader) × (exchanges_of d.caller.receipts ≡ exchanges_of caller.receipts) × (d.put.put ≡ replies.put))
         (StopsAt m (remaining reader.inner) (remaining d.reader.value.inner) (exchanges_of caller.receipts) (exchanges_of d.caller.receipts))
     pub same : Same caller d.caller
     pub outlet : d.put.outlet ≡ replies.outlet
@@ -95,10 +95,10 @@ module _ {I O : Type 0} (remaining : I → Option (List ℕ)) (contents : O → 
     pub sends : Sends d.sent d.left.took.value.taken (contents writer.inner) (contents d.left.writer.value.inner) writer.failures d.left.writer.value.failures
     pub replies : Delivered false d.left.took.value.taken d.left.replies.value.put
     pub samples : Delivered true d.left.took.value.taken d.left.samples.value.put
-    pub end : d.end ≡ end_of d.heard d.pumped d.sent
+    pub outcome : d.outcome ≡ outcome_of d.heard d.pumped d.sent
     pub ends : EndsReader d.heard (remaining d.left.reader.value.inner)
     pub read : d.heard ≡ Err errors.Read → reader.failures < d.left.reader.value.failures
-    pub quiet : d.heard ≢ Err errors.Read → d.left.reader.value.failures ≡ reader.failures
+    pub unfailed : d.heard ≢ Err errors.Read → d.left.reader.value.failures ≡ reader.failures
     pub reads : d.left.reader.value.calls ≤ reader.calls + turns
     pub spent : d.heard ≡ Err errors.TurnsSpent → d.left.reader.value.calls ≡ reader.calls + turns
     pub refused : RefusedWhere d.heard ((d.left.reader.value ≡ reader) × (exchanges_of d.tool.receipts ≡ exchanges_of tool.receipts) × (d.left.replies.value.put ≡ []))

@@ -10,7 +10,7 @@ use Rattle.xcp_locked.specs.declared.tasks.TaskError.{TaskError}
 use Rattle.xcp_locked.specs.Caller.{CallerValue, accepting}
 use Rattle.xcp_locked.specs.Journal.{entry}
 use Rattle.xcp_locked.specs.Receipts.{receipt}
-use Rattle.xcp_locked.specs.TaskOutcome.{or_else}
+use Rattle.std.specs.Option.{option_or}
 use Rattle.xcp_locked.specs.Tasks.{refused_with}
 
 -- The last Hangup, by the first caller: it was accepted as the journal's last call, or it was refused and is the fault where
@@ -20,7 +20,7 @@ pub record HungUp (before after : Option TaskError) (old new : List CallerValue)
   pub first : slice_get old 0 ≡ Some caller
   pub outcome :
       ((earlier : List Entry) × (answer : Answer) × (journal ≡ earlier ++ entry caller.number requests.Hangup answer ∷ []) × (new ≡ slice_set old 0 (accepting caller (receipt chapter (length earlier) requests.Hangup answer))) × (after ≡ before))
-      ⊎ ((e : LockedError) × (new ≡ old) × (after ≡ or_else before (Some (refused_with e))))
+      ⊎ ((e : LockedError) × (new ≡ old) × (after ≡ option_or before (Some (refused_with e))))
 
 -- The journal's last call is a Hangup of this caller, whose last receipt is of it.
 pub record EndsWithHangup (chapter : ℕ) (journal : List Entry) (caller : CallerValue) : Type 0 where

@@ -1,6 +1,7 @@
 -- What is told at the end of a server.
 use Rattle.std.specs.Prelude.{◌≡◌, ℕ, ◌+◌, ◌-◌, ◌^◌, min, sum_by, count_by, Bool, true, false, List, [], ◌∷◌, ◌++◌, Option, Some, None, Result, Ok, Err, MatchResult, length, map}
 use Rattle.std.specs.List.{slice_get}
+use Rattle.std.specs.Option.{option_or}
 use Rattle.xcp_bank.specs.BankId.{BankId}
 use Rattle.xcp_bank.specs.BankEnds.{six_readers}
 use Rattle.xcp_memory.specs.Layout.{LayoutValue}
@@ -45,15 +46,15 @@ abbrev pub lost_by : CallerValue → ℕ
 lost_by c = lost_in c.receipts
 
 -- the fault that is told where a connection ended so
-abbrev pub fault_of_end : ServeError → Fault
-fault_of_end errors.Memory = Memory
-fault_of_end e = Stream (number_of e)
+abbrev pub fault_of_outcome : ServeError → Fault
+fault_of_outcome errors.Memory = Memory
+fault_of_outcome e = Stream (number_of e)
 
 -- the fault of the first faulty connection
-abbrev pub fault_of_ends : List (Result Served ServeError) → Option Fault
-fault_of_ends [] = None
-fault_of_ends (Ok _ ∷ ends) = fault_of_ends ends
-fault_of_ends (Err e ∷ ends) = Some (fault_of_end e)
+abbrev pub fault_of_outcomes : List (Result Served ServeError) → Option Fault
+fault_of_outcomes [] = None
+fault_of_outcomes (Ok _ ∷ outcomes) = fault_of_outcomes outcomes
+fault_of_outcomes (Err e ∷ outcomes) = Some (fault_of_outcome e)
 
 -- the fault that is told where this ended the tasks, or the last Hangup; a gate that ends a task is none
 abbrev pub fault_of_tasks : Option TaskError → Option Fault
@@ -61,10 +62,6 @@ fault_of_tasks None = None
 fault_of_tasks (Some tasks.Memory) = Some Memory
 fault_of_tasks (Some tasks.JournalFull) = Some (Stream (number_of errors.JournalFull))
 fault_of_tasks (Some (tasks.GateSpent _)) = None
-
-abbrev pub first_of : Option Fault → Option Fault → Option Fault
-first_of None other = other
-first_of (Some f) other = Some f
 
 -- The fault names what isn't as it must be: the chapter that doesn't follow the one before it, or the caller whose receipts differ, and
 -- the first of its receipts of the chapter that does.
@@ -85,7 +82,7 @@ pub record IsReport {N I O : Type 0} (layout : LayoutValue) (c : Closing N I O) 
   pub calls : r.calls ≡ length (entries_of c.chapters.items ++ c.locked.journal)
   pub lost : r.lost ≡ min (sum_by lost_by c.callers.items) (2 ^ 64 - 1)
   pub whole : IsWhole layout c.locked c.chapters.items c.callers.items
-  pub fault : r.fault ≡ first_of (fault_of_ends c.ends.items) (fault_of_tasks c.fault)
+  pub fault : r.fault ≡ option_or (fault_of_outcomes c.outcomes.items) (fault_of_tasks c.fault)
 
 -- what a scribe is given of chapters: the calls of each, and the slave with which it ends
 abbrev pub given_in : List ChapterValue → List Given
@@ -98,10 +95,10 @@ given_open l = record { calls = l.journal; last = l.slave }
 -- A server's work was done on a slave of this layout, by tasks that no gate ended, and this is what it gives back: what is told of
 -- the work, the journal of its open chapter, which is a run from where the chapter begins, its connections as the work left them, and the
 -- scribe, which was given all chapters, in order, the open one last.
-pub record IsServed {I O S : Type 0} (N : Type 0) (remaining : I → Option (List ℕ)) (contents : O → Option (List ℕ)) (wrote : S → List Given → Type 0) (layout : LayoutValue) (turns cycles chapter : ℕ) (each_store : Bool) (tasks callers : ℕ) (bank : BankId) (ends : List (Watched I × Watched O)) (ending : Ending I O S) : Type 0 where
+pub record IsServed {I O S : Type 0} (N : Type 0) (remaining : I → Option (List ℕ)) (contents : O → Option (List ℕ)) (wrote : S → List Given → Type 0) (layout : LayoutValue) (turns cycles chapter : ℕ) (each_store : Bool) (tasks callers : ℕ) (bank : BankId) (streams : List (Watched I × Watched O)) (ending : Ending I O S) : Type 0 where
   pub closing : Closing N I O
-  pub closes : Closes remaining contents layout ⊥ layout.max_cto turns cycles chapter each_store tasks (callers_of layout callers) (six_readers bank (image_of (opening layout))) ends closing
-  pub frames : CountTheirCommands closing.ends.items closing.callers.items
+  pub closes : Closes remaining contents layout ⊥ layout.max_cto turns cycles chapter each_store tasks (callers_of layout callers) (six_readers bank (image_of (opening layout))) streams closing
+  pub frames : CountTheirCommands closing.outcomes.items closing.callers.items
   pub hangup : EndsSession closing.fault closing.callers.items closing.locked.chapter closing.locked.journal
   pub run : Run closing.locked.base (exchanges closing.locked.journal) closing.locked.slave
   pub reached : IsReached layout closing.locked.before closing.locked.base

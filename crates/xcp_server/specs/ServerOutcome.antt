@@ -32,7 +32,7 @@ pub record SameClosing {N I O : Type 0} (old new : Closing N I O) : Type 0 where
   pub chapters : new.chapters ≡ old.chapters
   pub callers : new.callers.items ≡ old.callers.items
   pub readers : new.readers ≡ old.readers
-  pub ends : new.ends ≡ old.ends
+  pub outcomes : new.outcomes ≡ old.outcomes
   pub left : new.left ≡ old.left
   pub fault : new.fault ≡ old.fault
 
@@ -55,7 +55,7 @@ commands receipts = count_by (λ r. is_command r.request) receipts
 
 -- Each connection that ended well counted the commands of its caller, which stands at the connection's place.
 abbrev pub CountTheirCommands : List (Result Served ServeError) → List CallerValue → Type 0
-CountTheirCommands ends callers = (i : ℕ) (served : Served) (c : CallerValue) → slice_get ends i ≡ Some (Ok served) → slice_get callers i ≡ Some c → served.frames ≡ commands c.receipts
+CountTheirCommands outcomes callers = (i : ℕ) (served : Served) (c : CallerValue) → slice_get outcomes i ≡ Some (Ok served) → slice_get callers i ≡ Some c → served.frames ≡ commands c.receipts
 
 module _ {I O : Type 0} (remaining : I → Option (List ℕ)) (contents : O → Option (List ℕ)) where
   -- what came of the parts of a connection
@@ -64,28 +64,24 @@ module _ {I O : Type 0} (remaining : I → Option (List ℕ)) (contents : O → 
     pub pumped : PumpedFor c.1.caller c.1.samples d.1
     pub wrote : WroteFor contents c.2.end.outlet c.2.writer d.2
 
-  -- the same, at whichever place
-  abbrev pub PartedAs : {N : Type 0} → ℕ → Connection N I O → Parted N I O → Type 0
-  PartedAs place c d = CameOf c d
-
   -- the connection at this place was served for the callers of this place among those of tools and those of pumps
-  pub record ServedAt {N : Type 0} (m turns : ℕ) (tools pumps : List CallerValue) (place : ℕ) (end : Watched I × Watched O) (d : Closed N I O) : Type 0 where
+  pub record ServedAt {N : Type 0} (m turns : ℕ) (tools pumps : List CallerValue) (place : ℕ) (stream : Watched I × Watched O) (d : Closed N I O) : Type 0 where
     pub tool : CallerValue
     pub tool_at : slice_get tools place ≡ Some tool
     pub pump : CallerValue
     pub pump_at : slice_get pumps place ≡ Some pump
-    pub attended : Attended remaining contents m turns end.0 end.1 tool pump d
+    pub attended : Attended remaining contents m turns stream.0 stream.1 tool pump d
 
   -- A server's work, for the callers that were opened: the first of them served the connections, the next did the tasks' work,
   -- the next the connections' pumps, and all come back in order, the first one after a last Hangup. The readers that were opened
   -- come back too: the first of them as the tasks left them. The chapters are those that task 0 has cut, with `each_store` behind stores too. `may_end` says that the
   -- gate may end a task.
-  pub record Closes {N : Type 0} (layout : LayoutValue) (may_end : Type 0) (m turns cycles chapter : ℕ) (each_store : Bool) (tasks : ℕ) (opened : List CallerValue) (readers : List ReaderEnd) (ends : List (Watched I × Watched O)) (r : Closing N I O) : Type 0 where
+  pub record Closes {N : Type 0} (layout : LayoutValue) (may_end : Type 0) (m turns cycles chapter : ℕ) (each_store : Bool) (tasks : ℕ) (opened : List CallerValue) (readers : List ReaderEnd) (streams : List (Watched I × Watched O)) (r : Closing N I O) : Type 0 where
     -- the callers
     pub tools : List CallerValue
-    pub connected : length tools ≡ length ends
+    pub connected : length tools ≡ length streams
     pub pumps : List CallerValue
-    pub drained : length pumps ≡ length ends
+    pub drained : length pumps ≡ length streams
     pub spare : List CallerValue
     pub workers : List (Worker N)
     pub hired : length workers ≡ tasks
@@ -94,8 +90,8 @@ module _ {I O : Type 0} (remaining : I → Option (List ℕ)) (contents : O → 
     pub dealt : opened ≡ tools ++ map (λ w. w.caller) workers ++ pumps ++ spare
     -- the connections
     pub closed : List (Closed N I O)
-    pub served : EachFrom (ServedAt m turns tools pumps) 0 ends closed
-    pub ends_are : r.ends.items ≡ map (λ d. d.end) closed
+    pub served : EachFrom (ServedAt m turns tools pumps) 0 streams closed
+    pub outcomes_are : r.outcomes.items ≡ map (λ d. d.outcome) closed
     pub left_is : r.left.items ≡ map (λ d. d.left) closed
     -- the tasks
     pub done : List (Done N)

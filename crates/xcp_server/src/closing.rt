@@ -2,7 +2,7 @@
 ghost use Rattle.std.specs.Prelude.{◌≡◌, ◌<◌, ◌≤◌, ◌+◌, ◌++◌, [], IfErr, IfOk, length, map, sum_by, vec_capacity, vec_len};
 ghost use Rattle.std.specs.Vec.Iter.{into_iter_items};
 ghost use Rattle.xcp_locked.specs.Caller.{accepted_by};
-ghost use Rattle.xcp_server.specs.private.ServerEnd.{GivesBack, GivesChapters};
+ghost use Rattle.xcp_server.specs.private.GivenBack.{GivesBack, GivesChapters};
 ghost use Rattle.xcp_server.specs.private.ServerRoom.{IsEndedRoom, IsRoom};
 ghost use Rattle.xcp_server.specs.LastHangup.{HungUp};
 ghost use Rattle.xcp_server.specs.ServerOutcome.{SameClosing};
@@ -10,7 +10,7 @@ ghost use Rattle.xcp_locked.specs.TaskOutcome.{chapters_of, first_fault};
 ghost use Rattle.xcp_locked.specs.Chapters.{Disagree, IsWhole, entries_of};
 
 use crate::dealing::{Ended, add_rest, dismiss, take_apart};
-use crate::{Closed, Left};
+use crate::{Closed, Gone};
 use std::alloc::{AllocError, Global};
 use std::io::{Read, Write};
 use std::vec::IntoIter;
@@ -32,8 +32,8 @@ pub struct Closing<N: Name, I: Read + Drop, O: Write + Drop> {
     pub chapters: Vec<Chapter<N>>,
     pub callers: Vec<Caller<N>>,
     pub readers: Vec<Reader<N>>,
-    pub ends: Vec<Result<Served, ServeError>>,
-    pub left: Vec<Left<I, O>>,
+    pub outcomes: Vec<Result<Served, ServeError>>,
+    pub left: Vec<Gone<I, O>>,
     pub fault: Option<TaskError>,
 }
 
@@ -46,28 +46,28 @@ pub struct Rooms<N: Name, I: Read + Drop, O: Write + Drop> {
     pub readers: Vec<Reader<N>>,
 }
 
-/// Room for so many callers, for the ends of so many connections, for so many workers, and for so
+/// Room for so many callers, for the outcomes of so many connections, for so many workers, and for so
 /// many readers.
 pub(crate) fn make_rooms<N: Name, I: Read + Drop, O: Write + Drop>(
     alloc: Global,
     callers: usize,
-    ends: usize,
+    outcomes: usize,
     tasks: u8,
     readers: usize,
 ) -> Result<Rooms<N, I, O>, AllocError>
-    ensures { IfOk result (λ r. IsRoom callers ends tasks readers r) }
+    ensures { IfOk result (λ r. IsRoom callers outcomes tasks readers r) }
 {
     let callers = Vec::with_capacity(alloc, callers)?;
-    let closed = Vec::with_capacity(alloc, ends)?;
-    let pumps = Vec::with_capacity(alloc, ends)?;
-    let left = Vec::with_capacity(alloc, ends)?;
-    let ends = Vec::with_capacity(alloc, ends)?;
+    let closed = Vec::with_capacity(alloc, outcomes)?;
+    let pumps = Vec::with_capacity(alloc, outcomes)?;
+    let left = Vec::with_capacity(alloc, outcomes)?;
+    let outcomes = Vec::with_capacity(alloc, outcomes)?;
     let workers = Vec::with_capacity(alloc, tasks as usize)?;
     let readers = Vec::with_capacity(alloc, readers)?;
     let ended = Ended {
         callers,
         pumps,
-        ends,
+        outcomes,
         left,
     };
     Ok(Rooms {
@@ -100,7 +100,7 @@ pub(crate) fn close_all<N: Name, I: Read + Drop, O: Write + Drop>(
         (map (λ d. d.tool) closed.items ++ map (λ d. d.worker.caller) done.items
         ++ map (λ d. d.pump) closed.items ++ into_iter_items spare) result.0.callers.items
         result.0.locked.chapter result.0.locked.journal }
-    ensures back { GivesBack N.layout (map (λ d. d.end) closed.items) (map (λ d. d.left) closed.items)
+    ensures back { GivesBack N.layout (map (λ d. d.outcome) closed.items) (map (λ d. d.left) closed.items)
         (map (λ d. d.worker.reader) done.items ++ into_iter_items unused) result.0 }
     ensures cut { GivesChapters (chapters_of (map (λ d. d.worker) done.items)) result.0.chapters.items result.1 }
 {
@@ -128,7 +128,7 @@ fn put_together<N: Name, I: Read + Drop, O: Write + Drop>(
     ensures hung_up { HungUp ran.fault result.0.fault
         (ended.callers.items ++ map (λ w. w.caller) ran.workers.items
         ++ ended.pumps.items ++ into_iter_items spare) result.0.callers.items result.0.locked.chapter result.0.locked.journal }
-    ensures back { GivesBack N.layout ended.ends.items ended.left.items
+    ensures back { GivesBack N.layout ended.outcomes.items ended.left.items
         (map (λ w. w.reader) ran.workers.items ++ into_iter_items unused) result.0 }
     ensures cut { GivesChapters (chapters_of ran.workers.items) result.0.chapters.items result.1 }
 {
@@ -145,7 +145,7 @@ fn put_together<N: Name, I: Read + Drop, O: Write + Drop>(
         chapters,
         callers,
         readers,
-        ends: ended.ends,
+        outcomes: ended.outcomes,
         left: ended.left,
         fault,
     };

@@ -1,9 +1,8 @@
 //! A connection: a tool that is heard, a pump, and a sender, each in a thread of its own.
 ghost use Rattle.std.specs.Prelude.{◌≡◌, ◌≤◌, ◌+◌, [], vec_len, vec_capacity};
-ghost use Rattle.xcp_server.specs.ConnectionOutcome.{end_of};
-ghost use Rattle.xcp_server.specs.private.ConnectionOutcome.{AreOfOneOutlet, ClosedAs, IsClosingOf};
-ghost use Rattle.xcp_locked.specs.PairedLists.{EachFrom};
-ghost use Rattle.xcp_server.specs.private.PairedLists.{Each};
+ghost use Rattle.xcp_server.specs.ConnectionOutcome.{outcome_of};
+ghost use Rattle.xcp_server.specs.private.ConnectionParts.{AreOfOneOutlet, IsClosingOf};
+ghost use Rattle.std.specs.List.{AllByRecursion, AllZip};
 
 use crate::hearing::{Heard, Hearing};
 use crate::pumping::{Pumped, Pumping};
@@ -23,7 +22,7 @@ pub type Parted<N, I, O> = (Heard<N, I>, Pumped<N>, Wrote<O>);
 /// What there was of a connection at its end. Contracts alone see it: reader and writer were dropped
 /// there, which closes the connection, and this takes no memory.
 #[derive(Drop)]
-pub struct Left<I: Read + Drop, O: Write + Drop> {
+pub struct Gone<I: Read + Drop, O: Write + Drop> {
     pub reader: Snapshot<Watched<I>>,
     pub writer: Snapshot<Watched<O>>,
     /// What was put of answers.
@@ -40,11 +39,11 @@ pub struct Left<I: Read + Drop, O: Write + Drop> {
 pub struct Closed<N: Name, I: Read + Drop, O: Write + Drop> {
     pub tool: Caller<N>,
     pub pump: Caller<N>,
-    pub end: Result<Served, ServeError>,
+    pub outcome: Result<Served, ServeError>,
     pub heard: Result<Served, ServeError>,
     pub pumped: Result<u64, ServeError>,
     pub sent: Result<u64, SendError>,
-    pub left: Left<I, O>,
+    pub left: Gone<I, O>,
 }
 
 /// Puts together what came of the parts of each connection, for which there is room.
@@ -53,8 +52,8 @@ pub(crate) fn close_each<N: Name, I: Read + Drop, O: Write + Drop>(
     room: Vec<Closed<N, I, O>>,
 ) -> Vec<Closed<N, I, O>>
     requires room { (room.items ≡ []) × (vec_len parted ≤ vec_capacity room) }
-    requires one { Each AreOfOneOutlet parted.items }
-    ensures { EachFrom ClosedAs 0 parted.items result.items }
+    requires one { AllByRecursion AreOfOneOutlet parted.items }
+    ensures { AllZip IsClosingOf parted.items result.items }
 {
     let mut closed = room;
     for one in parted {
@@ -71,18 +70,18 @@ fn close<N: Name, I: Read + Drop, O: Write + Drop>(parted: Parted<N, I, O>) -> C
     let (heard, pumped, wrote) = parted;
     let Heard {
         caller: tool,
-        end: heard,
+        outcome: heard,
         reader,
         put: answers,
     } = heard;
     let Pumped {
         caller: pump,
-        end: pumped,
+        outcome: pumped,
         put: data,
     } = pumped;
     let Wrote { sent, writer } = wrote;
     let Sent { count, mut took } = sent;
-    let left = Left {
+    let left = Gone {
         reader,
         writer,
         replies: Snapshot::of(&answers),
@@ -94,7 +93,7 @@ fn close<N: Name, I: Read + Drop, O: Write + Drop>(parted: Parted<N, I, O>) -> C
     Closed {
         tool,
         pump,
-        end: how_it_ended(heard, pumped, count),
+        outcome: how_it_ended(heard, pumped, count),
         heard,
         pumped,
         sent: count,
@@ -108,7 +107,7 @@ fn how_it_ended(
     pumped: Result<u64, ServeError>,
     sent: Result<u64, SendError>,
 ) -> Result<Served, ServeError>
-    ensures { result ≡ end_of heard pumped sent }
+    ensures { result ≡ outcome_of heard pumped sent }
 {
     let served = heard?;
     if let Err(error) = pumped {

@@ -2,16 +2,16 @@
 ghost use Rattle.std.specs.Prelude.{◌≡◌, ◌≤◌, ◌+◌, ◌++◌, [], All, IfOk, None, map, length, vec_len, vec_capacity};
 ghost use Rattle.std.specs.Vec.Iter.{into_iter_items, into_iter_len};
 ghost use Rattle.xcp_server.specs.private.DealtCallers.{Dealt};
-ghost use Rattle.xcp_locked.specs.PairedLists.{EachFrom};
+ghost use Rattle.std.specs.List.{AllZip};
 ghost use Rattle.xcp_locked.specs.TaskOutcome.{chapters_of};
-ghost use Rattle.xcp_server.specs.private.ServerOutcome.{IsConnectionOf};
+ghost use Rattle.xcp_server.specs.private.ConnectionOf.{IsConnectionOf};
 ghost use Rattle.xcp_locked.specs.Excerpts.{HandsNone, way_of};
 ghost use Rattle.xcp_server.specs.private.WrittenChapters.{first_way};
 
 use crate::hearing::Hearing;
 use crate::pumping::Pumping;
 use crate::sending::Sending;
-use crate::{Closed, Connection, Left};
+use crate::{Closed, Connection, Gone};
 use std::alloc::{AllocError, Global};
 use std::io::{Read, Write};
 use std::sync::Mutex;
@@ -51,26 +51,26 @@ pub fn deal<'a, N: Name, G: Gate, I: Read + Drop, O: Write + Drop>(
     stops: &'a [AtomicBool],
     callers: Vec<Caller<N>>,
     readers: Vec<Reader<N>>,
-    ends: Vec<(Watched<I>, Watched<O>)>,
+    streams: Vec<(Watched<I>, Watched<O>)>,
     tasks: u8,
     cycles: u32,
     chapter: u32,
     limits: Limits,
     handing: Option<Handing>,
 ) -> Result<Duties<'a, N, G, I, O>, AllocError>
-    requires enough { vec_len ends + tasks + vec_len ends ≤ vec_len callers }
+    requires enough { vec_len streams + tasks + vec_len streams ≤ vec_len callers }
     requires few { (tasks ≤ 16) × (tasks ≤ vec_len readers) }
-    requires stops { length stops.now ≡ vec_len ends }
+    requires stops { length stops.now ≡ vec_len streams }
     requires handing { HandsNone handing × (tasks ≡ 0 → handing ≡ None) }
     ensures dealt { IfOk result (λ d. Dealt limits.max_cto limits.turns limits.pump_turns cycles chapter tasks
-        callers.items readers.items ends.items d) }
+        callers.items readers.items streams.items d) }
     ensures way { IfOk result (λ d. first_way d.tasks.items ≡ way_of handing) }
 {
     let mut spare = callers.into_iter();
     let mut unused = readers.into_iter();
-    let tools = next_callers(alloc, &mut spare, ends.len())?;
+    let tools = next_callers(alloc, &mut spare, streams.len())?;
     let workers = employ(alloc, &mut spare, &mut unused, tasks, handing)?;
-    let connections = connect(alloc, lock, stops, ends, tools, &mut spare, limits)?;
+    let connections = connect(alloc, lock, stops, streams, tools, &mut spare, limits)?;
     let tasks = number_tasks(alloc, lock, workers, cycles, chapter, gate)?;
     Ok(Duties {
         connections,
@@ -106,24 +106,24 @@ pub fn connect<'a, N: Name, I: Read + Drop, O: Write + Drop>(
     alloc: Global,
     lock: &'a Mutex<Locked<N>>,
     stops: &'a [AtomicBool],
-    ends: Vec<(Watched<I>, Watched<O>)>,
+    streams: Vec<(Watched<I>, Watched<O>)>,
     tools: Vec<Caller<N>>,
     pumps: &mut IntoIter<Caller<N>>,
     limits: Limits,
 ) -> Result<Vec<Connection<'a, N, I, O>>, AllocError>
-    requires tools { vec_len tools ≡ vec_len ends }
-    requires pumps { vec_len ends ≤ length (into_iter_items pumps.old) }
-    requires stops { length stops.now ≡ vec_len ends }
-    ensures each { IfOk result (λ cs. EachFrom
-        (IsConnectionOf limits.max_cto limits.turns limits.pump_turns) 0 ends.items cs.items) }
+    requires tools { vec_len tools ≡ vec_len streams }
+    requires pumps { vec_len streams ≤ length (into_iter_items pumps.old) }
+    requires stops { length stops.now ≡ vec_len streams }
+    ensures each { IfOk result (λ cs. AllZip
+        (IsConnectionOf limits.max_cto limits.turns limits.pump_turns) streams.items cs.items) }
     ensures tools { IfOk result (λ cs. map (λ c. c.0.caller) cs.items ≡ tools.items) }
     ensures dealt { IfOk result (λ cs.
         map (λ c. c.1.caller) cs.items ++ into_iter_items pumps.new ≡ into_iter_items pumps.old) }
 {
-    let mut connections = Vec::with_capacity(alloc, ends.len())?;
+    let mut connections = Vec::with_capacity(alloc, streams.len())?;
     let mut tools = tools.into_iter();
     let mut place = 0;
-    for end in ends {
+    for stream in streams {
         let Some(tool) = tools.next() else {
             unreachable!()
         };
@@ -131,7 +131,7 @@ pub fn connect<'a, N: Name, I: Read + Drop, O: Write + Drop>(
             unreachable!()
         };
         let stop = &stops[place];
-        connections.push_reserved(connection(alloc, lock, stop, end, tool, pump, limits)?);
+        connections.push_reserved(connection(alloc, lock, stop, stream, tool, pump, limits)?);
         place += 1;
     }
     Ok(connections)
@@ -142,16 +142,16 @@ fn connection<'a, N: Name, I: Read + Drop, O: Write + Drop>(
     alloc: Global,
     lock: &'a Mutex<Locked<N>>,
     stop: &'a AtomicBool,
-    end: (Watched<I>, Watched<O>),
+    stream: (Watched<I>, Watched<O>),
     tool: Caller<N>,
     pump: Caller<N>,
     limits: Limits,
 ) -> Result<Connection<'a, N, I, O>, AllocError>
-    ensures is { IfOk result (λ c. IsConnectionOf limits.max_cto limits.turns limits.pump_turns 0 end c) }
+    ensures is { IfOk result (λ c. IsConnectionOf limits.max_cto limits.turns limits.pump_turns stream c) }
     ensures tool { IfOk result (λ c. c.0.caller ≡ tool) }
     ensures pump { IfOk result (λ c. c.1.caller ≡ pump) }
 {
-    let (reader, writer) = end;
+    let (reader, writer) = stream;
     let (replies, samples, sender) = outlet(alloc)?;
     let hearing = Hearing {
         lock,
@@ -215,8 +215,8 @@ pub fn employ<N: Name>(
 pub struct Ended<N: Name, I: Read + Drop, O: Write + Drop> {
     pub callers: Vec<Caller<N>>,
     pub pumps: Vec<Caller<N>>,
-    pub ends: Vec<Result<Served, ServeError>>,
-    pub left: Vec<Left<I, O>>,
+    pub outcomes: Vec<Result<Served, ServeError>>,
+    pub left: Vec<Gone<I, O>>,
 }
 
 /// Takes what came of the connections apart.
@@ -225,12 +225,12 @@ pub fn take_apart<N: Name, I: Read + Drop, O: Write + Drop>(
     room: Ended<N, I, O>,
 ) -> Ended<N, I, O>
     requires empty { (room.callers.items ≡ []) × (room.pumps.items ≡ [])
-        × (room.ends.items ≡ []) × (room.left.items ≡ []) }
+        × (room.outcomes.items ≡ []) × (room.left.items ≡ []) }
     requires room { (vec_len closed ≤ vec_capacity room.callers) × (vec_len closed ≤ vec_capacity room.pumps)
-        × (vec_len closed ≤ vec_capacity room.ends) × (vec_len closed ≤ vec_capacity room.left) }
+        × (vec_len closed ≤ vec_capacity room.outcomes) × (vec_len closed ≤ vec_capacity room.left) }
     ensures callers { result.callers.items ≡ map (λ d. d.tool) closed.items }
     ensures pumps { result.pumps.items ≡ map (λ d. d.pump) closed.items }
-    ensures ends { result.ends.items ≡ map (λ d. d.end) closed.items }
+    ensures outcomes { result.outcomes.items ≡ map (λ d. d.outcome) closed.items }
     ensures left { result.left.items ≡ map (λ d. d.left) closed.items }
     ensures capacity { vec_capacity result.callers ≡ vec_capacity room.callers }
 {
@@ -238,7 +238,7 @@ pub fn take_apart<N: Name, I: Read + Drop, O: Write + Drop>(
     for one in closed {
         ended.callers.push_reserved(one.tool);
         ended.pumps.push_reserved(one.pump);
-        ended.ends.push_reserved(one.end);
+        ended.outcomes.push_reserved(one.outcome);
         ended.left.push_reserved(one.left);
     }
     ended

@@ -29,7 +29,7 @@ pub struct Hearing<'a, N: Name, I: Read + Drop> {
 #[derive(Drop)]
 pub struct Heard<N: Name, I: Read + Drop> {
     pub caller: Caller<N>,
-    pub end: Result<Served, ServeError>,
+    pub outcome: Result<Served, ServeError>,
     pub reader: Snapshot<Watched<I>>,
     pub put: Put,
 }
@@ -52,12 +52,12 @@ impl<'a, N: Name + Send + Sync, I: Read + Send + Drop> Work<Heard<N, I>> for Hea
         } = self;
         let mut tool = Tool::new(rt, lock, caller);
         let mut replies = WaitingEnd::new(rt, replies);
-        let end = serve_by(alloc, &mut reader, &mut replies, &mut tool, max_cto, turns);
+        let outcome = serve_by(alloc, &mut reader, &mut replies, &mut tool, max_cto, turns);
         lock.lock(rt).stop(stop);
         let put = replies.into_end().finish(rt);
         Heard {
             caller: tool.into_caller(),
-            end,
+            outcome,
             reader: Snapshot::of(&reader),
             put,
         }
@@ -72,7 +72,7 @@ impl<'a, N: Name + Send + Sync, I: Read + Send + Drop> Work<Heard<N, I>> for Hea
         } = self;
         Heard {
             caller,
-            end: Err(ServeError::Memory),
+            outcome: Err(ServeError::Memory),
             reader: Snapshot::of(&reader),
             put: replies.give_up(),
         }

@@ -24,7 +24,7 @@ mod timetable;
 mod tools;
 
 pub use closing::{Closing, settle_all};
-pub use connection::{Closed, Connection, Left, Parted};
+pub use connection::{Closed, Connection, Gone, Parted};
 pub use hearing::{Heard, Hearing};
 pub use laws::a_connection_ends_as_its_parts;
 pub use pumping::{Pumped, Pumping};

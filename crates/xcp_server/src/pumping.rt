@@ -22,7 +22,7 @@ pub struct Pumping<'a, N: Name> {
 #[derive(Drop)]
 pub struct Pumped<N: Name> {
     pub caller: Caller<N>,
-    pub end: Result<u64, ServeError>,
+    pub outcome: Result<u64, ServeError>,
     pub put: Put,
 }
 
@@ -41,11 +41,11 @@ impl<'a, N: Name + Send + Sync> Work<Pumped<N>> for Pumping<'a, N> {
         } = self;
         let mut tool = Tool::new(rt, lock, caller);
         let mut samples = WaitingEnd::new(rt, samples);
-        let end = pump(&mut tool, &mut samples, stop, turns);
+        let outcome = pump(&mut tool, &mut samples, stop, turns);
         let put = samples.into_end().finish(rt);
         Pumped {
             caller: tool.into_caller(),
-            end,
+            outcome,
             put,
         }
     }
@@ -58,7 +58,7 @@ impl<'a, N: Name + Send + Sync> Work<Pumped<N>> for Pumping<'a, N> {
         } = self;
         Pumped {
             caller,
-            end: Ok(0),
+            outcome: Ok(0),
             put: samples.give_up(),
         }
     }

@@ -1,10 +1,11 @@
 //! What is told at the end of a server.
 ghost use Rattle.std.specs.Prelude.{◌≡◌, ◌<◌, ◌-◌, ◌^◌, IfOk, MatchResult, min, sum_by, vec_len};
+ghost use Rattle.std.specs.Option.{option_or};
 ghost use Rattle.xcp_locked.specs.Caller.{accepted_by};
 ghost use Rattle.xcp_server.specs.ServerOutcome.{SameClosing};
-ghost use Rattle.xcp_server.specs.Report.{IsMismatch, IsReport, fault_of_end, fault_of_ends, fault_of_tasks, first_of, lost_by, lost_in};
+ghost use Rattle.xcp_server.specs.Report.{IsMismatch, IsReport, fault_of_outcome, fault_of_outcomes, fault_of_tasks, lost_by, lost_in};
 
-use crate::{Closing, Left, settle_all};
+use crate::{Closing, Gone, settle_all};
 use std::io::{Read, Write};
 use xcp_framing::{ServeError, Served};
 use xcp_locked::{Caller, Discord, Journal, Name, Receipts, TaskError};
@@ -35,7 +36,7 @@ pub struct Ending<I: Read + Drop, O: Write + Drop, S> {
     pub told: Result<Report, Fault>,
     /// The calls of the open chapter, in order, with their callers' numbers.
     pub journal: Journal,
-    pub left: Vec<Left<I, O>>,
+    pub left: Vec<Gone<I, O>>,
     pub scribe: S,
 }
 
@@ -50,7 +51,7 @@ pub fn conclude<N: Name, I: Read + Drop, O: Write + Drop>(
     ensures sum { IfOk result (λ r. r.calls ≡ sum_by accepted_by closing.old.callers.items) }
     ensures same { SameClosing closing.old closing.new }
 {
-    let fault = told_fault(&closing.ends, closing.fault);
+    let fault = told_fault(&closing.outcomes, closing.fault);
     match settle_all(closing) {
         Ok(calls) => Ok(Report {
             chapters: closing.chapters.len() as u64 + 1,
@@ -93,13 +94,13 @@ fn lost_of(receipts: &Receipts) -> u64
     lost
 }
 
-/// The fault that is told, of the ends of the connections and of what ended the tasks.
-fn told_fault(ends: &[Result<Served, ServeError>], tasks: Option<TaskError>) -> Option<Fault>
-    ensures { result ≡ first_of (fault_of_ends ends.now) (fault_of_tasks tasks) }
+/// The fault that is told, of the outcomes of the connections and of what ended the tasks.
+fn told_fault(outcomes: &[Result<Served, ServeError>], tasks: Option<TaskError>) -> Option<Fault>
+    ensures { result ≡ option_or (fault_of_outcomes outcomes.now) (fault_of_tasks tasks) }
 {
-    for end in ends {
-        if let Err(error) = end {
-            return Some(fault_of_end(error));
+    for outcome in outcomes {
+        if let Err(error) = outcome {
+            return Some(fault_of_outcome(error));
         }
     }
     match tasks {
@@ -110,8 +111,8 @@ fn told_fault(ends: &[Result<Served, ServeError>], tasks: Option<TaskError>) -> 
 }
 
 /// The fault that is told where a connection ended so.
-fn fault_of_end(error: &ServeError) -> Fault
-    ensures { result ≡ fault_of_end error.now }
+fn fault_of_outcome(error: &ServeError) -> Fault
+    ensures { result ≡ fault_of_outcome error.now }
 {
     match error {
         ServeError::Memory => Fault::Memory,

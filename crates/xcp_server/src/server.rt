@@ -1,12 +1,12 @@
 //! Connections and tasks of one slave, all at the same time.
 ghost use Rattle.std.specs.Prelude.{◌≡◌, ◌<◌, ◌≤◌, ◌+◌, [], IfOk, vec_len};
+ghost use Rattle.std.specs.List.{AllZip};
 ghost use Rattle.xcp_bank.specs.BankEnds.{six_readers};
 ghost use Rattle.xcp_locked.specs.Caller.{callers_of};
-ghost use Rattle.xcp_locked.specs.PairedLists.{EachFrom};
 ghost use Rattle.xcp_locked.specs.Publications.{image_of};
 ghost use Rattle.xcp_locked.specs.TaskOutcome.{DoneAs};
 ghost use Rattle.xcp_slave.specs.SlaveValue.{opening};
-ghost use Rattle.xcp_server.specs.ServerOutcome.{Closes, CountTheirCommands, PartedAs};
+ghost use Rattle.xcp_server.specs.ServerOutcome.{CameOf, Closes, CountTheirCommands};
 ghost use Rattle.xcp_server.specs.ServerEnd.{LeavesAll};
 ghost use Rattle.xcp_server.specs.private.ReadyServer.{IsReady};
 ghost use Rattle.xcp_server.specs.private.ServerRoom.{IsRoom};
@@ -48,7 +48,7 @@ pub fn run_server<
     rt: &R,
     alloc: Global,
     unnamed: Unnamed,
-    ends: Vec<(Watched<I>, Watched<O>)>,
+    streams: Vec<(Watched<I>, Watched<O>)>,
     tasks: u8,
     cycles: u32,
     chapter: u32,
@@ -60,15 +60,15 @@ pub fn run_server<
 ) -> Result<(Closing<N, I, O>, S), AllocError>
     requires name { (unnamed.name ≡ N.name) × (unnamed.callers ≡ N.parts)
         × (unnamed.layout ≡ N.layout) × (unnamed.bank ≡ N.bank) }
-    requires some { 0 < vec_len ends }
-    requires callers { vec_len ends + tasks + vec_len ends ≤ unnamed.callers }
+    requires some { 0 < vec_len streams }
+    requires callers { vec_len streams + tasks + vec_len streams ≤ unnamed.callers }
     requires readers { tasks ≤ 6 }
     requires scribe { S.wrote scribe [] }
     ensures closes { IfOk result (λ r. Closes I.remaining O.contents unnamed.layout G.may_end
         unnamed.layout.max_cto turns cycles chapter each_store tasks
         (callers_of unnamed.layout unnamed.callers)
-        (six_readers unnamed.bank (image_of (opening unnamed.layout))) ends.items r.0) }
-    ensures frames { IfOk result (λ r. CountTheirCommands r.0.ends.items r.0.callers.items) }
+        (six_readers unnamed.bank (image_of (opening unnamed.layout))) streams.items r.0) }
+    ensures frames { IfOk result (λ r. CountTheirCommands r.0.outcomes.items r.0.callers.items) }
     ensures leaves { IfOk result (λ r. LeavesAll unnamed.layout unnamed.callers (S.wrote r.1) r.0) }
 {
     let limits = Limits {
@@ -77,7 +77,7 @@ pub fn run_server<
         pump_turns,
     };
     let opening = Locked::<N>::new(alloc, unnamed)?;
-    let ready = prepare(alloc, opening, ends, tasks, each_store, scribe)?;
+    let ready = prepare(alloc, opening, streams, tasks, each_store, scribe)?;
     Ok(run_ready(
         rt, alloc, ready, gate, tasks, cycles, chapter, each_store, limits,
     )?)
@@ -89,7 +89,7 @@ pub struct Ready<N: Name, I: Read + Drop, O: Write + Drop, S: Scribe> {
     locked: Locked<N>,
     callers: Vec<Caller<N>>,
     readers: Vec<Reader<N>>,
-    ends: Vec<(Watched<I>, Watched<O>)>,
+    streams: Vec<(Watched<I>, Watched<O>)>,
     rooms: Rooms<N, I, O>,
     stops: Vec<AtomicBool>,
     handing: Option<Handing>,
@@ -109,7 +109,7 @@ type Opened<N, I, O> = (
 fn prepare<N: Name, I: Read + Drop, O: Write + Drop, S: Scribe>(
     alloc: Global,
     opening: Opening<N>,
-    ends: Vec<(Watched<I>, Watched<O>)>,
+    streams: Vec<(Watched<I>, Watched<O>)>,
     tasks: u8,
     each_store: bool,
     scribe: S,
@@ -117,17 +117,17 @@ fn prepare<N: Name, I: Read + Drop, O: Write + Drop, S: Scribe>(
     requires scribe { S.wrote scribe [] }
     ensures callers { IfOk result (λ r. r.callers.items ≡ opening.callers.items) }
     ensures readers { IfOk result (λ r. r.readers.items ≡ opening.readers) }
-    ensures ends { IfOk result (λ r. r.ends.items ≡ ends.items) }
+    ensures streams { IfOk result (λ r. r.streams.items ≡ streams.items) }
     ensures ready { IfOk result (λ r. IsReady tasks each_store r) }
 {
-    let opened = open(alloc, opening, ends.len(), tasks)?;
+    let opened = open(alloc, opening, streams.len(), tasks)?;
     let (handing, writing) = Writing::new(alloc, scribe, tasks, each_store)?;
     let (locked, callers, readers, stops, rooms) = opened;
     Ok(Ready {
         locked,
         callers,
         readers,
-        ends,
+        streams,
         rooms,
         stops,
         handing,
@@ -139,13 +139,13 @@ fn prepare<N: Name, I: Read + Drop, O: Write + Drop, S: Scribe>(
 fn open<N: Name, I: Read + Drop, O: Write + Drop>(
     alloc: Global,
     opening: Opening<N>,
-    ends: usize,
+    streams: usize,
     tasks: u8,
 ) -> Result<Opened<N, I, O>, AllocError>
     ensures callers { IfOk result (λ r. r.1.items ≡ opening.callers.items) }
     ensures readers { IfOk result (λ r. r.2.items ≡ opening.readers) }
-    ensures stops { IfOk result (λ r. vec_len r.3 ≡ ends) }
-    ensures rooms { IfOk result (λ r. IsRoom (vec_len r.1) ends tasks (vec_len r.2) r.4) }
+    ensures stops { IfOk result (λ r. vec_len r.3 ≡ streams) }
+    ensures rooms { IfOk result (λ r. IsRoom (vec_len r.1) streams tasks (vec_len r.2) r.4) }
 {
     let Opening {
         locked,
@@ -153,7 +153,7 @@ fn open<N: Name, I: Read + Drop, O: Write + Drop>(
         readers,
     } = opening;
     let readers = Vec::from_array(alloc, readers)?;
-    let (stops, rooms) = take_room(alloc, callers.len(), ends, tasks, readers.len())?;
+    let (stops, rooms) = take_room(alloc, callers.len(), streams, tasks, readers.len())?;
     Ok((locked, callers, readers, stops, rooms))
 }
 
@@ -161,15 +161,15 @@ fn open<N: Name, I: Read + Drop, O: Write + Drop>(
 fn take_room<N: Name, I: Read + Drop, O: Write + Drop>(
     alloc: Global,
     callers: usize,
-    ends: usize,
+    streams: usize,
     tasks: u8,
     readers: usize,
 ) -> Result<(Vec<AtomicBool>, Rooms<N, I, O>), AllocError>
-    ensures stops { IfOk result (λ r. vec_len r.0 ≡ ends) }
-    ensures rooms { IfOk result (λ r. IsRoom callers ends tasks readers r.1) }
+    ensures stops { IfOk result (λ r. vec_len r.0 ≡ streams) }
+    ensures rooms { IfOk result (λ r. IsRoom callers streams tasks readers r.1) }
 {
-    let stops = make_stops(alloc, ends)?;
-    let rooms = make_rooms(alloc, callers, ends, tasks, readers)?;
+    let stops = make_stops(alloc, streams)?;
+    let rooms = make_rooms(alloc, callers, streams, tasks, readers)?;
     Ok((stops, rooms))
 }
 
@@ -192,20 +192,20 @@ fn run_ready<
     each_store: bool,
     limits: Limits,
 ) -> Result<(Closing<N, I, O>, S), AllocError>
-    requires some { 0 < vec_len ready.ends }
-    requires enough { vec_len ready.ends + tasks + vec_len ready.ends ≤ vec_len ready.callers }
+    requires some { 0 < vec_len ready.streams }
+    requires enough { vec_len ready.streams + tasks + vec_len ready.streams ≤ vec_len ready.callers }
     requires few { (tasks ≤ 16) × (tasks ≤ vec_len ready.readers) }
     requires ready { IsReady tasks each_store ready }
     ensures closes { IfOk result (λ r. Closes I.remaining O.contents N.layout G.may_end
         limits.max_cto limits.turns cycles chapter each_store tasks
-        ready.callers.items ready.readers.items ready.ends.items r.0) }
+        ready.callers.items ready.readers.items ready.streams.items r.0) }
     ensures leaves { IfOk result (λ r. LeavesAll N.layout (vec_len ready.callers) (S.wrote r.1) r.0) }
 {
     let Ready {
         locked,
         callers,
         readers,
-        ends,
+        streams,
         rooms,
         stops,
         handing,
@@ -218,7 +218,8 @@ fn run_ready<
         spare,
         unused,
     } = deal(
-        alloc, &lock, gate, &stops, callers, readers, ends, tasks, cycles, chapter, limits, handing,
+        alloc, &lock, gate, &stops, callers, readers, streams, tasks, cycles, chapter, limits,
+        handing,
     )?;
     let (parted, done, writing) = run_all(rt, alloc, connections, tasks, writing)?;
     let closed = close_each(parted, rooms.closed);
@@ -269,8 +270,8 @@ fn run_all<
     writing: Writing<S>,
 ) -> Results<N, I, O, S>
     ensures parted { IfOk result (λ r.
-        EachFrom (PartedAs I.remaining O.contents) 0 connections.entry.items r.0.items) }
-    ensures worked { IfOk result (λ r. EachFrom (DoneAs N.layout G.may_end) 0 tasks.entry.items r.1.items) }
+        AllZip (CameOf I.remaining O.contents) connections.entry.items r.0.items) }
+    ensures worked { IfOk result (λ r. AllZip (DoneAs N.layout G.may_end) tasks.entry.items r.1.items) }
     ensures writing { IfOk result (λ r. relay_of r.2 ≡ relay_of writing) }
 {
     run_crews_and(rt, alloc, connections, tasks, writing)

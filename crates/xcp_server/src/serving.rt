@@ -40,7 +40,7 @@ pub fn serve_ends<
     rt: &R,
     alloc: Global,
     unnamed: Unnamed,
-    ends: Vec<(Watched<I>, Watched<O>)>,
+    streams: Vec<(Watched<I>, Watched<O>)>,
     tasks: u8,
     cycles: u32,
     chapter: u32,
@@ -48,15 +48,15 @@ pub fn serve_ends<
     periods: [u64; 6],
     scribe: S,
 ) -> Result<Ending<I, O, S>, Fault>
-    requires some { 0 < vec_len ends }
-    requires callers { vec_len ends + tasks + vec_len ends ≤ unnamed.callers }
+    requires some { 0 < vec_len streams }
+    requires callers { vec_len streams + tasks + vec_len streams ≤ unnamed.callers }
     requires readers { tasks ≤ 6 }
     requires scribe { S.wrote scribe [] }
     ensures served { MatchResult result (IsServed Brand I.remaining O.contents S.wrote unnamed.layout 1000000
-        cycles chapter each_store tasks unnamed.callers unnamed.bank ends.items) (λ f. f ≡ Fault.Memory) }
+        cycles chapter each_store tasks unnamed.callers unnamed.bank streams.items) (λ f. f ≡ Fault.Memory) }
 {
     serve_named::<Brand, I, O, S, R>(
-        rt, alloc, unnamed, ends, tasks, cycles, chapter, each_store, periods, scribe,
+        rt, alloc, unnamed, streams, tasks, cycles, chapter, each_store, periods, scribe,
     )
 }
 
@@ -71,7 +71,7 @@ fn serve_named<
     rt: &R,
     alloc: Global,
     unnamed: Unnamed,
-    ends: Vec<(Watched<I>, Watched<O>)>,
+    streams: Vec<(Watched<I>, Watched<O>)>,
     tasks: u8,
     cycles: u32,
     chapter: u32,
@@ -81,16 +81,16 @@ fn serve_named<
 ) -> Result<Ending<I, O, S>, Fault>
     requires name { (unnamed.name ≡ N.name) × (unnamed.callers ≡ N.parts)
         × (unnamed.layout ≡ N.layout) × (unnamed.bank ≡ N.bank) }
-    requires some { 0 < vec_len ends }
-    requires callers { vec_len ends + tasks + vec_len ends ≤ unnamed.callers }
+    requires some { 0 < vec_len streams }
+    requires callers { vec_len streams + tasks + vec_len streams ≤ unnamed.callers }
     requires readers { tasks ≤ 6 }
     requires scribe { S.wrote scribe [] }
     ensures served { MatchResult result (IsServed N I.remaining O.contents S.wrote unnamed.layout 1000000
-        cycles chapter each_store tasks unnamed.callers unnamed.bank ends.items) (λ f. f ≡ Fault.Memory) }
+        cycles chapter each_store tasks unnamed.callers unnamed.bank streams.items) (λ f. f ≡ Fault.Memory) }
 {
     let gate = Timetable::new(rt, periods);
     let Ok((mut closing, scribe)) = run_server::<N, _, _, _, S, _>(
-        rt, alloc, unnamed, ends, tasks, cycles, chapter, each_store, TURNS, PUMP_TURNS, &gate,
+        rt, alloc, unnamed, streams, tasks, cycles, chapter, each_store, TURNS, PUMP_TURNS, &gate,
         scribe,
     ) else {
         return Err(Fault::Memory);

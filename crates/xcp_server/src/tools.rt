@@ -14,19 +14,19 @@ pub type Tools = Vec<(Watched<TcpStream>, Watched<TcpStream>)>;
 /// which they connected. `Stream(0)` comes where one can't be accepted, `Memory` where an allocation
 /// fails.
 pub fn accept_tools(alloc: Global, listener: &TcpListener, tools: u8) -> Result<Tools, Fault>
-    ensures count { IfOk result (λ ends. vec_len ends ≡ tools) }
+    ensures count { IfOk result (λ streams. vec_len streams ≡ tools) }
     ensures refused { IfErr result (λ f. (f ≡ Fault.Memory) ⊎ (f ≡ Fault.Stream 0)) }
 {
-    let Ok(mut ends) = Vec::with_capacity(alloc, tools as usize) else {
+    let Ok(mut streams) = Vec::with_capacity(alloc, tools as usize) else {
         return Err(Fault::Memory);
     };
     for _tool in 0..tools {
-        let Ok(end) = accept_tool(listener) else {
+        let Ok(stream) = accept_tool(listener) else {
             return Err(Fault::Stream(0));
         };
-        ends.push_reserved(end);
+        streams.push_reserved(stream);
     }
-    Ok(ends)
+    Ok(streams)
 }
 
 /// The reader and the writer of the next tool that connects.

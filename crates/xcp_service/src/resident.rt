@@ -151,7 +151,7 @@ impl<N: Name, M: Route> Resident<N, M> {
         ensures history { reader.new.history ≡ reader.old.history }
         ensures held { reader.new.held ≡ reader.old.held }
         ensures same { self.new ≡ self.old }
-        ensures same_reader { (reader.new.bank ≡ reader.old.bank) × (reader.new.place ≡ reader.old.place) }
+        ensures same_reader { (reader.new.bank ≡ reader.old.bank) × (reader.new.index ≡ reader.old.index) }
     {
         self.locked.tell(reader);
     }

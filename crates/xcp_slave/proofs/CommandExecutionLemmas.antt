@@ -15,9 +15,9 @@ use Rattle.xcp_slave.specs.Outcomes.{Answer}
 use Rattle.xcp_slave.specs.declared.outcome.Outcome.TheVariants as answers
 use Rattle.xcp_slave.specs.SlaveValue.{SlaveValue, layout_of, noblock}
 use Rattle.xcp_slave.specs.Rows.{row}
-use Rattle.xcp_slave.specs.private.Rows.{TellsRow}
+use Rattle.xcp_slave.specs.private.TellsRow.{TellsRow}
 use Rattle.xcp_slave.specs.Step.{Executes, answer_of, found_by}
-use Rattle.xcp_slave.specs.private.AnswerInBytes.{answer_said}
+use Rattle.xcp_slave.specs.private.AnswerSaid.{answer_said}
 use Rattle.xcp_slave.proofs.LayoutKeptLemmas.{found_by-layout}
 
 -- whatever the command finds, a refusal leaves the slave without its block

@@ -23,9 +23,9 @@ use Rattle.xcp_packet.proofs.DecodingLaws.{exactly, decodes_total, spelling_begi
 use Rattle.xcp_slave.specs.Outcomes.{Answer}
 use Rattle.xcp_slave.specs.declared.outcome.Outcome.TheVariants as answers
 use Rattle.xcp_slave.specs.SlaveValue.{SlaveValue, layout_of, noblock}
-use Rattle.xcp_slave.specs.private.Rows.{TellsRow}
+use Rattle.xcp_slave.specs.private.TellsRow.{TellsRow}
 use Rattle.xcp_slave.specs.Step.{AnswersPacket, Executes, Heeds, Ignores, found_by, is_connect}
-use Rattle.xcp_slave.specs.private.AnswerInBytes.{answer_said}
+use Rattle.xcp_slave.specs.private.AnswerSaid.{answer_said}
 use Rattle.xcp_slave.specs.private.ExecuteByCode.{TellsCoded, heeded}
 use Rattle.xcp_slave.proofs.CommandExecutionLemmas.{obeyed}
 

@@ -87,9 +87,9 @@ fired v channel signals a w k =
     (λ m. record { ways = inr (outbox-of v w m.1, inr (inr m.0)) })
 
 -- the same of what waits
-quiet-event : (v : SlaveValue) (channel : ℕ) (signals : ArrayVec ℕ) (x a : Answer) (w : SlaveValue) → w.outbox ≡ v.outbox → a ≡ x → put_in v (requests.Event channel signals) x ≡ [] → Queues v (requests.Event channel signals) a w
+empty-event : (v : SlaveValue) (channel : ℕ) (signals : ArrayVec ℕ) (x a : Answer) (w : SlaveValue) → w.outbox ≡ v.outbox → a ≡ x → put_in v (requests.Event channel signals) x ≡ [] → Queues v (requests.Event channel signals) a w
 unfolding Queues
-quiet-event v channel signals x a w e f n = e ∙ nothing-put v ∙ ap (λ (o : List (ArrayVec ℕ)). v.outbox ++ o) (sym n) ∙ ap (λ (b : Answer). v.outbox ++ put_in v (requests.Event channel signals) b) (sym f)
+empty-event v channel signals x a w e f n = e ∙ nothing-put v ∙ ap (λ (o : List (ArrayVec ℕ)). v.outbox ++ o) (sym n) ∙ ap (λ (b : Answer). v.outbox ++ put_in v (requests.Event channel signals) b) (sym f)
 
 fires-queue : (v : SlaveValue) (channel : ℕ) (signals : ArrayVec ℕ) (a : Answer) (w : SlaveValue) → Answers v (requests.Event channel signals) a w → Queues v (requests.Event channel signals) a w
 unfolding Queues
@@ -97,10 +97,10 @@ fires-queue v channel signals a w k =
     elim (fired v channel signals.items a w k).ways [
       | inl s ↦ s.1 ∙ ap (λ (b : Answer). v.outbox ++ put_in v (requests.Event channel signals) b) (sym s.0)
       | inr s ↦ elim s.1 [
-        | inl o ↦ quiet-event v channel signals answers.Overrun a w s.0 o.0 refl
+        | inl o ↦ empty-event v channel signals answers.Overrun a w s.0 o.0 refl
         | inr o ↦ elim o [
-          | inl b ↦ quiet-event v channel signals answers.BadSignals a w s.0 b refl
-          | inr b ↦ quiet-event v channel signals answers.NoChannel a w s.0 b refl
+          | inl b ↦ empty-event v channel signals answers.BadSignals a w s.0 b refl
+          | inr b ↦ empty-event v channel signals answers.NoChannel a w s.0 b refl
         ]
       ]
     ]

@@ -1,6 +1,7 @@
 -- What runs keep.
 use Rattle.std.proofs.Common.{◌≡◌, ◌≢◌, ℕ, zero, suc, ◌+◌, ◌<◌, Bool, true, false, List, [], ◌∷◌, length, get_or, map, slice_set, Option, None, Result, Ok, Err, ap, sym, ◌∙◌, refl, subst, arith, inl, inr, nat_le, nat_lt, All, Some, ◌-◌, slice_index, ◌≤◌}
 use Rattle.std.specs.Prelude.{◌==◌, not, ◌||◌, ◌&&◌, ◌⊎◌, if◌then◌else◌}
+use Rattle.std.specs.Option.{option_or}
 use Rattle.std.proofs.lemmas.Bool.Decides.{nat_tests}
 use Rattle.std.proofs.lemmas.List.{get_or-set_other, get_or-map, length-replicate}
 use Rattle.std.proofs.lemmas.List.Elements.{All-replicate}
@@ -26,13 +27,13 @@ use Rattle.xcp_slave.specs.Rows.{row}
 use Rattle.xcp_slave.specs.Step.{Answers, Heeds, Drains, Samples, Fires, outbox_size, with_signals, found_by, is_connect}
 use Rattle.xcp_slave.specs.Run.{Run}
 use Rattle.xcp_slave.specs.SlaveInvariant.{IsSlave, IsOfBytes}
-use Rattle.xcp_slave.specs.MemoryEffects.{IsSteady, IsQuiet, SameMemory, Write, Puts, Follows, byte_of, or_else, last_at, IsLeft}
+use Rattle.xcp_slave.specs.MemoryEffects.{IsSteady, IsEventless, SameMemory, Write, Puts, Follows, byte_of, last_at, IsLeft}
 use Rattle.xcp_slave.proofs.StepLaws.{either}
 use Rattle.xcp_slave.proofs.ListInvariantLemmas.{none-holds, differs}
 use Rattle.xcp_slave.proofs.TransferInvariantLemmas.{none-refused}
 use Rattle.xcp_slave.proofs.SlaveInvariantLaws.{answers-kept, found-kept, opening-slave}
 use Rattle.xcp_slave.proofs.PageLaws.{set-keeps}
-use Rattle.xcp_slave.proofs.WriteLaws.{Touches, same-memory, row-touches, page-kept, quiet-touches, step-writes, writes-of, found-pages}
+use Rattle.xcp_slave.proofs.WriteLaws.{Touches, same-memory, row-touches, page-kept, eventless-touches, step-writes, writes-of, found-pages}
 
 -- the first page of a segment
 abbrev first : SegmentPages → List ℕ
@@ -142,7 +143,7 @@ page-segments p q i k e =
     record { page = ap (λ (s : SegmentPages). get_or s.pages k []) same; ecu = ap (λ (s : SegmentPages). s.ecu) same; xcp = ap (λ (s : SegmentPages). s.xcp) same }
 
 page-step : (v : SlaveValue) (q : Request) (a : Answer) (w : SlaveValue) (i k : ℕ) → IsSteady q → IsSlave v → k ≢ (segment_at v.transfer.pages i).xcp → Answers v q a w → KeepsPage v.transfer.pages w.transfer.pages i k
-page-step v (requests.Command p) a w i k s h apart r = page-touched v.transfer.pages w.transfer.pages i k h.transfer.layout h.transfer.pages apart (quiet-touches v (requests.Command p) a w s h r)
+page-step v (requests.Command p) a w i k s h apart r = page-touched v.transfer.pages w.transfer.pages i k h.transfer.layout h.transfer.pages apart (eventless-touches v (requests.Command p) a w s h r)
 page-step v (requests.Event channel signals) a w i k s h apart r = page-segments v.transfer.pages w.transfer.pages i k (fires-segments channel signals.items v a w r)
 page-step v requests.Drain a w i k s h apart r = page-segments v.transfer.pages w.transfer.pages i k (drains-segments v.outbox v a w r)
 page-step v requests.FinishStore a w i k s h apart r = absurd s
@@ -178,7 +179,7 @@ same-follows p q r [] h k = same-trans p q r h k
 same-follows p q r (x ∷ ws) h k = (k.0, k.1, same-trans p q k.0 h k.2, k.3, k.4)
 
 -- without a switch, a copy, a store and an event, what a run leaves is its writes, one after another
-pub run-puts : (v : SlaveValue) (xs : List Exchange) (w : SlaveValue) → IsSlave v → All (λ (x : Exchange). IsOfBytes x.request) xs → All (λ (x : Exchange). IsQuiet x.request) xs → Run v xs w → (ws : List Write) × Puts v xs ws w × Follows v.transfer.pages ws w.transfer.pages
+pub run-puts : (v : SlaveValue) (xs : List Exchange) (w : SlaveValue) → IsSlave v → All (λ (x : Exchange). IsOfBytes x.request) xs → All (λ (x : Exchange). IsEventless x.request) xs → Run v xs w → (ws : List Write) × Puts v xs ws w × Follows v.transfer.pages ws w.transfer.pages
 run-puts v [] w h b s r = ([], (refl, r), subst (λ (y : SlaveValue). SameMemory v.transfer.pages y.transfer.pages) (sym r) (same-memory v.transfer.pages))
 run-puts v (x ∷ xs) w h b s r =
     let next = answers-kept v x.request x.answer r.0 (b zero x (omega arith)) h r.1 in
@@ -222,12 +223,12 @@ write-by p q x b false w e =
 write-left : (p q : PagesValue) (x : Write) (b : ℕ) → Writes p x.address x.bytes q → IsLeft (byte_of x b) p q b
 write-left p q x b w = write-by p q x b (nat_le x.address b && nat_lt b (x.address + length x.bytes)) w refl
 
-both-left : (later sooner : Option ℕ) (p q r : PagesValue) (b : ℕ) → IsLeft sooner p q b → IsLeft later q r b → IsLeft (or_else later sooner) p r b
+both-left : (later sooner : Option ℕ) (p q r : PagesValue) (b : ℕ) → IsLeft sooner p q b → IsLeft later q r b → IsLeft (option_or later sooner) p r b
 both-left (Some y) sooner p q r b h k = k
 both-left None (Some y) p q r b h k = (k y).0 h
 both-left None None p q r b h k = λ y. (λ t. (k y).0 ((h y).0 t), λ t. (h y).1 ((k y).1 t))
 
-or-none : (o : Option ℕ) → or_else o None ≡ o
+or-none : (o : Option ℕ) → option_or o None ≡ o
 or-none (Some y) = refl
 or-none None = refl
 

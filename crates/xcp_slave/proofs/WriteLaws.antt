@@ -42,7 +42,7 @@ use Rattle.xcp_slave.specs.SlaveValue.{SlaveValue, layout_of, noblock, ended}
 use Rattle.xcp_slave.specs.Rows.{row}
 use Rattle.xcp_slave.specs.Step.{Answers, Heeds, Executes, Drains, answer_of, sent_reply, found_by, is_connect}
 use Rattle.xcp_slave.specs.SlaveInvariant.{IsSlave}
-use Rattle.xcp_slave.specs.MemoryEffects.{IsQuiet, SameMemory, Write, PutBy, IsPut, IsStill, IsWrite}
+use Rattle.xcp_slave.specs.MemoryEffects.{IsEventless, SameMemory, Write, PutBy, IsPut, IsStill, IsWrite}
 use Rattle.xcp_slave.proofs.StepLaws.{either}
 use Rattle.xcp_slave.proofs.ListInvariantLemmas.{none-holds, is_below, differs}
 use Rattle.xcp_slave.proofs.TransferInvariantLemmas.{none-refused, none-behind, outside, unprotected}
@@ -270,28 +270,28 @@ drains-still [] v a w k = still v v w k.1 refl
 drains-still (p ∷ rest) v a w k = still v (record v { outbox = rest }) w k.1 refl
 
 -- without switch, copy, store and event
-quiet-steps : (v : SlaveValue) (q : Request) (a : Answer) (w : SlaveValue) → IsQuiet q → IsSlave v → Answers v q a w → Steps v q a w
+eventless-steps : (v : SlaveValue) (q : Request) (a : Answer) (w : SlaveValue) → IsEventless q → IsSlave v → Answers v q a w → Steps v q a w
 unfolding Steps
-quiet-steps v (requests.Command p) a w q h k = heeds-steps v p k.0 a w q.0 q.1 h k.1 k.2
-quiet-steps v (requests.Event channel signals) a w q h k = absurd q
-quiet-steps v requests.Drain a w q h k = inl (drains-still v.outbox v a w k)
-quiet-steps v requests.FinishStore a w q h k = absurd q
-quiet-steps v requests.Hangup a w q h k = inl (still v (ended v) w k.1 refl)
+eventless-steps v (requests.Command p) a w q h k = heeds-steps v p k.0 a w q.0 q.1 h k.1 k.2
+eventless-steps v (requests.Event channel signals) a w q h k = absurd q
+eventless-steps v requests.Drain a w q h k = inl (drains-still v.outbox v a w k)
+eventless-steps v requests.FinishStore a w q h k = absurd q
+eventless-steps v requests.Hangup a w q h k = inl (still v (ended v) w k.1 refl)
 
 -- a step without a switch, a copy, a store and an event leaves the memory as it was, or does one write
-pub quiet-touches : (v : SlaveValue) (q : Request) (a : Answer) (w : SlaveValue) → IsQuiet q → IsSlave v → Answers v q a w → Touches v.transfer.pages w.transfer.pages
+pub eventless-touches : (v : SlaveValue) (q : Request) (a : Answer) (w : SlaveValue) → IsEventless q → IsSlave v → Answers v q a w → Touches v.transfer.pages w.transfer.pages
 unfolding Steps
-quiet-touches v q a w quiet h k = elim (quiet-steps v q a w quiet h k) [ inl s ↦ inl s | inr x ↦ inr x.0 ]
+eventless-touches v q a w eventless h k = elim (eventless-steps v q a w eventless h k) [ inl s ↦ inl s | inr x ↦ inr x.0 ]
 
 -- the relation of what is written
 pub writes-of : (p q : PagesValue) → IsLayout p.layout → IsPages p → (x : Written p q) → Writes p x.write.address x.write.bytes q
 writes-of p q l g x = (tool_is_written p q x.write.address x.write.bytes l g x.allowed).1 x.after
 
 -- such a step leaves the memory, or is the one write that its command asks for, and is told to be done
-pub step-writes : (v : SlaveValue) (q : Request) (a : Answer) (w : SlaveValue) → IsQuiet q → IsSlave v → Answers v q a w → IsStill v w ⊎ ((x : Write) × IsWrite v q a w x)
+pub step-writes : (v : SlaveValue) (q : Request) (a : Answer) (w : SlaveValue) → IsEventless q → IsSlave v → Answers v q a w → IsStill v w ⊎ ((x : Write) × IsWrite v q a w x)
 unfolding Steps
-step-writes v q a w quiet h k =
-    elim (quiet-steps v q a w quiet h k) [
+step-writes v q a w eventless h k =
+    elim (eventless-steps v q a w eventless h k) [
       | inl s ↦ inl s
       | inr x ↦ inr (x.0.write, record { put = x.1; writes = writes-of v.transfer.pages w.transfer.pages h.transfer.layout h.transfer.pages x.0; told = x.2 })
     ]

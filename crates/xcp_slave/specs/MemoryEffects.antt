@@ -1,5 +1,6 @@
 -- Which requests write, switch, copy or store, and what the others keep of the memory.
 use Rattle.std.specs.Prelude.{◌≡◌, ◌≢◌, ◌↔◌, ◌⊎◌, ℕ, ◌+◌, ◌-◌, ◌&&◌, nat_le, nat_lt, List, [], ◌∷◌, ◌++◌, take, length, slice_index, Option, Some, None, if◌then◌else◌}
+use Rattle.std.specs.Option.{option_or}
 use Rattle.xcp_packet.specs.ByteOrder.{double_at, double_bytes}
 use Rattle.xcp_packet.specs.CommandSpelling.{spells}
 use Rattle.xcp_packet.specs.declared.Command.{Command}
@@ -24,9 +25,9 @@ IsSteady requests.FinishStore = ⊥
 IsSteady _ = Unit {0}
 
 -- nor an event, which brings new signals
-abbrev pub IsQuiet : Request → Type 0
-IsQuiet (requests.Event channel signals) = ⊥
-IsQuiet q = IsSteady q
+abbrev pub IsEventless : Request → Type 0
+IsEventless (requests.Event channel signals) = ⊥
+IsEventless q = IsSteady q
 
 -- nor a write (DOWNLOAD, F0, DOWNLOAD_NEXT, EF, DOWNLOAD_MAX, EE, SHORT_DOWNLOAD, ED, MODIFY_BITS, EC)
 pub record IsNoWrite (packet : List ℕ) : Type 0 where
@@ -38,7 +39,7 @@ pub record IsNoWrite (packet : List ℕ) : Type 0 where
 
 abbrev pub IsReading : Request → Type 0
 IsReading (requests.Command packet) = (slice_index packet.items 0 ≢ 0xEB) × (slice_index packet.items 0 ≢ 0xE4) × IsNoWrite packet.items
-IsReading q = IsQuiet q
+IsReading q = IsEventless q
 
 -- the same bytes on the same pages of both sides
 pub record SameMemory (p q : PagesValue) : Type 0 where
@@ -100,14 +101,10 @@ Follows p (x ∷ xs) q = (mid : PagesValue) × (next : PagesValue) × SameMemory
 abbrev pub byte_of : Write → ℕ → Option ℕ
 byte_of x b = if nat_le x.address b && nat_lt b (x.address + length x.bytes) then Some (slice_index x.bytes (b - x.address)) else None
 
-abbrev pub or_else : Option ℕ → Option ℕ → Option ℕ
-or_else (Some y) o = Some y
-or_else None o = o
-
 -- the last byte that these writes put at an address, if one does
 abbrev pub last_at : List Write → ℕ → Option ℕ
 last_at [] b = None
-last_at (x ∷ xs) b = or_else (last_at xs b) (byte_of x b)
+last_at (x ∷ xs) b = option_or (last_at xs b) (byte_of x b)
 
 -- what the tool has at an address in q: this byte, or what stood there in p
 abbrev pub IsLeft : Option ℕ → PagesValue → PagesValue → ℕ → Type 0

@@ -1,7 +1,7 @@
 //! What comes of a request.
 ghost use Rattle.std.specs.Prelude.{◌≡◌, ◌≢◌, MatchBool};
 ghost use Rattle.xcp_slave.specs.AnswerInBytes.{answer_in};
-ghost use Rattle.xcp_slave.specs.private.AnswerInBytes.{answer_said};
+ghost use Rattle.xcp_slave.specs.private.AnswerSaid.{answer_said};
 
 use xcp_packet::{Fault, Order, Packet, Sent, Train, Width, write_fault};
 

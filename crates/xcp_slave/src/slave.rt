@@ -239,7 +239,7 @@ impl Slave {
         }
     }
 
-    #[tactic(auto, unfolding(crate::specs::private::Rows::TellsRow))]
+    #[tactic(auto, unfolding(crate::specs::private::TellsRow::TellsRow))]
     fn execute(&mut self, bytes: &[u8], packet: &mut Packet) -> Handled
         requires some { 0 < length bytes.now }
         requires most { length bytes.now ≤ 255 }

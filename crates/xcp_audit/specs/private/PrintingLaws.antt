@@ -22,7 +22,7 @@ longer : (old new : Option (List ℕ)) (xs ys : List ℕ) → AppendsFront old n
 longer old new xs ys h = record {
   written = h.written;
   grown = h.grown;
-  front = record { rest = h.front.rest ++ ys; joined = sym (append_assoc h.written h.front.rest ys) ∙ ap (λ z. z ++ ys) h.front.joined };
+  front = (h.front.0 ++ ys, sym (append_assoc h.written h.front.0 ys) ∙ ap (λ z. z ++ ys) h.front.1);
 }
 
 -- and so is a text with a front of the next
@@ -30,7 +30,7 @@ behind : (a b c : Option (List ℕ)) (xs ys : List ℕ) → Appends a b xs → A
 behind a b c xs ys p q = record {
   written = xs ++ q.written;
   grown = appends_more a b c xs q.written p q.grown;
-  front = record { rest = q.front.rest; joined = append_assoc xs q.written q.front.rest ∙ ap (λ z. xs ++ z) q.front.joined };
+  front = (q.front.0, append_assoc xs q.written q.front.0 ∙ ap (λ z. xs ++ z) q.front.1);
 }
 
 from_more : (s t u : Option Trouble) (a b c : Stand) (xs ys : List ℕ) → PrintsFrom s t a b xs → PrintsFrom t u b c ys → PrintsFrom s u a c (xs ++ ys)

@@ -6,7 +6,8 @@ use Rattle.pin_core.specs.CurrentWord.{head_of}
 use Rattle.pin_core.specs.State.{PinState, reader}
 use Rattle.pin_core.specs.Effects.{looking, pinning, leaving}
 use Rattle.xcp_bank.specs.PinHistory.{Deed, Grows, Ran, looked_at, pinned_at, given_up, has_read}
-use Rattle.xcp_bank.specs.SeatKnowledge.{Begins, AllBegin, Reading, Known, one_reader}
+use mathlib.Core.List.{IsPrefix}
+use Rattle.xcp_bank.specs.SeatKnowledge.{AllBegin, Reading, Known, one_reader}
 use Rattle.xcp_bank.specs.TableRule.{IsNumbered}
 
 abbrev pub Seat : Type 0
@@ -20,7 +21,7 @@ reader_plays after st m n m' = (r : ℕ) (x : Reading) → m.0 ≡ one_reader r 
 -- and the writer's history, where that was told to it.
 pub record Reaches (r : ℕ) (x : Reading) (before : List Deed) : Type 0 where
   pub grows : Grows (suc r) x.history before x.pending
-  pub heard : Begins x.heard before
+  pub heard : IsPrefix x.heard before
 
 -- What a Look or a Pin finds in word 0, and the publications there are then: all that it had seen, and perhaps more.
 pub record Finds (r : ℕ) (x : Reading) (n index : ℕ) (list : List (List ℕ)) (before : List Deed) : Type 0 where
@@ -29,7 +30,7 @@ pub record Finds (r : ℕ) (x : Reading) (n index : ℕ) (list : List (List ℕ)
   pub buffer : index < 8
   pub head : n ≡ head_of index count
   pub some : 0 < length list
-  pub begins : Begins x.list list
+  pub begins : IsPrefix x.list list
   pub pasts : AllBegin x.past list
   pub reaches : Reaches r x before
 

@@ -1,24 +1,16 @@
 -- What a seat knows that is cut in two, or joined with another.
-use Rattle.std.specs.Prelude.{ℕ, List, [], ◌∷◌, ◌++◌, length, Option, Some, None}
+use Rattle.std.specs.Prelude.{ℕ, List, [], ◌∷◌, ◌++◌, length, take, drop, Option, Some, None}
 use Rattle.pin_core.specs.Effects.{looking}
 use Rattle.xcp_bank.specs.PinHistory.{looked_at}
 use Rattle.xcp_bank.specs.SeatKnowledge.{Reading, Writing, Known}
 
 -- The first reader is cut off.
 
-abbrev pub others_of : List (ℕ × Reading) → List (ℕ × Reading)
-others_of [] = []
-others_of (y ∷ ys) = ys
-
-abbrev pub first_of : List (ℕ × Reading) → List (ℕ × Reading)
-first_of [] = []
-first_of (y ∷ ys) = y ∷ []
-
 abbrev pub without_first : Known → Known
-without_first v = record { readers = others_of v.readers; writer = v.writer }
+without_first v = record { readers = drop 1 v.readers; writer = v.writer }
 
 abbrev pub only_first : Known → Known
-only_first v = record { readers = first_of v.readers; writer = None }
+only_first v = record { readers = take 1 v.readers; writer = None }
 
 -- A reader is joined with the writer, which is a Look: it has seen all that is published, what it had seen before is past, and it has
 -- heard the writer's history.

@@ -10,8 +10,9 @@ use Rattle.xcp_bank.specs.private.ReaderSteps.{Reaches, Looked, Pinned, UpToDate
 use Rattle.xcp_bank.specs.TableRule.{IsNumbered}
 use Rattle.xcp_bank.specs.Images.{image_of}
 use Rattle.xcp_bank.specs.private.WriterSteps.{WriterUpToDate}
-use Rattle.xcp_bank.specs.SeatKnowledge.{Begins, AllBegin, Reading, Writing, Known, one_reader}
-use Rattle.xcp_bank.specs.private.SeatKnowledge.{the_writer, everybody}
+use mathlib.Core.List.{IsPrefix}
+use Rattle.xcp_bank.specs.SeatKnowledge.{AllBegin, Reading, Writing, Known, one_reader}
+use Rattle.xcp_bank.specs.private.Everybody.{the_writer, everybody}
 
 -- The seat is of this bank, and stands for the reader r, which is as x says.
 pub record IsReaderSeat (seat : Seat (Unit {0}) Known) (bank : TableId) (r : ℕ) (x : Reading) : Type 0 where
@@ -73,7 +74,7 @@ WordReadAt buffer k word r x y = (p : ℕ) → x.pins.held ≡ Some (buffer, p) 
 pub record Acquired (taken : Taken) (buffer : ℕ) (r : ℕ) (x y : Reading) : Type 0 where
   pub low : buffer < 8
   pub some : 0 < length y.list
-  pub begins : Begins x.list y.list
+  pub begins : IsPrefix x.list y.list
   pub pasts : AllBegin x.past y.list
   pub settled : y.past ≡ []
   pub held : y.pins.held ≡ Some (buffer, length y.list - 1)
@@ -81,7 +82,7 @@ pub record Acquired (taken : Taken) (buffer : ℕ) (r : ℕ) (x y : Reading) : T
   pub here : y.pins.gone ≡ false
   pub placed : y.pending ≡ []
   pub heard_is : y.heard ≡ x.heard
-  pub heard : Begins x.heard y.history
+  pub heard : IsPrefix x.heard y.history
   pub up_to_date : UpToDate 256 r y
   pub deeds : List Deed
   pub did : Does (suc r) x.history x.pending y.history y.pending deeds
@@ -102,7 +103,7 @@ pub record HasRead (k n p : ℕ) (r : ℕ) (x y : Reading) : Type 0 where
   pub follows : Follows 256 r x → Follows 256 r y
   pub numbered : 0 < n → IsNumbered 256 p (slice_index_or x.list p [])
   pub pasts : 0 < n → AllBegin x.past x.list
-  pub heard : 0 < n → Begins x.heard y.history
+  pub heard : 0 < n → IsPrefix x.heard y.history
   pub did : Does (suc r) x.history x.pending y.history y.pending (reads_of r (slice_index_or x.list p []) k n)
 
 -- Reads of the n words from word k on of what is held, behind others, while bytes are read from the byte `at` of an image on: the bytes

@@ -7,7 +7,7 @@ use Rattle.pin_core.specs.State.{PinState}
 use Rattle.pin_core.specs.Effects.{scanning, resetting, writing, publishing}
 use Rattle.xcp_bank.specs.PinHistory.{Deed, Grows, Ran, has_scanned, has_reset, has_written, has_published}
 use Rattle.xcp_bank.specs.SeatKnowledge.{Writing}
-use Rattle.xcp_bank.specs.private.SeatKnowledge.{the_writer}
+use Rattle.xcp_bank.specs.private.Everybody.{the_writer}
 use Rattle.xcp_bank.specs.private.ReaderSteps.{Seat}
 
 -- A step of the seat that stands for the writer.

@@ -29,7 +29,7 @@ impl Model for View {
 pub struct Pins;
 
 impl TableRule<(), View, [u64; 256]> for Pins {
-    ghost use Rattle.xcp_bank.specs.private.SeatKnowledge.{everybody};
+    ghost use Rattle.xcp_bank.specs.private.Everybody.{everybody};
     ghost use Rattle.xcp_bank.specs.TableRule.{Banked};
 
     ghost holds = { λ _ t. Banked 256 t };

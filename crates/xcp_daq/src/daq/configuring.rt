@@ -3,7 +3,7 @@ ghost use Rattle.std.specs.Prelude.{◌≡◌, ◌<◌, ◌≤◌, length, map, 
 ghost use Rattle.xcp_memory.specs.FirstRefusal.{Checks};
 ghost use Rattle.xcp_daq.specs.DaqLists.{list_at, with_list};
 ghost use Rattle.xcp_daq.specs.Configuring.{clear_daq_list_refusal, clear_daq_list_after, set_daq_ptr_refusal, set_daq_ptr_after, write_daq_refusal, write_daq_after, written_at, moved_on, read_daq_refusal, read_daq_reply, read_daq_after, set_daq_list_mode_refusal, set_daq_list_mode_after};
-ghost use Rattle.xcp_daq.specs.private.Configuring.{element_refusal};
+ghost use Rattle.xcp_daq.specs.private.ElementRefusal.{element_refusal};
 
 use super::Daq;
 use crate::element::lies_inside;

@@ -3,7 +3,7 @@ ghost use Rattle.std.specs.Prelude.{◌≡◌, ◌≤◌, ◌<◌, All, ◌+◌,
 ghost use Rattle.xcp_daq.specs.DaqInvariant.{IsEntry, IsList};
 ghost use Rattle.xcp_daq.specs.Sample.{sampled, list_packets, after_event};
 ghost use Rattle.xcp_daq.specs.Pools.{joined, list_of, lists_of};
-ghost use Rattle.xcp_daq.specs.private.Pools.{counted_mode};
+ghost use Rattle.xcp_daq.specs.private.SplicedPools.{counted_mode};
 
 use super::Daq;
 use crate::mode::{Mode, NEW_LIST};

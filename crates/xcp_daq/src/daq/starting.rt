@@ -3,7 +3,7 @@ ghost use Rattle.std.specs.Prelude.{◌≡◌, ◌<◌, ◌≤◌, ◌&&◌, All
 ghost use Rattle.std.specs.List.{list_any};
 ghost use Rattle.xcp_memory.specs.FirstRefusal.{Checks};
 ghost use Rattle.xcp_daq.specs.DaqLists.{first_pid, list_at, any_large, odt_size};
-ghost use Rattle.xcp_daq.specs.private.Pools.{synchronised_mode};
+ghost use Rattle.xcp_daq.specs.private.SplicedPools.{synchronised_mode};
 ghost use Rattle.xcp_daq.specs.Starting.{start_stop_daq_list_refusal, start_stop_daq_list_after, start_stop_synch_refusal, start_stop_synch_after};
 
 use super::Daq;

@@ -2,7 +2,7 @@
 ghost use Rattle.std.specs.Prelude.{◌≡◌, ℕ, ◌<◌, ◌≤◌, ◌+◌, [], None, length, take, drop, slice_index_or as get_or};
 ghost use Rattle.xcp_daq.specs.DaqLists.{any_large, odt_size};
 ghost use Rattle.xcp_daq.specs.Pools.{joined, parts};
-ghost use Rattle.xcp_daq.specs.private.Pools.{total};
+ghost use Rattle.xcp_daq.specs.private.SplicedPools.{total};
 
 use super::Odts;
 use crate::Element;

@@ -5,7 +5,7 @@ ghost use Rattle.arrayvec.specs.ArrayVec.{array_vec_len};
 ghost use Rattle.xcp_daq.specs.DaqLists.{entry_size, odt_size};
 ghost use Rattle.xcp_daq.specs.DaqInvariant.{IsEntry};
 ghost use Rattle.xcp_daq.specs.Pools.{joined, parts};
-ghost use Rattle.xcp_daq.specs.private.Pools.{total};
+ghost use Rattle.xcp_daq.specs.private.SplicedPools.{total};
 ghost use Rattle.xcp_daq.specs.Sample.{element_bytes, entry_bytes, odt_bytes, packet_of, packets_from};
 
 use super::Odts;

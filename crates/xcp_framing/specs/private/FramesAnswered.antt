@@ -7,15 +7,15 @@ use Rattle.xcp_framing.specs.declared.serving.ServeError.{ServeError}
 use Rattle.xcp_framing.specs.declared.serving.ServeError.TheVariants as errors
 use Rattle.xcp_framing.specs.Serve.{AnswersSoFar, Writes}
 use Rattle.xcp_framing.specs.ServeRefusal.{OnRefusal, Refused, AsksNext}
-use Rattle.xcp_framing.specs.private.FrameOutput.{FrameWriterValue, output}
-use Rattle.xcp_framing.specs.private.ServeParts.{Grows}
+use Rattle.xcp_framing.specs.FrameOutput.{FrameWriterValue, output}
+use Rattle.xcp_framing.specs.private.GrowingOutput.{Grows}
 use Rattle.xcp_framing.specs.private.AnsweredStream.{Stand}
 
 -- Packets were answered, up to the interruption that ended it: by which exchanges, whose frames were gathered; whether a write
 -- failed; and the request that the station refused, if it did.
 pub record AnswersInFrames {S K O : Type 0} (exchanges_of : S → List Exchange) (refuses : S → Request → StationError → Type 0) (frames_of : K → FrameWriterValue) (contents_of : O → Option (List ℕ)) (failures_of : O → ℕ) (result : Result (Unit {0}) ServeError) (packets : List (List ℕ)) (old new : Stand S K O) : Type 0 where
   pub grows : Grows result (AnswersSoFar result packets) (exchanges_of old.station) (exchanges_of new.station) (output (contents_of old.out) (frames_of old.state)) (output (contents_of new.out) (frames_of new.state)) (frames_of old.state).sent (frames_of new.state).sent
-  pub quiet : result ≢ Err errors.Write → failures_of new.out ≡ failures_of old.out
+  pub unfailed : result ≢ Err errors.Write → failures_of new.out ≡ failures_of old.out
   pub write : result ≡ Err errors.Write → failures_of old.out < failures_of new.out
   pub dropped : result ≡ Err errors.Write → (frames_of new.state).held ≡ []
   pub refused : OnRefusal result (λ e. Refused exchanges_of refuses e (AsksNext packets) (exchanges_of old.station) new.station)

@@ -3,7 +3,7 @@
 use Rattle.std.specs.Prelude.{◌≡◌, ◌<◌, ◌⊎◌, ℕ, ◌+◌, length, take, drop, List, [], ◌∷◌, ◌++◌, Option, Some, None, ◌==◌, if◌then◌else◌}
 use Rattle.xcp_slave.specs.declared.Exchange.{Exchange}
 use Rattle.xcp_slave.specs.declared.Request.{Request}
-use Rattle.xcp_framing.specs.Prefix.{IsFront}
+use mathlib.Core.List.{IsPrefix}
 use Rattle.xcp_script.specs.Lines.{HasNoFeed, without_return, unless_empty}
 use Rattle.xcp_script.specs.declared.liner.Lined.{Lined}
 use Rattle.xcp_script.specs.declared.liner.Lined.TheVariants as lineds
@@ -64,7 +64,7 @@ pub record LastUntold (old new : List Exchange) : Type 0 where
   pub earlier : List Exchange
   pub last : Exchange
   pub joined : new ≡ earlier ++ last ∷ []
-  pub kept : (text : List ℕ) → IsFront text (answers_text old) → IsFront text (answers_text earlier)
+  pub kept : (text : List ℕ) → IsPrefix text (answers_text old) → IsPrefix text (answers_text earlier)
 
 -- where memory is short, in some lines of a script
 abbrev pub ShortOf : List Request → List Exchange → List Exchange → Type 0

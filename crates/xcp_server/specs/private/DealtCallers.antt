@@ -1,5 +1,6 @@
 -- Callers that were dealt to connections and tasks.
 use Rattle.std.specs.Prelude.{◌≡◌, ℕ, List, [], ◌++◌, map, length, All}
+use Rattle.std.specs.List.{AllZip}
 use Rattle.std.specs.Vec.Iter.{into_iter_items}
 use Rattle.xcp_bank.specs.BankEnds.{ReaderEnd}
 use Rattle.xcp_framing.specs.CountedCalls.{Watched}
@@ -8,12 +9,12 @@ use Rattle.xcp_locked.specs.declared.worker.Worker.{Worker}
 use Rattle.xcp_locked.specs.Caller.{CallerValue}
 use Rattle.xcp_locked.specs.PairedLists.{EachFrom}
 use Rattle.xcp_locked.specs.TaskOutcome.{IsTaskOf}
-use Rattle.xcp_server.specs.private.ServerOutcome.{IsConnectionOf}
+use Rattle.xcp_server.specs.private.ConnectionOf.{IsConnectionOf}
 
 -- The first of these callers have a connection for each reader and writer, the next a task each, the next a pump for each
 -- connection, and the others are spare. The first of these readers have a task each too. No task has cut a chapter yet.
-pub record Dealt {N G I O : Type 0} (m turns pumps cycles chapter tasks : ℕ) (callers : List CallerValue) (readers : List ReaderEnd) (ends : List (Watched I × Watched O)) (d : Duties N G I O) : Type 0 where
-  pub connections : EachFrom (IsConnectionOf m turns pumps) 0 ends d.connections.items
+pub record Dealt {N G I O : Type 0} (m turns pumps cycles chapter tasks : ℕ) (callers : List CallerValue) (readers : List ReaderEnd) (streams : List (Watched I × Watched O)) (d : Duties N G I O) : Type 0 where
+  pub connections : AllZip (IsConnectionOf m turns pumps) streams d.connections.items
   pub workers : List (Worker N)
   pub hired : length workers ≡ tasks
   pub fresh : All (λ (w : Worker N). w.chapters.items ≡ []) workers

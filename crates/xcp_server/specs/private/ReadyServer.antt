@@ -8,9 +8,9 @@ use Rattle.xcp_server.specs.declared.server.Ready.{Ready}
 -- All that takes memory is there for so many tasks.
 pub record IsReady {N I O S : Type 0} (tasks : ℕ) (each_store : Bool) (r : Ready N I O S) : Type 0 where
   -- there is room for all that is given back
-  pub rooms : IsRoom (vec_len r.callers) (vec_len r.ends) tasks (vec_len r.readers) r.rooms
+  pub rooms : IsRoom (vec_len r.callers) (vec_len r.streams) tasks (vec_len r.readers) r.rooms
   -- each connection has a stop
-  pub stops : vec_len r.stops ≡ vec_len r.ends
+  pub stops : vec_len r.stops ≡ vec_len r.streams
   -- no excerpt was handed in yet, and without tasks there is nobody to do it
   pub handing : HandsNone r.handing × (tasks ≡ 0 → r.handing ≡ None)
   -- excerpts go to those who write them down

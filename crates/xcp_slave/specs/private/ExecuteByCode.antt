@@ -9,7 +9,7 @@ use Rattle.xcp_packet.specs.declared.Sent.{Sent}
 use Rattle.xcp_packet.specs.declared.Fault.{Fault}
 use Rattle.xcp_packet.specs.declared.Fault.TheVariants as faults
 use Rattle.xcp_slave.specs.SlaveValue.{SlaveValue, noblock}
-use Rattle.xcp_slave.specs.private.Rows.{TellsRow}
+use Rattle.xcp_slave.specs.private.TellsRow.{TellsRow}
 use Rattle.xcp_slave.specs.Step.{found_by}
 
 -- whether a packet is heeded by a slave that is connected, or isn't

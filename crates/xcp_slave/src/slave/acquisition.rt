@@ -1,7 +1,7 @@
 //! The commands that configure and start DAQ lists, and those that ask for them.
-#![tactic(auto, unfolding(crate::specs::private::Rows::TellsRow))]
+#![tactic(auto, unfolding(crate::specs::private::TellsRow::TellsRow))]
 
-ghost use Rattle.xcp_slave.specs.private.Rows.{TellsRow};
+ghost use Rattle.xcp_slave.specs.private.TellsRow.{TellsRow};
 
 use super::{Handled, Slave};
 use xcp_daq::Daq;

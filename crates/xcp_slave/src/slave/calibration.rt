@@ -1,7 +1,7 @@
 //! The commands that move the tool's bytes: SET_MTA, uploads, BUILD_CHECKSUM, downloads.
-#![tactic(auto, unfolding(crate::specs::private::Rows::TellsRow))]
+#![tactic(auto, unfolding(crate::specs::private::TellsRow::TellsRow))]
 
-ghost use Rattle.xcp_slave.specs.private.Rows.{TellsRow};
+ghost use Rattle.xcp_slave.specs.private.TellsRow.{TellsRow};
 
 use super::{Handled, Slave};
 use xcp_packet::{Code, Command, Fault, Packet};

@@ -1,8 +1,8 @@
 //! The commands of pages: SET_CAL_PAGE, GET_CAL_PAGE, GET_PAG_PROCESSOR_INFO, GET_SEGMENT_INFO,
 //! GET_PAGE_INFO, SET_SEGMENT_MODE, GET_SEGMENT_MODE, COPY_CAL_PAGE, SET_REQUEST.
-#![tactic(auto, unfolding(crate::specs::private::Rows::TellsRow))]
+#![tactic(auto, unfolding(crate::specs::private::TellsRow::TellsRow))]
 
-ghost use Rattle.xcp_slave.specs.private.Rows.{TellsRow};
+ghost use Rattle.xcp_slave.specs.private.TellsRow.{TellsRow};
 
 use super::{Handled, Slave};
 use crate::PageProperties;

@@ -1,7 +1,7 @@
 //! The commands of a session: CONNECT, DISCONNECT, GET_STATUS, SYNCH, GET_COMM_MODE_INFO, GET_ID.
-#![tactic(auto, unfolding(crate::specs::private::Rows::TellsRow))]
+#![tactic(auto, unfolding(crate::specs::private::TellsRow::TellsRow))]
 
-ghost use Rattle.xcp_slave.specs.private.Rows.{TellsRow};
+ghost use Rattle.xcp_slave.specs.private.TellsRow.{TellsRow};
 
 use super::{Handled, Slave};
 use crate::SessionStatus;

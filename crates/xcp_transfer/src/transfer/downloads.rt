@@ -3,7 +3,7 @@
 ghost use Rattle.std.specs.Prelude.{◌≡◌, ◌≤◌, ◌<◌, length, None};
 ghost use Rattle.xcp_packet.specs.Rows.{Tells};
 ghost use Rattle.xcp_transfer.specs.Downloads.{download_row, download_next_row, download_max_row, short_download_row, packet_room, greatest_download};
-ghost use Rattle.xcp_transfer.specs.private.Downloads.{write_row};
+ghost use Rattle.xcp_transfer.specs.private.WriteRow.{write_row};
 ghost use Rattle.xcp_transfer.specs.TransferValue.{response_room, without_block};
 
 use super::Transfer;

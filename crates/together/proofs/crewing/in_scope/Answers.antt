@@ -1,5 +1,5 @@
 use Rattle.std.proofs.Common.{rules, ◌≡◌, vec_len, length, slice_index_or, ap, sym, ◌∙◌, subst, arith}
-use Rattle.together.specs.private.Crews.{CrewStands}
+use Rattle.together.specs.private.StandingCrews.{CrewStands}
 use Rattle.together.proofs.crewing.in_scope.Goals as goal
 
 pub returns-then-both-clause-crews : goal.returns-then-both-clause-crews

@@ -1,7 +1,7 @@
 use Rattle.std.specs.Prelude.{◌≡◌, ◌+◌, get_or, vec_items, vec_len}
 use Rattle.std.specs.Vec.Iter.{into_iter_items}
 use Rattle.std.proofs.Common.{rules, suc, arith, below_more, ap, sym, ◌∙◌, subst}
-use Rattle.together.specs.private.Crews.{KeepsCrewAt}
+use Rattle.together.specs.private.StandingCrews.{KeepsCrewAt}
 use Rattle.together.proofs.crews.join_crews.Goals as goal
 
 -- The crew that is joined stood first among the rest, so it is the one at the next place.

@@ -1,7 +1,7 @@
 use Rattle.std.specs.Prelude.{◌≡◌, ◌+◌, get_or, vec_items, vec_len}
 use Rattle.std.specs.Vec.Iter.{into_iter_items}
 use Rattle.std.proofs.Common.{rules, arith, below_more, sym, subst}
-use Rattle.together.specs.private.Crews.{CrewStands}
+use Rattle.together.specs.private.StandingCrews.{CrewStands}
 use Rattle.together.proofs.crews.start_crews.Goals as goal
 
 -- The crew that gets its threads stood first among the rest, so it is the one at the next place.

@@ -1,6 +1,6 @@
 use Rattle.std.specs.Prelude.{◌≡◌, ℕ, ◌+◌, ◌<◌, ◌≤◌, get_or, vec_items, vec_len, vec_capacity}
 use Rattle.std.specs.Vec.Iter.{into_iter_items, into_iter_len}
-use Rattle.together.specs.private.Crews.{CrewStands}
+use Rattle.together.specs.private.StandingCrews.{CrewStands}
 use Rattle.together.proofs.crews.start_crews.Given as goal
 
 abbrev pub invariant-loop-crew : goal.invariant-loop-crew

@@ -14,7 +14,7 @@ returns-in-Some-Write g c =
     let trouble : c.print_end.new.printer.trouble ≡ Some Write = search rules in
     record {
       ends = inr (prints_audit c.args.config.now c.digest-digest.result c.args.layout c.in-Ok.slave _ _ c.args.lines (stand_of g.W.Write.contents c.args.printer.now) (stand_of g.W.Write.contents said.new.printer) (stand_of g.W.Write.contents c.print_end.new.printer) said.result _
-          digested c.in-Ok.ensures said.ensures.audits said.ensures.settles (record { failed = said.ensures.failed; quiet = said.ensures.quiet }) c.print_end.ensures (sym (ap (λ t. answer_after t said.result) trouble)));
+          digested c.in-Ok.ensures said.ensures.audits said.ensures.settles (record { failed = said.ensures.failed; unfailed = said.ensures.unfailed }) c.print_end.ensures (sym (ap (λ t. answer_after t said.result) trouble)));
     }
 
 pub returns-in-Some-Memory : goal.returns-in-Some-Memory
@@ -24,7 +24,7 @@ returns-in-Some-Memory g c =
     let trouble : c.print_end.new.printer.trouble ≡ Some Memory = search rules in
     record {
       ends = inr (prints_audit c.args.config.now c.digest-digest.result c.args.layout c.in-Ok.slave _ _ c.args.lines (stand_of g.W.Write.contents c.args.printer.now) (stand_of g.W.Write.contents said.new.printer) (stand_of g.W.Write.contents c.print_end.new.printer) said.result _
-          digested c.in-Ok.ensures said.ensures.audits said.ensures.settles (record { failed = said.ensures.failed; quiet = said.ensures.quiet }) c.print_end.ensures (sym (ap (λ t. answer_after t said.result) trouble)));
+          digested c.in-Ok.ensures said.ensures.audits said.ensures.settles (record { failed = said.ensures.failed; unfailed = said.ensures.unfailed }) c.print_end.ensures (sym (ap (λ t. answer_after t said.result) trouble)));
     }
 
 pub returns-in-None : goal.returns-in-None
@@ -34,5 +34,5 @@ returns-in-None g c =
     let trouble : c.print_end.new.printer.trouble ≡ None = search rules in
     record {
       ends = inr (prints_audit c.args.config.now c.digest-digest.result c.args.layout c.in-Ok.slave _ _ c.args.lines (stand_of g.W.Write.contents c.args.printer.now) (stand_of g.W.Write.contents said.new.printer) (stand_of g.W.Write.contents c.print_end.new.printer) said.result c.verdict_of.result
-          digested c.in-Ok.ensures said.ensures.audits said.ensures.settles (record { failed = said.ensures.failed; quiet = said.ensures.quiet }) c.print_end.ensures (c.verdict_of.ensures ∙ sym (ap (λ t. answer_after t said.result) trouble)));
+          digested c.in-Ok.ensures said.ensures.audits said.ensures.settles (record { failed = said.ensures.failed; unfailed = said.ensures.unfailed }) c.print_end.ensures (c.verdict_of.ensures ∙ sym (ap (λ t. answer_after t said.result) trouble)));
     }

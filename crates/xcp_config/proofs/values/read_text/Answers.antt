@@ -6,7 +6,7 @@ use Rattle.xcp_packet.proofs.RowTestLemmas.{holding_left}
 use Rattle.xcp_memory.specs.Limits.{text_limit}
 use Rattle.xcp_config.specs.TomlValues.{text_of}
 use Rattle.xcp_config.specs.TableChecks.{limit_check, text_checks}
-use Rattle.xcp_config.specs.private.TableChecks.{text_there}
+use Rattle.xcp_config.specs.private.TextThere.{text_there}
 use Rattle.xcp_config.proofs.values.read_text.Goals as goal
 
 pub returns-in_err-text-clause-refused : goal.returns-in_err-text-clause-refused

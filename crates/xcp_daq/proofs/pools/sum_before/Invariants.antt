@@ -1,5 +1,5 @@
 use Rattle.std.proofs.Common.{◌≡◌, take}
-use Rattle.xcp_daq.specs.private.Pools.{total}
+use Rattle.xcp_daq.specs.private.SplicedPools.{total}
 use Rattle.xcp_daq.proofs.pools.sum_before.Given as goal
 
 abbrev pub invariant-loop-k : goal.invariant-loop-k

@@ -1,7 +1,7 @@
 use Rattle.std.proofs.Common.{◌≡◌, ◌++◌, map}
 use Rattle.toml.specs.View.{members_view}
 use Rattle.xcp_describe.specs.UnreadKeys.{unread_members}
-use Rattle.xcp_describe.specs.private.UnreadKeys.{keys_of}
+use Rattle.xcp_describe.specs.private.TableKeys.{keys_of}
 use Rattle.xcp_describe.proofs.unread.gather_keys.Given as goal
 
 abbrev pub invariant-keys : goal.invariant-keys

@@ -2,7 +2,7 @@ use Rattle.std.proofs.Common.{◌≡◌, ◌++◌, map, drop}
 use Rattle.std.specs.List.{flat_map}
 use Rattle.toml.specs.View.{view}
 use Rattle.xcp_describe.specs.UnreadKeys.{unread_of}
-use Rattle.xcp_describe.specs.private.UnreadKeys.{keys_of}
+use Rattle.xcp_describe.specs.private.TableKeys.{keys_of}
 use Rattle.xcp_describe.proofs.unread.gather_members.Given as goal
 
 abbrev pub invariant-loop-i : goal.invariant-loop-i

@@ -1,5 +1,5 @@
 use Rattle.std.proofs.Common.{◌≡◌, ◌≤◌, ◌+◌, ◌*◌, length}
-use Rattle.xcp_framing.specs.private.Serve.{most_packets}
+use Rattle.xcp_framing.specs.private.MostPackets.{most_packets}
 use Rattle.xcp_framing.proofs.AnsweredStreamLemmas.{Along}
 use Rattle.xcp_framing.proofs.passage.answer_stream.Given as goal
 

@@ -1,5 +1,5 @@
 use Rattle.std.proofs.Common.{◌≤◌, ◌*◌, Ok}
-use Rattle.xcp_framing.specs.private.Pump.{PumpsHeld}
+use Rattle.xcp_framing.specs.private.HeldPump.{PumpsHeld}
 use Rattle.xcp_framing.proofs.pumping.pump_turns.Given as goal
 
 abbrev pub invariant-loop-turn : goal.invariant-loop-turn

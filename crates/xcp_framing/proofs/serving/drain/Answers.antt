@@ -3,7 +3,7 @@ use Rattle.xcp_slave.specs.declared.Exchange.{Exchange}
 use Rattle.xcp_slave.specs.declared.Request.TheVariants as requests
 use Rattle.xcp_slave.specs.AnswerInBytes.{answer_in}
 use Rattle.xcp_framing.specs.Serve.{packet_of}
-use Rattle.xcp_framing.specs.private.ServeParts.{fine}
+use Rattle.xcp_framing.specs.private.GrowingOutput.{fine}
 use Rattle.xcp_framing.proofs.ExchangeLemmas.{grows_more, grows_sent, passed_on, drains_one}
 use Rattle.xcp_framing.proofs.serving.drain.Goals as goal
 
@@ -25,5 +25,5 @@ loop-drain-preserved g c =
           (grows_sent fine x c.in_ok-told.ensures.ok c.in_ok-send_told.ensures.sends c.in_ok-send_told.ensures.counts)
           (drains_one c.loop-drain._drain x refl gave);
       bound = omega (arith, c.in_ok-send_told.ensures.most, c.loop-drain.invariant.bound);
-      quiet = c.in_ok-send_told.ensures.fine ∙ c.loop-drain.invariant.quiet;
+      unfailed = c.in_ok-send_told.ensures.fine ∙ c.loop-drain.invariant.unfailed;
     }

@@ -3,7 +3,7 @@ use Rattle.xcp_slave.specs.declared.Exchange.{Exchange}
 use Rattle.xcp_slave.specs.declared.Request.TheVariants as requests
 use Rattle.xcp_slave.specs.AnswerInBytes.{answer_in}
 use Rattle.xcp_framing.specs.Serve.{refused_with}
-use Rattle.xcp_framing.specs.private.ServeParts.{fine}
+use Rattle.xcp_framing.specs.private.GrowingOutput.{fine}
 use Rattle.xcp_framing.proofs.ExchangeLemmas.{grows_more, grows_sent, grows_refused, passed_on, answers_none, answers_one}
 use Rattle.xcp_framing.proofs.ServeRefusalLemmas.{on_refusal, on_refusal_all, refused_command, refused_more, asks_drain}
 use Rattle.xcp_framing.proofs.serving.exchange.Goals as goal

@@ -30,5 +30,5 @@ pub pieces-preserved : goal.pieces-preserved
 pieces-preserved g c = record {
   part = part_more_sent c.cut.new.packet.items (block_packets c.args.width c.in-Some.rest.now) c.pieces.invariant.part c.in-Some.ensures.cut c.in_ok-send-in-Some.ensures.sends c.in_ok-send-in-Some.ensures.counts;
   short = omega (arith, c.in-Some.ensures.less, c.pieces.invariant.short);
-  quiet = c.in_ok-send-in-Some.ensures.fine ∙ c.pieces.invariant.quiet;
+  unfailed = c.in_ok-send-in-Some.ensures.fine ∙ c.pieces.invariant.unfailed;
 }

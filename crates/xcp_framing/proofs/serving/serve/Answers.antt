@@ -24,8 +24,8 @@ returns-in_default-new-clause-serves g c = serves_memory _ _ _ _
 pub returns-clause-serves : goal.returns-clause-serves
 returns-clause-serves g c = serves_of _ _ _ _ _ _ _ _ _ _ _ c.answer_stream.ensures.streams (rw (c.in-Ok-new.ensures) refl) (rw (c.in-Ok-new.ensures) refl) c.answer_stream.ensures.rests c.answer_stream.ensures.sent
 
-pub returns-clause-write_quiet : goal.returns-clause-write_quiet
-returns-clause-write_quiet g c = λ other. c.answer_stream.ensures.streams.answered.quiet (λ is. other (write_of _ is))
+pub returns-clause-write_unfailed : goal.returns-clause-write_unfailed
+returns-clause-write_unfailed g c = λ other. c.answer_stream.ensures.streams.answered.unfailed (λ is. other (write_of _ is))
 
 pub returns-clause-refused : goal.returns-clause-refused
 returns-clause-refused g c = refuses_of _ _ _ _ _ _ _ _ _ _ _ _ c.answer_stream.ensures.streams

@@ -1,6 +1,6 @@
 use Rattle.std.proofs.Common.{◌≡◌, ◌+◌, ◌∙◌, sym, length, subst, refl}
 use Rattle.std.proofs.lemmas.List.{get_or_default}
-use Rattle.xcp_locked.specs.private.Chapters.{no_chapter}
+use Rattle.xcp_locked.specs.private.NoChapter.{no_chapter}
 use Rattle.xcp_locked.proofs.JoiningLemmas.{AreFirst, first_more}
 use Rattle.xcp_locked.proofs.joining.check_joined.Goals as goal
 

@@ -1,7 +1,7 @@
 use Rattle.std.proofs.Common.{length, ap, sym, ◌∙◌, arith}
-use Rattle.xcp_locked.specs.TaskOutcome.{or_else}
+use Rattle.std.specs.Option.{option_or}
 use Rattle.xcp_locked.proofs.PairedListLemmas.{turn, map_more}
-use Rattle.xcp_locked.proofs.TaskOutcomeLemmas.{first_fault-more, or_else_stays}
+use Rattle.xcp_locked.proofs.TaskOutcomeLemmas.{first_fault-more, first_stays}
 use Rattle.xcp_locked.proofs.running.collect_workers.Goals as goal
 
 pub loop-one-preserved-in-None-fault : goal.loop-one-preserved-in-None-fault
@@ -17,7 +17,7 @@ loop-one-preserved-in-None-fault g c =
       omega (arith, short, gone, was.1),
       omega (arith, gone, pushed, room, was.2),
       map_more (λ d. d.worker) at.yielded c.in-Some.one _ _ was.3 c.push_reserved.ensures.items,
-      sym (first_fault-more at.yielded c.in-Some.one ∙ ap (λ z. or_else z c.in-Some.one.fault) (sym was.4 ∙ c.in-None-fault.is)),
+      sym (first_fault-more at.yielded c.in-Some.one ∙ ap (λ z. option_or z c.in-Some.one.fault) (sym was.4 ∙ c.in-None-fault.is)),
     )
 
 pub loop-one-preserved : goal.loop-one-preserved
@@ -33,5 +33,5 @@ loop-one-preserved g c =
       omega (arith, short, gone, was.1),
       omega (arith, gone, pushed, room, was.2),
       map_more (λ d. d.worker) at.yielded c.in-Some.one _ _ was.3 c.push_reserved.ensures.items,
-      sym (first_fault-more at.yielded c.in-Some.one ∙ (ap (λ z. or_else z c.in-Some.one.fault) (sym was.4) ∙ or_else_stays at.fault c.in-Some.one.fault c.in_default.not-None)),
+      sym (first_fault-more at.yielded c.in-Some.one ∙ (ap (λ z. option_or z c.in-Some.one.fault) (sym was.4) ∙ first_stays at.fault c.in-Some.one.fault c.in_default.not-None)),
     )

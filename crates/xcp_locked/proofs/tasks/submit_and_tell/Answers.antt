@@ -17,7 +17,7 @@ returns-in-Ok-clause-told g c =
     let locked = c.submit.new.self in
     let reader = c.tell.new.reader in
     let asked = ap (λ (r : Receipt). r.request) s.receipt in
-    let look = looked_at c.args.reader.now.place locked.writer.current in
+    let look = looked_at c.args.reader.now.index locked.writer.current in
     record {
       call = call;
       added = ap (λ (x : CallerValue). x.receipts) s.caller;

@@ -1,5 +1,6 @@
 use Rattle.std.proofs.Common.{rules, ◌≡◌, length, arith, subst, sym}
-use Rattle.xcp_bank.specs.SeatKnowledge.{AllBegin, Begins}
+use mathlib.Core.List.{IsPrefix}
+use Rattle.xcp_bank.specs.SeatKnowledge.{AllBegin}
 use Rattle.xcp_locked.proofs.TaskImageLaws.{newest, took_image}
 use Rattle.xcp_locked.proofs.tasks.take_image.Goals as goal
 
@@ -11,7 +12,7 @@ returns-clause-took g c =
 
 pub returns-clause-seen : goal.returns-clause-seen
 returns-clause-seen g c = (
-  subst (λ s. Begins c.args.reader.now.seen s) (sym c.read.ensures.same.1) c.acquire.ensures.knows.seen,
+  subst (λ s. IsPrefix c.args.reader.now.seen s) (sym c.read.ensures.same.1) c.acquire.ensures.knows.seen,
   subst (λ s. AllBegin c.args.reader.now.past s) (sym c.read.ensures.same.1) c.acquire.ensures.knows.past,
 )
 

@@ -4,7 +4,7 @@ use Rattle.clap.specs.Words.{App, HasKind, Kinds, Row, Text, fault_of, kind_of, 
 use Rattle.clap.specs.declared.error.Error.{Error}
 use Rattle.clap.specs.declared.error.kind.ErrorKind.TheVariants.{OutOfMemory}
 use Rattle.xcp_program.specs.CommandLine.{Asks, AsksTooMany, IsMistake, program}
-use Rattle.xcp_program.specs.private.CommandLine.{AsksSomething, IsRefusal}
+use Rattle.xcp_program.specs.private.AppArguments.{AsksSomething, IsRefusal}
 use Rattle.xcp_program.specs.declared.purpose.Options.{Options}
 use Rattle.xcp_program.specs.declared.purpose.OptionsFault.{OptionsFault}
 use Rattle.xcp_program.specs.declared.purpose.OptionsFault.TheVariants.{Memory, TooManyTools, Words}

@@ -3,7 +3,8 @@ use Rattle.std.proofs.lemmas.Result.{err_from_is_err_and}
 use Rattle.xcp_slave.specs.Run.{requests_of}
 use Rattle.xcp_framing.proofs.KnownBytesLemmas.{appends_none}
 use Rattle.xcp_script.proofs.FrontLemmas.{front_all, none_more}
-use Rattle.xcp_script.proofs.ScriptProgressLemmas.{at_end, at_limit, fed_error, last_error, midway_init, midway_step}
+use Rattle.xcp_script.proofs.ScriptProgressLemmas.{at_end, at_limit, fed_error, last_error, midway_front, midway_init, midway_step}
+use Rattle.xcp_script.specs.declared.fault.ReplayError.TheVariants as errors
 use Rattle.xcp_script.proofs.MemoryShortageLemmas.{fed_short, last_short, memory_as, memory_tells}
 use Rattle.xcp_script.proofs.replaying.run_script.Goals as goal
 
@@ -14,9 +15,9 @@ loop-init g c = record {
   none_left = search rules;
   layout = search rules;
   limit = search rules;
-  write_quiet = search rules;
+  write_unfailed = search rules;
   calls = search rules;
-  read_quiet = search rules;
+  read_unfailed = search rules;
   counted = search rules;
 }
 
@@ -75,8 +76,14 @@ loop-preserved g c =
       none_left = c.in_ok-write_out-2.ensures.empty;
       layout = c.feed-fed.ensures.layout ∙ c.loop.invariant.layout;
       limit = c.loop.invariant.limit;
-      write_quiet = search rules;
+      write_unfailed = search rules;
       calls = search rules;
-      read_quiet = c.in-Ok.ensures.counted.failures ∙ c.loop.invariant.read_quiet;
+      read_unfailed = c.in-Ok.ensures.counted.failures ∙ c.loop.invariant.read_unfailed;
       counted = search rules;
     }
+
+pub returns-in_default-clause-replayed : goal.returns-in_default-clause-replayed
+returns-in_default-clause-replayed g c = at_limit _ _ _ (Err errors.Read) _ c.max_cto-max_cto.ensures (midway_front _ _ _ _ _ _ c.loop.invariant.midway)
+
+pub returns-clause-replayed : goal.returns-clause-replayed
+returns-clause-replayed g c = at_limit _ _ _ (Err errors.Read) _ c.max_cto-max_cto.ensures (midway_front _ _ _ _ _ _ c.loop.invariant.midway)

@@ -13,8 +13,8 @@ invariant-loop g l = record {
   none_left : l.texts.items ≡ [];
   layout : layout_of l.desk.slave ≡ layout_of l.fn.desk.slave;
   limit : l.max_cto ≡ (layout_of l.fn.desk.slave).max_cto;
-  write_quiet : l.writer.failures ≡ l.fn.writer.failures;
+  write_unfailed : l.writer.failures ≡ l.fn.writer.failures;
   calls : l.reader.calls ≡ l.fn.reader.calls + l.counter;
-  read_quiet : l.reader.failures ≡ l.fn.reader.failures;
+  read_unfailed : l.reader.failures ≡ l.fn.reader.failures;
   counted : l.pending.count ≤ 16384 * l.counter;
 }

@@ -17,7 +17,7 @@ returns-clause-back g c =
     let back = c.put_together.ensures.back in
     let workers = ap (λ ws. map (λ w. w.reader) ws) c.collect_workers-ran.ensures.workers ∙ map_map (λ d. d.worker) (λ w. w.reader) c.args.done.items in
     record {
-      ends_are = back.ends_are ∙ c.take_apart-ended.ensures.ends;
+      outcomes_are = back.outcomes_are ∙ c.take_apart-ended.ensures.outcomes;
       left_is = back.left_is ∙ c.take_apart-ended.ensures.left;
       readers_back = back.readers_back ∙ ap (λ rs. rs ++ into_iter_items c.args.unused) workers;
       run = back.run;

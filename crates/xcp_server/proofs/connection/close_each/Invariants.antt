@@ -1,8 +1,7 @@
 use Rattle.std.specs.Prelude.{◌≡◌, ◌+◌, ◌≤◌, ◌++◌, length, vec_len, vec_capacity}
 use Rattle.std.specs.Vec.Iter.{into_iter_items, into_iter_len}
-use Rattle.xcp_server.specs.private.ConnectionOutcome.{AreOfOneOutlet, ClosedAs}
-use Rattle.xcp_locked.specs.PairedLists.{EachFrom}
-use Rattle.xcp_server.specs.private.PairedLists.{Each}
+use Rattle.xcp_server.specs.private.ConnectionParts.{AreOfOneOutlet, IsClosingOf}
+use Rattle.std.specs.List.{AllByRecursion, AllZip}
 use Rattle.xcp_server.proofs.connection.close_each.Given as goal
 
 abbrev pub invariant-loop-one : goal.invariant-loop-one
@@ -11,5 +10,5 @@ invariant-loop-one g l =
     (l.yielded ++ into_iter_items rest ≡ into_iter_items first)
     × (into_iter_len rest ≡ length (into_iter_items rest))
     × (vec_len l.closed + into_iter_len rest ≤ vec_capacity l.closed)
-    × Each AreOfOneOutlet (into_iter_items rest)
-    × EachFrom ClosedAs 0 l.yielded l.closed.items
+    × AllByRecursion AreOfOneOutlet (into_iter_items rest)
+    × AllZip IsClosingOf l.yielded l.closed.items

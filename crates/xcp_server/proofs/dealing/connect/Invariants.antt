@@ -1,16 +1,16 @@
 use Rattle.std.specs.Prelude.{◌≡◌, ◌+◌, ◌≤◌, ◌++◌, map, length, vec_len, vec_capacity}
 use Rattle.std.specs.Vec.Iter.{into_iter_items, into_iter_len}
-use Rattle.xcp_locked.specs.PairedLists.{EachFrom}
-use Rattle.xcp_server.specs.private.ServerOutcome.{IsConnectionOf}
+use Rattle.std.specs.List.{AllZip}
+use Rattle.xcp_server.specs.private.ConnectionOf.{IsConnectionOf}
 use Rattle.xcp_server.proofs.dealing.connect.Given as goal
 
-abbrev pub invariant-loop-end : goal.invariant-loop-end
-invariant-loop-end g l =
-    let rest = l.end-iterator in let first = l.initial.end-iterator in
+abbrev pub invariant-loop-stream : goal.invariant-loop-stream
+invariant-loop-stream g l =
+    let rest = l.stream-iterator in let first = l.initial.stream-iterator in
     (l.yielded ++ into_iter_items rest ≡ into_iter_items first)
     × (into_iter_len rest ≡ length (into_iter_items rest))
     × (vec_len l.connections + into_iter_len rest ≤ vec_capacity l.connections)
-    × EachFrom (IsConnectionOf l.limits.max_cto l.limits.turns l.limits.pump_turns) 0 l.yielded l.connections.items
+    × AllZip (IsConnectionOf l.limits.max_cto l.limits.turns l.limits.pump_turns) l.yielded l.connections.items
     × (map (λ c. c.0.caller) l.connections.items ++ into_iter_items l.tools ≡ into_iter_items l.initial.tools)
     × (into_iter_len rest ≡ length (into_iter_items l.tools))
     × (map (λ c. c.1.caller) l.connections.items ++ into_iter_items l.pumps ≡ into_iter_items l.fn.pumps)

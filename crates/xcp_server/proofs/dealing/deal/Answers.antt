@@ -9,9 +9,9 @@ pub next_callers-requires : goal.next_callers-requires
 next_callers-requires g c =
     let callers : vec_len c.args.callers ≡ length c.args.callers.items = search rules in
     let all = ap length c.into_iter-spare.ensures.rest in
-    let ends = c.len.ensures in
+    let streams = c.len.ensures in
     let enough = c.requires.enough in
-    omega (arith, callers, all, ends, enough)
+    omega (arith, callers, all, streams, enough)
 
 pub employ-requires-clause-callers : goal.employ-requires-clause-callers
 employ-requires-clause-callers g c =
@@ -20,9 +20,9 @@ employ-requires-clause-callers g c =
     let tools : vec_len c.in_ok-tools.tools ≡ length c.in_ok-tools.tools.items = search rules in
     let rest = left_behind c.in_ok-tools.tools.items (into_iter_items c.next_callers.new.callers) (into_iter_items c.into_iter-spare.result) c.in_ok-tools.ensures.dealt in
     let count = c.in_ok-tools.ensures.count in
-    let ends = c.len.ensures in
+    let streams = c.len.ensures in
     let enough = c.requires.enough in
-    omega (arith, callers, all, tools, rest, count, ends, enough)
+    omega (arith, callers, all, tools, rest, count, streams, enough)
 
 pub employ-requires-clause-readers : goal.employ-requires-clause-readers
 employ-requires-clause-readers g c =
@@ -32,7 +32,7 @@ employ-requires-clause-readers g c =
     omega (arith, readers, all, few)
 
 pub connect-requires-clause-tools : goal.connect-requires-clause-tools
-connect-requires-clause-tools g c = let count = c.in_ok-tools.ensures.count in let ends = c.len.ensures in omega (arith, count, ends)
+connect-requires-clause-tools g c = let count = c.in_ok-tools.ensures.count in let streams = c.len.ensures in omega (arith, count, streams)
 
 pub connect-requires-clause-pumps : goal.connect-requires-clause-pumps
 connect-requires-clause-pumps g c =
@@ -45,9 +45,9 @@ connect-requires-clause-pumps g c =
     let hired = length_map (λ w. w.caller) c.in_ok-workers.workers.items in
     let more = left_behind (map (λ w. w.caller) c.in_ok-workers.workers.items) (into_iter_items c.employ.new.callers) (into_iter_items c.next_callers.new.callers) c.in_ok-workers.ensures.dealt in
     let tasks = c.in_ok-workers.ensures.count in
-    let ends = c.len.ensures in
+    let streams = c.len.ensures in
     let enough = c.requires.enough in
-    omega (arith, callers, all, tools, rest, count, workers, hired, more, tasks, ends, enough)
+    omega (arith, callers, all, tools, rest, count, workers, hired, more, tasks, streams, enough)
 
 pub returns-clause-way : goal.returns-clause-way
 returns-clause-way g c = first_way_of c.args.cycles c.args.chapter 0 c.in_ok-workers.workers.items c.in_ok-tasks.tasks.items c.in_ok-tasks.ensures ∙ c.in_ok-workers.ensures.way

@@ -2,8 +2,8 @@ use denote.Param.Send.{sendable}
 use Rattle.std.proofs.Crossing.{crosses}
 use Rattle.xcp_server.proofs.ThreadCrossingLemmas.{heard_crosses, hearing_crosses, pumped_crosses, pumping_crosses, sending_crosses, wrote_crosses}
 use Rattle.xcp_server.specs.ServerOutcome.{CameOf}
-use Rattle.xcp_locked.specs.Tasks.{Worked}
-use Rattle.xcp_locked.proofs.PairedListLemmas.{each_of}
+use Rattle.xcp_locked.specs.TaskOutcome.{DoneAs}
+use Rattle.xcp_locked.proofs.PairedListLemmas.{zip_of}
 use Rattle.xcp_locked.proofs.TaskPlanLemmas.{if_ok}
 use Rattle.xcp_server.proofs.server.run_all.Goals as goal
 
@@ -26,7 +26,7 @@ pub run_crews_and-requires-send-C : goal.run_crews_and-requires-send-C
 run_crews_and-requires-send-C g c κs within = search (sendable, crosses, sending_crosses) depth 12
 
 pub returns-clause-parted : goal.returns-clause-parted
-returns-clause-parted g c = if_ok c.run_crews_and.result (λ r h. each_of (λ k d. CameOf g.I.Read.remaining g.O.Write.contents k d) 0 c.args.connections.items r.0.items h.all (λ i x y low. let gave = h.each i x y low in record { heard = gave.first; pumped = gave.second; wrote = gave.third })) c.run_crews_and.ensures.crews
+returns-clause-parted g c = if_ok c.run_crews_and.result (λ r h. zip_of (CameOf g.I.Read.remaining g.O.Write.contents) c.args.connections.items r.0.items h.all (λ i x y low. let gave = h.each i x y low in record { heard = gave.first; pumped = gave.second; wrote = gave.third })) c.run_crews_and.ensures.crews
 
 pub returns-clause-worked : goal.returns-clause-worked
-returns-clause-worked g c = if_ok c.run_crews_and.result (λ r h. each_of (λ t d. Worked g.N.Name.layout g.G.Gate.may_end t.cycles t.chapter t.task t.worker d.worker d.fault) 0 c.args.tasks.items r.1.items h.all h.each) c.run_crews_and.ensures.works
+returns-clause-worked g c = if_ok c.run_crews_and.result (λ r h. zip_of (DoneAs g.N.Name.layout g.G.Gate.may_end) c.args.tasks.items r.1.items h.all h.each) c.run_crews_and.ensures.works

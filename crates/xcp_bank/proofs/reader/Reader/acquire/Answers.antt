@@ -36,7 +36,7 @@ said c =
     (subst (λ (z : ReaderEnd). AcquiredEnd c.acquire_at-taken.result.0 (reader_end bank r x) z) (sym (shows c)) (acquired_end bank r x m.0 c.acquire_at-taken.result.0 c.acquire_at-taken.result.1 m.2))
 
 pub returns-clause-same_reader : goal.returns-clause-same_reader
-returns-clause-same_reader c = (ap (λ (z : ReaderEnd). z.bank) c.self.view_is, ap (λ (z : ReaderEnd). z.place) (shows c) ∙ ap (λ (z : ReaderEnd). z.place) c.self.view_is)
+returns-clause-same_reader c = (ap (λ (z : ReaderEnd). z.bank) c.self.view_is, ap (λ (z : ReaderEnd). z.index) (shows c) ∙ ap (λ (z : ReaderEnd). z.index) c.self.view_is)
 
 pub returns-clause-holds_the_last : goal.returns-clause-holds_the_last
 returns-clause-holds_the_last c = (said c).holds_the_last

@@ -5,7 +5,7 @@ use Rattle.xcp_daq.specs.DaqInvariant.{IsDaq}
 use Rattle.std.proofs.Common.{length}
 use Rattle.std.proofs.lemmas.List.{length-map}
 use Rattle.xcp_daq.specs.Pools.{lists_of}
-use Rattle.xcp_daq.specs.private.Pools.{counted_mode}
+use Rattle.xcp_daq.specs.private.SplicedPools.{counted_mode}
 use Rattle.xcp_daq.specs.Sample.{counted, after_event}
 use Rattle.xcp_daq.proofs.ListLoopLemmas.{refilled}
 use Rattle.xcp_daq.proofs.DaqListLemmas.{lists-map, counted_of}

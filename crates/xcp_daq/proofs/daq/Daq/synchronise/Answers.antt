@@ -5,7 +5,7 @@ use Rattle.xcp_daq.specs.DaqLists.{DaqValue, DaqList, no_list, list_at}
 use Rattle.xcp_daq.specs.DaqInvariant.{IsDaq}
 use Rattle.std.proofs.lemmas.List.{length-map}
 use Rattle.xcp_daq.specs.Pools.{lists_of}
-use Rattle.xcp_daq.specs.private.Pools.{synchronised_mode}
+use Rattle.xcp_daq.specs.private.SplicedPools.{synchronised_mode}
 use Rattle.xcp_daq.specs.Starting.{synchronised, start_stop_synch_after}
 use Rattle.xcp_daq.proofs.ListLoopLemmas.{refilled}
 use Rattle.xcp_daq.proofs.DaqListLemmas.{lists-map, synchronised_of}

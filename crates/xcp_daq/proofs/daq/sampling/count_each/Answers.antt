@@ -1,6 +1,6 @@
 use Rattle.std.proofs.Common.{sym, ◌≤◌, subst}
 use Rattle.xcp_daq.specs.declared.mode.Mode.{Mode}
-use Rattle.xcp_daq.specs.private.Pools.{counted_mode}
+use Rattle.xcp_daq.specs.private.SplicedPools.{counted_mode}
 use Rattle.xcp_daq.proofs.ListLoopLemmas.{changed_more, unchanged_next}
 use Rattle.xcp_daq.proofs.daq.sampling.count_each.Goals as goal
 

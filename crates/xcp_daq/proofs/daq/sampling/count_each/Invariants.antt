@@ -1,5 +1,5 @@
 use Rattle.std.proofs.Common.{◌≡◌, ◌++◌, map, take, drop}
-use Rattle.xcp_daq.specs.private.Pools.{counted_mode}
+use Rattle.xcp_daq.specs.private.SplicedPools.{counted_mode}
 use Rattle.xcp_daq.proofs.daq.sampling.count_each.Given as goal
 
 abbrev pub invariant-loop-mode : goal.invariant-loop-mode

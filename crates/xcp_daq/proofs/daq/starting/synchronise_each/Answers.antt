@@ -1,4 +1,4 @@
-use Rattle.xcp_daq.specs.private.Pools.{synchronised_mode}
+use Rattle.xcp_daq.specs.private.SplicedPools.{synchronised_mode}
 use Rattle.xcp_daq.proofs.ListLoopLemmas.{changed_more}
 use Rattle.xcp_daq.proofs.daq.starting.synchronise_each.Goals as goal
 

@@ -1,5 +1,5 @@
 use Rattle.std.proofs.Common.{◌≡◌, ◌++◌, map, take, drop}
-use Rattle.xcp_daq.specs.private.Pools.{synchronised_mode}
+use Rattle.xcp_daq.specs.private.SplicedPools.{synchronised_mode}
 use Rattle.xcp_daq.proofs.daq.starting.synchronise_each.Given as goal
 
 abbrev pub invariant-loop-state : goal.invariant-loop-state

@@ -1,7 +1,7 @@
 use Rattle.std.proofs.Common.{◌≡◌, length, take, drop, arith, ◌∙◌, sym, ap, get_or, length-drop}
 use Rattle.std.proofs.lemmas.List.{length-take-le}
 use Rattle.xcp_daq.specs.Pools.{parts}
-use Rattle.xcp_daq.specs.private.Pools.{total}
+use Rattle.xcp_daq.specs.private.SplicedPools.{total}
 use Rattle.xcp_daq.proofs.PoolPartLemmas.{end-le-total}
 use Rattle.xcp_daq.proofs.OdtLemmas.{list_in, list_is, odt_count, first_is, cut_short, entries_joined}
 use Rattle.xcp_daq.proofs.odts.Odts.list.Goals as goal

@@ -1,7 +1,7 @@
 use Rattle.std.proofs.Common.{◌≡◌, drop, take}
 use Rattle.xcp_daq.specs.DaqLists.{any_large}
 use Rattle.xcp_daq.specs.Pools.{parts}
-use Rattle.xcp_daq.specs.private.Pools.{total}
+use Rattle.xcp_daq.specs.private.SplicedPools.{total}
 use Rattle.xcp_daq.proofs.odts.reading.any_large.Given as goal
 
 abbrev pub invariant-loop-count : goal.invariant-loop-count

@@ -1,6 +1,6 @@
 use Rattle.std.proofs.Common.{◌≡◌, ◌≤◌, ◌+◌, length, drop, take}
 use Rattle.xcp_daq.specs.Pools.{parts}
-use Rattle.xcp_daq.specs.private.Pools.{total}
+use Rattle.xcp_daq.specs.private.SplicedPools.{total}
 use Rattle.xcp_daq.specs.Sample.{packets_from}
 use Rattle.xcp_daq.proofs.odts.sampling.count_packets.Given as goal
 

@@ -1,7 +1,7 @@
 use Rattle.std.proofs.Common.{◌≡◌, ◌≤◌, ◌+◌, ◌++◌, drop, take}
 use Rattle.std.specs.Prelude.{vec_len, vec_capacity}
 use Rattle.xcp_daq.specs.Pools.{parts}
-use Rattle.xcp_daq.specs.private.Pools.{total}
+use Rattle.xcp_daq.specs.private.SplicedPools.{total}
 use Rattle.xcp_daq.specs.Sample.{packets_from}
 use Rattle.xcp_daq.proofs.odts.sampling.sample_odts.Given as goal
 

@@ -1,5 +1,5 @@
 use Rattle.std.proofs.Common.{Some}
-use Rattle.xcp_outlet.specs.private.OutletEnds.{end_of}
+use Rattle.xcp_outlet.specs.private.EndOfPass.{end_of}
 use Rattle.xcp_outlet.proofs.ChannelRuleLemmas.{puts}
 use Rattle.xcp_outlet.proofs.end.PutEnd.put.Goals as goal
 

@@ -1,10 +1,10 @@
 use Rattle.std.proofs.Common.{rules, ◌≡◌}
-use Rattle.xcp_outlet.specs.private.Sending.{Progress}
+use Rattle.xcp_outlet.specs.private.SendingProgress.{Progress}
 use Rattle.xcp_outlet.proofs.SendingLemmas.{of_same}
 use Rattle.xcp_outlet.proofs.intake.SendEnd.run_sender.Goals as goal
 
 pub loop-init : goal.loop-init
-loop-init g c = (of_same _ _ _ c.open-intake.ensures.1 (c.new-line.ensures _ _), search rules)
+loop-init g c = (of_same _ _ _ c.open-intake.ensures.intake.1 (c.new-line.ensures _ _), search rules)
 
 pub take-requires : goal.take-requires
 take-requires g c =

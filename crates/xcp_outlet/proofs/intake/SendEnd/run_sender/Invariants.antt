@@ -1,5 +1,5 @@
 use Rattle.std.proofs.Common.{◌≡◌}
-use Rattle.xcp_outlet.specs.private.Sending.{Progress}
+use Rattle.xcp_outlet.specs.private.SendingProgress.{Progress}
 use Rattle.xcp_outlet.proofs.intake.SendEnd.run_sender.Given as goal
 
 abbrev pub invariant-loop : goal.invariant-loop

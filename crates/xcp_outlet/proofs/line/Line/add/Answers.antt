@@ -1,5 +1,5 @@
 use Rattle.std.proofs.Common.{rules, ◌≡◌, true, false, None}
-use Rattle.xcp_outlet.specs.private.PassKnowledge.{message}
+use Rattle.xcp_outlet.specs.private.KnownHalves.{message}
 use Rattle.xcp_outlet.proofs.SendingLemmas.{for_message, data_ends, replies_end}
 use Rattle.xcp_outlet.proofs.line.Line.add.Goals as goal
 

@@ -1,5 +1,4 @@
-use Rattle.std.proofs.Common.{rules, ◌≡◌, ◌%◌, ◌++◌, false}
-use Rattle.xcp_framing.specs.Wire.{frame_bytes}
+use Rattle.std.proofs.Common.{rules, ◌≡◌, false}
 use Rattle.xcp_outlet.proofs.SendingLemmas.{passed, added}
 use Rattle.xcp_outlet.proofs.line.Line.add_packet.Goals as goal
 
@@ -9,5 +8,4 @@ returns-then-self g c before failures taken from done p = passed c.make_room.new
 pub returns : goal.returns
 returns g c before failures taken from done p =
     let well : c.make_room.new.self.broken ≡ false = search rules in
-    let more : c.try_extend_from_slice.new.self.items ≡ c.make_room.new.self.held.items ++ frame_bytes (c.make_room.new.self.sent % 65536) c.args.packet.now.items = search rules in
-    added c.make_room.new.self taken from done c.args.packet.now.items _ well more (c.make_room.ensures.goes_on before failures _ p)
+    added c.make_room.new.self taken from done c.args.packet.now.items _ well c.push.ensures.held c.push.ensures.counts (c.make_room.ensures.goes_on before failures _ p)

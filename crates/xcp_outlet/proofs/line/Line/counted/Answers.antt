@@ -6,17 +6,17 @@ pub returns-then-not-self : goal.returns-then-not-self
 returns-then-not-self c before after old new taken p =
     let well : c.args.self.now.broken ≡ false = search rules in
     let missing : c.args.self.now.replies_ended ≡ false = search rules in
-    (all_written c.args.self.now taken before after well (c.requires well) p, no_replies_end c.args.self.now taken before after missing p)
+    (rw (c.sent.ensures) (all_written c.args.self.now taken before after well (c.requires well) p), no_replies_end c.args.self.now taken before after missing p)
 
 pub returns-then-not-self-2 : goal.returns-then-not-self-2
 returns-then-not-self-2 c before after old new taken p =
     let well : c.args.self.now.broken ≡ false = search rules in
     let missing : c.args.self.now.data_ended ≡ false = search rules in
-    (all_written c.args.self.now taken before after well (c.requires well) p, no_data_end c.args.self.now taken before after missing p)
+    (rw (c.sent-then-not-self-2.ensures) (all_written c.args.self.now taken before after well (c.requires well) p), no_data_end c.args.self.now taken before after missing p)
 
 pub returns : goal.returns
 returns c before after old new taken p =
     let well : c.args.self.now.broken ≡ false = search rules in
     let of_replies : c.args.self.now.replies_ended ≡ true = search rules in
     let of_data : c.args.self.now.data_ended ≡ true = search rules in
-    (all_written c.args.self.now taken before after well (c.requires well) p, (sym p.reply_mark ∙ of_replies, sym p.data_mark ∙ of_data))
+    (rw (c.sent-2.ensures) (all_written c.args.self.now taken before after well (c.requires well) p), (sym p.reply_mark ∙ of_replies, sym p.data_mark ∙ of_data))

@@ -1,7 +1,7 @@
 use Rattle.std.proofs.Common.{ap, ◌∙◌, subst, ◌≡◌, true}
 use Rattle.xcp_outlet.specs.PassKnowledge.{half}
-use Rattle.xcp_outlet.specs.private.PassKnowledge.{both_of}
-use Rattle.xcp_framing.specs.Prefix.{IsFront}
+use Rattle.xcp_outlet.specs.private.KnownHalves.{both_of}
+use mathlib.Core.List.{IsPrefix}
 use Rattle.xcp_outlet.specs.ChannelRule.{of}
 use Rattle.xcp_outlet.specs.OutletEnds.{putting_of, taking_of, knows, packets, has_mark, Putting, Taking}
 use Rattle.xcp_outlet.proofs.ChannelRuleLemmas.{meets, meeting}
@@ -17,8 +17,8 @@ returns-clause-begins c =
     let t = (taking_of s.pass).taken in
     let m = meeting p.is_data p.ended (putting_of p.is_data p.ended p.pass).put t (knows s.pass) (knows c.absorb.new.pass) c.self.invariant.1
     (c.absorb.ensures.rule ∙ ap (both_of (knows s.pass)) c.put.invariant.1) c.learn_as.ensures.rule in
-    subst (λ (x : Putting). IsFront (packets (of x.side c.args.self.now.taken)) x.put) c.put.view_is
-    (subst (λ (y : Taking). IsFront (packets (of p.is_data y.taken)) (putting_of p.is_data p.ended p.pass).put) c.self.view_is m.0)
+    subst (λ (x : Putting). IsPrefix (packets (of x.side c.args.self.now.taken)) x.put) c.put.view_is
+    (subst (λ (y : Taking). IsPrefix (packets (of p.is_data y.taken)) (putting_of p.is_data p.ended p.pass).put) c.self.view_is m.0)
 
 pub returns-clause-all : goal.returns-clause-all
 returns-clause-all c =

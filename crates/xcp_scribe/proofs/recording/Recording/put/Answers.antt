@@ -45,7 +45,7 @@ returns-then-is_none g c = λ chapters was. elim was [
         (λ e. true≢false (sym (c.in-Err.ensures.since (ap Err e)) ∙ whole.going));
     stopped = c.in-Err.ensures.err.0;
     whole = chapters;
-    first = record { rest = c.args.calls ∷ []; joined = refl };
+    first = (c.args.calls ∷ [], refl);
     calls = c.in-Err.ensures.err.1 ∙ whole.records.called;
     stops = c.in-Err.ensures.front c.args.self.now.layout _ chapters whole.records;
   })
@@ -62,7 +62,7 @@ returns-else-is_none g c = λ chapters was. elim was [
         faulty = subst (λ (r : Recorder _). IsFaulty (record { recorder = r; layout = c.args.self.now.layout; start = c.args.self.now.start; fault = c.args.self.now.fault })) (sym same) cut.faulty;
         stopped = ap (λ (r : Recorder _). r.stopped) same ∙ cut.stopped;
         whole = cut.whole;
-        first = record { rest = cut.first.rest ++ c.args.calls ∷ []; joined = sym (append_assoc cut.whole cut.first.rest (c.args.calls ∷ [])) ∙ ap (λ (l : List (List Entry)). l ++ c.args.calls ∷ []) cut.first.joined };
+        first = (cut.first.0 ++ c.args.calls ∷ [], sym (append_assoc cut.whole cut.first.0 (c.args.calls ∷ [])) ∙ ap (λ (l : List (List Entry)). l ++ c.args.calls ∷ []) cut.first.1);
         calls = ap (λ (r : Recorder _). r.calls) same ∙ cut.calls;
         stops = subst (λ (r : Recorder _). StopsInside c.args.self.now.layout start (g.W.Write.contents r.writer.inner) cut.whole) (sym same) cut.stops;
       })

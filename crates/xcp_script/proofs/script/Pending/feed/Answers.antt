@@ -3,7 +3,7 @@ use Rattle.std.proofs.lemmas.List.{take_all}
 use Rattle.std.proofs.lemmas.Result.{err_from_is_err_and}
 use Rattle.xcp_slave.specs.declared.Request.{Request}
 use Rattle.xcp_slave.specs.Run.{requests_of}
-use Rattle.xcp_framing.specs.Prefix.{IsFront}
+use mathlib.Core.List.{IsPrefix}
 use Rattle.xcp_script.specs.private.LineReading.{asked_before, faulty_from, lines_from}
 use Rattle.xcp_script.proofs.LineFeedLemmas.{asked_more, fault_more, line_cut, none_ends}
 use Rattle.xcp_script.proofs.LongLineLemmas.{faulty_stops, stopped, too_long_stops}
@@ -29,7 +29,7 @@ returns-in_err-answer_line-in-Line-clause-memory c = λ h rest.
     let cut = rw (c.in-Line.is) at c.feed.ensures in
     let is = line_cut c.in-Line.end _ c.loop-end.left.now _ (drop (c.in-Line.end + 1) c.loop-end.left.now) _ rest cut c.line-line.ensures refl in
     let asks = ap (λ (ls : List (List ℕ)). requests_of c.loop-end.desk.exchanges ++ asked_before c.args.max_cto ls) (sym is) ∙ c.loop-end.invariant.asked rest in
-    subst (λ (all : List Request). IsFront (requests_of c.answer_line.new.desk.exchanges) all) asks (c.in_err-answer_line-in-Line.ensures.memory (sym same ∙ h) (lines_from [] (drop (c.in-Line.end + 1) c.loop-end.left.now ++ rest)))
+    subst (λ (all : List Request). IsPrefix (requests_of c.answer_line.new.desk.exchanges) all) asks (c.in_err-answer_line-in-Line.ensures.memory (sym same ∙ h) (lines_from [] (drop (c.in-Line.end + 1) c.loop-end.left.now ++ rest)))
 
 pub returns-in_err-answer_line-in-Line-clause-short : goal.returns-in_err-answer_line-in-Line-clause-short
 returns-in_err-answer_line-in-Line-clause-short c = λ h rest.

@@ -1,6 +1,6 @@
 use Rattle.std.proofs.Common.{rules, ◌≡◌, ◌≤◌, false, ap, length, sym, subst, take, ◌∙◌}
 use Rattle.std.specs.Prelude.{Option, Some}
-use Rattle.xcp_framing.specs.Prefix.{IsFront}
+use mathlib.Core.List.{IsPrefix}
 use Rattle.xcp_locked.specs.Excerpts.{ExcerptsValue, HandingValue, KeepsPace, excerpts_of}
 use Rattle.xcp_server.specs.Report.{given_in}
 use Rattle.xcp_server.specs.private.WrittenChapters.{given_by}
@@ -16,7 +16,7 @@ write_rest-requires g c =
     let same = c.follow.ensures.same in
     let taken : c.self.inside.excerpts ≡ Some e = search rules in
     let handed : c.args.handing ≡ Some h = search rules in
-    let of_handed : IsFront e.taken h.given = subst (λ (x : HandingValue). IsFront e.taken x.given) same.1 (subst (λ (x : ExcerptsValue). IsFront x.taken c.follow.new.handing.given) same.0 c.follow.ensures.first) in
+    let of_handed : IsPrefix e.taken h.given = subst (λ (x : HandingValue). IsPrefix e.taken x.given) same.1 (subst (λ (x : ExcerptsValue). IsPrefix x.taken c.follow.new.handing.given) same.0 c.follow.ensures.first) in
     let pace = subst (λ (x : Option HandingValue). KeepsPace false x cs) handed c.requires.pace in
     let front = front_of_front e.taken h.given (excerpts_of cs) of_handed pace.first in
     let count : c.count.result ≡ length e.taken = c.count.ensures ∙ ap (λ (x : ExcerptsValue). length x.taken) same.0 in

@@ -5,7 +5,7 @@ use Rattle.xcp_slave.specs.declared.Exchange.{Exchange}
 use Rattle.xcp_slave.specs.SlaveValue.{SlaveValue}
 use Rattle.xcp_locked.specs.declared.publisher.Publisher.{Publisher}
 use Rattle.xcp_locked.specs.Publications.{Publication, Published, image_of, images_of}
-use Rattle.xcp_locked.specs.private.Publications.{places_of}
+use Rattle.xcp_locked.specs.private.PublicationPlaces.{places_of}
 
 -- What the writer of this bank has published since the chapter's first image, and where, is what is published of these exchanges,
 -- which led from v to w; the image published last is at hand.

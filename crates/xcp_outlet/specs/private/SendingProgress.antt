@@ -17,7 +17,7 @@ pub record Holds (flushed sent : ℕ) (held : List ℕ) (packets : List (List �
   pub total : sent ≡ length packets % 2 ^ 64
   pub writes : Appends before after (wire whole)
   pub held_is : held ≡ wire_from (length whole) later
-  pub quiet : new ≡ old
+  pub unfailed : new ≡ old
 
 -- while it takes: all is written or held, or a write has failed
 abbrev pub Wrote : Bool → ℕ → ℕ → List ℕ → List (List ℕ) → Option (List ℕ) → Option (List ℕ) → ℕ → ℕ → Type 0
@@ -25,10 +25,10 @@ Wrote false flushed sent held packets before after old new = Holds flushed sent 
 Wrote true flushed sent held packets before after old new = WritesPart flushed packets before after old new
 
 pub record Progress (line : Line) (taken : List Message) (before after : Option (List ℕ)) (old new : ℕ) : Type 0 where
-  pub wrote : Wrote line.broken line.flushed line.sent line.held.items (all_packets taken) before after old new
+  pub wrote : Wrote line.broken line.flushed line.frames.sent line.frames.held (all_packets taken) before after old new
   pub reply_mark : line.replies_ended ≡ has_mark (of false taken)
   pub data_mark : line.data_ended ≡ has_mark (of true taken)
 
 -- where no write has failed, the packets that were taken are all written, and no frame waits to be
 abbrev pub NoneInHand : Line → List Message → Type 0
-NoneInHand line taken = line.broken ≡ false → (line.held.items ≡ []) × (line.flushed ≡ length (all_packets taken) % 2 ^ 64)
+NoneInHand line taken = line.broken ≡ false → (line.frames.held ≡ []) × (line.flushed ≡ length (all_packets taken) % 2 ^ 64)

@@ -4,7 +4,7 @@ use Rattle.xcp_server.specs.declared.connection.Closed.{Closed}
 use Rattle.xcp_server.specs.declared.hearing.Heard.{Heard}
 use Rattle.xcp_server.specs.declared.pumping.Pumped.{Pumped}
 use Rattle.xcp_server.specs.declared.sending.Wrote.{Wrote}
-use Rattle.xcp_server.specs.ConnectionOutcome.{end_of, Delivered}
+use Rattle.xcp_server.specs.ConnectionOutcome.{outcome_of, Delivered}
 
 -- the three ends of one outlet, of which the first two have put no more
 pub record AreOfOneOutlet {N I O : Type 0} (d : Heard N I × Pumped N × Wrote O) : Type 0 where
@@ -17,10 +17,10 @@ pub record AreOfOneOutlet {N I O : Type 0} (d : Heard N I × Pumped N × Wrote O
 pub record IsClosingOf {N I O : Type 0} (d : Heard N I × Pumped N × Wrote O) (c : Closed N I O) : Type 0 where
   pub tool : c.tool ≡ d.0.caller
   pub pump : c.pump ≡ d.1.caller
-  pub heard : c.heard ≡ d.0.end
-  pub pumped : c.pumped ≡ d.1.end
+  pub heard : c.heard ≡ d.0.outcome
+  pub pumped : c.pumped ≡ d.1.outcome
   pub sent : c.sent ≡ d.2.sent.count
-  pub end : c.end ≡ end_of c.heard c.pumped c.sent
+  pub outcome : c.outcome ≡ outcome_of c.heard c.pumped c.sent
   pub reader : c.left.reader.value ≡ d.0.reader.value
   pub writer : c.left.writer.value ≡ d.2.writer.value
   pub replies_are : c.left.replies.value.put ≡ d.0.put.put
@@ -28,7 +28,3 @@ pub record IsClosingOf {N I O : Type 0} (d : Heard N I × Pumped N × Wrote O) (
   pub taken_is : c.left.took.value.taken ≡ d.2.sent.took.taken
   pub replies : Delivered false c.left.took.value.taken c.left.replies.value.put
   pub samples : Delivered true c.left.took.value.taken c.left.samples.value.put
-
--- the same, at whichever place
-abbrev pub ClosedAs : {N I O : Type 0} → ℕ → Heard N I × Pumped N × Wrote O → Closed N I O → Type 0
-ClosedAs place d c = IsClosingOf d c

@@ -1,5 +1,6 @@
 -- What a pass of the outlet knows behind each step of the channel.
 use Rattle.std.specs.Prelude.{ℕ, Bool, true, false, List, [], ◌∷◌, ◌++◌, Option, Some, None, option_map}
+use Rattle.std.specs.Option.{option_or}
 use Rattle.xcp_outlet.specs.declared.message.Message.{Message}
 use Rattle.xcp_outlet.specs.PassKnowledge.{Half, Known, half}
 
@@ -32,10 +33,6 @@ after_put m v = after_put_on m.from_data m.batch v
 abbrev pub after_take : Message → Known → Known
 after_take m v = record { reply = v.reply; daq = v.daq; taken = option_map (λ t. t ++ m ∷ []) v.taken }
 
-abbrev pub or_else : Option Half → Option Half → Option Half
-or_else None y = y
-or_else (Some x) y = Some x
-
 -- a pass that takes in an end's half
 abbrev pub both_of : Known → Known → Known
-both_of v w = record { reply = or_else w.reply v.reply; daq = or_else w.daq v.daq; taken = v.taken }
+both_of v w = record { reply = option_or w.reply v.reply; daq = option_or w.daq v.daq; taken = v.taken }

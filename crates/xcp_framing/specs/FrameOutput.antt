@@ -1,14 +1,19 @@
 -- Frames that are gathered before they are written.
-use Rattle.std.specs.Prelude.{◌≡◌, ℕ, List, ◌++◌, Option, Result, Err}
+use Rattle.std.specs.Prelude.{◌≡◌, ◌+◌, ◌≤◌, ℕ, List, ◌++◌, length, Option, Result, Err}
 use Rattle.std.specs.Io.KnownBytes.{Appends}
 use Rattle.xcp_framing.specs.declared.serving.ServeError.{ServeError}
 use Rattle.xcp_framing.specs.declared.serving.ServeError.TheVariants as errors
 use Rattle.xcp_framing.specs.Prefix.{AppendsFront}
 
--- A writer of frames as contracts see it: how many packets were sent, and the bytes of their frames that it still holds.
+-- A writer of frames as contracts see it: how many packets were sent, modulo 2^64, and the bytes of their frames that it still
+-- holds.
 pub record FrameWriterValue : Type 0 where
   pub sent : ℕ
   pub held : List ℕ
+
+-- A packet's frame, which is LEN, CTR and the packet, finds room beside those that are held: at most 4096 bytes are.
+abbrev pub Fits : FrameWriterValue → List ℕ → Type 0
+Fits frames packet = length frames.held + (4 + length packet) ≤ 4096
 
 -- what was sent: the bytes that the writer has, where it tells them, and behind them those that are held
 pub record Output : Type 0 where

@@ -3,7 +3,7 @@ use Rattle.std.specs.Prelude.{◌≡◌, ◌+◌, ◌≤◌, ℕ, List, ◌++◌
 use Rattle.xcp_slave.specs.declared.Exchange.{Exchange}
 use Rattle.xcp_framing.specs.declared.serving.ServeError.{ServeError}
 use Rattle.xcp_framing.specs.declared.serving.ServeError.TheVariants as errors
-use Rattle.xcp_framing.specs.private.FrameOutput.{Output, Sends}
+use Rattle.xcp_framing.specs.FrameOutput.{Output, Sends}
 use Rattle.xcp_framing.specs.Wire.{wire_from, len_of, IsBadLength}
 use Rattle.xcp_framing.specs.Serve.{packets_of, most_drains, GavePacket, Drained}
 

@@ -9,12 +9,12 @@ use Rattle.xcp_locked.specs.Excerpts.{ChaptersValue, HandingValue, KeepsPace, wa
 use Rattle.xcp_locked.specs.Journal.{exchanges}
 use Rattle.xcp_locked.specs.LockedSlave.{ChapterValue, IsReached}
 use Rattle.xcp_server.specs.declared.closing.Closing.{Closing}
-use Rattle.xcp_server.specs.declared.connection.Left.{Left}
+use Rattle.xcp_server.specs.declared.connection.Gone.{Gone}
 
 -- What became of connections and readers is given back, and the slave as it is.
-pub record GivesBack {N I O : Type 0} (layout : LayoutValue) (ends : List (Result Served ServeError)) (left : List (Left I O)) (readers : List ReaderEnd) (r : Closing N I O) : Type 0 where
+pub record GivesBack {N I O : Type 0} (layout : LayoutValue) (outcomes : List (Result Served ServeError)) (left : List (Gone I O)) (readers : List ReaderEnd) (r : Closing N I O) : Type 0 where
   -- how each connection ended
-  pub ends_are : r.ends.items ≡ ends
+  pub outcomes_are : r.outcomes.items ≡ outcomes
   -- what its streams were then
   pub left_is : r.left.items ≡ left
   -- all readers, in this order

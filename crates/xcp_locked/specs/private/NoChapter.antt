@@ -2,7 +2,7 @@
 use Rattle.std.specs.Prelude.{[]}
 use Rattle.xcp_slave.specs.SlaveValue.{SlaveValue, opening}
 use Rattle.xcp_locked.specs.LockedSlave.{ChapterValue}
-use Rattle.xcp_locked.specs.private.UnnamedSlave.{no_layout}
+use Rattle.xcp_locked.specs.private.NoLayout.{no_layout}
 
 abbrev pub no_slave : SlaveValue
 no_slave = opening no_layout

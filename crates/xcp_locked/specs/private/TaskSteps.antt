@@ -28,7 +28,7 @@ CutsFull chapter old new (Some cut) = IsFull chapter old × (new ≡ cut_off old
 
 -- A reader took the current image, and read all of it.
 pub record TookImage (old new : ReaderEnd) (image : List ℕ) : Type 0 where
-  pub same_reader : (new.bank ≡ old.bank) × (new.place ≡ old.place)
+  pub same_reader : (new.bank ≡ old.bank) × (new.index ≡ old.index)
   pub deeds : List Deed
   pub did : ReaderDoes old new deeds
   pub looked : 1 ≤ looks deeds
@@ -54,4 +54,4 @@ pub record IsTold (layout : LayoutValue) (caller : ℕ) (request : Request) (old
   pub twice : looks deeds ≡ 2
   pub past : after.past ≡ before.seen ∷ before.past
   pub held : after.held ≡ before.held
-  pub same_reader : (after.bank ≡ before.bank) × (after.place ≡ before.place)
+  pub same_reader : (after.bank ≡ before.bank) × (after.index ≡ before.index)

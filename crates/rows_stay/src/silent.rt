@@ -6,12 +6,12 @@ use xcp_seats::Watcher;
 
 // Listens at this port.
 #[derive(Drop)]
-pub struct Quiet<'a> {
+pub struct Silent<'a> {
     pub rt: &'a HostRuntime,
     pub port: u16,
 }
 
-impl Watcher for Quiet<'_> {
+impl Watcher for Silent<'_> {
     fn came(&self, _seat: u8, _tool: SocketAddr) {}
 
     fn gone(&self, _seat: u8, _tool: SocketAddr, _end: Result<Served, ServeError>) {}

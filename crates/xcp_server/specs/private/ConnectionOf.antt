@@ -3,10 +3,10 @@ use Rattle.std.specs.Prelude.{◌≡◌, ℕ, true, false, []}
 use Rattle.xcp_framing.specs.CountedCalls.{Watched}
 use Rattle.xcp_server.specs.ServerOutcome.{Connection}
 
--- the connection of this reader and this writer, at whichever place, whose pump has so many turns
-pub record IsConnectionOf {N I O : Type 0} (m turns pumps place : ℕ) (end : Watched I × Watched O) (c : Connection N I O) : Type 0 where
-  pub reader : c.0.reader ≡ end.0
-  pub writer : c.2.writer ≡ end.1
+-- the connection of this reader and this writer, whose pump has so many turns
+pub record IsConnectionOf {N I O : Type 0} (m turns pumps : ℕ) (stream : Watched I × Watched O) (c : Connection N I O) : Type 0 where
+  pub reader : c.0.reader ≡ stream.0
+  pub writer : c.2.writer ≡ stream.1
   pub max_cto : c.0.max_cto ≡ m
   pub reads : c.0.turns ≡ turns
   pub drains : c.1.turns ≡ pumps
