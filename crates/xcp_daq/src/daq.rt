@@ -6,10 +6,10 @@ ghost use Rattle.xcp_daq.specs.DaqInvariant.{IsDaq};
 
 mod allocating;
 mod configuring;
+mod info;
 mod reading;
 mod sampling;
 mod starting;
-mod telling;
 
 use crate::mode::Mode;
 use crate::odts::Odts;

@@ -22,7 +22,7 @@ use Rattle.xcp_slave.specs.Outcomes.{Answer}
 use Rattle.xcp_slave.specs.declared.outcome.Outcome.TheVariants as answers
 use Rattle.xcp_daq.specs.declared.Element.{Element}
 use Rattle.xcp_daq.specs.Configuring.{read_daq_reply}
-use Rattle.xcp_slave.specs.DaqRows.{told_entry}
+use Rattle.xcp_slave.specs.DaqRows.{entry_reply}
 use Rattle.xcp_slave.specs.SlaveValue.{SlaveValue, layout_of, noblock}
 use Rattle.xcp_slave.specs.RefusingAnswers.{IsErrorPacket, IsRefusal}
 use Rattle.xcp_slave.specs.Rows.{row}
@@ -52,9 +52,9 @@ info-positive : (order : Order) (t : Bool) (word pages : ℕ) (reply : Reply) (r
 info-positive order true word pages reply rest s e = positive order (replies.SegmentWord word) reply _ rest s refl e
 info-positive order false word pages reply rest s e = positive order (replies.SegmentStandard pages) reply _ rest s refl e
 
-entry-positive : (order : Order) (o : Option Element) (reply : Reply) (rest : List ℕ) → Some (told_entry o) ≡ Some reply → layout order reply ≡ 0xFE ∷ rest → ⊥
+entry-positive : (order : Order) (o : Option Element) (reply : Reply) (rest : List ℕ) → Some (entry_reply o) ≡ Some reply → layout order reply ≡ 0xFE ∷ rest → ⊥
 entry-positive order None reply rest s e = positive order (replies.DaqEntry 0 0 0) reply _ rest s refl e
-entry-positive order (Some x) reply rest s e = positive order (told_entry (Some x)) reply _ rest s refl e
+entry-positive order (Some x) reply rest s e = positive order (entry_reply (Some x)) reply _ rest s refl e
 
 -- A row that replies with an error packet is SYNCH's.
 pub row-synch : (c : Command) (v : SlaveValue) (reply : Reply) (rest : List ℕ) → (row c (found_by c v)).reply ≡ Some reply → layout (layout_of v).order reply ≡ 0xFE ∷ rest → c ≡ commands.Synch

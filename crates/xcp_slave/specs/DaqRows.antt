@@ -22,23 +22,23 @@ daq_row refusal reply daq v = record {
   after = record (noblock v) { daq = daq };
 }
 
--- a row that only tells
-abbrev pub told_row : Option Code → Reply → SlaveValue → Row SlaveValue
-told_row refusal reply v = record { refusals = refused refusal; reply = Some reply; after = noblock v }
+-- a row that only asks
+abbrev pub query_row : Option Code → Reply → SlaveValue → Row SlaveValue
+query_row refusal reply v = record { refusals = refused refusal; reply = Some reply; after = noblock v }
 
--- an entry as READ_DAQ tells it: no bit of it, and all zeros where it is unwritten
+-- the reply to READ_DAQ: no bit of it, and all zeros where it is unwritten
 -- (ASAM MCD-1 XCP, protocol layer, description of commands: READ_DAQ.)
-abbrev pub told_entry : Option Element → Reply
-told_entry None = replies.DaqEntry 0 0 0
-told_entry (Some e) = replies.DaqEntry e.size 0 e.address
+abbrev pub entry_reply : Option Element → Reply
+entry_reply None = replies.DaqEntry 0 0 0
+entry_reply (Some e) = replies.DaqEntry e.size 0 e.address
 
 -- (ASAM MCD-1 XCP, protocol layer, description of commands: GET_DAQ_LIST_MODE.)
-abbrev pub told_mode : ListMode → Reply
-told_mode m = replies.DaqListMode m.mode m.event m.prescaler m.priority
+abbrev pub mode_reply : ListMode → Reply
+mode_reply m = replies.DaqListMode m.mode m.event m.prescaler m.priority
 
 -- (ASAM MCD-1 XCP, protocol layer, description of commands: GET_DAQ_PROCESSOR_INFO.)
-abbrev pub told_info : ProcessorInfo → Reply
-told_info i = replies.DaqInfo i.lists i.events
+abbrev pub info_reply : ProcessorInfo → Reply
+info_reply i = replies.DaqInfo i.lists i.events
 
 -- (ASAM MCD-1 XCP, protocol layer, description of commands: GET_DAQ_EVENT_INFO.)
 abbrev pub event_reply : EventInfo → Reply

@@ -21,7 +21,7 @@ impl Daq {
         if i >= self.list_count() {
             return Err(Code::OutOfRange);
         }
-        Ok(self.told_mode(i))
+        Ok(self.list_mode(i))
     }
 
     /// How many lists and event channels there are.
@@ -64,7 +64,7 @@ impl Daq {
         })
     }
 
-    fn told_mode(&self, i: usize) -> ListMode
+    fn list_mode(&self, i: usize) -> ListMode
         requires { i < length self.now.lists }
         ensures { result ≡ daq_list_mode_reply i self.now }
     {
