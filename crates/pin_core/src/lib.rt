@@ -14,7 +14,7 @@ mod words;
 
 pub use events::{Event, RunError, Seen, StepError};
 pub use heads::{head, parts};
-pub use laws::reclamation;
+pub use laws::{readers_keep_what_they_hold, runs_stay_lawful, writers_find_a_buffer};
 pub use pins::Core;
 pub use runs::run;
 

@@ -19,21 +19,35 @@ ghost use Rattle.xcp_transfer.specs.Downloads.{modified};
 ghost use Rattle.xcp_transfer.specs.declared.Mta.{Mta};
 ghost use Rattle.xcp_transfer.specs.declared.TextId.{TextId};
 
-/// Where the memory transfer address is after a transfer that is accepted, and after a session's
-/// begin and end.
-pub fn transfers_move_the_mta()
+/// Where the memory transfer address is after a read that is accepted: behind what was read. Of a block it is
+/// that of all its bytes.
+pub fn reads_move_the_mta()
     ensures upload { (v w : SlaveValue) (n a : ℕ) (bytes : List ℕ) → v.transfer.mta ≡ Mta.Memory a → Accepts v (Command.Upload n) bytes w → w.transfer.mta ≡ Mta.Memory (a + n) }
     ensures text { (v w : SlaveValue) (n place : ℕ) (id : TextId) (bytes : List ℕ) → v.transfer.mta ≡ Mta.Text id place → Accepts v (Command.Upload n) bytes w → w.transfer.mta ≡ Mta.Text id (place + n) }
     ensures short_upload { (v w : SlaveValue) (n extension a : ℕ) (bytes : List ℕ) → Accepts v (Command.ShortUpload n extension a) bytes w → w.transfer.mta ≡ Mta.Memory (a + n) }
     ensures checksum { (v w : SlaveValue) (n a : ℕ) (bytes : List ℕ) → v.transfer.mta ≡ Mta.Memory a → Accepts v (Command.BuildChecksum n) bytes w → w.transfer.mta ≡ Mta.Memory (a + n) }
+{}
+
+/// Where the memory transfer address is after a write that is accepted: behind what was written, of a block
+/// behind its last byte. MODIFY_BITS leaves it.
+pub fn writes_move_the_mta()
     ensures download { (v w : SlaveValue) (n a : ℕ) (items : ArrayVec ℕ) (bytes : List ℕ) → IsSlave v → v.transfer.mta ≡ Mta.Memory a → Accepts v (Command.Download n items) bytes w → w.transfer.mta ≡ Mta.Memory (a + n) }
     ensures short_download { (v w : SlaveValue) (n extension a : ℕ) (items : ArrayVec ℕ) (bytes : List ℕ) → IsSlave v → Accepts v (Command.ShortDownload n extension a items) bytes w → w.transfer.mta ≡ Mta.Memory (a + n) }
     ensures download_max { (v w : SlaveValue) (a : ℕ) (items : ArrayVec ℕ) (bytes : List ℕ) → IsSlave v → v.transfer.mta ≡ Mta.Memory a → Accepts v (Command.DownloadMax items) bytes w → w.transfer.mta ≡ Mta.Memory (a + ((layout_of v).max_cto - 1)) }
     ensures block { (v w : SlaveValue) (remaining : ℕ) (items : ArrayVec ℕ) (bytes : List ℕ) (b : BlockValue) → IsSlave v → v.transfer.block ≡ Some b → Accepts v (Command.DownloadNext remaining items) bytes w → w.transfer.mta ≡ Mta.Memory (b.address + (length b.bytes + b.expected)) }
     ensures bits { (v w : SlaveValue) (s ma mx : ℕ) (bytes : List ℕ) → Accepts v (Command.ModifyBits s ma mx) bytes w → w.transfer.mta ≡ v.transfer.mta }
+{}
+
+/// Where the memory transfer address is after a command that sets it: SET_MTA gives an address; GET_ID of kind 0 and
+/// GET_DAQ_EVENT_INFO the first byte of a text.
+pub fn commands_set_the_mta()
     ensures set_mta { (v w : SlaveValue) (extension a : ℕ) (bytes : List ℕ) → Accepts v (Command.SetMta extension a) bytes w → w.transfer.mta ≡ Mta.Memory a }
     ensures id { (v w : SlaveValue) (bytes : List ℕ) → Accepts v (Command.GetId 0) bytes w → w.transfer.mta ≡ Mta.Text TextId.Id 0 }
     ensures event_info { (v w : SlaveValue) (channel : ℕ) (bytes : List ℕ) → Accepts v (Command.GetDaqEventInfo channel) bytes w → w.transfer.mta ≡ Mta.Text (TextId.Name channel) 0 }
+{}
+
+/// After a session's begin and end the memory transfer address is nowhere.
+pub fn sessions_clear_the_mta()
     ensures connect { (v w : SlaveValue) (mode : ℕ) (bytes : List ℕ) → Accepts v (Command.Connect mode) bytes w → w.transfer.mta ≡ Mta.Nowhere }
     ensures disconnect { (v w : SlaveValue) (bytes : List ℕ) → Accepts v Command.Disconnect bytes w → w.transfer.mta ≡ Mta.Nowhere }
     ensures hangup { (v w : SlaveValue) (a : Answer) → Answers v Request.Hangup a w → w.transfer.mta ≡ Mta.Nowhere }

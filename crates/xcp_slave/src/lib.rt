@@ -23,10 +23,14 @@ mod status;
 pub use accepting::{
     a_block_gathers_its_bytes, a_copy_spares_the_reference_page, a_mode_is_of_its_segment,
     a_switch_gives_what_it_names, a_tool_is_told_its_bytes, a_tool_writes_its_bytes,
-    an_upload_is_cut_into_packets, transfers_move_the_mta,
+    an_upload_is_cut_into_packets, commands_set_the_mta, reads_move_the_mta,
+    sessions_clear_the_mta, writes_move_the_mta,
 };
 pub use asked::Asked;
-pub use beside::{requests_beside_change_their_own, sessions_begin_and_end};
+pub use beside::{
+    a_session_changes_by_its_own_requests, numbers_modes_and_signals_change_by_their_own,
+    requests_beside_change_their_own, sessions_begin_and_end,
+};
 pub use blocks::a_block_is_written_at_its_end;
 pub use exchange::Exchange;
 pub use law::{
