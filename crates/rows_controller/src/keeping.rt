@@ -37,12 +37,9 @@ static REQUESTS: [(Ask, bool); 8] = [
 ];
 
 fn first_not_kept() -> Option<usize> {
-    for (number, (ask, keeps)) in REQUESTS.iter().enumerate() {
-        if keeps_image(request(ask).asked()) != *keeps {
-            return Some(number);
-        }
-    }
-    None
+    REQUESTS
+        .iter()
+        .position(|(ask, keeps)| keeps_image(request(ask).asked()) != *keeps)
 }
 
 #[test]

@@ -255,12 +255,7 @@ fn is_found(alloc: Global, rows: &[Row]) -> bool {
 }
 
 fn first_not_found(alloc: Global) -> Option<usize> {
-    for (number, rows) in WRONG.iter().enumerate() {
-        if !is_found(alloc, rows) {
-            return Some(number);
-        }
-    }
-    None
+    WRONG.iter().position(|rows| !is_found(alloc, rows))
 }
 
 #[test]

@@ -50,12 +50,9 @@ fn is_faulty(alloc: Global, config: &str, number: u8) -> bool {
 static FAULTY: [(&str, u8); 4] = [("id = ", 1), ("", 2), ("id = 5", 3), ("id = ''", 4)];
 
 fn first_not_faulty(alloc: Global) -> Option<usize> {
-    for (row, (config, number)) in FAULTY.iter().enumerate() {
-        if !is_faulty(alloc, config, *number) {
-            return Some(row);
-        }
-    }
-    None
+    FAULTY
+        .iter()
+        .position(|(config, number)| !is_faulty(alloc, config, *number))
 }
 
 #[test]

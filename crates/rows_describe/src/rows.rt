@@ -18,12 +18,7 @@ fn described(alloc: Global, config: &str, host: &str, port: u16) -> Result<Strin
 
 /// The first of these that stands in a text, or the first that doesn't.
 fn first_that(text: &str, rows: &[&str], stands: bool) -> Option<usize> {
-    for (number, row) in rows.iter().enumerate() {
-        if text.contains(*row) == stands {
-            return Some(number);
-        }
-    }
-    None
+    rows.iter().position(|row| text.contains(*row) == stands)
 }
 
 /// The first of these that doesn't stand in a description.
@@ -221,12 +216,7 @@ fn is_refused(alloc: Global, rows: &str, refusal: &str) -> Result<bool, AllocErr
 }
 
 fn first_not_refused(alloc: Global) -> Option<usize> {
-    for (number, (rows, refusal)) in REFUSED.iter().enumerate() {
-        if is_refused(alloc, rows, refusal) != Ok(true) {
-            return Some(number);
-        }
-    }
-    None
+    REFUSED.iter().position(|(rows, refusal)| is_refused(alloc, rows, refusal) != Ok(true))
 }
 
 #[test]

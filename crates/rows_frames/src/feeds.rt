@@ -168,12 +168,7 @@ fn first_wrong_cut(alloc: Global, stream: &[u8], wanted: &[u8]) -> Option<usize>
 }
 
 fn first_wrong_stream(alloc: Global) -> Option<usize> {
-    for (number, (stream, wanted)) in STREAMS.iter().enumerate() {
-        if first_wrong_cut(alloc, stream, wanted).is_some() {
-            return Some(number);
-        }
-    }
-    None
+    STREAMS.iter().position(|(stream, wanted)| first_wrong_cut(alloc, stream, wanted).is_some())
 }
 
 #[test]

@@ -60,12 +60,9 @@ fn has_frames(alloc: Global, row: &Row) -> Result<bool, AllocError> {
 
 /// The first stream whose frames aren't those that are found.
 fn first_wrong(alloc: Global) -> Option<usize> {
-    for (number, row) in STREAMS.iter().enumerate() {
-        if has_frames(alloc, row) != Ok(true) {
-            return Some(number);
-        }
-    }
-    None
+    STREAMS
+        .iter()
+        .position(|row| has_frames(alloc, row) != Ok(true))
 }
 
 /// The definition itself, by the program whose contract it is.

@@ -86,12 +86,7 @@ static FAULTY: [&[u8]; 25] = [
 ];
 
 fn first_wrong_asking() -> Option<usize> {
-    for (number, (line, says)) in ASKING.iter().enumerate() {
-        if !is_said(line, *says) {
-            return Some(number);
-        }
-    }
-    None
+    ASKING.iter().position(|(line, says)| !is_said(line, *says))
 }
 
 #[test]
@@ -100,12 +95,7 @@ fn lines_that_ask() -> Result<(), Fail> {
 }
 
 fn first_not_faulty() -> Option<usize> {
-    for (number, line) in FAULTY.iter().enumerate() {
-        if !is_said(line, Says::Faulty) {
-            return Some(number);
-        }
-    }
-    None
+    FAULTY.iter().position(|line| !is_said(line, Says::Faulty))
 }
 
 #[test]

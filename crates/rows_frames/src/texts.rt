@@ -38,12 +38,8 @@ fn first_wrong(alloc: Global) -> Option<usize> {
         (Told::NoStore, b"no store\n"),
         (Told::Later, b"later\n"),
     ];
-    for (number, (told, wanted)) in rows.iter().enumerate() {
-        if !is_told(alloc, *told, wanted) {
-            return Some(number);
-        }
-    }
-    None
+    rows.iter()
+        .position(|(told, wanted)| !is_told(alloc, *told, wanted))
 }
 
 #[test]

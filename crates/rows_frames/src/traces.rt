@@ -182,12 +182,9 @@ fn behind_the_first(bytes: &[u8]) -> Option<usize> {
 
 /// The first row of which something else stands behind.
 fn first_not_checked() -> Option<usize> {
-    for (row, (bytes, wanted)) in BYTES.iter().enumerate() {
-        if behind_the_first(bytes) != *wanted {
-            return Some(row);
-        }
-    }
-    None
+    BYTES
+        .iter()
+        .position(|(bytes, wanted)| behind_the_first(bytes) != *wanted)
 }
 
 #[test]

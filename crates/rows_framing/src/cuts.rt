@@ -69,12 +69,7 @@ static SCRIPTS: [(&[u8], Ends); 4] = [
 
 /// The first script that doesn't end so at each cut.
 fn first_wrong_script(alloc: Global) -> Option<usize> {
-    for (number, (script, ends)) in SCRIPTS.iter().enumerate() {
-        if first_wrong(alloc, script, ends).is_some() {
-            return Some(number);
-        }
-    }
-    None
+    SCRIPTS.iter().position(|(script, ends)| first_wrong(alloc, script, ends).is_some())
 }
 
 #[test]

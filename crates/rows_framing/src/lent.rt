@@ -101,12 +101,7 @@ fn is_laid(gives: Gives) -> bool {
 }
 
 fn first_not_laid() -> Option<usize> {
-    for (number, gives) in ANSWERS.iter().enumerate() {
-        if !is_laid(*gives) {
-            return Some(number);
-        }
-    }
-    None
+    ANSWERS.iter().position(|gives| !is_laid(*gives))
 }
 
 #[test]

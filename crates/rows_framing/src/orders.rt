@@ -90,12 +90,9 @@ static STREAMS: [Stream; 7] = [
 
 /// The first stream that isn't served so.
 fn first_not_served(alloc: Global) -> Option<usize> {
-    for (number, (pieces, wanted)) in STREAMS.iter().enumerate() {
-        if !is_served(alloc, pieces, *wanted) {
-            return Some(number);
-        }
-    }
-    None
+    STREAMS
+        .iter()
+        .position(|(pieces, wanted)| !is_served(alloc, pieces, *wanted))
 }
 
 /// Each command's answer is written before the next read, and behind a bad LEN there is none.

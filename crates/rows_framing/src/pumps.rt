@@ -105,12 +105,9 @@ static TURNS: [(u32, bool, u32, bool, Came); 9] = [
 ];
 
 fn first_wrong_turns(alloc: Global) -> Option<usize> {
-    for (number, (packets, blocks, good, stopped, wanted)) in TURNS.iter().enumerate() {
-        if pumped(alloc, *packets, *blocks, *good, *stopped) != *wanted {
-            return Some(number);
-        }
-    }
-    None
+    TURNS.iter().position(|(packets, blocks, good, stopped, wanted)| {
+        pumped(alloc, *packets, *blocks, *good, *stopped) != *wanted
+    })
 }
 
 /// Where nothing waits nothing is drained, and the pump waits; what waits is put together as far as the turns go, and

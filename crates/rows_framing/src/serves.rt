@@ -53,12 +53,7 @@ fn holds(alloc: Global, row: &Row) -> bool {
 }
 
 fn first_wrong(alloc: Global) -> Option<usize> {
-    for (number, (_name, row)) in ROWS.iter().enumerate() {
-        if !holds(alloc, row) {
-            return Some(number);
-        }
-    }
-    None
+    ROWS.iter().position(|(_name, row)| !holds(alloc, row))
 }
 
 #[test]

@@ -149,12 +149,9 @@ fn is_told(alloc: Global, bytes: &[u8], done: Change, wanted: Result<u64, AuditF
 
 /// The first change of which something else is said.
 fn first_wrong(alloc: Global, bytes: &[u8]) -> Option<usize> {
-    for (row, (done, wanted)) in CHANGES.iter().enumerate() {
-        if !is_told(alloc, bytes, *done, *wanted) {
-            return Some(row);
-        }
-    }
-    None
+    CHANGES
+        .iter()
+        .position(|(done, wanted)| !is_told(alloc, bytes, *done, *wanted))
 }
 
 #[test]
