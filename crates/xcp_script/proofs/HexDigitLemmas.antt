@@ -4,6 +4,7 @@ use Rattle.std.specs.Prelude.{slice_index, unwrap_or, is_some, filter, not, map,
 use Rattle.std.specs.List.{list_any, range_with_len}
 use Rattle.std.proofs.lemmas.List.{append-nil, drop_all}
 use Rattle.std.proofs.lemmas.List.FromFn.{get_or-map-range_with_len}
+use Rattle.arrayvec.specs.ArrayVec.{ArrayVec}
 use Rattle.hex.specs.Hex.{decode_pairs, digit_or_error, hex_digit_value, upper_digits, ◌>>=◌}
 use Rattle.hex.specs.declared.error.FromHexError.{FromHexError}
 use Rattle.xcp_script.specs.private.HexDigits.{value_or}
@@ -11,7 +12,6 @@ use Rattle.xcp_script.specs.declared.line.Line.{Line}
 use Rattle.xcp_script.specs.declared.line.Line.TheVariants.{Faulty}
 use Rattle.xcp_script.specs.declared.slot.Parsed.{Parsed}
 use Rattle.xcp_script.specs.declared.slot.Parsed.TheVariants as parseds
-use Rattle.xcp_script.specs.declared.slot.Slot.{Slot}
 use Rattle.xcp_script.specs.private.LineInSlot.{line_in}
 use Rattle.xcp_script.specs.ScriptLine.{bytes_if_ok, command_of, command_with, hex_bytes, is_space}
 
@@ -173,11 +173,11 @@ read_as_it_stands most line said is fine =
     is ∙ ap command_with (read_of most line (hex_bytes most line) refl (λ h. fine (is ∙ h)))
 
 -- only a faulty line is told as one
-pub faulty_in : (parsed : Parsed) (slot : Slot) → line_in parsed slot ≡ Faulty → parsed ≡ parseds.Faulty
-faulty_in parseds.Skip slot h = absurd (cc)
-faulty_in parseds.Command slot h = absurd (cc)
-faulty_in (parseds.Event channel) slot h = absurd (cc)
-faulty_in parseds.Drain slot h = absurd (cc)
-faulty_in parseds.FinishStore slot h = absurd (cc)
-faulty_in parseds.Hangup slot h = absurd (cc)
-faulty_in parseds.Faulty slot h = refl
+pub faulty_in : (parsed : Parsed) (command signals : ArrayVec ℕ) → line_in parsed command signals ≡ Faulty → parsed ≡ parseds.Faulty
+faulty_in parseds.Skip command signals h = absurd (cc)
+faulty_in parseds.Command command signals h = absurd (cc)
+faulty_in (parseds.Event channel) command signals h = absurd (cc)
+faulty_in parseds.Drain command signals h = absurd (cc)
+faulty_in parseds.FinishStore command signals h = absurd (cc)
+faulty_in parseds.Hangup command signals h = absurd (cc)
+faulty_in parseds.Faulty command signals h = refl

@@ -13,6 +13,8 @@ use xcp_slave::{Cut, Told};
 
 /// Appends the line of an answer, whose packet, if it is one, stands in the lent one. After an
 /// `Err` a front of it may have been appended.
+// A replay does this for each line, in which the calls that are inlined here would take some twenty instructions each.
+#[inline(always)]
 #[tactic(auto, unfolding(crate::specs::AnswerText::text_of))]
 pub fn push_text(texts: &mut Vec<u8>, told: Told, packet: &Packet) -> Result<(), AllocError>
     ensures { OnOk result (texts.new.items
@@ -34,6 +36,7 @@ pub fn push_text(texts: &mut Vec<u8>, told: Told, packet: &Packet) -> Result<(),
 }
 
 /// Appends a packet in upper-case hex, and a line feed.
+#[inline(always)]
 fn push_packet(texts: &mut Vec<u8>, packet: &[u8]) -> Result<(), AllocError>
     requires { length packet.now ≤ 255 }
     ensures { OnOk result (texts.new.items
@@ -62,6 +65,7 @@ fn push_block(texts: &mut Vec<u8>, bytes: &[u8], width: Width) -> Result<(), All
 }
 
 /// Appends a packet in upper-case hex, and the character behind it.
+#[inline(always)]
 fn push_ended(texts: &mut Vec<u8>, packet: &[u8], end: u8) -> Result<(), AllocError>
     requires { length packet.now ≤ 255 }
     ensures { OnOk result (texts.new.items ≡ texts.old.items ++ encode_upper packet.now ++ end ∷ []) }

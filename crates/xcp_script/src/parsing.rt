@@ -1,6 +1,6 @@
 //! The lines of a script, read one by one.
-ghost use Rattle.std.specs.Prelude.{◌≡◌, ◌≤◌, MatchBool, position, length, false, Some, None};
-ghost use Rattle.xcp_script.specs.ScriptLine.{meaning, channel_of, command_of, command_with, event_of, event_with, hex_bytes, is_skipped, is_space};
+ghost use Rattle.std.specs.Prelude.{◌≡◌, ◌≤◌, MatchBool, MatchOption, codes, drop, position, length, take, true, false, Some, None};
+ghost use Rattle.xcp_script.specs.ScriptLine.{meaning, channel_of, command_of, command_with, event_of, event_with, hex_bytes, is_skipped, is_space, is_word};
 ghost use Rattle.xcp_script.specs.private.LineInSlot.{line_in};
 
 use crate::Line;
@@ -27,7 +27,7 @@ pub fn parse_line(max_cto: u8, line: &[u8]) -> Line
 /// What a line says, as `parse_line` has it. The bytes of a command or of an event stand in the slot then.
 #[tactic(auto, unfolding(crate::specs::ScriptLine::meaning))]
 pub(crate) fn parse_into(max_cto: u8, line: &[u8], slot: &mut Slot) -> Parsed
-    ensures { line_in result slot.new ≡ meaning max_cto line.now }
+    ensures { line_in result slot.new.command slot.new.signals ≡ meaning max_cto line.now }
 {
     if line.len() > LINE_BYTES {
         return Parsed::Faulty;
@@ -43,7 +43,7 @@ pub(crate) fn parse_into(max_cto: u8, line: &[u8], slot: &mut Slot) -> Parsed
 fn parse_request(max_cto: u8, line: &[u8], slot: &mut Slot) -> Parsed
     requires some { is_skipped line.now ≡ false }
     requires short { length line.now ≤ 1024 }
-    ensures { line_in result slot.new ≡ meaning max_cto line.now }
+    ensures { line_in result slot.new.command slot.new.signals ≡ meaning max_cto line.now }
 {
     if line == b"drain".as_slice() {
         return Parsed::Drain;
@@ -54,15 +54,27 @@ fn parse_request(max_cto: u8, line: &[u8], slot: &mut Slot) -> Parsed
     if line == b"hangup".as_slice() {
         return Parsed::Hangup;
     }
-    match line.strip_prefix(b"event ") {
+    match event_text(line) {
         Some(text) => parse_event(text, slot),
         None => parse_command(max_cto, line, slot),
     }
 }
 
+/// What stands behind `event ` in a line that begins with it. Commands seldom begin with an `e`: a line that doesn't isn't
+/// compared with the whole word.
+fn event_text(line: &[u8]) -> Option<&[u8]>
+    ensures { MatchOption result (is_word (codes "event ") (take 6 line.now) ≡ false)
+        (λ text. (is_word (codes "event ") (take 6 line.now) ≡ true) × (text.now ≡ drop 6 line.now)) }
+{
+    match line {
+        [b'e', ..] => line.strip_prefix(b"event "),
+        _ => None,
+    }
+}
+
 /// What `event C HEX` says, from behind its first space.
 fn parse_event(text: &[u8], slot: &mut Slot) -> Parsed
-    ensures { line_in result slot.new ≡ event_of text.now }
+    ensures { line_in result slot.new.command slot.new.signals ≡ event_of text.now }
 {
     let Some(space) = first_space(text) else {
         return Parsed::Faulty;
@@ -81,7 +93,7 @@ fn first_space(text: &[u8]) -> Option<usize>
 
 /// Reads an event's signals straight into the slot.
 fn read_event(channel: u16, digits: &[u8], slot: &mut Slot) -> Parsed
-    ensures { line_in result slot.new ≡ event_with (Some channel) (hex_bytes 64 digits.now) }
+    ensures { line_in result slot.new.command slot.new.signals ≡ event_with (Some channel) (hex_bytes 64 digits.now) }
 {
     if !read_hex(SIGNAL_BYTES, digits, &mut slot.signals) {
         return Parsed::Faulty;
@@ -92,7 +104,7 @@ fn read_event(channel: u16, digits: &[u8], slot: &mut Slot) -> Parsed
 /// What a line says that is a command packet, if anything.
 fn parse_command(max_cto: u8, line: &[u8], slot: &mut Slot) -> Parsed
     requires { length line.now ≤ 1024 }
-    ensures { line_in result slot.new ≡ command_of max_cto line.now }
+    ensures { line_in result slot.new.command slot.new.signals ≡ command_of max_cto line.now }
 {
     match read_command(max_cto, line, slot) {
         // a space is no digit, so a line that is read has none
@@ -105,7 +117,7 @@ fn parse_command(max_cto: u8, line: &[u8], slot: &mut Slot) -> Parsed
 fn parse_faulty(max_cto: u8, line: &[u8], slot: &mut Slot) -> Parsed
     requires faulty { command_with (hex_bytes max_cto line.now) ≡ Line.Faulty }
     requires short { length line.now ≤ 1024 }
-    ensures { line_in result slot.new ≡ command_of max_cto line.now }
+    ensures { line_in result slot.new.command slot.new.signals ≡ command_of max_cto line.now }
 {
     if line.contains(&b' ') {
         return parse_spaced(max_cto, line, slot);
@@ -116,7 +128,7 @@ fn parse_faulty(max_cto: u8, line: &[u8], slot: &mut Slot) -> Parsed
 /// The same of a line in which spaces stand: it is copied without them.
 fn parse_spaced(max_cto: u8, line: &[u8], slot: &mut Slot) -> Parsed
     requires { length line.now ≤ 1024 }
-    ensures { line_in result slot.new ≡ command_of max_cto line.now }
+    ensures { line_in result slot.new.command slot.new.signals ≡ command_of max_cto line.now }
 {
     let mut digits: ArrayVec<u8, LINE_BYTES> = ArrayVec::new();
     for byte in line {
@@ -129,7 +141,7 @@ fn parse_spaced(max_cto: u8, line: &[u8], slot: &mut Slot) -> Parsed
 
 /// Reads a command packet straight into the slot.
 fn read_command(max_cto: u8, digits: &[u8], slot: &mut Slot) -> Parsed
-    ensures { line_in result slot.new ≡ command_with (hex_bytes max_cto digits.now) }
+    ensures { line_in result slot.new.command slot.new.signals ≡ command_with (hex_bytes max_cto digits.now) }
 {
     if !read_hex(max_cto as usize, digits, &mut slot.command) {
         return Parsed::Faulty;

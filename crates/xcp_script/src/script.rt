@@ -1,5 +1,5 @@
 //! The lines of a script, answered as their bytes come.
-ghost use Rattle.std.specs.Prelude.{◌≡◌, ◌≢◌, ◌≤◌, ◌<◌, ◌+◌, ◌^◌, ◌++◌, ◌∷◌, [], ℕ, List, Some, None, true, false, OnOk, OnErr, IfErr, length};
+ghost use Rattle.std.specs.Prelude.{◌≡◌, ◌≢◌, ◌≤◌, ◌<◌, ◌+◌, ◌^◌, ◌++◌, ◌∷◌, [], ℕ, List, Some, None, true, false, OnOk, OnErr, IfOk, IfErr, IfSome, MatchResult, length};
 ghost use Rattle.xcp_slave.specs.AskedRequest.{IsShort, request_asked};
 ghost use Rattle.xcp_slave.specs.declared.Request.{Request};
 ghost use Rattle.xcp_slave.specs.Run.{requests_of};
@@ -7,14 +7,17 @@ ghost use Rattle.xcp_slave.specs.SlaveValue.{layout_of};
 ghost use mathlib.Core.List.{IsPrefix};
 ghost use Rattle.xcp_script.specs.Lines.{unless_empty};
 ghost use Rattle.xcp_script.specs.ScriptLine.{meaning};
+ghost use Rattle.xcp_script.specs.private.LineInSlot.{line_asking, line_in};
 ghost use Rattle.xcp_script.specs.private.LineReading.{asked_before, faulty_from, lines_from, ShortOf};
 ghost use Rattle.xcp_script.specs.Replay.{asked_by, is_faulty};
 ghost use Rattle.xcp_script.specs.AnswerText.{answers_text};
 
+use crate::Line;
 use crate::answer_text::push_text;
 use crate::liner::{Lined, Liner};
 use crate::parsing::parse_into;
-use crate::slot::{Parsed, Slot};
+use crate::slot::{Parsed, SIGNAL_BYTES, Slot};
+use arrayvec::ArrayVec;
 use xcp_framing::{Desk, Station};
 use xcp_packet::Packet;
 use xcp_slave::Asked;
@@ -170,17 +173,31 @@ fn answer_line(
         signals,
         packet,
     } = slot;
+    match asked_in(parsed, command, signals)? {
+        None => Ok(()),
+        Some(asked) => answer_request(desk, asked, packet, texts),
+    }
+}
+
+/// The request that a line asks, if it asks one, whose bytes stand in a slot's command or signals.
+fn asked_in<'a>(
+    parsed: Parsed,
+    command: &'a Packet,
+    signals: &'a ArrayVec<u8, SIGNAL_BYTES>,
+) -> Result<Option<Asked<'a>>, LineError>
+    ensures line { MatchResult result
+        (λ asked. line_in parsed command.now signals.now ≡ line_asking asked)
+        (λ e. (e ≡ LineError.Faulty) × (line_in parsed command.now signals.now ≡ Line.Faulty)) }
+    ensures short { IfOk result (λ asked. IfSome asked IsShort) }
+{
     match parsed {
-        Parsed::Skip => Ok(()),
+        Parsed::Skip => Ok(None),
         Parsed::Faulty => Err(LineError::Faulty),
-        Parsed::Command => answer_request(desk, Asked::Command(command.as_slice()), packet, texts),
-        Parsed::Event(channel) => {
-            let asked = Asked::Event(channel, signals.as_slice());
-            answer_request(desk, asked, packet, texts)
-        }
-        Parsed::Drain => answer_request(desk, Asked::Drain, packet, texts),
-        Parsed::FinishStore => answer_request(desk, Asked::FinishStore, packet, texts),
-        Parsed::Hangup => answer_request(desk, Asked::Hangup, packet, texts),
+        Parsed::Command => Ok(Some(Asked::Command(command.as_slice()))),
+        Parsed::Event(channel) => Ok(Some(Asked::Event(channel, signals.as_slice()))),
+        Parsed::Drain => Ok(Some(Asked::Drain)),
+        Parsed::FinishStore => Ok(Some(Asked::FinishStore)),
+        Parsed::Hangup => Ok(Some(Asked::Hangup)),
     }
 }
 

@@ -49,7 +49,7 @@ impl Slot {
 
     /// What the line says, with its request.
     pub(crate) fn with(self, parsed: Parsed) -> Line
-        ensures { result ≡ line_in parsed self }
+        ensures { result ≡ line_in parsed self.command self.signals }
     {
         match parsed {
             Parsed::Skip => Line::Skip,
