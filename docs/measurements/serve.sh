@@ -1,7 +1,7 @@
 #!/usr/bin/env bash
 # Measures `xcpd serve` over TCP beside a plain Rust slave of one thread: round trips of one tool without tasks, and
 # beside six tasks that each have a cycle every millisecond; and commands that are sent behind one another. Then `serve` over a desk,
-# in one thread and without a lock (`crates/desk_over_tcp`), beside the same. The best of seven runs of 30,000 commands each (the
+# in one thread and without a lock (`bench/desk_over_tcp`), beside the same. The best of seven runs of 30,000 commands each (the
 # journal takes 65,536 calls). With the word `count` it counts the instructions of one command instead.
 # Use: docs/measurements/serve.sh [count]      from any folder; wants the toolchain, rustc, and to count valgrind.
 set -eu
@@ -65,7 +65,6 @@ row trips "$(best trips "${xcpd[@]}" --tasks 0)" "$plain"
 row 'trips beside six tasks' "$(best trips "${xcpd[@]}" --tasks 6 --period 1 --cycles 1000)" "$plain"
 pipe=$(best pipe "$work/tool" slave PORT)
 row pipe "$(best pipe "${xcpd[@]}" --tasks 0)" "$pipe"
-(cd "$top/crates/desk_over_tcp" && rt run >&2)
-desk=("$top/crates/desk_over_tcp/out/desk_over_tcp" "$config" PORT)
+desk=("$("$top/bin/bench" --path desk_over_tcp)" "$config" PORT)
 row 'trips, by a desk' "$(best trips "${desk[@]}")" "$plain"
 row 'pipe, by a desk' "$(best pipe "${desk[@]}")" "$pipe"
