@@ -3,6 +3,8 @@
 #![tactic(auto)]
 
 #[cfg(test)]
+mod helps;
+#[cfg(test)]
 mod layouts;
 #[cfg(test)]
 mod periods;

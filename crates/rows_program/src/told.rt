@@ -173,6 +173,28 @@ pub fn first_other(alloc: Global, rows: &[Row]) -> Result<Option<usize>, AllocEr
     Ok(None)
 }
 
+/// These parts as one text.
+fn joined(alloc: Global, parts: &[&str]) -> Result<String, AllocError> {
+    let mut text = String::new(alloc);
+    for part in parts {
+        text.push_str(part)?;
+    }
+    Ok(text)
+}
+
+/// The first row with whose words the program tells anything but its parts, one behind another.
+pub fn first_other_joined(
+    alloc: Global,
+    rows: &[(&[u8], &[&str])],
+) -> Result<Option<usize>, AllocError> {
+    for (number, (words, parts)) in rows.iter().enumerate() {
+        if told(alloc, words)? != joined(alloc, parts)? {
+            return Ok(Some(number));
+        }
+    }
+    Ok(None)
+}
+
 /// The first row of whose words the program tells what doesn't begin so.
 pub fn first_other_beginning(alloc: Global, rows: &[Row]) -> Result<Option<usize>, AllocError> {
     for (number, (words, text)) in rows.iter().enumerate() {

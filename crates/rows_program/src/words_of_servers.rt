@@ -5,57 +5,8 @@ use std::alloc::{AllocError, Global};
 use std::test::Fail;
 use xcp_program::options;
 
-const SERVE_HELP: &str =
-    "0 Answers calibration tools over TCP, while tasks of the controller raise events
-
-Usage: xcpd serve [OPTIONS] --config <FILE> --port <PORT>
-
-Options:
-      --config <FILE>   The layout file, in TOML: identification, packet lengths, segments, signals, events
-      --port <PORT>     The port to listen on, 1,024 to 65,535
-      --host <A>        The address of this machine to listen on [default: 127.0.0.1]
-      --stay            Tools come and go, and the tasks have no end
-      --tools <T>       How many tools may connect, 1 or 2, with --stay 1 to 4 [default: 1]
-      --tasks <K>       How many tasks raise events, 0 to 6 [default: 1]
-      --cycles <N>      How many cycles each task runs, 1 to 1,000; not for --stay [default: 100]
-      --chapter <M>     From how many calls on a chapter of the journal is cut off, 1 to 65,536; not for --stay [default: 65536]
-      --period <MS>     The milliseconds from one cycle of a task to its next, 0 to 1,000 [default: 0]
-      --patience <S>    The seconds that a tool may stop inside a frame, or read nothing, 1 to 3,600; only for --stay [default: 60]
-      --journal <FILE>  A new file that all calls are written to, for an audit
-      --flash <FILE>    The file that keeps the pages that tools store
-      --pace            Each task raises its channel by the channel's own cycle and unit, not by --period, if these say a time
-  -h, --help            Print help
-
-Its first line is: listening PORT. It accepts T connections, answers each until it ends, and runs the tasks meanwhile.
-When all have ended it prints: chapters C (C is the number of chapters, the open one included), calls N (N is the
-number of all calls), and: settled (what was answered is what the slave's journal has). These three lines come before
-that of a fault, but not before that of a mismatch, of a faulty configuration, of stream 0, or of memory where nothing
-had begun.
-With --stay tools come and go, up to T at a time (1 to 4), until a line `stop` on standard input ends it; the tasks run
-until then, and --cycles and --chapter are ignored. How each connection ended is told on standard error then, and the
-status is not that of a connection's fault. Without it T is 1 or 2, and --patience is ignored.
-With --pace a task's period is the time that its channel's cycle and unit say; where these say none, it is --period.
-With --journal all calls are written to FILE, which must not be there yet: with --stay chapter by chapter, else at the
-end. One line more is printed then, behind settled: recorded N (N is the number of calls that stand in FILE).
-With --flash the pages that tools store are kept in FILE: where it is there, the slave begins with them, and after each
-store it is replaced whole. Without --stay it is replaced at the end.
-
-Wrong words end the program with status 1, and what is wrong with them on standard error. Any other fault ends it
-with one line there, and this status:
-  1  configuration N: the file can't be read (0), is no TOML (1), lacks a key (2), has a value of the wrong
-     type (3), out of its range (4), areas that overlap (5), or too many segments, bytes or events (6)
-  3  stream N: listening or accepting failed (0); of the first faulty connection, reading failed (1), writing
-     failed (2), a frame is too long (3) or cut short (4), the reads were spent (6); the journal is full (7)
-  4  memory: an allocation failed, or a thread couldn't be started
-  5  mismatch chapter K: chapter K of the journal doesn't follow the one before
-  5  mismatch caller C at I: what caller C was answered differs from the journal, first at its call I
-  6  journal N: the journal's file can't be made, or is there already (1), or not all calls could be written (2)
-  6  flash N: the file of the stored pages can't be read, is of another layout, cut short or altered (1), or not all
-     could be written (2)
-";
-
 /// What the program does with words of `serve` behind a configuration file F and a port.
-static SERVERS: [Row; 20] = [
+static SERVERS: [Row; 19] = [
     (
         b"xcpd|serve|--config|F|--port|5555",
         "F 127.0.0.1 5555 1 1 100 65536 0",
@@ -132,7 +83,6 @@ static SERVERS: [Row; 20] = [
         b"xcpd|serve|--config|F|--pace|--journal|J|--port|2000|--flash=P",
         "F 127.0.0.1 2000 1 1 100 65536 0 J paced flash P",
     ),
-    (b"xcpd|serve|--help", SERVE_HELP),
 ];
 
 /// What it tells of words of `serve` that are wrong.

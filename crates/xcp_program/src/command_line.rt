@@ -8,6 +8,7 @@ ghost use Rattle.xcp_program.specs.CommandLine.{Asks, AsksTooMany, InRange, HasC
 ghost use Rattle.xcp_program.specs.private.AppArguments.{AsksAudit, AsksDescription, AsksReplay, AsksServe, AsksSomething, HasFlag, IsChosen, IsRefusal, counted_app, front_app, placed_app};
 ghost use Rattle.xcp_program.specs.CommandLine.{audit_app, choice_rule, config_rule, describe_app, file_rule, flag_rule, host_rule, numeric_rule, program, replay_app, serve_app};
 
+use crate::fault_words::help;
 use crate::purpose::{Options, OptionsFault};
 use clap::builder::ValueParser;
 use clap::error::ErrorKind;
@@ -21,26 +22,18 @@ const VERSION: &str = "0.1.0";
 const MOST_TOOLS: u8 = 2;
 
 /// What help says below the options of the program.
-const STATUS: &str =
-    "Wrong words end the program with status 1, and what is wrong with them on standard error.";
+const STATUS: &str = help!(wrong_words);
 
 /// What help says below the options of a replay.
-const LINES: &str =
+const LINES: &str = help!(
     "Each line is a command packet in hex, as FF00 (CONNECT), or one of: event C HEX, drain, store, hangup.
 Empty lines and lines that begin with # are skipped. A dash is the answer where nothing is sent.
-With --flash the slave begins with the stored pages of FILE, which isn't changed.
-
-Wrong words end the program with status 1, and what is wrong with them on standard error. Any other fault ends it
-with one line there, and this status:
-  1  configuration N: the file can't be read (0), is no TOML (1), lacks a key (2), has a value of the wrong
-     type (3), out of its range (4), areas that overlap (5), or too many segments, bytes or events (6)
-  2  line N: the line is faulty
-  3  stream N: reading (1) or writing (2) failed
-  4  memory: an allocation failed
-  6  flash 1: the file of the stored pages can't be read, is of another layout, cut short or altered";
+With --flash the slave begins with the stored pages of FILE, which isn't changed.":
+    configuration, line, streams_of_a_replay, memory, read_flash
+);
 
 /// What help says below the options of a server.
-const ENDS: &str =
+const ENDS: &str = help!(
     "Its first line is: listening PORT. It accepts T connections, answers each until it ends, and runs the tasks meanwhile.
 When all have ended it prints: chapters C (C is the number of chapters, the open one included), calls N (N is the
 number of all calls), and: settled (what was answered is what the slave's journal has). These three lines come before
@@ -50,55 +43,30 @@ With --stay tools come and go, up to T at a time (1 to 4), until a line `stop` o
 until then, and --cycles and --chapter are ignored. How each connection ended is told on standard error then, and the
 status is not that of a connection's fault. Without it T is 1 or 2, and --patience is ignored.
 With --pace a task's period is the time that its channel's cycle and unit say; where these say none, it is --period.
-With --journal all calls are written to FILE, which must not be there yet: with --stay chapter by chapter, else at the
-end. One line more is printed then, behind settled: recorded N (N is the number of calls that stand in FILE).
+With --journal all calls are written to FILE, which must not be there yet: each chapter when it is cut off, and the open
+one at the end. One line more is printed then, behind settled: recorded N (N is the number of calls that stand in FILE).
 With --flash the pages that tools store are kept in FILE: where it is there, the slave begins with them, and after each
-store it is replaced whole. Without --stay it is replaced at the end.
-
-Wrong words end the program with status 1, and what is wrong with them on standard error. Any other fault ends it
-with one line there, and this status:
-  1  configuration N: the file can't be read (0), is no TOML (1), lacks a key (2), has a value of the wrong
-     type (3), out of its range (4), areas that overlap (5), or too many segments, bytes or events (6)
-  3  stream N: listening or accepting failed (0); of the first faulty connection, reading failed (1), writing
-     failed (2), a frame is too long (3) or cut short (4), the reads were spent (6); the journal is full (7)
-  4  memory: an allocation failed, or a thread couldn't be started
-  5  mismatch chapter K: chapter K of the journal doesn't follow the one before
-  5  mismatch caller C at I: what caller C was answered differs from the journal, first at its call I
-  6  journal N: the journal's file can't be made, or is there already (1), or not all calls could be written (2)
-  6  flash N: the file of the stored pages can't be read, is of another layout, cut short or altered (1), or not all
-     could be written (2)";
+store, which ends a chapter then, it is replaced whole.":
+    configuration, streams_of_a_server, memory_or_threads, mismatched_chapter, mismatched_caller, written_journal, kept_flash
+);
 
 /// What help says below the options of a description.
-const FAULTS: &str =
+const FAULTS: &str = help!(
     "Tools read it: the slave's protocol layer, lists, event channels, segments and pages, as the slave tells them.
 With --check nothing is described. A line is printed for each thing that is found in the layout file: its first fault in
-words, each key that nothing reads, and the first entry that would be refused. The status is 1 then; else it is 0.
-
-Wrong words end the program with status 1, and what is wrong with them on standard error. Any other fault ends it
-with one line there, and this status:
-  1  configuration N: the file can't be read (0), is no TOML (1), lacks a key (2), has a value of the wrong
-     type (3), out of its range (4), areas that overlap (5), or too many segments, bytes or events (6)
-  3  stream 2: writing failed
-  4  memory: an allocation failed";
+words, each key that nothing reads, and the first entry that would be refused. The status is 1 then; else it is 0.":
+    configuration, writing, memory
+);
 
 /// What help says below the options of an audit.
-const VERDICTS: &str =
+const VERDICTS: &str = help!(
     "Each call of the journal is executed again, on a new slave of the layout file, and its answer compared. It prints: calls N
 (N is the number of all calls), and: settled. Where the file is cut short or altered, it prints calls N alone: so many calls
 stand before, and are good. With --lines there is a line for each call before, its parts with a tab between them: the
 caller's number, the request as a replay reads it, and the answer as a replay writes it.
-With --flash the slave begins with the stored pages of FILE, which isn't changed.
-
-Wrong words end the program with status 1, and what is wrong with them on standard error. Any other fault ends it
-with one line there, and this status:
-  1  configuration N: the file can't be read (0), is no TOML (1), lacks a key (2), has a value of the wrong
-     type (3), out of its range (4), areas that overlap (5), or too many segments, bytes or events (6)
-  3  stream 2: writing failed
-  4  memory: an allocation failed
-  5  mismatch call I: call I is the first, counted from 0, that has another answer than the slave's
-  6  journal N: the journal's file can't be opened (0) or read (1), ends inside a chapter (3), has a chapter that isn't
-     as it was written (4), is of another layout (5), is no such file, is of another version or too long (6)
-  6  flash 1: the file of the stored pages can't be read, is of another layout, cut short or altered";
+With --flash the slave begins with the stored pages of FILE, which isn't changed.":
+    configuration, writing, memory, mismatched_call, audited_journal, read_flash
+);
 
 /// What help says of the option `--flash` where its file is only read.
 const BEGINS: &str = "A file of stored pages, with which the slave begins";

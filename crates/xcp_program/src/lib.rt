@@ -8,6 +8,7 @@
 
 mod command_line;
 mod fault;
+mod fault_words;
 mod layout;
 mod periods;
 mod purpose;
