@@ -148,6 +148,15 @@ fn publish(writer: &mut Writer, last: &mut [u8; IMAGE_BYTES], slave: &Slave, ask
     if keeps_image(asked) {
         return;
     }
+    offer(writer, last, slave);
+}
+
+/// Publishes the image of this slave, if it isn't the one published last. It isn't inlined, since the
+/// room for the image would then be part of each request's stack.
+#[inline(never)]
+fn offer(writer: &mut Writer, last: &mut [u8; IMAGE_BYTES], slave: &Slave)
+    ensures { Offers (image_of slave.now) last.old last.new writer.old writer.new }
+{
     let mut image = [0; IMAGE_BYTES];
     slave.image(&mut image);
     if image == *last {
