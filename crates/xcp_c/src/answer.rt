@@ -45,24 +45,20 @@ impl XcpAnswer {
     pub(crate) fn tell(&mut self, told: Told, packet: &Packet)
         ensures { IsTold (answer_in told packet.now) self.new }
     {
-        self.width = 0;
-        self.length = 0;
-        self.count = 0;
         match &told {
-            Told::Silent => self.told = 0,
+            Told::Silent => self.tell_count(0, 0),
             Told::Packets(Cut::Whole) => self.tell_packets(packet, 0, 1),
             Told::Packets(Cut::Block(width)) => {
-                let count = Train::cut(packet, *width).count();
-                self.tell_packets(packet, width.bytes(), count);
+                self.tell_packets(packet, width.bytes(), count_of(packet, *width));
             }
             Told::Sampled(count) => self.tell_count(2, *count),
-            Told::Overrun => self.told = 3,
-            Told::NoChannel => self.told = 4,
-            Told::BadSignals => self.told = 5,
-            Told::Nothing => self.told = 6,
+            Told::Overrun => self.tell_count(3, 0),
+            Told::NoChannel => self.tell_count(4, 0),
+            Told::BadSignals => self.tell_count(5, 0),
+            Told::Nothing => self.tell_count(6, 0),
             Told::Stored(count) => self.tell_count(7, *count),
-            Told::NoStore => self.told = 8,
-            Told::Later => self.told = 9,
+            Told::NoStore => self.tell_count(8, 0),
+            Told::Later => self.tell_count(9, 0),
         }
     }
 
@@ -71,6 +67,8 @@ impl XcpAnswer {
     {
         self.told = told;
         self.count = count;
+        self.width = 0;
+        self.length = 0;
     }
 
     fn tell_packets(&mut self, bytes: &[u8], width: u8, count: u8)
@@ -84,6 +82,15 @@ impl XcpAnswer {
         self.length = bytes.len() as u8;
         self.bytes[..bytes.len()].copy_from_slice(bytes);
     }
+}
+
+/// How many packets a block of these bytes has.
+fn count_of(bytes: &[u8], width: Width) -> u8
+    requires { length bytes.now ≤ 255 }
+    ensures { result ≡ length (block_packets width bytes.now) }
+{
+    let full = bytes.len().saturating_sub(1) / width.bytes() as usize;
+    full as u8 + 1
 }
 
 /// Writes the packet at an index of an answer's packets, from 0 on. False where there is none, or where
