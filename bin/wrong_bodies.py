@@ -527,7 +527,8 @@ def run(main):
     """Runs a script; where it is interrupted, or a file is in its way, its checks end and it leaves nothing behind."""
     try:
         for number in (signal.SIGINT, signal.SIGTERM, signal.SIGHUP):
-            signal.signal(number, interrupted)
+            if number != signal.SIGHUP or signal.getsignal(number) != signal.SIG_IGN:  # (nohup's work goes on)
+                signal.signal(number, interrupted)
         sys.exit(main())
     except KeyboardInterrupt:
         end_all()
