@@ -77,6 +77,42 @@ fn hand_over<N: Name, M: Route>(
         }
     }
     post.close(rt);
+    if way == Way::Exchanged {
+        members.reverse();
+    }
+}
+
+// Collects what was handed over, if somebody does.
+fn collect<N: Name, M: Route>(
+    rt: &impl Wait,
+    post: &Post<N, M>,
+    collector: Collector<N, M, Written>,
+    way: Way,
+) -> Result<Collector<N, M, Written>, Unkept> {
+    if way == Way::OnTheWay {
+        Ok(collector)
+    } else {
+        collector.collect(rt, post)
+    }
+}
+
+// A post, a slave and two members, with a scribe that writes to memory.
+fn opened<N: Name, M: Route>(
+    alloc: Global,
+    opening: Opening<N>,
+    unrouted: Unrouted<N>,
+) -> Result<Posting<N, M, Written>, Fail>
+    requires relay { unrouted ≡ M.relay }
+    requires first { IsUncut N.layout opening.locked }
+    requires opened { AreOpened N.parts opening.callers.items }
+{
+    let written: Written = Recording::new(alloc, Vec::new(alloc), [7; 32])?;
+    let Opening {
+        locked,
+        callers,
+        ..
+    } = opening;
+    Ok(unrouted.open::<M, Written>(alloc, locked, callers, written)?)
 }
 
 fn post_routed<N: Name, M: Route>(
@@ -90,32 +126,40 @@ fn post_routed<N: Name, M: Route>(
     requires first { IsUncut N.layout opening.locked }
     requires opened { AreOpened N.parts opening.callers.items }
 {
-    let written: Written = Recording::new(alloc, Vec::new(alloc), [7; 32])?;
-    let Opening {
-        locked,
-        callers,
-        ..
-    } = opening;
+    let posting: Posting<N, M, Written> = opened(alloc, opening, unrouted)?;
+    Ok(came(rt, alloc, posting, way))
+}
+
+fn came<N: Name, M: Route>(
+    rt: &impl Wait,
+    alloc: Global,
+    posting: Posting<N, M, Written>,
+    way: Way,
+) -> Came {
     let Posting {
         post,
         mut resident,
         mut members,
         collector,
-    } = unrouted.open::<M, Written>(alloc, locked, callers, written)?;
+    } = posting;
     call_twice(rt, alloc, &mut resident, &post, &mut members);
     hand_over(rt, alloc, &mut resident, &post, &mut members, way);
-    if way == Way::Exchanged {
-        members.reverse();
-    }
-    let collector = if way == Way::OnTheWay {
-        Ok(collector)
-    } else {
-        collector.collect(rt, &post)
-    };
+    let collector = collect(rt, &post, collector, way);
+    cut_behind(rt, alloc, &mut resident, &post, way);
+    ended(alloc, resident, &post, collector, members)
+}
+
+// Cuts a chapter off that nobody collects, where this is the way.
+fn cut_behind<N: Name, M: Route>(
+    rt: &impl Wait,
+    alloc: Global,
+    resident: &mut Resident<N, M>,
+    post: &Post<N, M>,
+    way: Way,
+) {
     if way == Way::CutBehind {
-        resident.cut(rt, alloc, &post);
+        resident.cut(rt, alloc, post);
     }
-    Ok(ended(alloc, resident, &post, collector, members))
 }
 
 fn ended<N: Name, M: Route>(
@@ -125,20 +169,33 @@ fn ended<N: Name, M: Route>(
     collector: Result<Collector<N, M, Written>, Unkept>,
     members: Vec<Member<N, M>>,
 ) -> Came {
-    let mut collector = collector?;
-    let Some(locked) = resident.resign(post, &mut collector) else {
-        return Err(Unkept::Memory);
-    };
-    let Resigned {
-        keeper,
-        scribe,
-        members,
-    } = resign_all(alloc, post, collector, members)?;
+    match collector {
+        Ok(collector) => resigned(alloc, resident, post, collector, members),
+        Err(error) => Err(error),
+    }
+}
+
+// What comes of a slave that resigns first, and then its members.
+fn resigned<N: Name, M: Route>(
+    alloc: Global,
+    resident: Resident<N, M>,
+    post: &Post<N, M>,
+    mut collector: Collector<N, M, Written>,
+    members: Vec<Member<N, M>>,
+) -> Came {
+    match resident.resign(post, &mut collector) {
+        Some(locked) => counted(&locked, resign_all(alloc, post, collector, members)),
+        None => Err(Unkept::Memory),
+    }
+}
+
+fn counted<N: Name>(locked: &Locked<N>, resigned: Result<Resigned<N, Written>, Unkept>) -> Came {
+    let left = resigned?;
     Ok((
-        members.len(),
-        keeper.chapters(),
-        keeper.meets(&locked),
-        scribe.calls(),
+        left.members.len(),
+        left.keeper.chapters(),
+        left.keeper.meets(locked),
+        left.scribe.calls(),
     ))
 }
 
