@@ -117,6 +117,41 @@ fn turns(rt: HostRuntime) -> Result<(), Fail> {
     none_is_wrong(first_wrong_turns(rt.alloc()))
 }
 
+/// How ten turns over a station with three packets end, at an end with room for all batches, and how many were put; none
+/// where memory was refused before.
+fn pumped_with_room(alloc: Global) -> Option<(Result<u64, ServeError>, usize)> {
+    let mut batches = Vec::new(alloc);
+    batches.reserve(4).ok()?;
+    let mut station = Pending {
+        exchanges: Vec::new(alloc),
+        packets: 3,
+        blocks: false,
+        waits: 0,
+    };
+    let mut data = Shelf {
+        batches,
+        good: 1000,
+    };
+    let stop = AtomicBool::new(false);
+    let result = pump(&mut station, &mut data, &stop, 10);
+    Some((result, count(&data.batches)))
+}
+
+// Passes whichever allocation is refused (`rt try --test --fail-alloc N`): who is refused memory tells that.
+#[test]
+fn a_pump_that_wants_memory_has_no_failed_write(rt: HostRuntime) {
+    let came = match pumped_with_room(rt.alloc()) {
+        None => pumped_with_room(rt.alloc()),
+        came => came,
+    };
+    let good = match came {
+        Some((Ok(told), put)) => told == 3 && put == 3,
+        Some((Err(ServeError::Memory | ServeError::NoRoom), put)) => put < 3,
+        _ => false,
+    };
+    assert!(rt; good);
+}
+
 /// How ten turns over this station end.
 fn ended<S: Station + Drop>(alloc: Global, station: S) -> Result<u64, ServeError> {
     let mut station = station;

@@ -99,6 +99,46 @@ fn a_batch_that_is_handed_back_is_a_failed_write(rt: HostRuntime) -> Result<(), 
     Ok(())
 }
 
+/// What is served of the commands at an end with room for all batches; none where memory was refused before.
+fn served_with_room(alloc: Global) -> Option<Came> {
+    let mut desk = desk_of(alloc, 8)?;
+    let mut batches = Vec::new(alloc);
+    batches.reserve(9).ok()?;
+    let mut shelf = Shelf {
+        batches,
+        good: 1000,
+    };
+    let mut reader = Watched::new(by_bytes());
+    let result = serve_by(alloc, &mut reader, &mut shelf, &mut desk, 8, 1000);
+    Some((result, shelf.batches))
+}
+
+/// Whether all answers were put, or a front of them and the call ended for want of memory.
+fn is_put_with_memory(came: &Came) -> bool {
+    let (result, batches) = came;
+    let put = packets_in(batches);
+    let ended = match result {
+        Ok(served) => *served == Served { frames: 7, sent: 9 } && put == 9,
+        Err(ServeError::Memory | ServeError::NoRoom) => true,
+        Err(_) => false,
+    };
+    ended && are(batches, &ANSWERS[..put.min(9)])
+}
+
+// Passes whichever allocation is refused (`rt try --test --fail-alloc N`): who is refused memory tells that.
+#[test]
+fn want_of_memory_is_no_failed_write(rt: HostRuntime) {
+    let came = match served_with_room(rt.alloc()) {
+        None => served_with_room(rt.alloc()),
+        came => came,
+    };
+    let good = match &came {
+        Some(came) => is_put_with_memory(came),
+        None => false,
+    };
+    assert!(rt; good);
+}
+
 /// So many CONNECTs, one behind another.
 fn connects(alloc: Global, count: u8) -> Option<Vec<u8>> {
     let mut stream = Vec::new(alloc);

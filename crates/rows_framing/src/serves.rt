@@ -262,24 +262,22 @@ fn ctr_starts_anew(rt: HostRuntime) -> Result<(), AllocError> {
     Ok(())
 }
 
-/// In the order of their numbers, from 1 on.
-static ERRORS: [ServeError; 7] = [
-    ServeError::Read,
-    ServeError::Write,
-    ServeError::BadLength(33),
-    ServeError::Truncated,
-    ServeError::Memory,
-    ServeError::TurnsSpent,
-    ServeError::JournalFull,
+/// Each with its number: want of memory has one.
+static ERRORS: [(ServeError, u8); 8] = [
+    (ServeError::Read, 1),
+    (ServeError::Write, 2),
+    (ServeError::BadLength(33), 3),
+    (ServeError::Truncated, 4),
+    (ServeError::Memory, 5),
+    (ServeError::TurnsSpent, 6),
+    (ServeError::JournalFull, 7),
+    (ServeError::NoRoom, 5),
 ];
 
 fn first_wrong_number() -> Option<usize> {
-    for (error, number) in ERRORS.iter().zip(1..8) {
-        if error.number() != number {
-            return Some(usize::from(number));
-        }
-    }
-    None
+    ERRORS
+        .iter()
+        .position(|(error, number)| error.number() != *number)
 }
 
 #[test]

@@ -20,6 +20,7 @@ pub outcome_of : (R : Type 0) (e : ServeError) → IsInterruption e → outcome 
 outcome_of R errors.Write i = refl
 outcome_of R errors.Memory i = refl
 outcome_of R errors.JournalFull i = refl
+outcome_of R errors.NoRoom i = refl
 outcome_of R errors.Read i = absurd i
 outcome_of R (errors.BadLength n) i = absurd i
 outcome_of R errors.Truncated i = absurd i
@@ -30,6 +31,7 @@ outcome_as : (R Q : Type 0) (e : ServeError) → outcome {R = R} (Err e) ≡ out
 outcome_as R Q errors.Write = refl
 outcome_as R Q errors.Memory = refl
 outcome_as R Q errors.JournalFull = refl
+outcome_as R Q errors.NoRoom = refl
 outcome_as R Q errors.Read = refl
 outcome_as R Q (errors.BadLength n) = refl
 outcome_as R Q errors.Truncated = refl
@@ -40,6 +42,7 @@ pub ends_interrupted : (m : ℕ) (e : ServeError) (left : List ℕ) → IsInterr
 ends_interrupted m errors.Write left i = tt
 ends_interrupted m errors.Memory left i = tt
 ends_interrupted m errors.JournalFull left i = tt
+ends_interrupted m errors.NoRoom left i = tt
 ends_interrupted m errors.Read left i = absurd i
 ends_interrupted m (errors.BadLength n) left i = absurd i
 ends_interrupted m errors.Truncated left i = absurd i
@@ -50,6 +53,7 @@ pub piece_interrupted : (R : Type 0) (m : ℕ) (e : ServeError) (held left : Lis
 piece_interrupted R m errors.Write held left i = tt
 piece_interrupted R m errors.Memory held left i = tt
 piece_interrupted R m errors.JournalFull held left i = tt
+piece_interrupted R m errors.NoRoom held left i = tt
 piece_interrupted R m errors.Read held left i = absurd i
 piece_interrupted R m (errors.BadLength n) held left i = absurd i
 piece_interrupted R m errors.Truncated held left i = absurd i

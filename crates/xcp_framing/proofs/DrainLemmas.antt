@@ -1,5 +1,5 @@
 -- Drains, and then more.
-use Rattle.std.proofs.Common.{◌≡◌, ◌≢◌, ◌+◌, ℕ, List, [], ◌∷◌, ◌++◌, length, Result, Ok, Err, IfErr, IfOk, OnErr, refl, sym, ap, ◌∙◌, subst, arith, append_assoc, length-append}
+use Rattle.std.proofs.Common.{◌≡◌, ◌≢◌, ◌+◌, ℕ, List, [], ◌∷◌, ◌++◌, length, Result, Ok, Err, IfErr, IfOk, OnErr, ⊎_elim, refl, sym, ap, ◌∙◌, subst, arith, append_assoc, length-append}
 use Rattle.std.proofs.lemmas.List.{append-nil}
 use Rattle.xcp_slave.specs.declared.Exchange.{Exchange}
 use Rattle.xcp_slave.specs.declared.Request.{Request}
@@ -12,10 +12,10 @@ use Rattle.xcp_framing.specs.Serve.{packet_of, packets_of, refused_with}
 use Rattle.xcp_framing.specs.ServeBy.{IsHandedBack}
 use Rattle.xcp_framing.specs.ServeRefusal.{Refused}
 use Rattle.xcp_framing.specs.ServeParts.{IsInterruption}
-use Rattle.xcp_framing.specs.Pump.{AllDrains, Pumped, Pumps, DrainAgain}
-use Rattle.xcp_framing.specs.private.PutOutput.{Moves, MovesSoFar}
+use Rattle.xcp_framing.specs.Pump.{AllDrains, DrainsUpTo, Pumped, Pumps, DrainAgain}
+use Rattle.xcp_framing.specs.private.PutOutput.{IsUnput, Moves, MovesSoFar}
 use Rattle.xcp_framing.specs.private.HeldPump.{PumpsHeld}
-use Rattle.xcp_framing.proofs.PutOutputLemmas.{all_put, back_on, both_move, lost_in, moves_back, moves_in, moves_more, moves_none, moves_put, put_on}
+use Rattle.xcp_framing.proofs.PutOutputLemmas.{all_put, back_on, both_move, lost_in, moves_as, moves_back, moves_in, moves_lost, moves_more, moves_none, moves_put, put_on, unput_is}
 use Rattle.xcp_framing.proofs.ExchangeLemmas.{packets_of-append}
 
 ok_is : {x y : ℕ} → ◌≡◌ {A = Result ℕ ServeError} (Ok x) (Ok y) → x ≡ y
@@ -50,9 +50,9 @@ pumps_kept n old mid new {a = a} {h = h} {b = b} {k = k} e x = subst (λ (z : Li
 pub pumps_put : (n : ℕ) (old new : List Exchange) {a h b k c l : List (List ℕ)} → c ≡ b ++ k → l ≡ [] → PumpsHeld (Ok n) old new a h b k → PumpsHeld (Ok n) old new a h c l
 pumps_put n old new e f x = record { exchanges = x.exchanges; grown = x.grown; drains = x.drains; moves = put_on (packets_of x.exchanges) x.moves e f; counts = x.counts }
 
--- the batch was handed back
-pub pumps_back : (n : ℕ) (old new : List Exchange) {a h b k c l : List (List ℕ)} → c ≡ b → k ≢ [] → l ≡ [] → PumpsHeld (Ok n) old new a h b k → PumpsHeld (Err errors.Write) old new a h c l
-pumps_back n old new e some f x = record { exchanges = x.exchanges; grown = x.grown; drains = x.drains; moves = (back_on (packets_of x.exchanges) x.moves e some, f); counts = λ m is. absurd (no_ok is) }
+-- the batch was handed back, or had no memory
+pub pumps_back : (n : ℕ) (e : ServeError) (old new : List Exchange) {a h b k c l : List (List ℕ)} → IsUnput e → c ≡ b → k ≢ [] → l ≡ [] → PumpsHeld (Ok n) old new a h b k → PumpsHeld (Err e) old new a h c l
+pumps_back n e old new unput same some none x = record { exchanges = x.exchanges; grown = x.grown; drains = x.drains; moves = moves_lost ℕ e _ _ _ _ _ unput (back_on (packets_of x.exchanges) x.moves same some) none; counts = λ m is. absurd (no_ok is) }
 
 -- Drains behind Drains
 pub pumps_more : (n j : ℕ) {old mid new : List Exchange} {a h b k c l : List (List ℕ)} → PumpsHeld (Ok n) old mid a h b k → PumpsHeld (Ok j) mid new b k c l → PumpsHeld (Ok (n + j)) old new a h c l
@@ -75,12 +75,12 @@ pumps_err n e {old = old} {a = a} {h = h} {b = b} {k = k} {c = c} {l = l} x y = 
 }
 
 -- there was no room for one more Drain
-pub no_room : {old new : List Exchange} {a h b k : List (List ℕ)} → new ≡ old → MovesSoFar {A = Unit {0}} (Err errors.Write) a h b k [] → PumpsHeld (Err errors.Write) old new a h b k
-no_room {old = old} e x = record {
+pub no_room : (e : ServeError) {old new : List Exchange} {a h b k : List (List ℕ)} → IsUnput e → new ≡ old → MovesSoFar {A = Unit {0}} (Err e) a h b k [] → PumpsHeld (Err e) old new a h b k
+no_room e {old = old} unput same x = record {
   exchanges = [];
-  grown = e ∙ sym (append-nil old);
+  grown = same ∙ sym (append-nil old);
   drains = tt;
-  moves = x;
+  moves = moves_as (Unit {0}) ℕ e _ _ _ _ _ unput x;
   counts = λ m is. absurd (no_ok is);
 }
 
@@ -97,20 +97,20 @@ one_drain n x {b = b} {k = k} asked grown room held count =
     }
 
 -- one Drain for whose packets there was no memory
-pub one_lost : (x : Exchange) {old new : List Exchange} {a h b k l : List (List ℕ)} → x.request ≡ requests.Drain → new ≡ old ++ x ∷ [] → Moves a h b k [] → l ≡ [] → packet_of x.answer ≢ [] → PumpsHeld (Err errors.Write) old new a h b l
+pub one_lost : (x : Exchange) {old new : List Exchange} {a h b k l : List (List ℕ)} → x.request ≡ requests.Drain → new ≡ old ++ x ∷ [] → Moves a h b k [] → l ≡ [] → packet_of x.answer ≢ [] → PumpsHeld (Err errors.NoRoom) old new a h b l
 one_lost x {a = a} {h = h} {b = b} {k = k} {l = l} asked grown room held some =
     let all : packets_of (x ∷ []) ≡ packet_of x.answer = append-nil (packet_of x.answer) in
     record {
       exchanges = x ∷ [];
       grown = grown;
       drains = (asked, tt);
-      moves = rw all (moves_more {A = ℕ} (Err errors.Write) a b b h k l [] (packet_of x.answer) room (lost_in k (packet_of x.answer) refl some, held));
+      moves = rw all (moves_more {A = ℕ} (Err errors.NoRoom) a b b h k l [] (packet_of x.answer) room (lost_in k (packet_of x.answer) refl some, held));
       counts = λ m is. absurd (no_ok is);
     }
 
 -- one Drain, whose packets were gathered, or there was no memory for them
 pub drain_gathered : (r : Result ℕ ServeError) (x : Exchange) {old new : List Exchange} {a h b k l : List (List ℕ)} → x.request ≡ requests.Drain → new ≡ old ++ x ∷ [] → Moves a h b k []
-    → IfOk r (λ n. (l ≡ k ++ packet_of x.answer) × (n ≡ length (packet_of x.answer))) → OnErr r ((l ≡ []) × (packet_of x.answer ≢ [])) → IfErr r (λ e. e ≡ errors.Write) → PumpsHeld r old new a h b l
+    → IfOk r (λ n. (l ≡ k ++ packet_of x.answer) × (n ≡ length (packet_of x.answer))) → OnErr r ((l ≡ []) × (packet_of x.answer ≢ [])) → IfErr r (λ e. e ≡ errors.NoRoom) → PumpsHeld r old new a h b l
 drain_gathered (Ok n) x asked grown room ok back err = one_drain n x asked grown room ok.0 ok.1
 drain_gathered (Err e) x asked grown room ok back err = rw (err) (one_lost x asked grown room back.0 back.1)
 
@@ -133,6 +133,7 @@ pumped_of (Ok n) xs a b i d x = record { drains = d; put = all_put (packets_of x
 pumped_of (Err errors.Write) xs a b i d x = record { drains = d; handed = x.0 }
 pumped_of (Err errors.Memory) xs a b i d x = record { drains = d; put = all_put (packets_of xs) x }
 pumped_of (Err errors.JournalFull) xs a b i d x = record { drains = d; put = all_put (packets_of xs) x }
+pumped_of (Err errors.NoRoom) xs a b i d x = record { drains = d; handed = x.0 }
 pumped_of (Err errors.Read) xs a b i d x = absurd i
 pumped_of (Err (errors.BadLength n)) xs a b i d x = absurd i
 pumped_of (Err errors.Truncated) xs a b i d x = absurd i
@@ -145,12 +146,15 @@ pumps_of r {a = a} {h = h} {b = b} {k = k} {c = c} none i e x =
     let moves : MovesSoFar r a [] c [] (packets_of x.exchanges) = subst (λ (z : List (List ℕ)). MovesSoFar r a z c [] (packets_of x.exchanges)) none all in
     record { exchanges = x.exchanges; grown = x.grown; puts = pumped_of r x.exchanges a c i x.drains moves; counts = x.counts }
 
--- and it was handed back
-pub pumps_lost : (r : Result ℕ ServeError) {old new : List Exchange} {a h b k c : List (List ℕ)} → h ≡ [] → c ≡ b → k ≢ [] → PumpsHeld r old new a h b k → Pumps (Err errors.Write) old new a c
-pumps_lost r {a = a} {h = h} {b = b} {k = k} {c = c} none e some x =
-    let all : IsHandedBack (h ++ packets_of x.exchanges) a c = moves_back {A = ℕ} r a b c h k (packets_of x.exchanges) x.moves e some in
+unput_drains : (e : ServeError) (xs : List Exchange) (a b : List (List ℕ)) → IsUnput e → DrainsUpTo xs a b → Pumped {R = ℕ} (Err e) xs a b
+unput_drains e xs a b unput d = ⊎_elim (λ w. rw w d) (λ w. rw w d) (unput_is e unput)
+
+-- and it was handed back, or had no memory
+pub pumps_lost : (r : Result ℕ ServeError) (e : ServeError) {old new : List Exchange} {a h b k c : List (List ℕ)} → IsUnput e → h ≡ [] → c ≡ b → k ≢ [] → PumpsHeld r old new a h b k → Pumps (Err e) old new a c
+pumps_lost r e {a = a} {h = h} {b = b} {k = k} {c = c} unput none same some x =
+    let all : IsHandedBack (h ++ packets_of x.exchanges) a c = moves_back {A = ℕ} r a b c h k (packets_of x.exchanges) x.moves same some in
     let back : IsHandedBack (packets_of x.exchanges) a c = subst (λ (z : List (List ℕ)). IsHandedBack (z ++ packets_of x.exchanges) a c) none all in
-    record { exchanges = x.exchanges; grown = x.grown; puts = record { drains = x.drains; handed = back }; counts = λ m is. absurd (no_ok is) }
+    record { exchanges = x.exchanges; grown = x.grown; puts = unput_drains e x.exchanges a c unput (record { drains = x.drains; handed = back }); counts = λ m is. absurd (no_ok is) }
 
 -- a station's refusal, as an error of serving, interrupts the call
 pub stops_so : (e : StationError) → IsInterruption (refused_with e)

@@ -45,6 +45,7 @@ sends_more (Err errors.Truncated) a b c t u h k = gathers_more a b c t u h k
 sends_more (Err errors.Memory) a b c t u h k = gathers_more a b c t u h k
 sends_more (Err errors.TurnsSpent) a b c t u h k = gathers_more a b c t u h k
 sends_more (Err errors.JournalFull) a b c t u h k = gathers_more a b c t u h k
+sends_more (Err errors.NoRoom) a b c t u h k = gathers_more a b c t u h k
 
 -- nothing to send
 pub sends_none : {A : Type 0} (r : Result A ServeError) (a : Output) → Sends r a a []
@@ -56,6 +57,7 @@ sends_none (Err errors.Truncated) a = gathers_none a
 sends_none (Err errors.Memory) a = gathers_none a
 sends_none (Err errors.TurnsSpent) a = gathers_none a
 sends_none (Err errors.JournalFull) a = gathers_none a
+sends_none (Err errors.NoRoom) a = gathers_none a
 
 -- what is held is written, and then nothing is held
 flushed : (a b c : Output) (t : List ℕ) → Gathers a b t → Appends b.contents c.contents b.held → c.held ≡ [] → Gathers a c t
@@ -79,6 +81,7 @@ sends_flushed (Err errors.Truncated) a b c t x n h e = flushed a b c t x h e
 sends_flushed (Err errors.Memory) a b c t x n h e = flushed a b c t x h e
 sends_flushed (Err errors.TurnsSpent) a b c t x n h e = flushed a b c t x h e
 sends_flushed (Err errors.JournalFull) a b c t x n h e = flushed a b c t x h e
+sends_flushed (Err errors.NoRoom) a b c t x n h e = flushed a b c t x h e
 
 -- of what is held a front is written
 unflushed : (a b c : Output) (t : List ℕ) → Gathers a b t → AppendsFront b.contents c.contents b.held → AppendsFront a.contents c.contents (a.held ++ t)
@@ -115,6 +118,7 @@ sends_unflushed (Err errors.Truncated) a b c t x n h = unflushed a b c t x h
 sends_unflushed (Err errors.Memory) a b c t x n h = unflushed a b c t x h
 sends_unflushed (Err errors.TurnsSpent) a b c t x n h = unflushed a b c t x h
 sends_unflushed (Err errors.JournalFull) a b c t x n h = unflushed a b c t x h
+sends_unflushed (Err errors.NoRoom) a b c t x n h = unflushed a b c t x h
 
 -- where nothing was held and nothing is, the text was written
 pub all_written : (a b : Output) (t : List ℕ) → Gathers a b t → a.held ≡ [] → b.held ≡ [] → Appends a.contents b.contents t
@@ -131,3 +135,4 @@ writes_sent A B errors.Truncated a b t h e f = all_written a b t h e f
 writes_sent A B errors.Memory a b t h e f = all_written a b t h e f
 writes_sent A B errors.TurnsSpent a b t h e f = all_written a b t h e f
 writes_sent A B errors.JournalFull a b t h e f = all_written a b t h e f
+writes_sent A B errors.NoRoom a b t h e f = all_written a b t h e f

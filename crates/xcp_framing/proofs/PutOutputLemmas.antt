@@ -1,11 +1,45 @@
 -- Packets that go through a batch to an end.
-use Rattle.std.proofs.Common.{◌≡◌, ◌≢◌, ℕ, List, [], ◌∷◌, ◌++◌, Result, Ok, Err, refl, sym, ap, ◌∙◌, append_assoc}
+use Rattle.std.proofs.Common.{◌≡◌, ◌≢◌, ℕ, List, [], ◌∷◌, ◌++◌, Result, Ok, Err, IfErr, ◌⊎◌, ⊎_elim, inl, inr, refl, sym, ap, ◌∙◌, append_assoc}
 use Rattle.std.proofs.lemmas.List.{append-nil}
+use Rattle.xcp_framing.specs.declared.station.StationError.{StationError}
 use Rattle.xcp_framing.specs.declared.serving.ServeError.{ServeError}
 use Rattle.xcp_framing.specs.declared.serving.ServeError.TheVariants as errors
 use Rattle.xcp_framing.specs.ServeBy.{IsHandedBack}
-use Rattle.xcp_framing.specs.private.PutOutput.{Moves, MovesSoFar}
+use Rattle.xcp_framing.specs.ServeParts.{IsInterruption}
+use Rattle.xcp_framing.specs.ServeRefusal.{OnRefusal}
+use Rattle.xcp_framing.specs.private.PutOutput.{IsUnput, Moves, MovesSoFar}
 use Rattle.xcp_framing.proofs.ExchangeLemmas.{cons≢nil}
+
+-- where packets were left unput, a batch was handed back, or had no memory
+pub unput_is : (e : ServeError) → IsUnput e → (e ≡ errors.Write) ⊎ (e ≡ errors.NoRoom)
+unput_is errors.Write u = inl refl
+unput_is errors.Memory u = absurd u
+unput_is errors.JournalFull u = absurd u
+unput_is errors.NoRoom u = inr refl
+unput_is errors.Read u = absurd u
+unput_is (errors.BadLength w) u = absurd u
+unput_is errors.Truncated u = absurd u
+unput_is errors.TurnsSpent u = absurd u
+
+-- then a front of the packets was put, and nothing is held
+pub moves_lost : (A : Type 0) (e : ServeError) (a b h k m : List (List ℕ)) → IsUnput e → IsHandedBack (h ++ m) a b → k ≡ [] → MovesSoFar {A = A} (Err e) a h b k m
+moves_lost A e a b h k m u x none = ⊎_elim (λ w. rw w (x, none)) (λ w. rw w (x, none)) (unput_is e u)
+
+-- and the same, whatever else the call gives
+pub moves_as : (A B : Type 0) (e : ServeError) (a b h k m : List (List ℕ)) → IsUnput e → MovesSoFar {A = A} (Err e) a h b k m → MovesSoFar {A = B} (Err e) a h b k m
+moves_as A B e a b h k m u x = ⊎_elim (λ w. let y = rw w at x in rw w y) (λ w. let y = rw w at x in rw w y) (unput_is e u)
+
+-- and no request was refused
+pub none_refused : (A : Type 0) (e : ServeError) (F : StationError → Type 0) → IsUnput e → OnRefusal {A = A} (Err e) F
+none_refused A e F u = ⊎_elim (λ w. rw w tt) (λ w. rw w tt) (unput_is e u)
+
+-- it is an interruption
+pub unput_stops : (e : ServeError) → IsUnput e → IsInterruption e
+unput_stops e u = ⊎_elim (λ w. rw w tt) (λ w. rw w tt) (unput_is e u)
+
+pub unput_stops_any : {A : Type 0} (r : Result A ServeError) → IfErr r IsUnput → IfErr r IsInterruption
+unput_stops_any (Ok v) u = tt
+unput_stops_any (Err e) u = unput_stops e u
 
 -- no packet moves
 pub moves_none : (a h : List (List ℕ)) → Moves a h a h []
@@ -48,6 +82,7 @@ moves_more (Ok v) a b c h k l m n x y = both_move m n x y
 moves_more (Err errors.Write) a b c h k l m n x y = (back_behind m n x y.0, y.1)
 moves_more (Err errors.Memory) a b c h k l m n x y = both_move m n x y
 moves_more (Err errors.JournalFull) a b c h k l m n x y = both_move m n x y
+moves_more (Err errors.NoRoom) a b c h k l m n x y = (back_behind m n x y.0, y.1)
 moves_more (Err errors.Read) a b c h k l m n x y = both_move m n x y
 moves_more (Err (errors.BadLength w)) a b c h k l m n x y = both_move m n x y
 moves_more (Err errors.Truncated) a b c h k l m n x y = both_move m n x y
@@ -70,6 +105,7 @@ moves_put (Ok v) a b c h k l m x e f = put_on m x e f
 moves_put (Err errors.Write) a b c h k l m x e f = (none_on a b c h k m x.0 x.1 e, f)
 moves_put (Err errors.Memory) a b c h k l m x e f = put_on m x e f
 moves_put (Err errors.JournalFull) a b c h k l m x e f = put_on m x e f
+moves_put (Err errors.NoRoom) a b c h k l m x e f = (none_on a b c h k m x.0 x.1 e, f)
 moves_put (Err errors.Read) a b c h k l m x e f = put_on m x e f
 moves_put (Err (errors.BadLength w)) a b c h k l m x e f = put_on m x e f
 moves_put (Err errors.Truncated) a b c h k l m x e f = put_on m x e f
@@ -79,12 +115,17 @@ moves_put (Err errors.TurnsSpent) a b c h k l m x e f = put_on m x e f
 pub back_on : {a b c h k : List (List ℕ)} (m : List (List ℕ)) → Moves a h b k m → c ≡ b → k ≢ [] → IsHandedBack (h ++ m) a c
 back_on {k = k} m x e n = record { front = x.moved; back = k; joined = sym x.rest; some = n; put = e ∙ x.grown }
 
+-- the whole batch was
+pub all_back : (A : Type 0) (e : ServeError) {a b h k : List (List ℕ)} → IsUnput e → b ≡ a → h ≢ [] → k ≡ [] → MovesSoFar {A = A} (Err e) a h b k []
+all_back A e {a = a} {h = h} u same some none = moves_lost A e _ _ _ _ _ u (back_on [] (moves_none a h) same some) none
+
 -- whatever ended the call, the batch was handed back behind it
 pub moves_back : {A : Type 0} (r : Result A ServeError) (a b c h k m : List (List ℕ)) → MovesSoFar r a h b k m → c ≡ b → k ≢ [] → IsHandedBack (h ++ m) a c
 moves_back (Ok v) a b c h k m x e n = back_on m x e n
 moves_back (Err errors.Write) a b c h k m x e n = absurd (n x.1)
 moves_back (Err errors.Memory) a b c h k m x e n = back_on m x e n
 moves_back (Err errors.JournalFull) a b c h k m x e n = back_on m x e n
+moves_back (Err errors.NoRoom) a b c h k m x e n = absurd (n x.1)
 moves_back (Err errors.Read) a b c h k m x e n = back_on m x e n
 moves_back (Err (errors.BadLength w)) a b c h k m x e n = back_on m x e n
 moves_back (Err errors.Truncated) a b c h k m x e n = back_on m x e n

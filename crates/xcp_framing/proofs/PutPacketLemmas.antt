@@ -13,10 +13,10 @@ use Rattle.xcp_framing.specs.Serve.{packet_of, packets_of, Counts, refused_with}
 use Rattle.xcp_framing.specs.ServeRefusal.{OnRefusal, Refused}
 use Rattle.xcp_framing.specs.ServeBy.{command, commands, PutsSoFar, ServesBy, CommandNext}
 use Rattle.xcp_framing.specs.private.AnsweredStream.{Stand, Streams, outcome}
-use Rattle.xcp_framing.specs.private.PutOutput.{Moves, MovesSoFar}
+use Rattle.xcp_framing.specs.private.PutOutput.{IsUnput, Moves, MovesSoFar}
 use Rattle.xcp_framing.specs.private.AnsweredByPut.{NextCommand, AsksFirst, AsksSoFar, AnswersByPut, HandsBatchOn}
 use Rattle.xcp_framing.proofs.ExchangeLemmas.{packets_of-append}
-use Rattle.xcp_framing.proofs.PutOutputLemmas.{all_put, lost_in, moves_back, moves_in, moves_more, moves_none, moves_put}
+use Rattle.xcp_framing.proofs.PutOutputLemmas.{all_put, lost_in, moves_back, moves_in, moves_lost, moves_more, moves_none, moves_put, none_refused}
 use Rattle.xcp_framing.proofs.StreamLemmas.{read_none}
 use Rattle.xcp_framing.proofs.ServeRefusalLemmas.{on_refusal, on_refusal_all, refused_more, read_packets}
 use Rattle.xcp_framing.proofs.ServeAnswerLemmas.{refusal_of, refused_as}
@@ -134,20 +134,20 @@ module _ {S K O : Type 0} (exchanges_of : S → List Exchange) (refuses : S → 
     refused = x.refused;
   }
 
-  -- what was held was handed back
+  -- what was held was handed back, or had no memory
   pub puts_held : ((x y z : O) → same_out x y → same_out y z → same_out x z) → (r : Result (Unit {0}) ServeError) (e : ServeError) (ps : List (List ℕ)) (a b : Stand S K O) (k : K) (o : O)
       → AnswersByPut exchanges_of refuses same_station put_of same_out sent_of held_of r ps a b → HandsBatchOn put_of same_out sent_of held_of (Err e) b.state b.out k o
       → AnswersByPut exchanges_of refuses same_station put_of same_out sent_of held_of (Err e) ps a (record { station = b.station; state = k; out = o })
-  puts_held same_trans r e ps a b k o x h = rw (h.err) (record {
+  puts_held same_trans r e ps a b k o x h = record {
     exchanges = x.exchanges;
     grown = x.grown;
     asks = asks_first r ps x.exchanges x.asks;
-    moves = (moves_back r (put_of a.out) (put_of b.out) (put_of o) (held_of a.state) (held_of b.state) (packets_of x.exchanges) x.moves h.back.0 h.back.1, h.held);
+    moves = moves_lost (Unit {0}) e _ _ _ _ _ h.err (moves_back r (put_of a.out) (put_of b.out) (put_of o) (held_of a.state) (held_of b.state) (packets_of x.exchanges) x.moves h.back.0 h.back.1) h.held;
     stays = x.stays;
     kept = same_trans a.out b.out o x.kept h.kept;
     counted = tt;
-    refused = tt;
-  })
+    refused = none_refused (Unit {0}) e _ h.err;
+  }
 
   -- room was made for an answer
   pub room_made : ((x : S) → same_station x x) → (a b : Stand S K O) → b.station ≡ a.station → Moves (put_of a.out) (held_of a.state) (put_of b.out) (held_of b.state) [] → same_out a.out b.out → sent_of b.state ≡ sent_of a.state
@@ -164,9 +164,10 @@ module _ {S K O : Type 0} (exchanges_of : S → List Exchange) (refuses : S → 
   }
 
   -- there was none
-  pub room_lacks : ((x : S) → same_station x x) → (p : List ℕ) (a b : Stand S K O) → b.station ≡ a.station → MovesSoFar {A = Unit {0}} (Err errors.Write) (put_of a.out) (held_of a.state) (put_of b.out) (held_of b.state) [] → same_out a.out b.out
-      → AnswersByPut exchanges_of refuses same_station put_of same_out sent_of held_of (Err errors.Write) (p ∷ []) a b
-  room_lacks station_refl p a b same moves kept = record {
+  pub room_lacks : ((x : S) → same_station x x) → (e : ServeError) (p : List ℕ) (a b : Stand S K O) → IsUnput e → b.station ≡ a.station
+      → MovesSoFar {A = Unit {0}} (Err e) (put_of a.out) (held_of a.state) (put_of b.out) (held_of b.state) [] → same_out a.out b.out
+      → AnswersByPut exchanges_of refuses same_station put_of same_out sent_of held_of (Err e) (p ∷ []) a b
+  room_lacks station_refl e p a b unput same moves kept = record {
     exchanges = [];
     grown = ap exchanges_of same ∙ sym (append-nil (exchanges_of a.station));
     asks = record { done = []; later = p ∷ []; packets_are = refl; asked = refl };
@@ -174,7 +175,7 @@ module _ {S K O : Type 0} (exchanges_of : S → List Exchange) (refuses : S → 
     stays = subst (λ (z : S). same_station a.station z) (sym same) (station_refl a.station);
     kept = kept;
     counted = tt;
-    refused = tt;
+    refused = none_refused (Unit {0}) e _ unput;
   }
 
   -- one packet whose answer is none, or is held
@@ -197,7 +198,7 @@ module _ {S K O : Type 0} (exchanges_of : S → List Exchange) (refuses : S → 
   -- one packet for whose answer there was no memory
   pub one_lost : (x : Exchange) (p : List ℕ) (a b : Stand S K O) → x.request ≡ command p → exchanges_of b.station ≡ exchanges_of a.station ++ x ∷ []
       → put_of b.out ≡ put_of a.out → held_of b.state ≡ [] → packet_of x.answer ≢ [] → same_station a.station b.station → same_out a.out b.out
-      → AnswersByPut exchanges_of refuses same_station put_of same_out sent_of held_of (Err errors.Write) (p ∷ []) a b
+      → AnswersByPut exchanges_of refuses same_station put_of same_out sent_of held_of (Err errors.NoRoom) (p ∷ []) a b
   one_lost x p a b asked grown put held some stays kept =
       let all : packets_of (x ∷ []) ≡ packet_of x.answer = append-nil (packet_of x.answer) in
       record {
@@ -239,6 +240,7 @@ puts_of (Ok served) ps xs a b h m = record { asked = h; put = all_put (packets_o
 puts_of (Err errors.Write) ps xs a b h m = record { done = h.done; later = h.later; packets_are = h.packets_are; asked = h.asked; handed = m.0 }
 puts_of (Err errors.Memory) ps xs a b h m = record { done = h.done; later = h.later; packets_are = h.packets_are; answered = record { asked = h.asked; put = all_put (packets_of xs) m } }
 puts_of (Err errors.JournalFull) ps xs a b h m = record { done = h.done; later = h.later; packets_are = h.packets_are; answered = record { asked = h.asked; put = all_put (packets_of xs) m } }
+puts_of (Err errors.NoRoom) ps xs a b h m = record { done = h.done; later = h.later; packets_are = h.packets_are; asked = h.asked; handed = m.0 }
 puts_of (Err errors.Read) ps xs a b h m = record { asked = h; put = all_put (packets_of xs) m }
 puts_of (Err (errors.BadLength n)) ps xs a b h m = record { asked = h; put = all_put (packets_of xs) m }
 puts_of (Err errors.Truncated) ps xs a b h m = record { asked = h; put = all_put (packets_of xs) m }

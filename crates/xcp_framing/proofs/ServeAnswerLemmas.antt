@@ -1,5 +1,5 @@
 -- What `serve` does, from how its packets are answered in frames.
-use Rattle.std.proofs.Common.{◌≡◌, ◌≢◌, ◌<◌, ◌≤◌, ◌+◌, ℕ, List, [], ◌++◌, length, OnOk, IfOk, Option, Result, Ok, Err, ◌⊎◌, inr, refl, sym, ◌∙◌, arith}
+use Rattle.std.proofs.Common.{◌≡◌, ◌≢◌, ◌<◌, ◌≤◌, ◌+◌, ℕ, List, [], ◌++◌, length, OnOk, IfOk, Option, Result, Ok, Err, ◌⊎◌, inr, refl, sym, ap, ◌∙◌, arith}
 use Rattle.std.proofs.lemmas.List.{append-nil}
 use Rattle.xcp_slave.specs.declared.Exchange.{Exchange}
 use Rattle.xcp_slave.specs.declared.Request.{Request}
@@ -29,6 +29,7 @@ rises (Err errors.Truncated) a b same more = let e = same (λ w. cc) in omega (a
 rises (Err errors.Memory) a b same more = let e = same (λ w. cc) in omega (arith, e)
 rises (Err errors.TurnsSpent) a b same more = let e = same (λ w. cc) in omega (arith, e)
 rises (Err errors.JournalFull) a b same more = let e = same (λ w. cc) in omega (arith, e)
+rises (Err errors.NoRoom) a b same more = let e = same (λ w. cc) in omega (arith, e)
 
 -- a request that a station refused, told of more packets
 pub refused_as : {S : Type 0} (exchanges_of : S → List Exchange) (refuses : S → Request → StationError → Type 0) (e : StationError) (Next Later : List Exchange → Request → Type 0) (old : List Exchange) (new : S)
@@ -43,6 +44,7 @@ module _ {S K O : Type 0} (exchanges_of : S → List Exchange) (refuses : S → 
     unfailed = λ n. refl;
     write = λ e. absurd (cc);
     dropped = λ e. absurd (cc);
+    no_room = λ e. cc;
     refused = tt;
   }
 
@@ -56,6 +58,7 @@ module _ {S K O : Type 0} (exchanges_of : S → List Exchange) (refuses : S → 
         unfailed = λ n. y.unfailed n ∙ unfailed;
         write = λ e. (let risen = y.write e in omega (arith, unfailed, risen));
         dropped = y.dropped;
+        no_room = y.no_room;
         refused = on_refusal_all (Unit {0}) r _ _ (λ e k. refused_more exchanges_of refuses e (AsksNext qs) (AsksNext (ps ++ qs)) x.grows.exchanges x.grows.grown (λ ys q n. asks_more ps qs x.grows.exchanges ys q x.grows.fact n) k) y.refused;
       }
 
@@ -67,6 +70,7 @@ module _ {S K O : Type 0} (exchanges_of : S → List Exchange) (refuses : S → 
     unfailed = x.unfailed;
     write = x.write;
     dropped = x.dropped;
+    no_room = x.no_room;
     refused = on_refusal_all (Unit {0}) (Err e) _ _ (λ f k. refused_as exchanges_of refuses f (AsksNext ps) (AsksNext (ps ++ qs)) (exchanges_of a.station) b.station (λ xs q n. asks_before ps qs xs q n) k) x.refused;
   }
 
@@ -79,6 +83,7 @@ module _ {S K O : Type 0} (exchanges_of : S → List Exchange) (refuses : S → 
     unfailed = λ n. h.fine ∙ x.unfailed n;
     write = λ e. (let risen = x.write e in omega (arith, h.fine, risen));
     dropped = λ e. h.held;
+    no_room = x.no_room;
     refused = x.refused;
   }
 
@@ -95,6 +100,7 @@ module _ {S K O : Type 0} (exchanges_of : S → List Exchange) (refuses : S → 
         unfailed = λ n. absurd (n refl);
         write = λ is. omega (arith, risen, h.err.1);
         dropped = λ is. h.held;
+        no_room = λ is. cc;
         refused = tt;
       })
 
@@ -104,6 +110,7 @@ answers_of (Ok served) ps xs h = h
 answers_of (Err errors.Write) ps xs h = h
 answers_of (Err errors.Memory) ps xs h = h
 answers_of (Err errors.JournalFull) ps xs h = h
+answers_of (Err errors.NoRoom) ps xs h = h
 answers_of (Err errors.Read) ps xs h = h
 answers_of (Err (errors.BadLength n)) ps xs h = h
 answers_of (Err errors.Truncated) ps xs h = h
@@ -114,6 +121,7 @@ writes_of (Ok served) a b t h e f = all_written a b t h e f
 writes_of (Err errors.Write) a b t h e f = writes_sent (Unit {0}) Served errors.Write a b t h e f
 writes_of (Err errors.Memory) a b t h e f = all_written a b t h e f
 writes_of (Err errors.JournalFull) a b t h e f = all_written a b t h e f
+writes_of (Err errors.NoRoom) a b t h e f = all_written a b t h e f
 writes_of (Err errors.Read) a b t h e f = all_written a b t h e f
 writes_of (Err (errors.BadLength n)) a b t h e f = all_written a b t h e f
 writes_of (Err errors.Truncated) a b t h e f = all_written a b t h e f
@@ -130,10 +138,15 @@ write_of (Ok served) h = absurd (cc)
 write_of (Err errors.Write) h = refl
 write_of (Err errors.Memory) h = absurd (cc)
 write_of (Err errors.JournalFull) h = absurd (cc)
+write_of (Err errors.NoRoom) h = absurd (cc)
 write_of (Err errors.Read) h = absurd (cc)
 write_of (Err (errors.BadLength n)) h = absurd (cc)
 write_of (Err errors.Truncated) h = absurd (cc)
 write_of (Err errors.TurnsSpent) h = absurd (cc)
+
+-- where no packet wanted memory, the call doesn't end with that
+pub no_room_of : (r : Result Served ServeError) → outcome r ≢ Err errors.NoRoom → r ≢ Err errors.NoRoom
+no_room_of r h = λ is. h (ap (λ (x : Result Served ServeError). outcome x) is)
 
 -- a fact about a refusal, told of a call that gives more
 pub refusal_of : (r : Result Served ServeError) (F : StationError → Type 0) → OnRefusal (outcome r) F → OnRefusal r F
@@ -141,6 +154,7 @@ refusal_of (Ok served) F h = tt
 refusal_of (Err errors.Write) F h = tt
 refusal_of (Err errors.Memory) F h = h
 refusal_of (Err errors.JournalFull) F h = h
+refusal_of (Err errors.NoRoom) F h = tt
 refusal_of (Err errors.Read) F h = tt
 refusal_of (Err (errors.BadLength n)) F h = tt
 refusal_of (Err errors.Truncated) F h = tt

@@ -27,6 +27,7 @@ on_refusal_map A B errors.Truncated F G f h = tt
 on_refusal_map A B errors.Memory F G f h = f refusals.Memory h
 on_refusal_map A B errors.TurnsSpent F G f h = tt
 on_refusal_map A B errors.JournalFull F G f h = f refusals.JournalFull h
+on_refusal_map A B errors.NoRoom F G f h = tt
 
 -- what follows from a fact about the refusal that ended a call, if one did, holds of that refusal
 pub on_refusal_all : (A : Type 0) (r : Result A ServeError) (F G : StationError → Type 0) → ((x : StationError) → F x → G x) → OnRefusal r F → OnRefusal r G

@@ -51,6 +51,7 @@ ends_as A m errors.Truncated held left h = absurd h
 ends_as A m errors.Memory held left h = tt
 ends_as A m errors.TurnsSpent held left h = absurd h
 ends_as A m errors.JournalFull held left h = tt
+ends_as A m errors.NoRoom held left h = tt
 
 -- an interruption is no end of the reader
 pub reader_goes_on : (A : Type 0) (m : ℕ) (e : ServeError) (held left : List ℕ) (after : Option (List ℕ)) → EndsPiece {A = A} m (Err e) held left → EndsReader (Err e) after
@@ -61,6 +62,7 @@ reader_goes_on A m errors.Truncated held left after h = absurd h
 reader_goes_on A m errors.Memory held left after h = tt
 reader_goes_on A m errors.TurnsSpent held left after h = tt
 reader_goes_on A m errors.JournalFull held left after h = tt
+reader_goes_on A m errors.NoRoom held left after h = tt
 
 -- how a piece ended, told of equal numbers and bytes
 pub ends_for : (A : Type 0) (m m' : ℕ) (e : ServeError) (left held chunk chunk' : List ℕ) → m' ≡ m → chunk' ≡ chunk

@@ -17,13 +17,14 @@ pub record PutsDrains (exchanges : List Exchange) (before after : List (List ℕ
   pub drains : AllDrains exchanges
   pub put : after ≡ before ++ packets_of exchanges
 
--- of their packets a batch was handed back
+-- of their packets a batch was handed back, or had no memory
 pub record DrainsUpTo (exchanges : List Exchange) (before after : List (List ℕ)) : Type 0 where
   pub drains : AllDrains exchanges
   pub handed : IsHandedBack (packets_of exchanges) before after
 
 abbrev pub Pumped : {R : Type 0} → Result R ServeError → List Exchange → List (List ℕ) → List (List ℕ) → Type 0
 Pumped (Err errors.Write) exchanges before after = DrainsUpTo exchanges before after
+Pumped (Err errors.NoRoom) exchanges before after = DrainsUpTo exchanges before after
 Pumped _ exchanges before after = PutsDrains exchanges before after
 
 -- One call of `pump`: `old` and `new` are the station's exchanges, `before` and `after` the packets put.

@@ -79,11 +79,12 @@ pub record AnswersPart (packets : List (List ℕ)) (exchanges : List Exchange) :
   pub answered : AnswersAll done full
   pub begun : AnswersStart next cut
 
--- All the packets were answered, unless a write or the station ended the call.
+-- All the packets were answered, unless a write, the station or want of memory for packets ended the call.
 abbrev pub AnswersSoFar : {A : Type 0} → Result A ServeError → List (List ℕ) → List Exchange → Type 0
 AnswersSoFar (Err errors.Write) packets exchanges = AnswersPart packets exchanges
 AnswersSoFar (Err errors.Memory) packets exchanges = AnswersPart packets exchanges
 AnswersSoFar (Err errors.JournalFull) packets exchanges = AnswersPart packets exchanges
+AnswersSoFar (Err errors.NoRoom) packets exchanges = AnswersPart packets exchanges
 AnswersSoFar _ packets exchanges = AnswersAll packets exchanges
 
 -- All of the text was written, unless a write ended the call: then a front of it.
@@ -144,7 +145,7 @@ pub record Serves (m : ℕ) (result : Result Served ServeError) (input left : Op
   pub ends : EndsStream m result behind
   pub counts : Counts result packets (packets_of exchanges)
 
--- the number of an error
+-- the number of an error; want of memory has one, of the station and of packets alike
 abbrev pub number_of : ServeError → ℕ
 number_of errors.Read = 1
 number_of errors.Write = 2
@@ -153,6 +154,7 @@ number_of errors.Truncated = 4
 number_of errors.Memory = 5
 number_of errors.TurnsSpent = 6
 number_of errors.JournalFull = 7
+number_of errors.NoRoom = 5
 
 -- a station's refusal as an error
 abbrev pub refused_with : StationError → ServeError

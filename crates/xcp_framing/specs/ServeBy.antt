@@ -22,7 +22,7 @@ pub record PutsAll (packets : List (List ℕ)) (exchanges : List Exchange) (befo
   pub asked : requests_of exchanges ≡ commands packets
   pub put : after ≡ before ++ packets_of exchanges
 
--- Of these packets the first were put, and the others, which are some, were not: a batch of them was handed back.
+-- Of these packets the first were put, and the others, which are some, were not: a batch of them was handed back, or had no memory.
 pub record IsHandedBack (packets : List (List ℕ)) (before after : List (List ℕ)) : Type 0 where
   pub front : List (List ℕ)
   pub back : List (List ℕ)
@@ -30,7 +30,7 @@ pub record IsHandedBack (packets : List (List ℕ)) (before after : List (List �
   pub some : back ≢ []
   pub put : after ≡ before ++ front
 
--- those of the first packets, of whose answers' packets a batch was handed back
+-- those of the first packets, of whose answers' packets a batch was handed back, or had no memory
 pub record PutsUpTo (packets : List (List ℕ)) (exchanges : List Exchange) (before after : List (List ℕ)) : Type 0 where
   pub done : List (List ℕ)
   pub later : List (List ℕ)
@@ -49,6 +49,7 @@ abbrev pub PutsSoFar : {R : Type 0} → Result R ServeError → List (List ℕ) 
 PutsSoFar (Err errors.Write) packets exchanges before after = PutsUpTo packets exchanges before after
 PutsSoFar (Err errors.Memory) packets exchanges before after = PutsSome packets exchanges before after
 PutsSoFar (Err errors.JournalFull) packets exchanges before after = PutsSome packets exchanges before after
+PutsSoFar (Err errors.NoRoom) packets exchanges before after = PutsUpTo packets exchanges before after
 PutsSoFar _ packets exchanges before after = PutsAll packets exchanges before after
 
 -- One call of `serve_by`, where MAX_CTO is m: `old` and `new` are the station's exchanges, `before` and `after` the packets put.

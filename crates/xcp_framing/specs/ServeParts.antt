@@ -3,9 +3,10 @@ use Rattle.std.specs.Prelude.{⊤}
 use Rattle.xcp_framing.specs.declared.serving.ServeError.{ServeError}
 use Rattle.xcp_framing.specs.declared.serving.ServeError.TheVariants as errors
 
--- a write or the station ended the call
+-- a write, the station or want of memory for packets ended the call
 abbrev pub IsInterruption : ServeError → Type 0
 IsInterruption errors.Write = ⊤
 IsInterruption errors.Memory = ⊤
 IsInterruption errors.JournalFull = ⊤
+IsInterruption errors.NoRoom = ⊤
 IsInterruption _ = ⊥

@@ -3,7 +3,7 @@ ghost use Rattle.std.specs.Prelude.{◌≡◌, ◌≢◌, ◌≤◌, [], ◌++�
 ghost use Rattle.xcp_packet.specs.PacketTrains.{block_packets};
 ghost use Rattle.xcp_slave.specs.AnswerInBytes.{answer_in};
 ghost use Rattle.xcp_framing.specs.Serve.{packet_of};
-ghost use Rattle.xcp_framing.specs.private.PutOutput.{MovesSoFar};
+ghost use Rattle.xcp_framing.specs.private.PutOutput.{IsUnput, MovesSoFar};
 ghost use Rattle.xcp_framing.specs.private.MostPackets.{most_train};
 
 use crate::{Batch, End, ServeError};
@@ -13,22 +13,42 @@ use xcp_packet::{Packet, Width};
 use xcp_slave::{Cut, Told};
 
 /// Puts the packets of a batch, if it has some. It has none then, also where they are handed back,
-/// and room for those of the next answers. Where there is no memory for this room they aren't put.
+/// which is `Write`, and room for those of the next answers. Where there is no memory for this room
+/// they aren't put, which is `NoRoom`.
 pub(crate) fn hand_on<E: End>(batch: &mut Batch, end: &mut E) -> Result<(), ServeError>
     ensures ok { OnOk result (E.put_so_far end.new ≡ E.put_so_far end.old ++ batch.old) }
     ensures back { OnErr result ((E.put_so_far end.new ≡ E.put_so_far end.old) × (batch.old ≢ [])) }
     ensures held { batch.new ≡ [] }
-    ensures err { IfErr result (λ e. e ≡ ServeError.Write) }
+    ensures err { IfErr result IsUnput }
     ensures same { E.same end.old end.new }
 {
     if batch.is_empty() {
         return Ok(());
     }
     let full = mem::replace(batch, Batch::new(end.alloc()));
+    take_room(batch)?;
+    put_batch(full, end)
+}
+
+/// Takes the memory of a batch. `NoRoom` comes only where there is none.
+fn take_room(batch: &mut Batch) -> Result<(), ServeError>
+    ensures same { batch.new ≡ batch.old }
+    ensures err { IfErr result (λ e. e ≡ ServeError.NoRoom) }
+{
     if batch.take_room().is_err() {
-        return Err(ServeError::Write);
+        return Err(ServeError::NoRoom);
     }
-    if end.put(full).is_err() {
+    Ok(())
+}
+
+/// Puts a batch. `Write` comes only where it is handed back.
+fn put_batch<E: End>(batch: Batch, end: &mut E) -> Result<(), ServeError>
+    ensures ok { OnOk result (E.put_so_far end.new ≡ E.put_so_far end.old ++ batch) }
+    ensures back { OnErr result (E.put_so_far end.new ≡ E.put_so_far end.old) }
+    ensures err { IfErr result (λ e. e ≡ ServeError.Write) }
+    ensures same { E.same end.old end.new }
+{
+    if end.put(batch).is_err() {
         return Err(ServeError::Write);
     }
     Ok(())
@@ -39,7 +59,7 @@ pub(crate) fn hand_on<E: End>(batch: &mut Batch, end: &mut E) -> Result<(), Serv
 pub(crate) fn make_room<E: End>(batch: &mut Batch, end: &mut E) -> Result<(), ServeError>
     ensures moves { MovesSoFar result (E.put_so_far end.old) batch.old
         (E.put_so_far end.new) batch.new [] }
-    ensures err { IfErr result (λ e. e ≡ ServeError.Write) }
+    ensures err { IfErr result IsUnput }
     ensures same { E.same end.old end.new }
 {
     if batch.has_room() {
@@ -51,7 +71,7 @@ pub(crate) fn make_room<E: End>(batch: &mut Batch, end: &mut E) -> Result<(), Se
 }
 
 /// Puts the packets of an answer into a batch, and answers how many they are. Where there is no
-/// memory for one, all that the batch has is given up.
+/// memory for one, which is `NoRoom`, all that the batch has is given up.
 pub(crate) fn gather_told(
     batch: &mut Batch,
     alloc: Global,
@@ -64,13 +84,13 @@ pub(crate) fn gather_told(
     ensures most { IfOk result (λ n. n ≤ most_train) }
     ensures back { OnErr result ((batch.new ≡ [])
         × (packet_of (answer_in told packet.now) ≢ [])) }
-    ensures err { IfErr result (λ e. e ≡ ServeError.Write) }
+    ensures err { IfErr result (λ e. e ≡ ServeError.NoRoom) }
 {
     match push_told(batch, told, packet) {
         Ok(count) => Ok(count),
         Err(AllocError) => {
             *batch = Batch::new(alloc);
-            Err(ServeError::Write)
+            Err(ServeError::NoRoom)
         }
     }
 }

@@ -70,6 +70,7 @@ fn pump_turns<S: Station, E: End>(
 /// are spent. Where none waits, it waits at the station for one, or for `stop`: a turn is a `Drain`,
 /// or a wait that ended. `Ok` is the number of packets put. They are gathered in a batch, which is
 /// put before each wait, before any return, and where it has no room for those of one more `Drain`.
+/// `Write` comes where a batch is handed back, `NoRoom` where one wants memory.
 pub fn pump<S: Station, E: End>(
     station: &mut S,
     end: &mut E,

@@ -56,11 +56,14 @@ pub enum ServeError {
     /// The station takes no more exchanges.
     #[error("the journal is full")]
     JournalFull,
+    /// There was no memory for the packets of answers: they aren't put.
+    #[error("no memory is left for packets")]
+    NoRoom,
 }
 
 impl ServeError {
-    /// The error's number: 1 Read, 2 Write, 3 BadLength, 4 Truncated, 5 Memory, 6 TurnsSpent,
-    /// 7 JournalFull.
+    /// The error's number: 1 Read, 2 Write, 3 BadLength, 4 Truncated, 5 Memory and NoRoom, which are
+    /// both want of memory, 6 TurnsSpent, 7 JournalFull.
     pub fn number(&self) -> u8
         ensures { result ≡ number_of self.now }
     {
@@ -69,7 +72,7 @@ impl ServeError {
             ServeError::Write => 2,
             ServeError::BadLength(_) => 3,
             ServeError::Truncated => 4,
-            ServeError::Memory => 5,
+            ServeError::Memory | ServeError::NoRoom => 5,
             ServeError::TurnsSpent => 6,
             ServeError::JournalFull => 7,
         }
@@ -181,6 +184,7 @@ fn drain<W: Write, S: Station>(
     ensures stops { IfErr result IsInterruption }
     ensures write { result ≡ Err ServeError.Write → writer.old.failures < writer.new.failures }
     ensures dropped { result ≡ Err ServeError.Write → sender.new.held ≡ [] }
+    ensures no_room { result ≢ Err ServeError.NoRoom }
     ensures refused { OnRefusal result (λ e. Refused S.exchanges S.refuses e DrainsNext
         (S.exchanges station.old) station.new) }
 {
@@ -213,6 +217,7 @@ fn exchange<W: Write, S: Station>(
     ensures stops { IfErr result IsInterruption }
     ensures write { result ≡ Err ServeError.Write → writer.old.failures < writer.new.failures }
     ensures dropped { result ≡ Err ServeError.Write → sender.new.held ≡ [] }
+    ensures no_room { result ≢ Err ServeError.NoRoom }
     ensures refused { OnRefusal result (λ e.
         Refused S.exchanges S.refuses e (AsksNext (command.now.items ∷ []))
         (S.exchanges station.old) station.new) }
@@ -299,6 +304,8 @@ pub fn serve<R: Read, W: Write, S: Station>(
     ensures write { result ≡ Err ServeError.Write → writer.old.failures < writer.new.failures }
     ensures write_unfailed { result ≢ Err ServeError.Write
         → writer.new.failures ≡ writer.old.failures }
+    // Frames are written, and no packet is put.
+    ensures no_room { result ≢ Err ServeError.NoRoom }
     // Memory and JournalFull come where the station refused the request that comes next. Memory
     // also comes where there was no buffer, before anything was done.
     ensures refused { OnRefusal result (λ e.

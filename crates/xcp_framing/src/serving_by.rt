@@ -62,8 +62,9 @@ impl<S: Station, E: End> Answerer<S, Putting, E> for ByCommand {
 /// next read, before any return, and where it has no room for the packets of one more answer. Its
 /// memory is taken before anything is done, and that of the next one before a batch is put.
 ///
-/// `sent` counts the packets put. A batch that is handed back, or for whose successor there is no
-/// memory, ends the call with `Write`: its packets weren't put, and none behind them.
+/// `sent` counts the packets put. A batch that is handed back ends the call with `Write`. One that
+/// wants memory for its packets, or for its successor, ends it with `NoRoom`. Its packets weren't put,
+/// and none behind them.
 pub fn serve_by<R: Read, S: Station, E: End>(
     alloc: Global,
     reader: &mut Watched<R>,

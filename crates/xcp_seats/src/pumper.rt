@@ -64,7 +64,7 @@ impl<'a, N: Name + Send + Sync, M: Route + Send + Sync> Work<Member<N, M>> for P
     }
 }
 
-/// Puts what waits until the connection's stop is set, or a packet is handed back.
+/// Puts what waits until the connection's stop is set, or a batch is handed back or has no memory.
 fn pump_connection<N: Name, M: Route, R: Wait>(
     rt: &R,
     station: &mut Seated<'_, N, M, R>,

@@ -41,7 +41,7 @@ pub record Delivered (side : Bool) (taken : List Message) (put : List (List ℕ)
 -- What the pump of a connection did for this caller, which is the same one, and what its end has put.
 pub record PumpedFor {N : Type 0} (caller : CallerValue) (samples : EndSeen) (d : Pumped N) : Type 0 where
   pub pumps : Pumps d.outcome (exchanges_of caller.receipts) (exchanges_of d.caller.receipts) samples.put d.put.put
-  -- a packet was handed back, or a Drain was refused
+  -- a batch was handed back, or had no memory, or a Drain was refused
   pub stops : IfErr d.outcome IsInterruption
   pub same : Same caller d.caller
   pub outlet : d.put.outlet ≡ samples.outlet

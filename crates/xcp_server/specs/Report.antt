@@ -48,6 +48,7 @@ lost_by c = lost_in c.receipts
 -- the fault that is told where a connection ended so
 abbrev pub fault_of_outcome : ServeError → Fault
 fault_of_outcome errors.Memory = Memory
+fault_of_outcome errors.NoRoom = Memory
 fault_of_outcome e = Stream (number_of e)
 
 -- the fault of the first faulty connection

@@ -115,7 +115,7 @@ fn fault_of_outcome(error: &ServeError) -> Fault
     ensures { result ≡ fault_of_outcome error.now }
 {
     match error {
-        ServeError::Memory => Fault::Memory,
+        ServeError::Memory | ServeError::NoRoom => Fault::Memory,
         other => Fault::Stream(other.number()),
     }
 }

@@ -48,7 +48,7 @@ impl Watcher for Log<'_> {
 /// The fault that is told where a connection ended so.
 fn fault_of(error: &ServeError) -> Fault {
     match error {
-        ServeError::Memory => Fault::Memory,
+        ServeError::Memory | ServeError::NoRoom => Fault::Memory,
         other => Fault::Stream(other.number()),
     }
 }

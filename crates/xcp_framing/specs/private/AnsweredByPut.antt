@@ -5,12 +5,11 @@ use Rattle.xcp_slave.specs.declared.Request.{Request}
 use Rattle.xcp_slave.specs.Run.{requests_of}
 use Rattle.xcp_framing.specs.declared.station.StationError.{StationError}
 use Rattle.xcp_framing.specs.declared.serving.ServeError.{ServeError}
-use Rattle.xcp_framing.specs.declared.serving.ServeError.TheVariants as errors
 use Rattle.xcp_framing.specs.Serve.{packets_of}
 use Rattle.xcp_framing.specs.ServeBy.{command, commands}
 use Rattle.xcp_framing.specs.ServeRefusal.{OnRefusal, Refused}
 use Rattle.xcp_framing.specs.private.AnsweredStream.{Stand}
-use Rattle.xcp_framing.specs.private.PutOutput.{MovesSoFar}
+use Rattle.xcp_framing.specs.private.PutOutput.{IsUnput, MovesSoFar}
 
 -- The request that comes next behind these exchanges: the command of the packet behind those that were answered.
 pub record NextCommand (packets : List (List ℕ)) (exchanges : List Exchange) (request : Request) : Type 0 where
@@ -51,5 +50,5 @@ pub record HandsBatchOn {K O : Type 0} (put_of : O → List (List ℕ)) (same_ou
   pub back : OnErr result ((put_of out' ≡ put_of out) × (held_of state ≢ []))
   pub held : held_of state' ≡ []
   pub sent : sent_of state' ≡ sent_of state
-  pub err : IfErr result (λ e. e ≡ errors.Write)
+  pub err : IfErr result IsUnput
   pub kept : same_out out out'

@@ -34,6 +34,7 @@ abbrev pub outcome : {R : Type 0} → Result R ServeError → Result (Unit {0}) 
 outcome (Err errors.Write) = Err errors.Write
 outcome (Err errors.Memory) = Err errors.Memory
 outcome (Err errors.JournalFull) = Err errors.JournalFull
+outcome (Err errors.NoRoom) = Err errors.NoRoom
 outcome _ = Ok tt
 
 -- One call of `answer_stream`, where MAX_CTO is m: `input` and `left` are the reader's bytes before and after, where it tells

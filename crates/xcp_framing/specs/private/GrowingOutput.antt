@@ -24,12 +24,13 @@ abbrev pub DrainsSoFar : {A : Type 0} → Result A ServeError → List Exchange 
 DrainsSoFar (Ok done) exchanges = Drained exchanges
 DrainsSoFar (Err e) exchanges = All GavePacket exchanges × (length exchanges ≤ most_drains)
 
--- How a piece ended: what is held is the stream's rest, which begins with no LEN above m; or it begins with one; or a write or
--- the station ended the call.
+-- How a piece ended: what is held is the stream's rest, which begins with no LEN above m; or it begins with one; or a write,
+-- the station or want of memory for packets ended the call.
 abbrev pub EndsPiece : {A : Type 0} → ℕ → Result A ServeError → List ℕ → List ℕ → Type 0
 EndsPiece m (Ok done) held left = (held ≡ left) × ¬ IsBadLength m left
 EndsPiece m (Err (errors.BadLength n)) held left = (n ≡ len_of left) × IsBadLength m left
 EndsPiece m (Err errors.Write) held left = ⊤
 EndsPiece m (Err errors.Memory) held left = ⊤
 EndsPiece m (Err errors.JournalFull) held left = ⊤
+EndsPiece m (Err errors.NoRoom) held left = ⊤
 EndsPiece m _ held left = ⊥

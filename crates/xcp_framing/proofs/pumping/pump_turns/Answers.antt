@@ -4,12 +4,21 @@ use Rattle.xcp_framing.specs.Pump.{DrainAgain}
 use Rattle.xcp_framing.proofs.ExchangeLemmas.{passed_on}
 use Rattle.xcp_framing.proofs.ServeRefusalLemmas.{on_refusal_map, refused_more}
 use Rattle.xcp_framing.proofs.DrainLemmas.{pumps_kept, pumps_back, pumps_more, pumps_err, again}
+use Rattle.xcp_framing.proofs.PutOutputLemmas.{none_refused, unput_stops}
 use Rattle.xcp_framing.proofs.pumping.pump_turns.Goals as goal
 
 pub returns-in_err-hand_on-clause-pumps : goal.returns-in_err-hand_on-clause-pumps
 returns-in_err-hand_on-clause-pumps g c =
-    rw (passed_on c.from_residual.result c.in_err-hand_on.field-0.0 c.from_residual.ensures.1, c.in_err-hand_on.ensures.err)
-    (pumps_back _ _ _ c.in_err-hand_on.ensures.back.0 c.in_err-hand_on.ensures.back.1 c.hand_on.ensures.held (pumps_kept _ _ _ _ c.pending.ensures.same c.loop-turn.invariant.pumps))
+    rw (passed_on c.from_residual.result c.in_err-hand_on.field-0.0 c.from_residual.ensures.1)
+    (pumps_back _ c.in_err-hand_on.field-0.0 _ _ c.in_err-hand_on.ensures.err c.in_err-hand_on.ensures.back.0 c.in_err-hand_on.ensures.back.1 c.hand_on.ensures.held (pumps_kept _ _ _ _ c.pending.ensures.same c.loop-turn.invariant.pumps))
+
+pub returns-in_err-hand_on-clause-stops : goal.returns-in_err-hand_on-clause-stops
+returns-in_err-hand_on-clause-stops g c =
+    rw (passed_on c.from_residual.result c.in_err-hand_on.field-0.0 c.from_residual.ensures.1) (unput_stops c.in_err-hand_on.field-0.0 c.in_err-hand_on.ensures.err)
+
+pub returns-in_err-hand_on-clause-refused : goal.returns-in_err-hand_on-clause-refused
+returns-in_err-hand_on-clause-refused g c =
+    rw (passed_on c.from_residual.result c.in_err-hand_on.field-0.0 c.from_residual.ensures.1) (none_refused ℕ c.in_err-hand_on.field-0.0 _ c.in_err-hand_on.ensures.err)
 
 pub returns-in_err-count-clause-pumps : goal.returns-in_err-count-clause-pumps
 returns-in_err-count-clause-pumps g c =

@@ -1,5 +1,5 @@
 use Rattle.std.proofs.Common.{rules, refl}
-use Rattle.xcp_framing.proofs.ServeAnswerLemmas.{frames_more, frames_before, frames_handed, frames_held, serves_memory, serves_of, refuses_of, write_of}
+use Rattle.xcp_framing.proofs.ServeAnswerLemmas.{frames_more, frames_before, frames_handed, frames_held, serves_memory, serves_of, refuses_of, write_of, no_room_of}
 use Rattle.xcp_framing.proofs.serving.serve.Goals as goal
 
 pub answer_stream-requires-clause-packets : goal.answer_stream-requires-clause-packets
@@ -26,6 +26,9 @@ returns-clause-serves g c = serves_of _ _ _ _ _ _ _ _ _ _ _ c.answer_stream.ensu
 
 pub returns-clause-write_unfailed : goal.returns-clause-write_unfailed
 returns-clause-write_unfailed g c = λ other. c.answer_stream.ensures.streams.answered.unfailed (λ is. other (write_of _ is))
+
+pub returns-clause-no_room : goal.returns-clause-no_room
+returns-clause-no_room g c = no_room_of _ c.answer_stream.ensures.streams.answered.no_room
 
 pub returns-clause-refused : goal.returns-clause-refused
 returns-clause-refused g c = refuses_of _ _ _ _ _ _ _ _ _ _ _ _ c.answer_stream.ensures.streams

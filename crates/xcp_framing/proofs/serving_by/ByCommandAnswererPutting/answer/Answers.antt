@@ -4,14 +4,18 @@ use Rattle.xcp_slave.specs.AnswerInBytes.{answer_in}
 use Rattle.xcp_framing.specs.Serve.{refused_with}
 use Rattle.xcp_framing.specs.ServeBy.{command}
 use Rattle.xcp_framing.proofs.ExchangeLemmas.{passed_on}
+use Rattle.xcp_framing.proofs.PutOutputLemmas.{unput_stops}
 use Rattle.xcp_framing.proofs.PutPacketLemmas.{one_lost, one_refused, puts_behind, room_lacks, room_made}
 use Rattle.xcp_framing.proofs.serving_by.ByCommandAnswererPutting.answer.Goals as goal
 
 pub returns-in_err-make_room-clause-answers : goal.returns-in_err-make_room-clause-answers
 returns-in_err-make_room-clause-answers g c =
-    let moves = rw (c.in_err-make_room.ensures.err) at c.in_err-make_room.ensures.moves in
-    rw (passed_on c.from_residual.result c.in_err-make_room.field-0.0 c.from_residual.ensures.1, c.in_err-make_room.ensures.err)
-    (room_lacks _ _ _ _ _ _ _ g.met.S.Station.same_refl c.args.command.now.items _ _ refl moves c.make_room.ensures.same)
+    rw (passed_on c.from_residual.result c.in_err-make_room.field-0.0 c.from_residual.ensures.1)
+    (room_lacks _ _ _ _ _ _ _ g.met.S.Station.same_refl c.in_err-make_room.field-0.0 c.args.command.now.items _ _ c.in_err-make_room.ensures.err refl c.in_err-make_room.ensures.moves c.make_room.ensures.same)
+
+pub returns-in_err-make_room-clause-stops : goal.returns-in_err-make_room-clause-stops
+returns-in_err-make_room-clause-stops g c =
+    rw (passed_on c.from_residual.result c.in_err-make_room.field-0.0 c.from_residual.ensures.1) (unput_stops c.in_err-make_room.field-0.0 c.in_err-make_room.ensures.err)
 
 pub returns-in_err-told-clause-answers : goal.returns-in_err-told-clause-answers
 returns-in_err-told-clause-answers g c =
