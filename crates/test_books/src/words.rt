@@ -1,0 +1,84 @@
+//! Rows of kind `words`: what the program is asked by the words that it is started with.
+//!
+//! A question is these words, with a blank between them: `''` is a word without a character, and each word may have escapes. The
+//! answer is what they ask for (`asked.rt`), or the status and what the program tells.
+use crate::answer::Answer;
+use crate::asked::shown;
+use crate::book::Section;
+use crate::escapes::unescaped;
+use crate::findings::written;
+use crate::rows::{Row, rows};
+use crate::trouble::Trouble;
+use std::alloc::Global;
+use std::env::FillError;
+use std::rt::Env;
+use xcp_program::{asked, read_words};
+
+/// The words that a program was started with.
+#[derive(Drop)]
+struct Started {
+    words: Vec<Vec<u8>>,
+}
+
+impl Env for Started {
+    fn arg(&self, i: usize, buf: &mut [u8]) -> Result<usize, FillError> {
+        let Some(word) = self.words.get(i) else {
+            return Err(FillError::NotPresent);
+        };
+        let length = word.len();
+        match buf.get_mut(..length) {
+            Some(front) => front.copy_from_slice(word.as_slice()),
+            None => return Err(FillError::TooLong),
+        }
+        Ok(length)
+    }
+
+    fn var(&self, _name: &str, _buf: &mut [u8]) -> Result<usize, FillError> {
+        Err(FillError::NotPresent)
+    }
+
+    fn var_at(&self, _i: usize, _buf: &mut [u8]) -> Result<usize, FillError> {
+        Err(FillError::NotPresent)
+    }
+}
+
+/// The words of a question.
+fn words_of(alloc: Global, row: &Row<'_>) -> Result<Started, Trouble> {
+    let mut words = Vec::new(alloc);
+    for word in row.question.split(' ') {
+        let word = if word == "''" { "" } else { word };
+        words.push(unescaped(alloc, row.line, word)?)?;
+    }
+    Ok(Started { words })
+}
+
+/// What a program that was started with these words is asked, or the status and what it tells.
+fn told(alloc: Global, words: Started) -> Result<String, Trouble> {
+    match asked(alloc, read_words(&(words, alloc))) {
+        Ok(options) => shown(alloc, &options),
+        Err(e) => {
+            let text = format!(in alloc; "{} {e}", e.status())?;
+            written(alloc, text.as_bytes())
+        }
+    }
+}
+
+/// Plays the rows of a section. They have no ground.
+pub fn play_words(
+    alloc: Global,
+    section: &Section<'_>,
+    answers: &mut Vec<Answer>,
+) -> Result<(), Trouble> {
+    let rows = rows(alloc, section)?;
+    for row in rows.iter() {
+        let Some(stands) = &row.answer else {
+            return Err(Trouble::at(row.line, "this is no row"));
+        };
+        answers.push(Answer {
+            line: row.line,
+            stands: stands.clone()?,
+            came: told(alloc, words_of(alloc, row)?)?,
+        })?;
+    }
+    Ok(())
+}

@@ -1,0 +1,45 @@
+//! The faults of words that no text shows: their numbers, and want of memory.
+use std::alloc::{AllocError, Global};
+use std::test::Fail;
+use test_ground::none_is_wrong;
+use xcp_program::{Unasked, options};
+
+fn told_of_memory(alloc: Global) -> Result<String, AllocError> {
+    format!(in alloc; "{} {}", Unasked::Memory.status(), Unasked::Memory)
+}
+
+#[test]
+fn want_of_memory_is_told(rt: HostRuntime) {
+    assert!(rt; told_of_memory(rt.alloc()).is_ok_and(|told| told.as_str() == "4 xcpd: memory\n"));
+}
+
+/// The number of the fault of words of `serve` that want so many tools, or 0 where there is none.
+fn number_of(alloc: Global, tools: &str) -> Result<u8, AllocError> {
+    let mut given = Vec::new(alloc);
+    for word in [
+        "xcpd", "serve", "--config", "F", "--port", "5555", "--tools", tools,
+    ] {
+        given.push(word.to_string(alloc)?)?;
+    }
+    match options(alloc, &given) {
+        Ok(_) => Ok(0),
+        Err(e) => Ok(e.number()),
+    }
+}
+
+/// How many tools are wanted, and the number of the fault.
+static TOOLS: [(&str, u8); 4] = [("2", 0), ("3", 3), ("4", 3), ("5", 2)];
+
+fn first_other_number(alloc: Global) -> Result<Option<usize>, AllocError> {
+    for (row, (tools, number)) in TOOLS.iter().enumerate() {
+        if number_of(alloc, tools)? != *number {
+            return Ok(Some(row));
+        }
+    }
+    Ok(None)
+}
+
+#[test]
+fn the_faults_of_words_have_numbers(rt: HostRuntime) -> Result<(), Fail> {
+    none_is_wrong(first_other_number(rt.alloc())?)
+}
