@@ -1,27 +1,33 @@
 //! A row as it was played.
 
-/// A row as it was played: the number of its line in the book, from 1, the answer that stands there, and the one that came.
-/// Where an answer has several lines, there are line feeds between them, and none behind the last.
-#[derive(Debug, Drop)]
-pub struct Answer {
-    pub line: u32,
+/// A row as it was played: where it stands in the book, the answer that stands there, and the one that came. Where an answer has
+/// several lines, there are line feeds between them, and none behind the last.
+#[derive(Drop)]
+pub struct Answer<'a> {
+    /// The numbers of the question's line, and of the answer's first and last one.
+    pub line: usize,
+    pub first: usize,
+    pub last: usize,
+    pub question: &'a str,
     pub stands: String,
     pub came: String,
 }
 
-impl Answer {
+impl Answer<'_> {
     /// Whether what stands there came.
     pub fn is_right(&self) -> bool {
         self.stands.as_str() == self.came.as_str()
     }
-}
 
-/// The first answer that is wrong.
-pub fn first_wrong(answers: &[Answer]) -> Option<&Answer> {
-    for answer in answers {
-        if !answer.is_right() {
-            return Some(answer);
+    /// The first lines that differ of what stands there, and of what came: `nothing` where one ends.
+    pub fn first_apart(&self) -> (&str, &str) {
+        let mut others = self.came.as_str().split('\n');
+        for line in self.stands.as_str().split('\n') {
+            let other = others.next().unwrap_or("nothing");
+            if line != other {
+                return (line, other);
+            }
         }
+        ("nothing", others.next().unwrap_or("nothing"))
     }
-    None
 }

@@ -1,143 +1,85 @@
-//! A book: its parts, and the sections of each.
-//!
-//! Lines that begin with `#` may stand before the first part. `=== NAME` begins a part, `--- KIND` a section of it. The line feed
-//! before such a line belongs to neither, so a text ends with its last character.
+//! How a book is cut: `=== NAME` begins a part, `--- KIND` a section of it. The line feed before such a line belongs to neither, so a
+//! text ends with its last character. Lines that begin with `#` may stand before the first part.
 use crate::trouble::Trouble;
-use std::alloc::Global;
+use std::alloc::{AllocError, Global};
 
-/// A section of a part.
-#[derive(Clone, Copy, Debug)]
-pub struct Section<'a> {
-    /// The words behind `---`.
-    pub kind: &'a str,
-    /// The number of its first row's line in the book, from 1.
-    pub line: u32,
-    /// Its rows.
+/// What stands before a part's name.
+const PART: &str = "\n=== ";
+
+/// What stands before a section's kind.
+pub const SECTION: &str = "\n--- ";
+
+/// A part of a book, or a section of a part.
+#[derive(Clone, Copy)]
+pub struct Piece<'a> {
+    /// The number of its first line in the book, from 1.
+    pub line: usize,
+    /// From its name, or its kind, on.
     pub text: &'a str,
 }
 
-/// A part of a book.
-#[derive(Debug, Drop)]
-pub struct Part<'a> {
-    /// The words behind `===`.
-    pub name: &'a str,
-    /// The number of its line in the book, from 1.
-    pub line: u32,
-    /// The whole part, from its name on.
-    pub text: &'a str,
-    /// Its sections, in order. A layout under a name has none.
-    pub sections: Vec<Section<'a>>,
+impl<'a> Piece<'a> {
+    /// Its first line, and what stands behind that.
+    pub fn cut(&self) -> (&'a str, &'a str) {
+        self.text.split_once('\n').unwrap_or((self.text, ""))
+    }
 }
 
-/// How many lines a text has.
-fn lines_of(text: &str) -> u32 {
-    let mut lines = 1u32;
-    for byte in text.as_bytes() {
-        if *byte == b'\n' {
-            lines = lines.saturating_add(1);
+/// What stands before the first such mark, and the pieces behind each.
+pub fn pieces<'a>(
+    alloc: Global,
+    whole: Piece<'a>,
+    mark: &str,
+) -> Result<Vec<Piece<'a>>, AllocError> {
+    let mut pieces = Vec::new(alloc);
+    let mut line = whole.line;
+    for text in whole.text.split(mark) {
+        pieces.push(Piece { line, text })?;
+        line = line.saturating_add(text.split('\n').count());
+    }
+    Ok(pieces)
+}
+
+/// The text behind the name, of the one of these pieces that has it.
+pub fn named<'a>(pieces: &[Piece<'a>], name: &str) -> Option<&'a str> {
+    for piece in pieces {
+        let (other, text) = piece.cut();
+        if other == name {
+            return Some(text);
         }
     }
-    lines
+    None
 }
 
-/// The section that begins at this line with its kind.
-fn cut_section(line: u32, text: &str) -> Section<'_> {
-    let (kind, rows) = text.split_once('\n').unwrap_or((text, ""));
-    Section {
-        kind,
-        line: line.saturating_add(1),
-        text: rows,
-    }
-}
-
-/// The sections of a text that begins at this line, behind the `--- ` of the first.
-fn sections(alloc: Global, line: u32, text: &str) -> Result<Vec<Section<'_>>, Trouble> {
-    let mut all = Vec::new(alloc);
-    let mut at = line;
-    for piece in text.split("\n--- ") {
-        all.push(cut_section(at, piece))?;
-        at = at.saturating_add(lines_of(piece));
-    }
-    Ok(all)
-}
-
-impl<'a> Part<'a> {
-    /// The part that begins at this line with its name.
-    pub fn new(alloc: Global, line: u32, text: &'a str) -> Result<Part<'a>, Trouble> {
-        let (name, rest) = text.split_once('\n').unwrap_or((text, ""));
-        let behind = line.saturating_add(1);
-        let sections = match rest.strip_prefix("--- ") {
-            None if name.starts_with("layout ") => Vec::new(alloc),
-            None => return Err(Trouble::at(behind, "a part begins with a section")),
-            Some(first) => sections(alloc, behind, first)?,
-        };
-        Ok(Part {
-            name,
-            line,
-            text,
-            sections,
-        })
-    }
-
-    /// The name and the text of the layout file that the part is, if it is one.
-    pub fn layout(&self) -> Option<(&'a str, &'a str)> {
-        let (name, text) = self.text.split_once('\n')?;
-        Some((name.strip_prefix("layout ")?, text))
-    }
-
-    /// The line of this number in the book, without its line feed.
-    pub fn line_at(&self, line: u32) -> Option<&'a str> {
-        let mut at = self.line;
-        for text in self.text.split('\n') {
-            if at == line {
-                return Some(text);
-            }
-            at = at.saturating_add(1);
-        }
-        None
-    }
-}
-
-/// The number of the first part's line, and the text behind its `=== `.
-fn opened(book: &str) -> Result<(u32, &str), Trouble> {
-    if let Some(first) = book.strip_prefix("=== ") {
-        return Ok((1, first));
-    }
-    let Some((head, first)) = book.split_once("\n=== ") else {
-        return Err(Trouble::at(1, "no part begins"));
-    };
-    let mut line = 1u32;
-    for comment in head.split('\n') {
-        if !comment.is_empty() && !comment.starts_with('#') {
+/// Fails where what stands before the first part is no comment.
+fn check_comments(head: &Piece<'_>) -> Result<(), Trouble> {
+    for (number, text) in head.text.split('\n').enumerate() {
+        if !text.is_empty() && !text.starts_with('#') {
+            let line = head.line.saturating_add(number);
             return Err(Trouble::at(line, "what stands before the first part is no comment"));
         }
-        line = line.saturating_add(1);
     }
-    Ok((line, first))
+    Ok(())
 }
 
-/// Whether one of these parts has this name.
-fn has_part(parts: &[Part<'_>], name: &str) -> bool {
-    for part in parts {
-        if part.name == name {
-            return true;
+/// The parts of a book, in order, from a line feed and its text. Each has a name of its own.
+pub fn parts(alloc: Global, book: &str) -> Result<Vec<Piece<'_>>, Trouble> {
+    let text = book.strip_suffix('\n').unwrap_or(book);
+    let all = pieces(alloc, Piece { line: 0, text }, PART)?;
+    let mut parts = Vec::new(alloc);
+    for piece in all.iter() {
+        if piece.line == 0 {
+            check_comments(piece)?;
+            continue;
         }
-    }
-    false
-}
-
-/// The parts of a book, in order, from its text. Each has a name of its own.
-pub fn parts(alloc: Global, book: &str) -> Result<Vec<Part<'_>>, Trouble> {
-    let whole = book.strip_suffix('\n').unwrap_or(book);
-    let (mut line, text) = opened(whole)?;
-    let mut all = Vec::new(alloc);
-    for piece in text.split("\n=== ") {
-        let part = Part::new(alloc, line, piece)?;
-        if has_part(all.as_slice(), part.name) {
-            return Err(Trouble::at(line, "a part before has this name"));
+        let (name, _) = piece.cut();
+        if named(parts.as_slice(), name).is_some() {
+            return Err(Trouble::at(piece.line, "a part before has this name"));
         }
-        all.push(part)?;
-        line = line.saturating_add(lines_of(piece));
+        parts.push(*piece)?;
     }
-    Ok(all)
+    if parts.is_empty() {
+        return Err(Trouble::at(1, "no part begins"));
+    }
+    Ok(parts)
 }

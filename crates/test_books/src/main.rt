@@ -1,47 +1,61 @@
 //! Plays books: texts of parts, each of which has rows of questions with their answers. It prints for each book how many parts and
-//! answers it has, and each part's first answer that is wrong. With `--self-test` each answer is altered too, and has to be noticed.
+//! answers it has, and each part's first answer that is wrong. With `--self-test` each line of an answer is altered too, and has to be
+//! noticed.
 //!
 //! `README.md` beside this folder says what a book is, and where its answers come from.
 #![tactic(auto)]
 
 mod answer;
 mod asked;
-mod audits;
 mod book;
 mod changes;
-mod descriptions;
 mod escapes;
-mod file_changes;
+mod files;
 mod findings;
 mod frames;
-mod ground;
-mod hex;
-mod image;
-mod kinds;
-mod lines;
-mod more;
+mod left_out;
+mod output;
 mod pieces;
 mod playing;
 mod report;
-mod restored;
 mod rows;
 mod script;
 mod script_lines;
+mod section;
 mod self_test;
 mod serves;
 mod trouble;
 mod words;
-mod written;
 
-use report::{Report, play_book};
+use report::Report;
 use std::process::ExitCode;
 use std::{fs, io};
+use trouble::Trouble;
 use xcp_program::read_words;
 
 /// The word that asks for altered answers.
 const SELF_TEST: &str = "--self-test";
 
-/// Whether answers are to be altered.
+/// A line feed and the text of the book that a word names; nothing where the word is none of a book.
+fn read_book(rt: &HostRuntime, word: &str) -> io::Result<String> {
+    let mut book = String::new(rt.alloc());
+    if word != SELF_TEST {
+        book.push('\n')?;
+        book.push_str(fs::read_to_string(rt, word)?.as_str())?;
+    }
+    Ok(book)
+}
+
+/// The books of the words behind the first, in order.
+fn read_books(rt: &HostRuntime, words: &[String]) -> io::Result<Vec<String>> {
+    let mut books = Vec::new(rt.alloc());
+    for word in words.iter().skip(1) {
+        books.push(read_book(rt, word.as_str())?)?;
+    }
+    Ok(books)
+}
+
+/// Whether one of these words asks for altered answers.
 fn wants_alterations(words: &[String]) -> bool {
     for word in words {
         if word.as_str() == SELF_TEST {
@@ -51,21 +65,60 @@ fn wants_alterations(words: &[String]) -> bool {
     false
 }
 
-/// Plays the books whose names are the words behind the first, in order, up to the first that is none.
-fn play_books(rt: &HostRuntime, words: &[String], report: &mut Report) -> io::Result<()> {
-    for word in words.iter().skip(1) {
-        let name = word.as_str();
-        if name != SELF_TEST && report.goes_on() {
-            let text = fs::read_to_string(rt, name)?;
-            play_book(rt, name, text.as_str(), report)?;
+/// Prints what was told of a book, and why it is none, and tells whether it is one.
+fn print_book(
+    rt: &HostRuntime,
+    name: &str,
+    text: &str,
+    played: &Result<(), Trouble>,
+) -> io::Result<bool> {
+    print!(rt; "{text}")?;
+    match played {
+        Ok(()) => return Ok(true),
+        Err(Trouble::Memory) => println!(rt; "{name}: memory")?,
+        Err(Trouble::NoBook { line, why }) => println!(rt; "{name}:{line}: {why}")?,
+        Err(Trouble::Refused(fault)) => println!(rt; "{name}: {fault}")?,
+    }
+    Ok(false)
+}
+
+/// Plays the books of the words behind the first, in order, up to the first that is none, and tells whether there is no such.
+fn play_books<'a>(
+    rt: &HostRuntime,
+    words: &[String],
+    books: &'a [String],
+    report: &mut Report<'a>,
+) -> io::Result<bool> {
+    for (word, book) in words.iter().skip(1).zip(books.iter()) {
+        if !book.is_empty() {
+            report.text.clear();
+            let played = report.play_book(word.as_str(), book.as_str());
+            if !print_book(rt, word.as_str(), report.text.as_str(), &played)? {
+                return Ok(false);
+            }
         }
     }
-    Ok(())
+    Ok(true)
+}
+
+/// Prints what came of altered answers, and gives the status: 1 where an answer is wrong.
+fn print_end(rt: &HostRuntime, report: &Report<'_>) -> io::Result<u8> {
+    if report.wrong > 0 {
+        return Ok(1);
+    }
+    if report.alters {
+        let altered = report.altered;
+        println!(rt; "self-test: {altered} altered answers, each was noticed")?;
+    }
+    Ok(0)
 }
 
 fn main(rt: HostRuntime) -> io::Result<ExitCode> {
     let words = read_words(&rt)?;
+    let books = read_books(&rt, words.as_slice())?;
     let mut report = Report::new(rt.alloc(), wants_alterations(words.as_slice()));
-    play_books(&rt, words.as_slice(), &mut report)?;
-    report.end(&rt)
+    if !play_books(&rt, words.as_slice(), books.as_slice(), &mut report)? {
+        return Ok(ExitCode::from(2));
+    }
+    Ok(ExitCode::from(print_end(&rt, &report)?))
 }

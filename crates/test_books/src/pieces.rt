@@ -1,68 +1,23 @@
-//! Bytes that come in pieces.
-use std::alloc::{AllocError, Global};
+//! Streams that come in pieces: what they are answered may not hang on where they are cut.
+use crate::frames::found;
+use crate::script::replayed;
+use crate::section::Section;
+use crate::serves::served;
+use crate::trouble::Trouble;
+use std::alloc::Global;
 use std::io::{self, Read};
 
 /// So many bytes or fewer are cut at each place.
 const EACH: usize = 2_000;
 
-/// How bytes are cut: in two pieces, of which the first has so many; or byte by byte.
-#[derive(Clone, Copy, PartialEq, Eq)]
-pub enum Cutting {
-    At(usize),
-    Bytes,
-}
-
-/// How far the places are from one another at which so many bytes are cut.
-fn step(length: usize) -> usize {
-    length / EACH + 1
-}
-
-/// How many cuttings there are of so many bytes.
-pub fn cuttings(length: usize) -> usize {
-    length.min(EACH) + 2
-}
-
-impl Cutting {
-    /// The cutting of this number of so many bytes: at each place in turn, but in steps where they are many, and then byte by byte.
-    pub fn numbered(number: usize, length: usize) -> Cutting {
-        let place = number.saturating_mul(step(length));
-        if place > length {
-            Cutting::Bytes
-        } else {
-            Cutting::At(place)
-        }
-    }
-
-    /// What came of bytes that are cut so, and that they were.
-    pub fn tell(self, alloc: Global, came: &str) -> Result<String, AllocError> {
-        match self {
-            Cutting::At(place) => format!(in alloc; "{came}, cut at {place}"),
-            Cutting::Bytes => format!(in alloc; "{came}, byte by byte"),
-        }
-    }
-}
-
-/// Gives bytes in pieces, one a read.
-#[derive(Drop)]
+/// Bytes that come in pieces, one a read.
+#[derive(Clone, Copy)]
 pub struct Pieces<'a> {
-    left: &'a [u8],
-    first: usize,
-    most: usize,
-}
-
-impl<'a> Pieces<'a> {
-    /// These bytes, cut so.
-    pub fn new(bytes: &'a [u8], cutting: Cutting) -> Pieces<'a> {
-        let (first, most) = match cutting {
-            Cutting::At(place) => (place, usize::MAX),
-            Cutting::Bytes => (1, 1),
-        };
-        Pieces {
-            left: bytes,
-            first,
-            most,
-        }
-    }
+    pub left: &'a [u8],
+    /// How many come first.
+    pub first: usize,
+    /// The most that come at a time behind those.
+    pub most: usize,
 }
 
 impl Read for Pieces<'_> {
@@ -77,4 +32,51 @@ impl Read for Pieces<'_> {
         self.first = self.first.saturating_sub(count);
         Ok(count)
     }
+}
+
+/// What a stream of a section's kind is answered.
+fn told(alloc: Global, section: &Section<'_>, stream: Pieces<'_>) -> Result<String, Trouble> {
+    match section.kind {
+        "frames" => found(alloc, section, stream),
+        "serves" => served(alloc, section, stream),
+        _ => replayed(alloc, section.layout, section.pages, stream),
+    }
+}
+
+/// How many ways there are to cut a section's stream of so many bytes: that of `lines` is left in one piece.
+fn cuttings(section: &Section<'_>, length: usize) -> usize {
+    if section.kind == "lines" {
+        return 1;
+    }
+    length.min(EACH).saturating_add(3)
+}
+
+/// The stream as it is cut the way of this number: it comes in one piece; byte by byte; or in two, cut at each place in turn, but in
+/// steps where it is long.
+fn cut(left: &[u8], number: usize) -> Pieces<'_> {
+    let (first, most) = match number {
+        0 => (left.len(), usize::MAX),
+        1 => (1, 1),
+        _ => (
+            (number - 2).saturating_mul(left.len() / EACH + 1),
+            usize::MAX,
+        ),
+    };
+    Pieces { left, first, most }
+}
+
+/// What a stream is answered that comes in one piece; or, where it is answered otherwise in pieces, this.
+pub fn in_pieces(alloc: Global, section: &Section<'_>, left: &[u8]) -> Result<String, Trouble> {
+    let mut whole = String::new(alloc);
+    for number in 0..cuttings(section, left.len()) {
+        let pieces = cut(left, number);
+        let came = told(alloc, section, pieces)?;
+        if number == 0 {
+            whole = came;
+        } else if came.as_str() != whole.as_str() {
+            let (first, most) = (pieces.first, pieces.most.min(left.len()));
+            return Ok(format!(in alloc; "{came}, in pieces of {first} bytes and of {most}")?);
+        }
+    }
+    Ok(whole)
 }

@@ -1,176 +1,125 @@
-//! What is printed of the books, and the status.
-use crate::answer::{Answer, first_wrong};
-use crate::book::{Part, parts};
-use crate::ground::Layouts;
+//! What is told of the books.
+use crate::answer::Answer;
+use crate::book::{Piece, named, parts};
 use crate::playing::play_part;
-use crate::self_test::unnoticed;
+use crate::self_test::{is_answered, noticed};
 use crate::trouble::Trouble;
-use std::alloc::Global;
-use std::io;
-use std::process::ExitCode;
+use std::alloc::{AllocError, Global};
+use std::fmt::Write;
 
 /// What came of the books so far.
 #[derive(Drop)]
-pub struct Report {
-    layouts: Layouts,
+pub struct Report<'a> {
+    alloc: Global,
+    /// The layout files that have a name.
+    layouts: Vec<Piece<'a>>,
     /// Whether answers are altered too.
-    alters: bool,
+    pub alters: bool,
     /// How many were.
-    altered: usize,
+    pub altered: usize,
     /// How many parts have a wrong answer, or one that was altered and not noticed.
-    wrong: usize,
-    /// A book was none, or there was no memory.
-    is_cut: bool,
+    pub wrong: usize,
+    /// What is told of the book that is played.
+    pub text: String,
 }
 
-/// Why a book's play stops.
-#[derive(Debug, Drop)]
-enum Stop {
-    Printing(io::Error),
-    Trouble(Trouble),
-}
-
-impl From<io::Error> for Stop {
-    fn from(error: io::Error) -> Stop {
-        Stop::Printing(error)
-    }
-}
-
-impl From<Trouble> for Stop {
-    fn from(trouble: Trouble) -> Stop {
-        Stop::Trouble(trouble)
-    }
-}
-
-impl Report {
+impl<'a> Report<'a> {
     /// No book yet.
-    pub fn new(alloc: Global, alters: bool) -> Report {
+    pub fn new(alloc: Global, alters: bool) -> Report<'a> {
         Report {
-            layouts: Layouts::new(alloc),
+            alloc,
+            layouts: Vec::new(alloc),
             alters,
             altered: 0,
             wrong: 0,
-            is_cut: false,
+            text: String::new(alloc),
         }
     }
 
-    /// Whether the books so far were books.
-    pub fn goes_on(&self) -> bool {
-        !self.is_cut
+    /// Tells an answer that is wrong: of several lines those that differ first.
+    fn tell_wrong(&mut self, name: &str, wrong: &Answer<'_>) -> Result<(), AllocError> {
+        self.wrong = self.wrong.saturating_add(1);
+        let (line, question) = (wrong.line, wrong.question);
+        let (stands, came) = wrong.first_apart();
+        writeln!(
+            self.text,
+            "{name}:{line}: {question}\n  stands {stands}\n  came {came}"
+        )
     }
 
-    /// Prints what came of altered answers, and gives the status: 1 where an answer is wrong, 2 where a text is no book.
-    pub fn end(&self, rt: &HostRuntime) -> io::Result<ExitCode> {
-        if self.is_cut {
-            return Ok(ExitCode::from(2));
+    /// Tells that the answer in this line was altered, and that it wasn't noticed.
+    fn tell_unnoticed(&mut self, name: &str, line: usize) -> Result<(), AllocError> {
+        self.wrong = self.wrong.saturating_add(1);
+        let text = &mut self.text;
+        writeln!(
+            text,
+            "{name}:{line}: this answer was altered, and it wasn't noticed"
+        )
+    }
+
+    /// Alters each line of the answers of a part whose answers are right, up to the first that isn't noticed.
+    fn alter(
+        &mut self,
+        name: &str,
+        part: Piece<'a>,
+        answers: &[Answer<'a>],
+    ) -> Result<(), Trouble> {
+        let mut line = part.line;
+        for _ in part.text.split('\n') {
+            if is_answered(answers, line) {
+                match noticed(self.alloc, self.layouts.as_slice(), part, line)? {
+                    Some(count) => self.altered = self.altered.saturating_add(count),
+                    None => return Ok(self.tell_unnoticed(name, line)?),
+                }
+            }
+            line = line.saturating_add(1);
         }
-        if self.wrong > 0 {
-            return Ok(ExitCode::from(1));
+        Ok(())
+    }
+
+    /// Plays a part, tells its first wrong answer, and gives how many answers it has.
+    fn play(&mut self, name: &str, part: Piece<'a>) -> Result<usize, Trouble> {
+        let answers = play_part(self.alloc, self.layouts.as_slice(), part)?;
+        for answer in answers.iter() {
+            if !answer.is_right() {
+                self.tell_wrong(name, answer)?;
+                return Ok(answers.len());
+            }
         }
         if self.alters {
-            let altered = self.altered;
-            println!(rt; "self-test: {altered} altered answers, each was noticed")?;
+            self.alter(name, part, answers.as_slice())?;
         }
-        Ok(ExitCode::from(0))
+        Ok(answers.len())
     }
-}
 
-/// The question that stands in a line of a part.
-fn question_at<'a>(part: &Part<'a>, line: u32) -> &'a str {
-    let text = part.line_at(line).unwrap_or("").trim_start();
-    match text.rsplit_once(" > ") {
-        Some((question, _)) => question,
-        None => text.strip_suffix(" >").unwrap_or(text),
-    }
-}
-
-/// The first lines of two texts that differ; `nothing` where one ends.
-fn first_apart<'a>(stands: &'a str, came: &'a str) -> (&'a str, &'a str) {
-    let mut others = came.split('\n');
-    for line in stands.split('\n') {
-        let other = others.next().unwrap_or("nothing");
-        if line != other {
-            return (line, other);
+    /// Keeps a layout file for the parts behind it. Its name may not be there yet.
+    fn keep(&mut self, part: Piece<'a>) -> Result<(), Trouble> {
+        let (name, _) = part.cut();
+        if named(self.layouts.as_slice(), name).is_some() {
+            return Err(Trouble::at(part.line, "a layout has this name already"));
         }
+        self.layouts.push(part)?;
+        Ok(())
     }
-    ("nothing", others.next().unwrap_or("nothing"))
-}
 
-/// Prints an answer that is wrong: of several lines those that differ first.
-fn print_wrong(rt: &HostRuntime, name: &str, part: &Part<'_>, wrong: &Answer) -> io::Result<()> {
-    let (line, question) = (wrong.line, question_at(part, wrong.line));
-    let (stands, came) = first_apart(wrong.stands.as_str(), wrong.came.as_str());
-    println!(rt; "{name}:{line}: {question}")?;
-    println!(rt; "  stands {stands}")?;
-    println!(rt; "  came {came}")
-}
-
-/// Prints why a book is none.
-fn print_trouble(rt: &HostRuntime, name: &str, trouble: &Trouble) -> io::Result<()> {
-    match trouble {
-        Trouble::Memory => println!(rt; "{name}: memory"),
-        Trouble::NoBook { line, why } => println!(rt; "{name}:{line}: {why}"),
-    }
-}
-
-/// Alters the answers of a part whose answers are right, and prints the first that isn't noticed.
-fn alter(
-    rt: &HostRuntime,
-    name: &str,
-    part: &Part<'_>,
-    answers: &[Answer],
-    report: &mut Report,
-) -> Result<(), Stop> {
-    match unnoticed(rt.alloc(), &report.layouts, part, answers)? {
-        None => report.altered = report.altered.saturating_add(answers.len()),
-        Some(line) => {
-            report.wrong = report.wrong.saturating_add(1);
-            println!(rt; "{name}:{line}: this answer was altered, and it wasn't noticed")?;
+    /// Keeps or plays a part, and gives how many answers it has.
+    fn take(&mut self, name: &str, part: Piece<'a>) -> Result<usize, Trouble> {
+        if part.text.starts_with("layout ") {
+            self.keep(part)?;
+            return Ok(0);
         }
+        self.play(name, part)
     }
-    Ok(())
-}
 
-/// Plays a part, prints its first wrong answer, and gives how many answers it has.
-fn play_one(
-    rt: &HostRuntime,
-    name: &str,
-    part: &Part<'_>,
-    report: &mut Report,
-) -> Result<usize, Stop> {
-    report.layouts.add(part)?;
-    let answers = play_part(rt.alloc(), &report.layouts, part)?;
-    match first_wrong(answers.as_slice()) {
-        Some(wrong) => {
-            report.wrong = report.wrong.saturating_add(1);
-            print_wrong(rt, name, part, wrong)?;
+    /// Plays a book, from a line feed and its text, and tells what is wrong in it, and how many parts and answers it has.
+    pub fn play_book(&mut self, name: &str, book: &'a str) -> Result<(), Trouble> {
+        let parts = parts(self.alloc, book)?;
+        let mut answers = 0usize;
+        for part in parts.iter() {
+            answers = answers.saturating_add(self.take(name, *part)?);
         }
-        None if report.alters => alter(rt, name, part, answers.as_slice(), report)?,
-        None => {}
-    }
-    Ok(answers.len())
-}
-
-/// Plays all parts of a book, and prints how many parts and answers it has.
-fn play_all(rt: &HostRuntime, name: &str, text: &str, report: &mut Report) -> Result<(), Stop> {
-    let all = parts(rt.alloc(), text)?;
-    let mut answers = 0usize;
-    for part in all.iter() {
-        answers = answers.saturating_add(play_one(rt, name, part, report)?);
-    }
-    let count = all.len();
-    println!(rt; "{name}: {count} parts, {answers} answers")?;
-    Ok(())
-}
-
-/// Plays a book, and prints what is wrong in it, and how many parts and answers it has.
-pub fn play_book(rt: &HostRuntime, name: &str, text: &str, report: &mut Report) -> io::Result<()> {
-    match play_all(rt, name, text, report) {
-        Ok(()) => Ok(()),
-        Err(Stop::Printing(error)) => Err(error),
-        Err(Stop::Trouble(trouble)) => {
-            report.is_cut = true;
-            print_trouble(rt, name, &trouble)
-        }
+        let count = parts.len();
+        writeln!(self.text, "{name}: {count} parts, {answers} answers")?;
+        Ok(())
     }
 }

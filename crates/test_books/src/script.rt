@@ -1,110 +1,107 @@
-//! Rows of kind `script`: a script of `xcpd replay` and its answers, as in `lines`; but the script comes in two pieces, cut at each
-//! place, and byte by byte, and is answered alike.
+//! Rows of kinds `lines` and `script`: a script of `xcpd replay`, and its answers.
 //!
-//! Between its lines stand line feeds, and none behind the last. A line may be written with `\r`, `\t` and `{N*TEXT}`.
-use crate::answer::Answer;
-use crate::book::Section;
-use crate::ground::Ground;
-use crate::lines::{add, add_rest, next_of};
-use crate::pieces::{Cutting, Pieces, cuttings};
-use crate::rows::{Row, rows};
+//! A question is a line of the script, which may have escapes; its answer is the line that the replay writes for it, or the line of
+//! the fault that ends it. An answer alone is that of a layout that is refused. `image` is no line of the script: its answer is the
+//! ECU image behind the lines above it.
+use crate::escapes::unescaped;
+use crate::output::text_of;
+use crate::pieces::Pieces;
+use crate::rows::Row;
+use crate::section::Section;
 use crate::trouble::Trouble;
-use crate::written::text_of;
 use std::alloc::Global;
-use std::fmt::Write;
 use xcp_framing::Watched;
-use xcp_program::replay;
+use xcp_program::{layout_stored, replay};
+use xcp_script::{Line, parse_line};
+use xcp_slave::Slave;
 
 /// The most reads of one replay.
 const TURNS: u32 = 100_000;
 
-/// The script that the rows are.
-fn script_of(alloc: Global, rows: &[Row<'_>]) -> Result<String, Trouble> {
-    let mut script = String::new(alloc);
-    for (number, row) in rows.iter().enumerate() {
-        if number > 0 {
-            script.push('\n')?;
+/// Whether a row is a line of the script.
+fn is_line(row: &Row<'_>) -> bool {
+    row.question != "image" && !(row.question.is_empty() && row.answer.is_some())
+}
+
+/// The script that the rows are. Its last line ends with it.
+pub fn script_of(alloc: Global, rows: &[Row<'_>]) -> Result<Vec<u8>, Trouble> {
+    let mut script = Vec::new(alloc);
+    let mut is_first = true;
+    for row in rows {
+        if is_line(row) {
+            if !is_first {
+                script.push(b'\n')?;
+            }
+            let line = unescaped(alloc, row.line, row.question)?;
+            script.extend_from_slice(line.as_slice())?;
+            is_first = false;
         }
-        script.push_str(text_of(alloc, row.line, row.question)?.as_str())?;
     }
     Ok(script)
 }
 
-/// What a replay of a script that is cut so writes, and the line of the fault that ends it.
-fn told(
+/// What a replay of a script writes, and the line of the fault that ends it.
+pub fn replayed(
     alloc: Global,
     layout: &str,
     pages: Option<&[u8]>,
-    script: &str,
-    cutting: Cutting,
+    script: Pieces<'_>,
 ) -> Result<String, Trouble> {
-    let mut reader = Watched::new(Pieces::new(script.as_bytes(), cutting));
+    let mut reader = Watched::new(script);
     let mut writer = Watched::new(Vec::new(alloc));
     let ended = replay(alloc, layout, pages, &mut reader, &mut writer, TURNS);
-    let mut text = match String::from_utf8(writer.into_inner()) {
-        Ok(text) => text,
-        Err(_) => String::from_str(alloc, "no UTF-8\n")?,
-    };
-    if let Err(fault) = ended {
-        writeln!(text, "xcpd: {fault}")?;
-    }
-    Ok(text)
+    Ok(text_of(alloc, writer.into_inner().as_slice(), ended)?)
 }
 
-/// How the script is cut where it is first answered otherwise.
-fn first_other(
+/// The ECU image of a slave in hex. Its last zeros are left out, but for those that so many digits would write.
+fn image_of(alloc: Global, slave: &Slave, digits: usize) -> Result<String, Trouble> {
+    let mut image = [0; 2040];
+    slave.image(&mut image);
+    let all = hex::encode_upper(alloc, image.as_slice())?;
+    let told = all.as_str().trim_end_matches('0').len().max(digits);
+    let told = told.saturating_add(told % 2);
+    let image = all.as_str().get(..told).unwrap_or(all.as_str());
+    Ok(String::from_str(alloc, image)?)
+}
+
+/// Asks a slave what a line says, and tells whether it says something.
+fn submit(slave: &mut Slave, line: &[u8]) -> bool {
+    match parse_line(slave.max_cto(), line) {
+        Line::Skip => true,
+        Line::Ask(request) => {
+            let _ = slave.submit(&request);
+            true
+        }
+        Line::Faulty => false,
+    }
+}
+
+/// A slave that was just made.
+fn slave_of(alloc: Global, section: &Section<'_>) -> Result<Slave, Trouble> {
+    let layout = layout_stored(alloc, section.layout, section.pages)?;
+    Ok(Slave::new(alloc, layout)?)
+}
+
+/// The ECU image behind the rows above a row of a script: a slave that was just made is asked what they say, up to the first that is
+/// faulty.
+pub fn image_behind(
     alloc: Global,
-    layout: &str,
-    pages: Option<&[u8]>,
-    script: &str,
-    whole: &str,
-) -> Result<Option<Cutting>, Trouble> {
-    let length = script.len();
-    for number in 0..cuttings(length) {
-        let cutting = Cutting::numbered(number, length);
-        if told(alloc, layout, pages, script, cutting)?.as_str() != whole {
-            return Ok(Some(cutting));
+    section: &Section<'_>,
+    above: &[Row<'_>],
+    row: &Row<'_>,
+) -> Result<String, Trouble> {
+    let mut slave = slave_of(alloc, section)?;
+    for row in above {
+        if is_line(row) {
+            let line = unescaped(alloc, row.line, row.question)?;
+            if !submit(&mut slave, line.as_slice()) {
+                break;
+            }
         }
     }
-    Ok(None)
-}
-
-/// Adds that the script is answered otherwise where it is cut so.
-fn add_other(
-    alloc: Global,
-    line: u32,
-    cutting: Cutting,
-    answers: &mut Vec<Answer>,
-) -> Result<(), Trouble> {
-    answers.push(Answer {
-        line,
-        stands: String::from_str(alloc, "the same in pieces")?,
-        came: cutting.tell(alloc, "something else")?,
-    })?;
-    Ok(())
-}
-
-/// Plays the rows of a section on slaves of their own.
-pub fn play_script(
-    alloc: Global,
-    ground: &Ground,
-    section: &Section<'_>,
-    answers: &mut Vec<Answer>,
-) -> Result<(), Trouble> {
-    let layout = ground.layout(section)?;
-    let pages = ground.pages();
-    let rows = rows(alloc, section)?;
-    let script = script_of(alloc, rows.as_slice())?;
-    let script = script.as_str();
-    let text = told(alloc, layout, pages, script, Cutting::At(script.len()))?;
-    let mut came = text.as_str().lines();
-    for row in rows.iter() {
-        let answer = String::from_str(alloc, next_of(row, &mut came))?;
-        add(row, answer, answers)?;
-    }
-    add_rest(alloc, section.line, &mut came, answers)?;
-    match first_other(alloc, layout, pages, script, text.as_str())? {
-        Some(cutting) => add_other(alloc, section.line, cutting, answers),
-        None => Ok(()),
-    }
+    let digits = match &row.answer {
+        Some(stands) => stands.len(),
+        None => 0,
+    };
+    image_of(alloc, &slave, digits)
 }

@@ -1,130 +1,82 @@
-//! Each answer of a part is altered once, and has to be noticed.
-use crate::answer::{Answer, first_wrong};
-use crate::book::Part;
-use crate::ground::Layouts;
+//! Each line of an answer is altered once in its part's text, and the part is played again.
+use crate::answer::Answer;
+use crate::book::Piece;
 use crate::playing::play_part;
 use crate::trouble::Trouble;
-use std::alloc::Global;
+use std::alloc::{AllocError, Global};
 
-/// The most answers of a part that is played again for each of them.
-const MOST_PLAYED: usize = 200;
-
-/// How an answer is altered.
-#[derive(Clone, Copy)]
-enum Change {
-    Add,
-    Drop,
-    Exchange,
-}
-
-impl Change {
-    /// Each of them in turn.
-    fn of(number: usize) -> Change {
-        match number % 3 {
-            0 => Change::Exchange,
-            1 => Change::Add,
-            _ => Change::Drop,
+/// Adds a line whose answer is altered at its end: it has another last character, one more, or one less. Where the answer is empty, it
+/// has one more.
+fn push_altered(text: &mut String, line: &str, number: usize) -> Result<(), AllocError> {
+    let is_empty = line.is_empty() || line.ends_with("> ") || line.ends_with("| ");
+    text.push_str(line)?;
+    if line.trim_start() == "|" {
+        text.push_str(" 0")
+    } else if is_empty || number % 3 == 1 {
+        text.push('0')
+    } else {
+        let last = text.pop();
+        match last {
+            _ if number % 3 == 2 => Ok(()),
+            Some('0') => text.push('1'),
+            _ => text.push('0'),
         }
     }
-
-    /// Alters an answer at its end. To one that is empty a character is added.
-    fn make(self, answer: &mut String, is_empty: bool) -> Result<(), Trouble> {
-        if is_empty || matches!(self, Change::Add) {
-            answer.push_str("0")?;
-            return Ok(());
-        }
-        let last = answer.pop();
-        if matches!(self, Change::Exchange) {
-            answer.push_str(if last == Some('0') { "1" } else { "0" })?;
-        }
-        Ok(())
-    }
 }
 
-/// Whether the answer of a line is empty.
-fn is_empty(line: &str) -> bool {
-    line.ends_with("> ") || line.ends_with("| ")
-}
-
-/// The part's text with the answer of a row altered: of one of several lines, its first.
-fn altered(alloc: Global, part: &Part<'_>, line: u32, change: Change) -> Result<String, Trouble> {
-    let row = part.line_at(line).unwrap_or("");
-    let place = line.saturating_add(u32::from(row.ends_with(" >")));
+/// The part's text with the answer in one of its lines altered.
+fn altered(alloc: Global, part: Piece<'_>, line: usize) -> Result<String, AllocError> {
     let mut text = String::new(alloc);
-    let mut at = part.line;
-    for old in part.text.split('\n') {
-        if at != part.line {
-            text.push_str("\n")?;
+    for (number, old) in part.text.split('\n').enumerate() {
+        if number > 0 {
+            text.push('\n')?;
         }
-        text.push_str(old)?;
-        if at == place {
-            change.make(&mut text, is_empty(old))?;
+        if part.line.saturating_add(number) == line {
+            push_altered(&mut text, old, line)?;
+        } else {
+            text.push_str(old)?;
         }
-        at = at.saturating_add(1);
     }
     Ok(text)
 }
 
-/// Whether the part with this text has its first wrong answer at this line.
-fn is_wrong_at(
-    alloc: Global,
-    layouts: &Layouts,
-    part: &Part<'_>,
-    text: &str,
-    line: u32,
-) -> Result<bool, Trouble> {
-    let again = Part::new(alloc, part.line, text)?;
-    let answers = play_part(alloc, layouts, &again)?;
-    match first_wrong(answers.as_slice()) {
-        Some(wrong) => Ok(wrong.line == line),
-        None => Ok(false),
-    }
-}
-
-/// The first answer of a part that was altered in the part's text, and not noticed when this was played.
-fn first_unnoticed(
-    alloc: Global,
-    layouts: &Layouts,
-    part: &Part<'_>,
-    answers: &[Answer],
-) -> Result<Option<u32>, Trouble> {
-    for (number, answer) in answers.iter().enumerate() {
-        let text = altered(alloc, part, answer.line, Change::of(number))?;
-        if !is_wrong_at(alloc, layouts, part, text.as_str(), answer.line)? {
-            return Ok(Some(answer.line));
+/// How many answers begin in this line, if the answers that are in it are wrong, and no others.
+fn wrong_at(answers: &[Answer<'_>], line: usize) -> Option<usize> {
+    let mut count = 0usize;
+    for answer in answers {
+        let is_there = answer.first <= line && line <= answer.last;
+        if is_there == answer.is_right() {
+            return None;
+        }
+        if answer.first == line {
+            count = count.saturating_add(1);
         }
     }
-    Ok(None)
+    Some(count)
 }
 
-/// The first answer that was altered behind its play, and not noticed.
-fn first_unseen(answers: &[Answer]) -> Result<Option<u32>, Trouble> {
-    for (number, answer) in answers.iter().enumerate() {
-        let mut stands = answer.stands.clone()?;
-        let is_empty = stands.is_empty();
-        Change::of(number).make(&mut stands, is_empty)?;
-        let changed = Answer {
-            line: answer.line,
-            stands,
-            came: answer.came.clone()?,
-        };
-        if changed.is_right() {
-            return Ok(Some(answer.line));
+/// Whether an answer is in this line.
+pub fn is_answered(answers: &[Answer<'_>], line: usize) -> bool {
+    for answer in answers {
+        if answer.first <= line && line <= answer.last {
+            return true;
         }
     }
-    Ok(None)
+    false
 }
 
-/// The line of the first answer of a part that isn't noticed where it is altered. A part of more than 200 answers isn't played again.
-pub fn unnoticed(
+/// How many answers begin in this line of a part, if it is noticed that the answer in it is altered.
+pub fn noticed(
     alloc: Global,
-    layouts: &Layouts,
-    part: &Part<'_>,
-    answers: &[Answer],
-) -> Result<Option<u32>, Trouble> {
-    if answers.len() > MOST_PLAYED {
-        first_unseen(answers)
-    } else {
-        first_unnoticed(alloc, layouts, part, answers)
-    }
+    layouts: &[Piece<'_>],
+    part: Piece<'_>,
+    line: usize,
+) -> Result<Option<usize>, Trouble> {
+    let text = altered(alloc, part, line)?;
+    let again = Piece {
+        line: part.line,
+        text: text.as_str(),
+    };
+    let answers = play_part(alloc, layouts, again)?;
+    Ok(wrong_at(answers.as_slice(), line))
 }

@@ -2,17 +2,15 @@
 //!
 //! A question is these words, with a blank between them: `''` is a word without a character, and each word may have escapes. The
 //! answer is what they ask for (`asked.rt`), or the status and what the program tells.
-use crate::answer::Answer;
 use crate::asked::shown;
-use crate::book::Section;
 use crate::escapes::unescaped;
-use crate::findings::written;
-use crate::rows::{Row, rows};
+use crate::output::text_of;
+use crate::rows::Row;
 use crate::trouble::Trouble;
-use std::alloc::Global;
+use std::alloc::{AllocError, Global};
 use std::env::FillError;
 use std::rt::Env;
-use xcp_program::{asked, read_words};
+use xcp_program::{Fault, asked, read_words};
 
 /// The words that a program was started with.
 #[derive(Drop)]
@@ -52,33 +50,16 @@ fn words_of(alloc: Global, row: &Row<'_>) -> Result<Started, Trouble> {
     Ok(Started { words })
 }
 
-/// What a program that was started with these words is asked, or the status and what it tells.
-fn told(alloc: Global, words: Started) -> Result<String, Trouble> {
+/// What a program that was started with these words is asked, or the status and what it tells, with a line feed behind each.
+fn told(alloc: Global, words: Started) -> Result<String, AllocError> {
     match asked(alloc, read_words(&(words, alloc))) {
         Ok(options) => shown(alloc, &options),
-        Err(e) => {
-            let text = format!(in alloc; "{} {e}", e.status())?;
-            written(alloc, text.as_bytes())
-        }
+        Err(e) => format!(in alloc; "{} {e}", e.status()),
     }
 }
 
-/// Plays the rows of a section. They have no ground.
-pub fn play_words(
-    alloc: Global,
-    section: &Section<'_>,
-    answers: &mut Vec<Answer>,
-) -> Result<(), Trouble> {
-    let rows = rows(alloc, section)?;
-    for row in rows.iter() {
-        let Some(stands) = &row.answer else {
-            return Err(Trouble::at(row.line, "this is no row"));
-        };
-        answers.push(Answer {
-            line: row.line,
-            stands: stands.clone()?,
-            came: told(alloc, words_of(alloc, row)?)?,
-        })?;
-    }
-    Ok(())
+/// What a program that is started with a row's words is asked, or the status and what it tells.
+pub fn answer_words(alloc: Global, row: &Row<'_>) -> Result<String, Trouble> {
+    let text = told(alloc, words_of(alloc, row)?)?;
+    Ok(text_of(alloc, text.as_bytes(), Ok::<(), Fault>(()))?)
 }
