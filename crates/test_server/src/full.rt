@@ -10,12 +10,12 @@ use std::test::Fail;
 use std::thread::Threads;
 use test_ground::{Open, asks, unnamed, workers};
 use together::Work;
+use xcp_connection::Pumping;
 use xcp_framing::ServeError;
 use xcp_locked::{
-    Caller, Locked, Name, Opening, Ran, Reader, TaskError, Unnamed, Worker, run_tasks,
+    Caller, Locked, Name, Opening, Ran, Reader, TaskError, Tool, Unnamed, Worker, run_tasks,
 };
 use xcp_outlet::outlet;
-use xcp_server::Pumping;
 use xcp_slave::Request;
 
 // CONNECT, and a DAQ list of one ODT with the first byte of the signals, on event channel 0, which is
@@ -55,7 +55,7 @@ fn fill<N: Name>(locked: &mut Locked<N>, caller: &mut Caller<N>, calls: u32) -> 
 }
 
 // How the pump of a connection ends, whose one turn is a Drain where a packet waits, and its caller.
-fn pumped<N: Name + Send + Sync, R: Wait>(
+fn pumped<N: Name + Send + Sync, R: Wait + Sync>(
     rt: &R,
     alloc: Global,
     lock: &Mutex<Locked<N>>,
@@ -64,14 +64,14 @@ fn pumped<N: Name + Send + Sync, R: Wait>(
     let (_replies, samples, _sender) = outlet(alloc)?;
     let stop = AtomicBool::new(false);
     let pumping = Pumping {
-        lock,
-        caller,
+        station: Tool::new(rt, lock, caller),
         samples,
         stop: &stop,
         turns: 1,
+        goes_on: false,
     };
     let pumped = pumping.run(rt);
-    Ok((pumped.caller, pumped.outcome))
+    Ok((pumped.station.into_caller(), pumped.outcome))
 }
 
 // The tasks' fault, and how many calls the first of them has made, and how many chapters it has cut.

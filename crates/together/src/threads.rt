@@ -51,7 +51,7 @@ pub fn start_one<'s, E, T: Send + Drop + 's, W: Work<T> + 's, R: Threads + Wait 
 }
 
 /// What a thread does: it waits until the signal can be read, and then begins or leaves.
-fn once_started<T, W: Work<T>, R: Wait>(rt: &R, start: &Mutex<bool>, work: W) -> T
+pub(crate) fn once_started<T, W: Work<T>, R: Wait>(rt: &R, start: &Mutex<bool>, work: W) -> T
     ensures { W.gives work result }
 {
     let go = *start.lock(rt);

@@ -1,5 +1,5 @@
 //! What prints texts until it comes to trouble.
-ghost use Rattle.std.specs.Prelude.{◌≡◌, ℕ, List, None};
+ghost use Rattle.std.specs.Prelude.{◌≡◌, ℕ, List, [], None};
 ghost use Rattle.xcp_audit.specs.Printing.{Prints, stand_of};
 
 use crate::call_line::push_line;
@@ -32,7 +32,7 @@ pub struct Printer<W> {
 impl<W: Write> Printer<W> {
     /// A printer that has printed nothing.
     pub fn new(alloc: Global, stream: W) -> Printer<W>
-        ensures stream { result.writer ≡ record { inner = stream; calls = 0; failures = 0 } }
+        ensures stream { result.writer ≡ record { inner = stream; calls = 0; failures = 0; read = [] } }
         ensures fine { result.trouble ≡ None }
     {
         Printer {

@@ -1,9 +1,10 @@
 -- What `serve_by` does, from how its packets are answered and put.
-use Rattle.std.proofs.Common.{◌≡◌, ◌≢◌, ◌+◌, ℕ, List, [], ◌∷◌, ◌++◌, length, OnOk, IfOk, Option, Result, Ok, Err, ◌⊎◌, inr, refl, sym, ap, ◌∙◌, subst, arith, append_assoc, length-append}
+use Rattle.std.proofs.Common.{◌≡◌, ◌≢◌, ◌+◌, ℕ, List, [], ◌∷◌, ◌++◌, length, OnOk, IfOk, Result, Ok, Err, ◌⊎◌, inr, refl, sym, ap, ◌∙◌, subst, arith, append_assoc, length-append}
 use Rattle.std.proofs.lemmas.List.{append-nil, map-append}
 use Rattle.xcp_slave.specs.declared.Exchange.{Exchange}
 use Rattle.xcp_slave.specs.declared.Request.{Request}
 use Rattle.xcp_slave.specs.Run.{requests_of}
+use Rattle.xcp_framing.specs.CountedCalls.{Place}
 use Rattle.xcp_framing.specs.declared.station.StationError.{StationError}
 use Rattle.xcp_framing.specs.declared.station.StationError.TheVariants as refusals
 use Rattle.xcp_framing.specs.declared.serving.Served.{Served}
@@ -252,7 +253,7 @@ counts_by (Ok served) ps xs from to z h k l = (h, omega (arith, z, k, l))
 counts_by (Err e) ps xs from to z h k l = tt
 
 -- there was no buffer
-pub by_memory : (m : ℕ) (i : Option (List ℕ)) (old : List Exchange) (a : List (List ℕ)) → ServesBy m (Err errors.Memory) i i old old a a
+pub by_memory : (m : ℕ) (i : Place) (old : List Exchange) (a : List (List ℕ)) → ServesBy m (Err errors.Memory) i i old old a a
 by_memory m i old a = record {
   packets = [];
   behind = [];
@@ -266,7 +267,7 @@ by_memory m i old a = record {
 
 module _ {S K O : Type 0} (exchanges_of : S → List Exchange) (refuses : S → Request → StationError → Type 0) (same_station : S → S → Type 0) (put_of : O → List (List ℕ)) (same_out : O → O → Type 0) (sent_of : K → ℕ) (held_of : K → List (List ℕ)) where
   -- a call whose packets were answered so
-  pub by_of : (m : ℕ) (r : Result Served ServeError) (i o : Option (List ℕ)) (a b : Stand S K O) → Streams (AnswersByPut exchanges_of refuses same_station put_of same_out sent_of held_of) m r i o a b
+  pub by_of : (m : ℕ) (r : Result Served ServeError) (i o : Place) (a b : Stand S K O) → Streams (AnswersByPut exchanges_of refuses same_station put_of same_out sent_of held_of) m r i o a b
       → sent_of a.state ≡ 0 → held_of a.state ≡ [] → held_of b.state ≡ [] → IfOk r (λ served. served.sent ≡ sent_of b.state)
       → ServesBy m r i o (exchanges_of a.station) (exchanges_of b.station) (put_of a.out) (put_of b.out)
   by_of m r i o a b s none before after sent =
@@ -284,7 +285,7 @@ module _ {S K O : Type 0} (exchanges_of : S → List Exchange) (refuses : S → 
       }
 
   -- the request that the station refused
-  pub refused_by : (F : StationError → Type 0) (m : ℕ) (r : Result Served ServeError) (i o : Option (List ℕ)) (a b : Stand S K O) → Streams (AnswersByPut exchanges_of refuses same_station put_of same_out sent_of held_of) m r i o a b
+  pub refused_by : (F : StationError → Type 0) (m : ℕ) (r : Result Served ServeError) (i o : Place) (a b : Stand S K O) → Streams (AnswersByPut exchanges_of refuses same_station put_of same_out sent_of held_of) m r i o a b
       → OnRefusal r (λ e. F e ⊎ Refused exchanges_of refuses e (CommandNext m i o) (exchanges_of a.station) b.station)
   refused_by F m r i o a b s =
       refusal_of r _ (on_refusal_all (Unit {0}) (outcome r) _ _

@@ -3,6 +3,7 @@ use Rattle.std.proofs.Common.{◌≡◌, ◌≢◌, ◌<◌, ◌≤◌, ◌+◌,
 use Rattle.std.proofs.lemmas.List.{append-nil}
 use Rattle.xcp_slave.specs.declared.Exchange.{Exchange}
 use Rattle.xcp_slave.specs.declared.Request.{Request}
+use Rattle.xcp_framing.specs.CountedCalls.{Place}
 use Rattle.xcp_framing.specs.declared.station.StationError.{StationError}
 use Rattle.xcp_framing.specs.declared.serving.Served.{Served}
 use Rattle.xcp_framing.specs.declared.serving.ServeError.{ServeError}
@@ -161,7 +162,7 @@ refusal_of (Err errors.Truncated) F h = tt
 refusal_of (Err errors.TurnsSpent) F h = tt
 
 -- there was no buffer
-pub serves_memory : (m : ℕ) (i : Option (List ℕ)) (old : List Exchange) (a : Option (List ℕ)) → Serves m (Err errors.Memory) i i old old a a
+pub serves_memory : (m : ℕ) (i : Place) (old : List Exchange) (a : Option (List ℕ)) → Serves m (Err errors.Memory) i i old old a a
 serves_memory m i old a = record {
   packets = [];
   behind = [];
@@ -176,7 +177,7 @@ serves_memory m i old a = record {
 
 module _ {S K O : Type 0} (exchanges_of : S → List Exchange) (refuses : S → Request → StationError → Type 0) (frames_of : K → FrameWriterValue) (contents_of : O → Option (List ℕ)) (failures_of : O → ℕ) where
   -- a call whose packets were answered in frames, with nothing held at its beginning and at its end
-  pub serves_of : (m : ℕ) (r : Result Served ServeError) (i o : Option (List ℕ)) (a b : Stand S K O) → Streams (AnswersInFrames exchanges_of refuses frames_of contents_of failures_of) m r i o a b
+  pub serves_of : (m : ℕ) (r : Result Served ServeError) (i o : Place) (a b : Stand S K O) → Streams (AnswersInFrames exchanges_of refuses frames_of contents_of failures_of) m r i o a b
       → (frames_of a.state).sent ≡ 0 → (frames_of a.state).held ≡ [] → (frames_of b.state).held ≡ [] → IfOk r (λ served. served.sent ≡ (frames_of b.state).sent)
       → Serves m r i o (exchanges_of a.station) (exchanges_of b.station) (contents_of a.out) (contents_of b.out)
   serves_of m r i o a b s none before after sent =
@@ -196,7 +197,7 @@ module _ {S K O : Type 0} (exchanges_of : S → List Exchange) (refuses : S → 
       }
 
   -- the request that the station refused
-  pub refuses_of : (F : StationError → Type 0) (m : ℕ) (r : Result Served ServeError) (i o : Option (List ℕ)) (a b : Stand S K O) → Streams (AnswersInFrames exchanges_of refuses frames_of contents_of failures_of) m r i o a b
+  pub refuses_of : (F : StationError → Type 0) (m : ℕ) (r : Result Served ServeError) (i o : Place) (a b : Stand S K O) → Streams (AnswersInFrames exchanges_of refuses frames_of contents_of failures_of) m r i o a b
       → OnRefusal r (λ e. F e ⊎ Refused exchanges_of refuses e (ReadsNext m i o) (exchanges_of a.station) b.station)
   refuses_of F m r i o a b s =
       refusal_of r _ (on_refusal_all (Unit {0}) (outcome r) _ _

@@ -1,5 +1,5 @@
 -- Refusals that end a call, passed on from what answers less to what answers more.
-use Rattle.std.proofs.Common.{◌≡◌, ℕ, List, [], ◌∷◌, ◌++◌, Option, Some, None, Result, Ok, Err, refl, sym, ap, ◌∙◌, append_assoc}
+use Rattle.std.proofs.Common.{◌≡◌, ℕ, List, [], ◌∷◌, ◌++◌, Result, Ok, Err, refl, sym, ap, ◌∙◌, append_assoc}
 use Rattle.std.proofs.lemmas.List.{append-nil}
 use Rattle.xcp_slave.specs.declared.Exchange.{Exchange}
 use Rattle.xcp_slave.specs.declared.Request.{Request}
@@ -8,6 +8,7 @@ use Rattle.xcp_framing.specs.declared.station.StationError.{StationError}
 use Rattle.xcp_framing.specs.declared.station.StationError.TheVariants as refusals
 use Rattle.xcp_framing.specs.declared.serving.ServeError.{ServeError}
 use Rattle.xcp_framing.specs.declared.serving.ServeError.TheVariants as errors
+use Rattle.xcp_framing.specs.CountedCalls.{Place}
 use Rattle.xcp_framing.specs.Frames.{frames, rest}
 use Rattle.xcp_framing.specs.Serve.{AnswersAll, OnRead, refused_with}
 use Rattle.xcp_framing.specs.ServeRefusal.{OnRefusal, DrainsNext, AsksNext, Refused}
@@ -93,7 +94,5 @@ asks_before ps qs xs q k = record {
 }
 
 -- the packets alone of what was read
-pub read_packets : (m : ℕ) (i n : Option (List ℕ)) (packets : List (List ℕ)) (behind : List ℕ) → OnRead i n (λ stream. (packets ≡ frames m stream) × (behind ≡ rest m stream)) → OnRead i n (λ stream. packets ≡ frames m stream)
-read_packets m None n packets behind h = tt
-read_packets m (Some xs) None packets behind h = absurd h
-read_packets m (Some xs) (Some ys) packets behind h = (h.0, h.1, h.2.0)
+pub read_packets : (m : ℕ) (i n : Place) (packets : List (List ℕ)) (behind : List ℕ) → OnRead i n (λ stream. (packets ≡ frames m stream) × (behind ≡ rest m stream)) → OnRead i n (λ stream. packets ≡ frames m stream)
+read_packets m i n packets behind h = record { stream = h.stream; gave = h.gave; known = h.known; fact = h.fact.0 }

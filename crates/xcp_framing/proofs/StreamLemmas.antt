@@ -1,9 +1,12 @@
 -- A whole stream, read piece by piece.
 use Rattle.std.proofs.Common.{◌≡◌, ◌≢◌, ℕ, List, [], ◌∷◌, ◌++◌, length, take, Option, Some, None, Err, refl, sym, ap, subst, ◌∙◌, append_assoc}
 use Rattle.std.proofs.Math.Seq.{take-append_seam}
+use Rattle.std.proofs.lemmas.List.{append-nil}
+use Rattle.std.proofs.KnownBytes.{Consumes-nil, Consumes-trans}
 use Rattle.std.specs.Io.KnownBytes.{Consumes, Keeps}
 use Rattle.xcp_framing.specs.declared.serving.ServeError.{ServeError}
 use Rattle.xcp_framing.specs.declared.serving.ServeError.TheVariants as errors
+use Rattle.xcp_framing.specs.CountedCalls.{Place}
 use Rattle.xcp_framing.specs.Frames.{frames, rest}
 use Rattle.xcp_framing.specs.Serve.{OnRead, EndsStream, EndsReader}
 use Rattle.xcp_framing.specs.private.GrowingOutput.{EndsPiece}
@@ -14,17 +17,20 @@ use Rattle.xcp_framing.proofs.ExchangeLemmas.{cons≢nil}
 abbrev IsOf : ℕ → List (List ℕ) → List ℕ → List ℕ → Type 0
 IsOf m packets behind stream = (packets ≡ frames m stream) × (behind ≡ rest m stream)
 
+-- what was kept was not consumed
+consumes_kept : (i o n : Option (List ℕ)) (s : List ℕ) → Consumes i o s → Keeps o n → Consumes i n s
+consumes_kept None o n s h k = tt
+consumes_kept (Some xs) None n s h k = absurd h
+consumes_kept (Some xs) (Some ys) None s h k = absurd k
+consumes_kept (Some xs) (Some ys) (Some zs) s h k = h ∙ ap (λ (z : List ℕ). s ++ z) (sym k)
+
 -- nothing was read
-pub read_none : (m : ℕ) (i : Option (List ℕ)) → OnRead i i (IsOf m [] [])
-read_none m None = tt
-read_none m (Some xs) = ([], refl, (refl, refl))
+pub read_none : (m : ℕ) (i : Place) → OnRead i i (IsOf m [] [])
+read_none m i = record { stream = []; gave = sym (append-nil i.read); known = Consumes-nil i.left; fact = (refl, refl) }
 
 -- no more was read
-pub read_kept : (i o n : Option (List ℕ)) (Fact : List ℕ → Type 0) → OnRead i o Fact → Keeps o n → OnRead i n Fact
-read_kept None o n Fact h k = tt
-read_kept (Some xs) None n Fact h k = absurd h
-read_kept (Some xs) (Some ys) None Fact h k = absurd k
-read_kept (Some xs) (Some ys) (Some zs) Fact h k = (h.0, h.1 ∙ ap (λ (z : List ℕ). h.0 ++ z) (sym k), h.2)
+pub read_kept : (i o n : Place) (Fact : List ℕ → Type 0) → OnRead i o Fact → Keeps o.left n.left → n.read ≡ o.read → OnRead i n Fact
+read_kept i o n Fact h k same = record { stream = h.stream; gave = same ∙ h.gave; known = consumes_kept i.left o.left n.left h.stream h.known k; fact = h.fact }
 
 -- a read that gives no bytes leaves the reader's bytes as they were
 pub keeps_end : (o n : Option (List ℕ)) → Consumes o n [] → Keeps o n
@@ -33,14 +39,16 @@ keeps_end (Some xs) None h = absurd h
 keeps_end (Some xs) (Some ys) h = sym h
 
 -- a piece more was read
-pub read_more : (m : ℕ) (i o n : Option (List ℕ)) (packets : List (List ℕ)) (held chunk : List ℕ) → OnRead i o (IsOf m packets held) → Consumes o n chunk
+pub read_more : (m : ℕ) (i o n : Place) (packets : List (List ℕ)) (held chunk : List ℕ) → OnRead i o (IsOf m packets held) → Consumes o.left n.left chunk → n.read ≡ o.read ++ chunk
     → OnRead i n (IsOf m (packets ++ frames m (held ++ chunk)) (rest m (held ++ chunk)))
-read_more m None o n packets held chunk h k = tt
-read_more m (Some xs) None n packets held chunk h k = absurd h
-read_more m (Some xs) (Some ys) None packets held chunk h k = absurd k
-read_more m (Some xs) (Some ys) (Some zs) packets held chunk h k =
-    let cut = cuts_alike m h.0 chunk in
-    (h.0 ++ chunk, h.1 ∙ ap (λ (z : List ℕ). h.0 ++ z) k ∙ sym (append_assoc h.0 chunk zs), (rw (h.2.0, h.2.1) (sym cut.0), rw (h.2.1) (sym cut.1)))
+read_more m i o n packets held chunk h k more =
+    let cut = cuts_alike m h.stream chunk in
+    record {
+      stream = h.stream ++ chunk;
+      gave = more ∙ ap (λ (z : List ℕ). z ++ chunk) h.gave ∙ append_assoc i.read h.stream chunk;
+      known = Consumes-trans i.left o.left n.left h.stream chunk h.known k;
+      fact = (rw (h.fact.0, h.fact.1) (sym cut.0), rw (h.fact.1) (sym cut.1));
+    }
 
 -- how a piece ended is how the stream ended
 pub ends_as : (A : Type 0) (m : ℕ) (e : ServeError) (held left : List ℕ) → EndsPiece {A = A} m (Err e) held left → EndsStream m (Err e) left

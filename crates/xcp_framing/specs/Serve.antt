@@ -1,8 +1,8 @@
 -- What `serve` does with a stream: the exchanges that it makes, and what it writes (ASAM MCD-1 XCP, transport layer, XCP on
 -- Ethernet; CTO packets come in and go out, DTO packets go out between them).
-use Rattle.std.specs.Prelude.{◌≡◌, ◌≢◌, ◌<◌, ◌≤◌, ◌+◌, ℕ, List, [], ◌∷◌, ◌++◌, All, length, Option, Some, None, Result, Ok, Err, ⊤}
+use Rattle.std.specs.Prelude.{◌≡◌, ◌≢◌, ◌<◌, ◌≤◌, ◌+◌, ℕ, List, [], ◌∷◌, ◌++◌, All, length, Option, Result, Ok, Err, ⊤}
 use Rattle.std.specs.List.{flat_map}
-use Rattle.std.specs.Io.KnownBytes.{Appends, IsAtEnd}
+use Rattle.std.specs.Io.KnownBytes.{Appends, Consumes, IsAtEnd}
 use Rattle.xcp_slave.specs.declared.Exchange.{Exchange}
 use Rattle.xcp_slave.specs.Outcomes.{Answer}
 use Rattle.xcp_slave.specs.declared.Outcome.TheVariants as answers
@@ -12,7 +12,7 @@ use Rattle.xcp_framing.specs.declared.station.StationError.TheVariants as refusa
 use Rattle.xcp_framing.specs.declared.serving.Served.{Served}
 use Rattle.xcp_framing.specs.declared.serving.ServeError.{ServeError}
 use Rattle.xcp_framing.specs.declared.serving.ServeError.TheVariants as errors
-use Rattle.xcp_framing.specs.CountedCalls.{Watched}
+use Rattle.xcp_framing.specs.CountedCalls.{Watched, Place}
 use Rattle.xcp_framing.specs.Prefix.{AppendsFront}
 use Rattle.xcp_framing.specs.Wire.{wire, len_of, IsBadLength}
 use Rattle.xcp_framing.specs.Frames.{frames, rest}
@@ -92,11 +92,13 @@ abbrev pub Writes : {A : Type 0} → Result A ServeError → Option (List ℕ) �
 Writes (Err errors.Write) before after text = AppendsFront before after text
 Writes _ before after text = Appends before after text
 
--- a fact about the bytes read, where a contract can see the reader's: those that it had, without those that are left
-abbrev pub OnRead : Option (List ℕ) → Option (List ℕ) → (List ℕ → Type 0) → Type 0
-OnRead None after Fact = ⊤
-OnRead (Some input) None Fact = ⊥
-OnRead (Some input) (Some left) Fact = (stream : List ℕ) × (input ≡ stream ++ left) × Fact stream
+-- A fact about the bytes that were read between two places of a stream: where a contract knows those that it had, they are these
+-- without those that are left.
+pub record OnRead (from to : Place) (Fact : List ℕ → Type 0) : Type 0 where
+  pub stream : List ℕ
+  pub gave : to.read ≡ from.read ++ stream
+  pub known : Consumes from.left to.left stream
+  pub fact : Fact stream
 
 -- What is left of the stream at its end: nothing, a LEN above m, or a part of a frame. After a failed read, and where all
 -- turns are spent, it begins with no LEN above m either: that ends the call as soon as it is read.
@@ -128,13 +130,13 @@ abbrev pub Counts : Result Served ServeError → List (List ℕ) → List (List 
 Counts (Ok served) packets sent = (served.frames ≡ length packets) × (served.sent ≡ length sent)
 Counts (Err e) packets sent = ⊤
 
--- One call of `serve`, where MAX_CTO is m: `input` and `left` are the reader's bytes before and after, where it tells
--- them, `old` and `new` the station's exchanges, `before` and `after` the writer's bytes.
-pub record Serves (m : ℕ) (result : Result Served ServeError) (input left : Option (List ℕ)) (old new : List Exchange) (before after : Option (List ℕ)) : Type 0 where
+-- One call of `serve`, where MAX_CTO is m: `from` and `to` are where the stream stands before and after, `old` and `new` the
+-- station's exchanges, `before` and `after` the writer's bytes.
+pub record Serves (m : ℕ) (result : Result Served ServeError) (from to : Place) (old new : List Exchange) (before after : Option (List ℕ)) : Type 0 where
   -- the packets of the bytes read, and what stands behind them
   pub packets : List (List ℕ)
   pub behind : List ℕ
-  pub read : OnRead input left (λ stream. (packets ≡ frames m stream) × (behind ≡ rest m stream))
+  pub read : OnRead from to (λ stream. (packets ≡ frames m stream) × (behind ≡ rest m stream))
   -- the exchanges of this call
   pub exchanges : List Exchange
   pub grown : new ≡ old ++ exchanges

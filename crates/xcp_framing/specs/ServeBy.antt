@@ -1,5 +1,5 @@
 -- What `serve_by` does with a stream: it is `serve` without Drains, and the packets of the answers are put.
-use Rattle.std.specs.Prelude.{◌≡◌, ◌≢◌, ℕ, List, [], ◌∷◌, ◌++◌, map, Option, Result, Err}
+use Rattle.std.specs.Prelude.{◌≡◌, ◌≢◌, ℕ, List, [], ◌∷◌, ◌++◌, map, Result, Err}
 use Rattle.xcp_slave.specs.declared.Exchange.{Exchange}
 use Rattle.xcp_slave.specs.declared.Request.{Request}
 use Rattle.xcp_slave.specs.declared.Request.TheVariants as requests
@@ -7,6 +7,7 @@ use Rattle.xcp_slave.specs.Run.{requests_of}
 use Rattle.xcp_framing.specs.declared.serving.Served.{Served}
 use Rattle.xcp_framing.specs.declared.serving.ServeError.{ServeError}
 use Rattle.xcp_framing.specs.declared.serving.ServeError.TheVariants as errors
+use Rattle.xcp_framing.specs.CountedCalls.{Place}
 use Rattle.xcp_framing.specs.Frames.{frames, rest}
 use Rattle.xcp_framing.specs.Serve.{packets_of, OnRead, EndsStream, Counts}
 
@@ -52,12 +53,12 @@ PutsSoFar (Err errors.JournalFull) packets exchanges before after = PutsSome pac
 PutsSoFar (Err errors.NoRoom) packets exchanges before after = PutsUpTo packets exchanges before after
 PutsSoFar _ packets exchanges before after = PutsAll packets exchanges before after
 
--- One call of `serve_by`, where MAX_CTO is m: `old` and `new` are the station's exchanges, `before` and `after` the packets put.
-pub record ServesBy (m : ℕ) (result : Result Served ServeError) (input left : Option (List ℕ)) (old new : List Exchange) (before after : List (List ℕ)) : Type 0 where
+-- One call of `serve_by`, where MAX_CTO is m: `from` and `to` are where the stream stands before and after, `old` and `new` are the station's exchanges, `before` and `after` the packets put.
+pub record ServesBy (m : ℕ) (result : Result Served ServeError) (from to : Place) (old new : List Exchange) (before after : List (List ℕ)) : Type 0 where
   -- the packets of the bytes read, and what stands behind them
   pub packets : List (List ℕ)
   pub behind : List ℕ
-  pub read : OnRead input left (λ stream. (packets ≡ frames m stream) × (behind ≡ rest m stream))
+  pub read : OnRead from to (λ stream. (packets ≡ frames m stream) × (behind ≡ rest m stream))
   -- the exchanges of this call
   pub exchanges : List Exchange
   pub grown : new ≡ old ++ exchanges
@@ -66,9 +67,9 @@ pub record ServesBy (m : ℕ) (result : Result Served ServeError) (input left : 
   pub counts : Counts result packets (packets_of exchanges)
 
 -- The request that comes next behind these exchanges: the command of the packet behind those that were answered.
-pub record CommandNext (m : ℕ) (input left : Option (List ℕ)) (exchanges : List Exchange) (request : Request) : Type 0 where
+pub record CommandNext (m : ℕ) (from to : Place) (exchanges : List Exchange) (request : Request) : Type 0 where
   pub packets : List (List ℕ)
-  pub read : OnRead input left (λ stream. packets ≡ frames m stream)
+  pub read : OnRead from to (λ stream. packets ≡ frames m stream)
   pub done : List (List ℕ)
   pub packet : List ℕ
   pub later : List (List ℕ)

@@ -1,5 +1,5 @@
 -- Where a station's refusal ends a call of `serve`: what the station had done by then, and which request it refused.
-use Rattle.std.specs.Prelude.{◌≡◌, ◌<◌, ℕ, List, [], ◌∷◌, ◌++◌, All, length, Option, Result, Err, ⊤}
+use Rattle.std.specs.Prelude.{◌≡◌, ◌<◌, ℕ, List, [], ◌∷◌, ◌++◌, All, length, Result, Err, ⊤}
 use Rattle.xcp_slave.specs.declared.Exchange.{Exchange}
 use Rattle.xcp_slave.specs.declared.Request.{Request}
 use Rattle.xcp_slave.specs.declared.Request.TheVariants as requests
@@ -7,6 +7,7 @@ use Rattle.xcp_framing.specs.declared.station.StationError.{StationError}
 use Rattle.xcp_framing.specs.declared.station.StationError.TheVariants as refusals
 use Rattle.xcp_framing.specs.declared.serving.ServeError.{ServeError}
 use Rattle.xcp_framing.specs.declared.serving.ServeError.TheVariants as errors
+use Rattle.xcp_framing.specs.CountedCalls.{Place}
 use Rattle.xcp_framing.specs.Frames.{frames}
 use Rattle.xcp_framing.specs.Serve.{GavePacket, AnswersAll, OnRead, most_drains}
 
@@ -44,9 +45,9 @@ pub record AsksNext (packets : List (List ℕ)) (exchanges : List Exchange) (req
   pub asks : AsksOne packet cut request
 
 -- the request that comes next behind these exchanges, for the packets of the bytes read, where MAX_CTO is m
-pub record ReadsNext (m : ℕ) (input left : Option (List ℕ)) (exchanges : List Exchange) (request : Request) : Type 0 where
+pub record ReadsNext (m : ℕ) (from to : Place) (exchanges : List Exchange) (request : Request) : Type 0 where
   pub packets : List (List ℕ)
-  pub read : OnRead input left (λ stream. packets ≡ frames m stream)
+  pub read : OnRead from to (λ stream. packets ≡ frames m stream)
   pub asks : AsksNext packets exchanges request
 
 -- A station, of which `exchanges_of` and `refuses` tell, refused the request that comes next: as it is now, it may refuse this

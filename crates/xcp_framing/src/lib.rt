@@ -3,7 +3,8 @@
 //! A [`Station`] takes requests one by one; a [`Desk`] is one that executes them on its slave and
 //! stores the exchanges. [`serve`] answers commands in frames through a station, and a [`Framer`]
 //! finds the packets of a stream that comes in pieces. All run over any reader and writer. A reader or writer stands in a [`Watched`],
-//! so that contracts can say that a fault came of a call that failed.
+//! so that contracts can say that a fault came of a call that failed, and which bytes were read; a [`Noting`] writer shows them the bytes
+//! that it took.
 //!
 //! `specs/Wire.antt` has the frames of a stream, `specs/Serve.antt` what serving promises.
 #![tactic(auto)]
@@ -15,8 +16,11 @@ mod frame_writer;
 mod framer;
 mod gathering;
 mod law;
+mod noting;
 mod passage;
+mod passages;
 mod pumping;
+mod record;
 mod serving;
 mod serving_by;
 mod station;
@@ -31,6 +35,8 @@ pub use end::End;
 pub use frame_writer::FrameWriter;
 pub use framer::{Brought, Cut, Fed, Framer, Got};
 pub use law::a_desk_is_never_full;
+pub use noting::Noting;
+pub use passages::{Passages, Whole};
 pub use pumping::pump;
 pub use serving::{ServeError, Served, serve};
 pub use serving_by::serve_by;

@@ -1,6 +1,7 @@
 //! The packets of a stream, answered one after another, whatever answers them.
 ghost use Rattle.std.specs.Prelude.{◌≡◌, ◌<◌, ◌≤◌, ◌+◌, ◌*◌, ◌^◌, ◌++◌, [], ◌∷◌, ℕ, List, Result, OnOk, IfOk, IfErr, length, Ok, Err};
 ghost use Rattle.xcp_framing.specs.Frames.{frames, rest};
+ghost use Rattle.xcp_framing.specs.CountedCalls.{place_of};
 ghost use Rattle.xcp_framing.specs.Serve.{EndsReader, ReadsWithin};
 ghost use Rattle.xcp_framing.specs.ServeParts.{IsInterruption};
 ghost use Rattle.xcp_framing.specs.private.MostPackets.{most_packets};
@@ -116,7 +117,7 @@ pub(crate) fn answer_stream<A: Answerer<S, K, O>, S, K, O, R: Read>(
     requires packets { JoinsPackets A.answers }
     requires handing_on { JoinsHandingOn A.answers A.hands }
     ensures streams { Streams A.answers max_cto result
-        (R.remaining reader.old.inner) (R.remaining reader.new.inner)
+        (place_of R.remaining reader.old) (place_of R.remaining reader.new)
         (record { station = station.old; state = state.old; out = out.old })
         (record { station = station.new; state = state.new; out = out.new }) }
     ensures rests { A.rests state.new }

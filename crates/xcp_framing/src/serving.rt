@@ -3,6 +3,7 @@ ghost use Rattle.std.specs.Prelude.{◌≡◌, ◌≢◌, ◌<◌, ◌≤◌, �
 ghost use Rattle.arrayvec.specs.ArrayVec.{ArrayVec};
 ghost use Rattle.xcp_packet.specs.PacketTrains.{block_packets};
 ghost use Rattle.xcp_slave.specs.AnswerInBytes.{answer_in};
+ghost use Rattle.xcp_framing.specs.CountedCalls.{place_of};
 ghost use Rattle.xcp_framing.specs.FrameOutput.{Sends, output};
 ghost use Rattle.xcp_framing.specs.Serve.{AnswersSoFar, EndsReader, ReadsWithin, Serves, most_drains, number_of, packet_of};
 ghost use Rattle.xcp_framing.specs.private.MostPackets.{most_packets, most_train};
@@ -294,7 +295,7 @@ pub fn serve<R: Read, W: Write, S: Station>(
 ) -> Result<Served, ServeError>
     // The packets of the stream, their exchanges, the text, and how it ended.
     ensures serves { Serves max_cto result
-        (R.remaining reader.old.inner) (R.remaining reader.new.inner)
+        (place_of R.remaining reader.old) (place_of R.remaining reader.new)
         (S.exchanges station.old) (S.exchanges station.new)
         (W.contents writer.old.inner) (W.contents writer.new.inner) }
     // Ok and Truncated come at the reader's end.
@@ -312,7 +313,7 @@ pub fn serve<R: Read, W: Write, S: Station>(
         ((e ≡ StationError.Memory) × (reader.new ≡ reader.old) × (writer.new ≡ writer.old)
         × (station.new ≡ station.old))
         ⊎ Refused S.exchanges S.refuses e
-        (ReadsNext max_cto (R.remaining reader.old.inner) (R.remaining reader.new.inner))
+        (ReadsNext max_cto (place_of R.remaining reader.old) (place_of R.remaining reader.new))
         (S.exchanges station.old) station.new) }
 {
     let Ok(mut buffer) = vec![in alloc; 0; READ_SIZE] else {

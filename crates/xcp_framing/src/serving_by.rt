@@ -1,5 +1,6 @@
 //! A station behind a stream, whose answers' packets are put for another thread to send.
 ghost use Rattle.std.specs.Prelude.{◌≡◌, ◌≢◌, ◌<◌, ◌≤◌, ◌+◌, ◌⊎◌, Err};
+ghost use Rattle.xcp_framing.specs.CountedCalls.{place_of};
 ghost use Rattle.xcp_framing.specs.Serve.{EndsReader, ReadsWithin};
 ghost use Rattle.xcp_framing.specs.ServeRefusal.{OnRefusal, Refused};
 ghost use Rattle.xcp_framing.specs.ServeBy.{CommandNext, ServesBy};
@@ -75,7 +76,7 @@ pub fn serve_by<R: Read, S: Station, E: End>(
 ) -> Result<Served, ServeError>
     // The packets of the stream, their exchanges, the packets put, and how it ended.
     ensures serves { ServesBy max_cto result
-        (R.remaining reader.old.inner) (R.remaining reader.new.inner)
+        (place_of R.remaining reader.old) (place_of R.remaining reader.new)
         (S.exchanges station.old) (S.exchanges station.new) (E.put_so_far end.old) (E.put_so_far end.new) }
     ensures kept { E.same end.old end.new }
     ensures stays { S.same station.old station.new }
@@ -85,7 +86,7 @@ pub fn serve_by<R: Read, S: Station, E: End>(
         ((e ≡ StationError.Memory) × (reader.new ≡ reader.old)
         × (station.new ≡ station.old) × (end.new ≡ end.old))
         ⊎ Refused S.exchanges S.refuses e
-        (CommandNext max_cto (R.remaining reader.old.inner) (R.remaining reader.new.inner))
+        (CommandNext max_cto (place_of R.remaining reader.old) (place_of R.remaining reader.new))
         (S.exchanges station.old) station.new) }
 {
     let Ok(mut buffer) = vec![in alloc; 0; READ_SIZE] else {

@@ -1,22 +1,26 @@
-//! A reader or a writer whose calls contracts count.
-ghost use Rattle.std.specs.Prelude.{◌≡◌, ◌+◌, OnOk, OnErr};
+//! A reader or a writer whose calls contracts count, and whose bytes that were read they see.
+ghost use Rattle.std.specs.Prelude.{◌≡◌, ◌+◌, [], true, false, OnOk, OnErr};
 ghost use Rattle.std.specs.Io.{ReadsAtMost, WritesAtMost};
 ghost use Rattle.std.specs.Io.KnownBytes.{Appends, ReadConsumes, WriteAppends};
 ghost use Rattle.xcp_framing.specs.Prefix.{AppendsFront};
-ghost use Rattle.xcp_framing.specs.CountedCalls.{Counted, is_failed_read, is_failed_write};
+ghost use Rattle.xcp_framing.specs.CountedCalls.{Counted, Gives, is_failed_read, is_failed_write, place_of};
 
+use crate::passages::Passages;
+use crate::record::{Piece, Record};
 use crate::tally::Tally;
 use std::io::{self, Read, Write};
 use std::marker::Model;
 use thiserror::Error;
 
-/// Passes calls on to a reader or a writer. Contracts alone see how many calls there were and how
-/// many of them failed: at run time a `Watched<T>` is its `T`.
+/// Passes calls on to a reader or a writer. Contracts alone see how many calls there were, how many
+/// of them failed, and the bytes that its reads gave, whatever the reader is: at run time a
+/// `Watched<T>` is its `T`.
 #[derive(Drop)]
 pub struct Watched<T> {
     inner: T,
     calls: Tally,
     failures: Tally,
+    read: Record,
 }
 
 impl<T> Model for Watched<T> {
@@ -26,18 +30,19 @@ impl<T> Model for Watched<T> {
 
     ghost coded = { watched_code T.code };
 
-    ghost view = { λ w. record { inner = w.inner; calls = w.calls.count; failures = w.failures.count } };
+    ghost view = { λ w. record { inner = w.inner; calls = w.calls.count; failures = w.failures.count; read = w.read.bytes } };
 }
 
 impl<T> Watched<T> {
     /// Watches `inner` from now on.
     pub fn new(inner: T) -> Self
-        ensures { result ≡ record { inner = inner; calls = 0; failures = 0 } }
+        ensures { result ≡ record { inner = inner; calls = 0; failures = 0; read = [] } }
     {
         Watched {
             inner,
             calls: Tally::new(),
             failures: Tally::new(),
+            read: Record::new(),
         }
     }
 
@@ -49,23 +54,41 @@ impl<T> Watched<T> {
             inner,
             calls: _,
             failures: _,
+            read: _,
         } = self;
         inner
     }
 }
 
 impl<R: Read> Watched<R> {
+    /// Whether another passage of its stream begins behind the end that was just read. That is no read.
+    pub fn begin_again<P: Passages<R>>(&mut self, passages: &P) -> bool
+        ensures place { place_of R.remaining self.new ≡ place_of R.remaining self.old }
+        ensures calls { (self.new.calls ≡ self.old.calls) × (self.new.failures ≡ self.old.failures) }
+        ensures more { result ≡ true → P.Passages.goes_on }
+        ensures none { result ≡ false → self.new ≡ self.old }
+    {
+        passages.begin_again(&mut self.inner)
+    }
+
     /// One read of the inner reader. A read fails with an `Err`.
     pub fn read(&mut self, buf: &mut [u8]) -> io::Result<usize>
         ensures bound { ReadsAtMost result buf.new }
         ensures bytes { ReadConsumes
             (R.remaining self.old.inner) (R.remaining self.new.inner) result buf.new }
         ensures counted { Counted self.old self.new (is_failed_read result) }
+        ensures gives { Gives result buf.new self.old self.new }
     {
         let result = self.inner.read(buf);
         self.calls = Tally::more(&self.calls);
-        if result.is_err() {
-            self.failures = Tally::more(&self.failures);
+        match &result {
+            Ok(count) => {
+                let piece = Piece {
+                    bytes: &buf[..*count],
+                };
+                self.read = Record::more(&self.read, &piece);
+            }
+            Err(_) => self.failures = Tally::more(&self.failures),
         }
         result
     }
@@ -78,6 +101,7 @@ impl<W: Write> Watched<W> {
         ensures bytes { WriteAppends
             (W.contents self.old.inner) (W.contents self.new.inner) result buf.now }
         ensures counted { Counted self.old self.new (is_failed_write result buf.now) }
+        ensures read { self.new.read ≡ self.old.read }
     {
         let result = self.inner.write(buf);
         self.calls = Tally::more(&self.calls);

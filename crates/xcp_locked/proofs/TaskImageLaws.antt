@@ -14,9 +14,9 @@ use Rattle.xcp_bank.proofs.HistoryLemmas.{does_again, does_none}
 use Rattle.xcp_memory.specs.Layout.{LayoutValue}
 use Rattle.xcp_slave.specs.declared.Request.{Request}
 use Rattle.xcp_locked.specs.declared.receipt.Receipt.{Receipt}
-use Rattle.xcp_locked.specs.TaskImages.{Took, is_look, looks}
+use Rattle.xcp_locked.specs.TaskImages.{IsTold, Took, is_look, looks, TookImage}
 use Rattle.xcp_locked.specs.Tasks.{Duty, IsFresh, closing_of, event_of}
-use Rattle.xcp_locked.specs.private.TaskSteps.{Adds, IsTold, TookImage}
+use Rattle.xcp_locked.specs.private.TaskSteps.{Adds}
 use Rattle.xcp_locked.proofs.TallyLemmas.{none≢some, some_same}
 
 -- looks of two rows of steps

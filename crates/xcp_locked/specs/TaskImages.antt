@@ -7,6 +7,7 @@ use Rattle.xcp_bank.specs.PinHistory.{Deed}
 use Rattle.xcp_bank.specs.BankEnds.{Holds, HoldsNumber, ReaderDoes, ReaderEnd, image_held}
 use mathlib.Core.List.{IsPrefix}
 use Rattle.xcp_memory.specs.Layout.{LayoutValue}
+use Rattle.xcp_slave.specs.declared.Request.{Request}
 use Rattle.xcp_slave.specs.SlaveValue.{SlaveValue}
 use Rattle.xcp_trace.specs.declared.Entry.{Entry}
 use Rattle.xcp_locked.specs.declared.receipt.Receipt.{Receipt}
@@ -23,6 +24,36 @@ is_look _ = false
 -- how many Looks and Pins are among these steps
 abbrev pub looks : List Deed → ℕ
 looks deeds = count_by (λ d. is_look d.0) deeds
+
+-- A call of this request was accepted, and under the same hold of the lock the reader was told all that was published by then: in
+-- two Looks, which change nothing of what it holds.
+pub record IsTold (layout : LayoutValue) (caller : ℕ) (request : Request) (old new : List Receipt) (before after : ReaderEnd) : Type 0 where
+  pub call : Receipt
+  pub added : new ≡ old ++ call ∷ []
+  pub asked : call.request ≡ request
+  pub calls : ℕ
+  pub base : SlaveValue
+  pub reached : IsReached layout calls base
+  pub earlier : List Entry
+  pub place : length earlier ≡ call.at
+  pub first : ℕ
+  pub images : AreImagesFrom first base (exchanges (earlier ++ entry caller call.request call.answer ∷ [])) after.seen
+  pub deeds : List Deed
+  pub did : ReaderDoes before after deeds
+  pub twice : looks deeds ≡ 2
+  pub past : after.past ≡ before.seen ∷ before.past
+  pub held : after.held ≡ before.held
+  pub same_reader : (after.bank ≡ before.bank) × (after.index ≡ before.index)
+
+-- A reader took the current image, and read all of it.
+pub record TookImage (old new : ReaderEnd) (image : List ℕ) : Type 0 where
+  pub same_reader : (new.bank ≡ old.bank) × (new.index ≡ old.index)
+  pub deeds : List Deed
+  pub did : ReaderDoes old new deeds
+  pub looked : 1 ≤ looks deeds
+  pub holds : Holds new
+  pub rises : (p q : ℕ) → HoldsNumber old p → HoldsNumber new q → p ≤ q
+  pub read : image ≡ image_held new
 
 -- What a reader did in so many cycles, and the image that was read last, before them and after.
 pub record Took (cycles : ℕ) (whole : Bool) (old new : ReaderEnd) (before after : List ℕ) : Type 0 where

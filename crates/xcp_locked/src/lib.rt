@@ -54,7 +54,7 @@ pub use receipts::{Receipts, ReceiptsLeft};
 pub use running::{collect_workers, number_tasks, run_tasks};
 pub use settling::Mismatch;
 pub use sheaf::Sheaf;
-pub use tasks::{Done, Ran, Task, TaskError, event};
+pub use tasks::{Done, Ran, Task, TaskError, event, take_image};
 pub use telling::Settled;
 pub use tool::Tool;
 pub use waiting::{HasSlave, wait_for_packets};

@@ -3,9 +3,9 @@ ghost use Rattle.std.specs.Prelude.{◌≡◌, ◌≤◌, ◌+◌, ℕ, List, []
 ghost use Rattle.xcp_bank.specs.BankEnds.{HoldsNumber};
 ghost use Rattle.xcp_bank.specs.SeatKnowledge.{AllBegin};
 ghost use Rattle.xcp_locked.specs.FaultNumbers.{task_number};
-ghost use Rattle.xcp_locked.specs.TaskImages.{Took};
+ghost use Rattle.xcp_locked.specs.TaskImages.{IsTold, Took, TookImage};
 ghost use Rattle.xcp_locked.specs.Tasks.{Grew, HasCut, IsFresh, IsOwn, Same, closing_of, duty, event_of};
-ghost use Rattle.xcp_locked.specs.private.TaskSteps.{Adds, IsTold, TookImage};
+ghost use Rattle.xcp_locked.specs.private.TaskSteps.{Adds};
 
 use crate::{Caller, Gate, Locked, LockedError, Name, Reader, Worker};
 use arrayvec::ArrayVec;
@@ -266,8 +266,9 @@ fn submit_and_tell<N: Name>(
     }
 }
 
-/// Takes the current image, and reads all of it. No lock is taken.
-fn take_image<N: Name>(reader: &mut Reader<N>, last: &mut [u8; 2040])
+/// Takes the current image, and reads all of it. No lock is taken. What the reader had seen before stays the beginning of what it has
+/// seen, and the image is no older than the last of that.
+pub fn take_image<N: Name>(reader: &mut Reader<N>, last: &mut [u8; 2040])
     ensures took { TookImage reader.old reader.new last.new }
     ensures seen { AllBegin (reader.old.seen ∷ reader.old.past) reader.new.seen }
     ensures newest { (number : ℕ) → HoldsNumber reader.new number → length reader.old.seen ≤ number + 1 }

@@ -1,1 +1,3 @@
-pub mod SameLemmas
+mod NotingLemmas
+mod TickLemmas
+pub mod TrailLemmas

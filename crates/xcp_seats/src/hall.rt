@@ -1,9 +1,9 @@
 //! How many tools are connected.
 ghost use Rattle.std.specs.Prelude.{◌≡◌};
-ghost use Rattle.xcp_locked.specs.Tasks.{Same};
+ghost use Rattle.xcp_seats.specs.Seating.{Departs, HangsUp};
 
 use std::sync::{Mutex, Wait};
-use xcp_framing::Station;
+use xcp_framing::{Station, StationError};
 use xcp_locked::Name;
 use xcp_packet::Packet;
 use xcp_service::{Route, Seated};
@@ -13,6 +13,15 @@ use xcp_slave::Asked;
 #[derive(Drop)]
 pub struct Hall {
     present: Mutex<u32>,
+}
+
+/// Who is there when a tool goes.
+#[derive(Clone, Copy, Debug, PartialEq, Eq)]
+pub enum Departure {
+    /// So many other tools.
+    Others(u32),
+    /// Nobody: a `Hangup` was submitted, or refused so.
+    Last(Result<(), StationError>),
 }
 
 impl Hall {
@@ -29,16 +38,31 @@ impl Hall {
         *present = present.saturating_add(1);
     }
 
-    /// One tool is gone. Where it was the last one, a `Hangup` is submitted before another can be here. Where there is no memory
-    /// for it, the session stands until the next tool goes.
-    pub fn leave<N: Name, M: Route, R: Wait>(&self, rt: &R, station: &mut Seated<'_, N, M, R>)
-        ensures { Same station.old.member station.new.member }
+    /// One tool is gone. Where it was the last one, a `Hangup` is submitted before another can be here. Where it is refused, for want of
+    /// memory, the session stands until the next tool goes.
+    pub fn leave<N: Name, M: Route, R: Wait>(
+        &self,
+        rt: &R,
+        station: &mut Seated<'_, N, M, R>,
+    ) -> Departure
+        ensures { Departs result station.old.member station.new.member }
     {
         let mut present = self.present.lock(rt);
         *present = present.saturating_sub(1);
-        if *present == 0 {
-            let mut packet = Packet::new();
-            let _ = station.submit_into(Asked::Hangup, &mut packet);
+        match *present {
+            0 => Departure::Last(hang_up(station)),
+            others => Departure::Others(others),
         }
     }
+}
+
+/// Ends the session of the tools that are gone.
+fn hang_up<N: Name, M: Route, R: Wait>(
+    station: &mut Seated<'_, N, M, R>,
+) -> Result<(), StationError>
+    ensures { HangsUp result station.old.member station.new.member }
+{
+    let mut packet = Packet::new();
+    station.submit_into(Asked::Hangup, &mut packet)?;
+    Ok(())
 }

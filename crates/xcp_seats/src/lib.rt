@@ -1,6 +1,9 @@
 //! Seats for tools that come and go, tasks without an end, and what else a server that stays runs, each part in a thread of its own.
 //!
-//! Whoever runs them deals callers, readers and channels out to them (`make_seat`), and settles what they did. A seat's parts live as long as the server: for each tool that its hearer accepts, the other two get their ends of a new outlet.
+//! Whoever runs them deals callers and readers out to them, and settles what they did. A seat has one thread while nobody is there; for
+//! each tool that it accepts its connection's pump and sender get threads of their own.
+//!
+//! `specs/Seating.antt` has what a seat promises: visit behind visit (`specs/Trails.antt`).
 #![tactic(auto)]
 
 mod closing;
@@ -8,24 +11,20 @@ mod door;
 mod duty;
 mod hall;
 mod halt;
-mod hearer;
 mod pace;
 mod patient;
-mod pumper;
 mod seat;
-mod sender;
+mod starting;
 mod ticker;
 mod watcher;
 
 pub use closing::Closing;
 pub use door::Door;
-pub use duty::{Assigned, Duty, Keeping, Outcome, Performed, Warding};
-pub use hall::Hall;
+pub use duty::{Keeping, Ward};
+pub use hall::{Departure, Hall};
 pub use halt::Halt;
-pub use hearer::{Hearer, Seat};
 pub use pace::Pace;
-pub use pumper::{Pumped, Pumper};
-pub use seat::{Parts, Place, make_seat};
-pub use sender::{Outgoing, Sending};
-pub use ticker::Ticker;
+pub use seat::{Left, Place, Seat, sit};
+pub use starting::{Sits, start_seat, start_ward};
+pub use ticker::{Rested, Ticker};
 pub use watcher::Watcher;

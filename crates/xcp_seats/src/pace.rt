@@ -1,11 +1,9 @@
-//! When the tasks' cycles begin, and what they lose.
+//! When the tasks' cycles begin.
 
-use std::sync::atomic::{AtomicU64, Ordering};
 use std::thread;
 use std::time::{Clock, Duration, Instant};
 
 /// Lets a task begin its cycle n once n of its periods have passed since the server began, or at once where its period is 0.
-/// It counts the events that were lost.
 #[derive(Drop)]
 pub struct Pace<'a, R> {
     clock: &'a R,
@@ -13,8 +11,6 @@ pub struct Pace<'a, R> {
     began: Option<Instant>,
     /// The period of each task, in nanoseconds.
     periods: [u64; 6],
-    /// How many events found no room for their packets.
-    lost: AtomicU64,
 }
 
 impl<'a, R: Clock> Pace<'a, R> {
@@ -24,7 +20,6 @@ impl<'a, R: Clock> Pace<'a, R> {
             clock,
             began: Instant::now(clock).ok(),
             periods,
-            lost: AtomicU64::new(0),
         }
     }
 
@@ -39,16 +34,6 @@ impl<'a, R: Clock> Pace<'a, R> {
     /// Whether a cycle of a task begins at once behind the one before it.
     pub fn is_free(&self, task: u8) -> bool {
         self.period(task) == 0
-    }
-
-    /// Counts an event that found no room for its packets.
-    pub fn lose(&self) {
-        self.lost.fetch_add(1, Ordering::SeqCst);
-    }
-
-    /// How many events found no room for their packets, of all tasks.
-    pub fn lost(&self) -> u64 {
-        self.lost.load(Ordering::SeqCst)
     }
 
     /// The period of a task.

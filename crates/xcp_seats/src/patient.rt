@@ -1,8 +1,8 @@
 //! A tool that stops inside a frame, and one that has no end.
 
 use std::io::{self, ErrorKind, Read};
-use std::mem;
 use std::net::TcpStream;
+use xcp_framing::Passages;
 
 /// How many reads a passage has at least, where the connection doesn't end before.
 const PASSAGE: u32 = 1_073_741_824;
@@ -84,11 +84,24 @@ impl Patient {
             is_passed: false,
         }
     }
+}
 
-    /// Whether the last read ended a passage, and not the connection. Another passage begins then.
-    pub fn begin_again(&mut self) -> bool {
-        self.reads = 0;
-        mem::replace(&mut self.is_passed, false)
+/// Looks whether a patient reader's last read ended a passage, and not the connection. Another passage begins then.
+#[derive(Clone, Copy, Debug, Drop)]
+pub(crate) struct Patiently;
+
+impl Passages<Patient> for Patiently {
+    ghost use Rattle.std.specs.Prelude.{⊤};
+
+    ghost goes_on = { ⊤ };
+
+    fn begin_again(&self, reader: &mut Patient) -> bool {
+        if !reader.is_passed {
+            return false;
+        }
+        reader.reads = 0;
+        reader.is_passed = false;
+        true
     }
 }
 

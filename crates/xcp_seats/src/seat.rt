@@ -1,21 +1,29 @@
 //! A seat for one tool after another.
+ghost use Rattle.std.specs.Prelude.{◌≡◌, ◌⊎◌};
+ghost use Rattle.xcp_seats.specs.Seating.{Attends, Sat, Visits, pair, told_of};
 
+use crate::closing::Closing;
 use crate::door::Door;
-use crate::hall::Hall;
+use crate::hall::{Departure, Hall};
 use crate::halt::Halt;
-use crate::hearer::{Hearer, Seat};
-use crate::pumper::{Pumped, Pumper};
-use crate::sender::{Outgoing, Sending};
-use crossbeam_channel::{Receiver, Sender, bounded};
-use std::alloc::{AllocError, Global};
-use std::net::TcpListener;
+use crate::patient::{Patient, Patiently};
+use crate::watcher::Watcher;
+use std::alloc::Global;
+use std::marker::Model;
+use std::net::{SocketAddr, TcpListener, TcpStream};
+use std::sync::Wait;
+use std::thread::Threads;
 use std::time::Duration;
+use xcp_connection::{Attended, Limits, attend};
+use xcp_framing::{Noting, ServeError, Served, Watched};
 use xcp_locked::Name;
-use xcp_outlet::{DataEnd, Sent};
-use xcp_service::{Member, Route, Shared};
+use xcp_service::{Member, Resident, Route, Seated, Shared};
 
-/// The three parts of a seat.
-pub type Parts<'a, N, M, W> = (Hearer<'a, N, M, W>, Pumper<'a, N, M>, Sending);
+/// The most reads of one passage; a connection has as many passages as it needs.
+const TURNS: u32 = 4_294_967_295;
+
+/// The most turns of one call of `pump`. Behind it the next call goes on.
+const PUMP_TURNS: u32 = 1_000_000_000;
 
 /// Where a seat is.
 #[derive(Drop)]
@@ -29,92 +37,185 @@ pub struct Place<'a, W> {
     pub watcher: &'a W,
 }
 
-/// The channels between the parts of a seat: what each connection begins with for its pump and for its sender, and what comes of these.
+/// A seat: a member for its tools, and one for their pumps. It accepts one tool after another, and serves each by three parts, of which it is
+/// the first; the others have threads of their own as long as the tool is there.
 #[derive(Drop)]
-struct Lines {
-    samples: (Sender<DataEnd>, Receiver<DataEnd>),
-    pumped: (Sender<Pumped>, Receiver<Pumped>),
-    outgoing: (Sender<Outgoing>, Receiver<Outgoing>),
-    sent: (Sender<Sent>, Receiver<Sent>),
+pub struct Seat<'a, N: Name, M: Route, W, T> {
+    pub rt: &'a T,
+    pub shared: &'a Shared<N, M>,
+    pub alloc: Global,
+    pub listener: TcpListener,
+    pub tool: Member<N, M>,
+    pub pump: Member<N, M>,
+    pub place: Place<'a, W>,
 }
 
-fn make_lines(alloc: Global) -> Result<Lines, AllocError> {
-    Ok(Lines {
-        samples: bounded(alloc, 1)?,
-        pumped: bounded(alloc, 1)?,
-        outgoing: bounded(alloc, 1)?,
-        sent: bounded(alloc, 1)?,
-    })
+// Clauses see the members alone, which keeps proofs about its thread small.
+impl<'a, N: Name, M: Route, W, T> Model for Seat<'a, N, M, W, T> {
+    ghost use Rattle.xcp_seats.specs.Seating.{SeatValue};
+
+    ghost Value = { SeatValue };
+
+    ghost view = { λ s. record { tool = s.tool; pump = s.pump; max_cto = s.place.max_cto } };
 }
 
-/// A seat with a member for the tools and one for the pump. The listener's socket is shared.
-pub fn make_seat<'a, N: Name, M: Route, W>(
-    alloc: Global,
-    shared: &'a Shared<N, M>,
-    listener: TcpListener,
-    tool: Member<N, M>,
-    pump: Member<N, M>,
-    place: Place<'a, W>,
-) -> Result<Parts<'a, N, M, W>, AllocError> {
-    let lines = make_lines(alloc)?;
-    Ok(join(alloc, shared, listener, tool, pump, place, lines))
+/// The members of a seat, once nobody is served any more.
+#[derive(Drop)]
+pub struct Left<N: Name, M: Route> {
+    pub tool: Member<N, M>,
+    pub pump: Member<N, M>,
 }
 
-/// The parts of a seat, which these channels join.
-fn join<'a, N: Name, M: Route, W>(
-    alloc: Global,
-    shared: &'a Shared<N, M>,
-    listener: TcpListener,
-    tool: Member<N, M>,
-    pump: Member<N, M>,
-    place: Place<'a, W>,
-    lines: Lines,
-) -> Parts<'a, N, M, W> {
-    let Place {
-        number,
-        max_cto,
-        patience,
-        door,
-        halt,
-        hall,
-        watcher,
-    } = place;
-    let Lines {
-        samples: (samples, begins),
-        pumped: (ends, pumped),
-        outgoing: (outgoing, begun),
-        sent: (ended, sent),
-    } = lines;
-    let hearer = Hearer {
-        member: tool,
-        seat: Seat {
-            shared,
-            alloc,
-            number,
-            listener,
-            max_cto,
-            patience,
-            door,
-            halt,
-            hall,
-            watcher,
-            pump: samples,
-            pumped,
-            send: outgoing,
-            sent,
-        },
-    };
-    let pumper = Pumper {
+/// What a seat does: it accepts one tool after another, and serves each, until the server is asked to end.
+pub fn sit<
+    'a,
+    N: Name + Send + Sync,
+    M: Route + Send + Sync,
+    W: Watcher + Sync,
+    T: Threads + Wait + Sync,
+>(seat: Seat<'a, N, M, W, T>) -> Left<N, M>
+    ensures { Sat seat.entry.max_cto (pair seat.entry.tool seat.entry.pump) (pair result.tool result.pump) }
+{
+    let Seat {
+        rt,
         shared,
         alloc,
-        member: pump,
-        stop: &door.stop,
-        begins,
-        ends,
+        listener,
+        tool,
+        pump,
+        place,
+    } = seat;
+    let mut left = Left { tool, pump };
+    for _visit in rt.forever() {
+        let accepted = listener.accept();
+        if place.halt.is_asked() {
+            break;
+        }
+        let Ok((stream, address)) = accepted else {
+            place.watcher.refused(place.number);
+            continue;
+        };
+        left = visit(rt, alloc, shared, &place, stream, address, left);
+    }
+    left
+}
+
+impl<'a, N: Name, M: Route, W, T> Seat<'a, N, M, W, T> {
+    /// The members of a seat that didn't begin.
+    pub fn leave(self) -> Left<N, M>
+        ensures { Sat self.entry.max_cto (pair self.entry.tool self.entry.pump) (pair result.tool result.pump) }
+    {
+        let Seat { tool, pump, .. } = self;
+        Left { tool, pump }
+    }
+}
+
+/// One visit of a tool: it is served until its connection is closed. The last one that goes ends the session.
+fn visit<
+    N: Name + Send + Sync,
+    M: Route + Send + Sync,
+    W: Watcher + Sync,
+    T: Threads + Wait + Sync,
+>(
+    rt: &T,
+    alloc: Global,
+    shared: &Shared<N, M>,
+    place: &Place<'_, W>,
+    stream: TcpStream,
+    address: SocketAddr,
+    left: Left<N, M>,
+) -> Left<N, M>
+    ensures { Visits place.now.max_cto (pair left.tool left.pump) (pair result.tool result.pump) }
+{
+    place.watcher.came(place.number, address);
+    place.hall.enter(rt);
+    let Left { tool, pump } = left;
+    let tool = Seated::new(rt, alloc, shared, tool);
+    let pump = Seated::new(rt, alloc, shared, pump);
+    let (mut tool, pump, end) = serve_tool(rt, alloc, shared, place, stream, tool, pump);
+    let departure = place.hall.leave(rt, &mut tool);
+    place
+        .watcher
+        .gone(place.number, address, told_end(end, departure));
+    Left {
+        tool: tool.into_member(),
+        pump: pump.into_member(),
+    }
+}
+
+/// How a visit ended, as it is told: a Hangup that was refused is a fault where the connection had none.
+fn told_end(end: Result<Served, ServeError>, departure: Departure) -> Result<Served, ServeError>
+    ensures { result ≡ told_of end departure }
+{
+    let served = end?;
+    if let Departure::Last(Err(refused)) = departure {
+        return Err(ServeError::from(refused));
+    }
+    Ok(served)
+}
+
+/// The two stations of a seat, and how a connection ended.
+type Seats<'r, N, M, T> = (
+    Seated<'r, N, M, T>,
+    Seated<'r, N, M, T>,
+    Result<Served, ServeError>,
+);
+
+/// Serves a tool, from its first frame until its connection is closed, and answers how it ended. `Memory` comes also where the connection
+/// can't begin.
+fn serve_tool<'r, N: Name + Send + Sync, M: Route + Send + Sync, W, T: Threads + Wait + Sync>(
+    rt: &'r T,
+    alloc: Global,
+    shared: &'r Shared<N, M>,
+    place: &Place<'_, W>,
+    stream: TcpStream,
+    tool: Seated<'r, N, M, T>,
+    pump: Seated<'r, N, M, T>,
+) -> Seats<'r, N, M, T>
+    ensures { (pair result.0.member result.1.member ≡ pair tool.entry.member pump.entry.member)
+        ⊎ Attends place.now.max_cto result.2 (pair tool.entry.member pump.entry.member) (pair result.0.member result.1.member) }
+{
+    // Where these can't be set, as with a tool that has gone again, answers are late at most.
+    let _ = stream.set_nodelay(true);
+    let _ = stream.set_write_timeout(Some(place.patience));
+    let _ = stream.set_read_timeout(Some(place.patience));
+    let (Ok(writer), Ok(handle)) = (stream.try_clone(), stream.try_clone()) else {
+        return (tool, pump, Err(ServeError::Memory));
     };
-    let sending = Sending {
-        begins: begun,
-        ends: ended,
-    };
-    (hearer, pumper, sending)
+    place.door.open(rt, handle);
+    if place.halt.is_asked() {
+        place.door.shut(rt);
+    }
+    let stream = (
+        Watched::new(Patient::new(stream)),
+        Watched::new(Noting::new(Closing::new(writer))),
+    );
+    let attended = attend::<N, Resident<N, M>, _, _, _, _, _>(
+        rt,
+        alloc,
+        &shared.lock,
+        &place.door.stop,
+        stream,
+        tool,
+        pump,
+        Patiently,
+        Limits {
+            max_cto: place.max_cto,
+            turns: TURNS,
+            pump_turns: PUMP_TURNS,
+            goes_on: true,
+        },
+    );
+    place.door.clear(rt);
+    match attended {
+        Ok(
+            Attended {
+                tool,
+                pump,
+                outcome,
+                ..
+            },
+        ) => (tool, pump, outcome),
+        Err((tool, pump)) => (tool, pump, Err(ServeError::Memory)),
+    }
 }

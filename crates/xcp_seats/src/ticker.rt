@@ -1,18 +1,23 @@
 //! A task of a controller that stays.
-ghost use Rattle.std.specs.Prelude.{◌≡◌};
-ghost use Rattle.xcp_locked.specs.Tasks.{Same};
+ghost use Rattle.std.specs.Prelude.{◌≡◌, ◌⊎◌, ◌+◌, ◌%◌, ◌^◌, [], ◌∷◌, ◌++◌, List, MatchBool};
+ghost use Rattle.xcp_slave.specs.AskedRequest.{IsShort, request_asked};
+ghost use Rattle.xcp_locked.specs.TaskImages.{IsTold};
+ghost use Rattle.xcp_locked.specs.Tasks.{Same, closing_of, duty, event_of, requests_of};
+ghost use Rattle.xcp_seats.specs.Ticking.{Ticked, Ticks, task_at};
 
 use crate::halt::Halt;
 use crate::pace::Pace;
 use std::alloc::Global;
+use std::marker::Model;
 use std::sync::Wait;
 use std::time::Clock;
-use xcp_locked::{Name, Reader, event};
+use together::Work;
+use xcp_locked::{Name, Reader, event, take_image};
 use xcp_packet::Packet;
-use xcp_service::{Member, Route, Shared, call};
-use xcp_slave::{Asked, Told};
+use xcp_service::{Member, Post, Resident, Route, Shared, call};
+use xcp_slave::{Asked, Request};
 
-/// A task: its number, its member, its reader, and the image that it read last. Its cycles have no end.
+/// A task: its number, its member, and its reader. Its cycles have no end.
 #[derive(Drop)]
 pub struct Ticker<'a, N: Name, M: Route, C> {
     pub shared: &'a Shared<N, M>,
@@ -24,11 +29,30 @@ pub struct Ticker<'a, N: Name, M: Route, C> {
     pub halt: &'a Halt,
 }
 
+// Clauses see its number, its caller and its reader alone, which keeps proofs about its thread small.
+impl<'a, N: Name, M: Route, C> Model for Ticker<'a, N, M, C> {
+    ghost use Rattle.xcp_seats.specs.Ticking.{TaskValue};
+
+    ghost Value = { TaskValue };
+
+    ghost view = { λ t. record { task = t.task; caller = t.member; reader = t.reader } };
+}
+
+/// A task that has ended.
+#[derive(Drop)]
+pub struct Rested<N: Name, M: Route> {
+    pub member: Member<N, M>,
+    pub reader: Reader<N>,
+}
+
 impl<'a, N: Name, M: Route, C: Clock> Ticker<'a, N, M, C> {
     /// Cycle after cycle, until the server ends: an event is submitted, and the reader told under the same
     /// hold; then the image is taken and read, without a lock; and task 0 finishes a store. Where cycles have no period, each
-    /// waits first until the keeper is not far behind.
-    pub fn tick<R: Wait>(self, rt: &R) -> Member<N, M> {
+    /// waits first until the keeper is not far behind. Where there is no memory for an event or a store it is lost, and isn't in the
+    /// journal.
+    fn tick<R: Wait>(self, rt: &R) -> Rested<N, M>
+        ensures { Ticks N.layout self.entry.task self.entry.caller result.member self.entry.reader result.reader }
+    {
         let Ticker {
             shared,
             alloc,
@@ -39,65 +63,135 @@ impl<'a, N: Name, M: Route, C: Clock> Ticker<'a, N, M, C> {
             halt,
         } = self;
         let mut image = [0; 2040];
-        let mut cycle: u64 = 0;
+        let mut number: u64 = 0;
         for _cycle in rt.forever() {
-            pace.wait(task, cycle);
+            pace.wait(task, number);
             if pace.is_free(task) {
                 shared.post.wait_for_keeper(rt);
             }
             if halt.is_asked() {
                 break;
             }
-            let byte = (cycle % 256) as u32;
-            if raise(rt, alloc, shared, &mut member, &mut reader, task, byte) {
-                pace.lose();
-            }
-            reader.acquire();
-            reader.read(0, &mut image);
-            if task == 0 {
-                store(rt, alloc, shared, &mut member);
-            }
-            cycle = cycle.wrapping_add(1);
+            cycle(
+                rt,
+                alloc,
+                shared,
+                task,
+                number,
+                &mut member,
+                &mut reader,
+                &mut image,
+            );
+            number = number.wrapping_add(1);
         }
-        member
+        Rested { member, reader }
     }
 }
 
-/// Submits the event of a cycle, and tells the reader, under the same hold, what was published by then. The answer is whether the event
-/// found no room for its packets. One for which there is no memory is lost too, and isn't in the journal.
+impl<'a, N: Name + Send + Sync, M: Route + Send + Sync, C: Clock + Sync> Work<Rested<N, M>>
+    for Ticker<'a, N, M, C> {
+    ghost use Rattle.xcp_seats.specs.Ticking.{Ticks};
+
+    ghost gives = { λ t d. Ticks N.layout t.task t.caller d.member t.reader d.reader };
+
+    fn run<R: Wait>(self, rt: &R) -> Rested<N, M> {
+        self.tick(rt)
+    }
+
+    fn leave(self) -> Rested<N, M> {
+        let Ticker { member, reader, .. } = self;
+        Rested { member, reader }
+    }
+}
+
+/// One cycle.
+fn cycle<N: Name, M: Route>(
+    rt: &impl Wait,
+    alloc: Global,
+    shared: &Shared<N, M>,
+    task: u8,
+    number: u64,
+    member: &mut Member<N, M>,
+    reader: &mut Reader<N>,
+    image: &mut [u8; 2040],
+)
+    ensures { Ticked N.layout task (task_at number member.old reader.old image.old)
+        (task_at ((number + 1) % 2 ^ 64) member.new reader.new image.new) }
+{
+    raise(rt, alloc, shared, task, number, member, reader);
+    take_image(reader, image);
+    if task == 0 {
+        store(rt, alloc, shared, member);
+    }
+}
+
+/// Submits the event of a cycle, and tells the reader, under the same hold, what was published by then. Whether there was memory for it.
 fn raise<N: Name, M: Route>(
     rt: &impl Wait,
     alloc: Global,
     shared: &Shared<N, M>,
+    task: u8,
+    number: u64,
     member: &mut Member<N, M>,
     reader: &mut Reader<N>,
-    task: u8,
-    cycle: u32,
-) -> bool {
-    let request = event(member.caller(), task, cycle);
-    let mut packet = Packet::new();
+) -> bool
+    ensures told { MatchBool result
+        (IsTold N.layout member.old.number (event_of (duty member.old task) (number % 256))
+        member.old.receipts member.new.receipts reader.old reader.new)
+        ((member.new.receipts ≡ member.old.receipts) × (reader.new ≡ reader.old)) }
+    ensures same { Same member.old member.new }
+{
+    let request = event(member.caller(), task, (number % 256) as u32);
     member.reserve();
-    let mut resident = shared.lock.lock(rt);
-    let told = call(
+    submit_and_tell(
         rt,
         alloc,
-        &mut resident,
+        &mut shared.lock.lock(rt),
         &shared.post,
         member,
+        reader,
         request.asked(),
-        &mut packet,
-    );
-    resident.tell(reader);
-    matches!(told, Ok(Told::Overrun))
+    )
 }
 
-/// Submits that what SET_REQUEST asked for is stored. Where there is no memory for it, it is lost.
+/// Submits a request, and tells the reader all that was published by then. Whether there was memory for it.
+fn submit_and_tell<N: Name, M: Route>(
+    rt: &impl Wait,
+    alloc: Global,
+    resident: &mut Resident<N, M>,
+    post: &Post<N, M>,
+    member: &mut Member<N, M>,
+    reader: &mut Reader<N>,
+    asked: Asked<'_>,
+) -> bool
+    requires { IsShort asked }
+    ensures told { MatchBool result
+        (IsTold N.layout member.old.number (request_asked asked.entry)
+        member.old.receipts member.new.receipts reader.old reader.new)
+        ((member.new.receipts ≡ member.old.receipts) × (reader.new ≡ reader.old)) }
+    ensures same { Same member.old member.new }
+{
+    let mut packet = Packet::new();
+    match call(rt, alloc, resident, post, member, asked, &mut packet) {
+        Ok(_) => {
+            resident.tell(reader);
+            true
+        }
+        Err(_) => false,
+    }
+}
+
+/// Submits that what SET_REQUEST asked for is stored.
 fn store<N: Name, M: Route>(
     rt: &impl Wait,
     alloc: Global,
     shared: &Shared<N, M>,
     member: &mut Member<N, M>,
-) {
+)
+    ensures stored { (stored : List _) × (member.new.receipts ≡ member.old.receipts ++ stored)
+        × ((stored ≡ []) ⊎ (requests_of stored ≡ Request.FinishStore ∷ [])) }
+    ensures same { Same member.old member.new }
+{
     let mut packet = Packet::new();
     member.reserve();
     let _ = call(

@@ -9,17 +9,18 @@ use Rattle.xcp_slave.specs.declared.Exchange.{Exchange}
 use Rattle.xcp_slave.specs.declared.Request.{Request}
 use Rattle.xcp_slave.specs.declared.Request.TheVariants as requests
 use Rattle.xcp_slave.specs.Run.{requests_of}
+use Rattle.xcp_framing.specs.CountedCalls.{Place}
 use Rattle.xcp_framing.specs.ServeBy.{ServesBy, command}
 use Rattle.xcp_trace.specs.declared.Entry.{Entry}
 use Rattle.xcp_framing.specs.CountedCalls.{Watched}
 use Rattle.xcp_framing.specs.declared.serving.ServeError.{ServeError}
 use Rattle.xcp_framing.specs.declared.serving.Served.{Served}
 use Rattle.xcp_outlet.specs.declared.fault.SendError.{SendError}
-use Rattle.xcp_server.specs.declared.connection.Closed.{Closed}
+use Rattle.xcp_connection.specs.declared.closing.Closed.{Closed}
 use Rattle.xcp_locked.specs.declared.errors.LockedError.{LockedError}
 use Rattle.xcp_locked.specs.declared.receipt.Receipt.{Receipt}
 use Rattle.xcp_locked.specs.declared.tasks.TaskError.{TaskError}
-use Rattle.xcp_server.specs.ConnectionOutcome.{outcome_of}
+use Rattle.xcp_connection.specs.Connections.{outcome_of}
 use Rattle.xcp_locked.specs.Caller.{CallerValue, accepting, callers_of, fresh_caller}
 use Rattle.xcp_locked.specs.Journal.{entry}
 use Rattle.xcp_server.specs.LastHangup.{EndsSession, HungUp}
@@ -80,10 +81,10 @@ asked_commands (r ∷ rs) =
     omega (arith, a, b, c)
 
 -- a stream that ended well counted the commands of a caller that had made no call before
-stream_counts : (m : ℕ) (end : Result Served ServeError) (served : Served) (input left : Option (List ℕ)) (old new : List Receipt) (before after : List (List ℕ)) → ServesBy m end input left (exchanges_of old) (exchanges_of new) before after → end ≡ Ok served → old ≡ [] → served.frames ≡ commands new
-stream_counts m end served input left old new before after h is none =
-    let s : ServesBy m (Ok served) input left [] (exchanges_of new) before after =
-    subst (λ e. ServesBy m e input left [] (exchanges_of new) before after) is (subst (λ rs. ServesBy m end input left (exchanges_of rs) (exchanges_of new) before after) none h) in
+stream_counts : (m : ℕ) (end : Result Served ServeError) (served : Served) (from to : Place) (old new : List Receipt) (before after : List (List ℕ)) → ServesBy m end from to (exchanges_of old) (exchanges_of new) before after → end ≡ Ok served → old ≡ [] → served.frames ≡ commands new
+stream_counts m end served from to old new before after h is none =
+    let s : ServesBy m (Ok served) from to [] (exchanges_of new) before after =
+    subst (λ e. ServesBy m e from to [] (exchanges_of new) before after) is (subst (λ rs. ServesBy m end from to (exchanges_of rs) (exchanges_of new) before after) none h) in
     let all = by_commands s.packets s.exchanges s.puts.asked in
     let grown = ap asked s.grown in
     let same = asked_commands new in
@@ -158,7 +159,7 @@ hangup_counts_none before after old new ch journal i o c h was is = ⊎_elim acc
     refused r = ap (λ (x : CallerValue). commands x.receipts) (some_same c o (sym is ∙ (ap (λ cs. slice_get cs i) r.1 ∙ was)))
 
 -- each connection that ended well counted the commands of its tool's caller
-pub all_count : {N I O : Type 0} (remaining : I → Option (List ℕ)) (contents : O → Option (List ℕ)) (m turns : ℕ) (l : LayoutValue) (n : ℕ) (given : List (Watched I × Watched O)) (closed : List (Closed N I O)) (outcomes : List (Result Served ServeError)) (tools pumps hired spare others last new : List CallerValue) (ch : ℕ) (journal : List Entry) (before after : Option TaskError)
+pub all_count : {I O : Type 0} (remaining : I → Option (List ℕ)) (contents : O → Option (List ℕ)) (m turns : ℕ) (l : LayoutValue) (n : ℕ) (given : List (Watched I × Watched O)) (closed : List (Closed CallerValue I O)) (outcomes : List (Result Served ServeError)) (tools pumps hired spare others last new : List CallerValue) (ch : ℕ) (journal : List Entry) (before after : Option TaskError)
     → callers_of l n ≡ tools ++ hired ++ pumps ++ spare → EachFrom (ServedAt remaining contents m turns tools pumps) 0 given closed → outcomes ≡ map (λ d. d.outcome) closed → HungUp before after (map (λ d. d.tool) closed ++ others ++ last ++ spare) new ch journal → CountTheirCommands outcomes new
 all_count remaining contents m turns l n given closed outcomes tools pumps hired spare others last new ch journal before after dealt served outcomes_are h i told c ended there =
     let one = each_at (ServedAt remaining contents m turns tools pumps) 0 given closed (Result Served ServeError) (λ d. d.outcome) i (Ok told) served (ap (λ es. slice_get es i) (sym outcomes_are) ∙ ended) in

@@ -5,7 +5,7 @@ use Rattle.xcp_framing.specs.declared.serving.ServeError.{ServeError}
 use Rattle.xcp_framing.specs.declared.serving.ServeError.TheVariants as errors
 use Rattle.xcp_framing.specs.declared.serving.Served.{Served}
 use Rattle.xcp_outlet.specs.declared.fault.SendError.{SendError}
-use Rattle.xcp_server.specs.ConnectionOutcome.{outcome_of}
+use Rattle.xcp_connection.specs.Connections.{outcome_of}
 
 -- a connection ends well exactly where its reading, its pump and its sender did
 pub ends_well : (heard : Result Served ServeError) (pumped : Result ℕ ServeError) (sent : Result ℕ SendError) (s : Served) → (outcome_of heard pumped sent ≡ Ok s) ↔ ((heard ≡ Ok s) × IsOk pumped × IsOk sent)

@@ -1,7 +1,7 @@
 -- Connections that were served, and the callers that come back.
 use Rattle.std.proofs.Common.{◌≡◌, ℕ, zero, suc, ◌+◌, ◌≤◌, List, [], ◌∷◌, ◌++◌, length, map, refl, sym, ap, ◌∙◌, subst, append_assoc, append-nil, length-append, length-set, ⊎_elim, arith}
-use Rattle.std.specs.Prelude.{Option, Some}
-use Rattle.std.specs.List.{AllByRecursion, AllZip, slice_get}
+use Rattle.std.specs.Prelude.{Option, Some, false}
+use Rattle.std.specs.List.{AllZip, slice_get}
 use Rattle.std.proofs.lemmas.Slice.Zip.{AllZip-long}
 use Rattle.std.specs.Vec.Iter.{into_iter_items}
 use Rattle.xcp_bank.specs.BankEnds.{ReaderEnd}
@@ -9,13 +9,14 @@ use Rattle.xcp_framing.specs.CountedCalls.{Watched}
 use Rattle.xcp_memory.specs.Layout.{LayoutValue}
 use Rattle.xcp_slave.specs.SlaveValue.{SlaveValue}
 use Rattle.xcp_trace.specs.declared.Entry.{Entry}
-use Rattle.xcp_server.specs.declared.connection.Closed.{Closed}
+use Rattle.xcp_connection.specs.Parts.{Connection, Parted}
+use Rattle.xcp_connection.specs.declared.closing.Closed.{Closed}
+use Rattle.xcp_connection.specs.declared.connection.Limits.{Limits}
+use Rattle.xcp_locked.specs.declared.tool.Tool.{Tool}
 use Rattle.xcp_server.specs.declared.dealing.Ended.{Ended}
 use Rattle.xcp_server.specs.declared.dealing.Duties.{Duties}
 use Rattle.xcp_locked.specs.declared.tasks.Done.{Done}
 use Rattle.xcp_locked.specs.declared.tasks.TaskError.{TaskError}
-use Rattle.xcp_outlet.specs.OutletEnds.{EndSeen}
-use Rattle.xcp_server.specs.private.ConnectionParts.{AreOfOneOutlet, IsClosingOf}
 use Rattle.xcp_locked.specs.Caller.{CallerValue, callers_of, fresh_caller}
 use Rattle.xcp_server.specs.private.DealtCallers.{Dealt}
 use Rattle.xcp_server.specs.LastHangup.{HungUp}
@@ -23,8 +24,9 @@ use Rattle.xcp_locked.specs.LockedSlave.{IsReached}
 use Rattle.xcp_locked.specs.PairedLists.{EachFrom}
 use Rattle.xcp_server.specs.private.ServerRoom.{IsEndedRoom}
 use Rattle.xcp_locked.specs.TaskOutcome.{DoneAs, IsTaskOf, WorkedAs}
-use Rattle.xcp_server.specs.ServerOutcome.{CameOf, Connection, Parted, ServedAt}
-use Rattle.xcp_server.specs.private.ConnectionOf.{IsConnectionOf}
+use Rattle.xcp_server.specs.ServerOutcome.{ServedAt}
+use Rattle.xcp_server.specs.private.ConnectionParts.{CameOfTools, IsConnectionWithin, IsEndOf}
+use Rattle.xcp_server.proofs.ConnectionOutcomeLemmas.{served_at}
 use Rattle.xcp_locked.proofs.PairedListLemmas.{each_length, each_through, zip_from, zip_through}
 use Rattle.xcp_locked.proofs.TaskOutcomeLemmas.{worked_as}
 
@@ -66,72 +68,28 @@ each_at_place {A} {B} {X} R f front rest (x ∷ xs) (y ∷ ys) h =
 pub each_also : {A B X : Type 0} (R : ℕ → A → B → Type 0) (f : B → X) (xs : List A) (ys : List B) → EachFrom R 0 xs ys → EachFrom (λ i x y. R i x y × (slice_get (map f ys) i ≡ Some (f y))) 0 xs ys
 each_also R f xs ys h = subst (λ zs. EachFrom (λ i x y. R i x y × (slice_get zs i ≡ Some (f y))) 0 xs ys) (append-nil (map f ys)) (each_at_place R f [] [] xs ys h)
 
-module _ {I O N : Type 0} (remaining : I → Option (List ℕ)) (contents : O → Option (List ℕ)) where
-  -- the three parts of a connection have one outlet
-  pub one_outlet : (m turns pumps : ℕ) (e : Watched I × Watched O) (c : Connection N I O) (d : Parted N I O) → IsConnectionOf m turns pumps e c → CameOf remaining contents c d → AreOfOneOutlet d
-  one_outlet m turns pumps e c d is h = record {
-    replies = h.wrote.same ∙ sym (h.heard.outlet ∙ ap (λ (x : EndSeen). x.outlet) is.replies);
-    samples = h.wrote.same ∙ sym (h.pumped.outlet ∙ ap (λ (x : EndSeen). x.outlet) is.samples);
-    reply_side = h.heard.side ∙ ap (λ (x : EndSeen). x.side) is.replies;
-    sample_side = h.pumped.side ∙ ap (λ (x : EndSeen). x.side) is.samples;
-  }
-
-  pub one_outlet_each : (m turns pumps : ℕ) (es : List (Watched I × Watched O)) (cs : List (Connection N I O)) (ds : List (Parted N I O)) → AllZip (IsConnectionOf m turns pumps) es cs → AllZip (CameOf remaining contents) cs ds → AllByRecursion AreOfOneOutlet ds
-  one_outlet_each m turns pumps [] [] [] is h = tt
-  one_outlet_each m turns pumps [] [] (d ∷ ds) is h = absurd h
-  one_outlet_each m turns pumps [] (c ∷ cs) ds is h = absurd is
-  one_outlet_each m turns pumps (e ∷ es) [] ds is h = absurd is
-  one_outlet_each m turns pumps (e ∷ es) (c ∷ cs) [] is h = absurd h
-  one_outlet_each m turns pumps (e ∷ es) (c ∷ cs) (d ∷ ds) is h = (one_outlet m turns pumps e c d is.0 h.0, one_outlet_each m turns pumps es cs ds is.1 h.1)
-
-  -- what came of a connection, said of its reader and writer
-  pub served_at : (m turns pumps : ℕ) (tools drains : List CallerValue) (i : ℕ) (e : Watched I × Watched O) (c : Connection N I O) (d : Parted N I O) (k : Closed N I O) → IsConnectionOf m turns pumps e c → slice_get tools i ≡ Some c.0.caller → slice_get drains i ≡ Some c.1.caller → CameOf remaining contents c d → IsClosingOf d k → ServedAt remaining contents m turns tools drains i e k
-  served_at m turns pumps tools drains i e c d k is at_tool at_pump h k_is = record {
-    tool = c.0.caller;
-    tool_at = at_tool;
-    pump = c.1.caller;
-    pump_at = at_pump;
-    attended = record {
-      serves = rw (sym is.max_cto, sym is.reader, k_is.heard, k_is.reader, k_is.tool, k_is.replies_are) (rw (ap (λ (x : EndSeen). x.put) is.replies) at h.heard.serves);
-      pumps = rw (k_is.pumped, k_is.pump, k_is.samples_are) (rw (ap (λ (x : EndSeen). x.put) is.samples) at h.pumped.pumps);
-      stops = rw (k_is.pumped) h.pumped.stops;
-      sends = rw (k_is.sent, k_is.taken_is, sym is.writer, k_is.writer) h.wrote.sends;
-      replies = k_is.replies;
-      samples = k_is.samples;
-      outcome = k_is.outcome;
-      ends = rw (k_is.heard, k_is.reader) h.heard.ends;
-      read = rw (k_is.heard, sym is.reader, k_is.reader) h.heard.read;
-      unfailed = rw (k_is.heard, sym is.reader, k_is.reader) h.heard.unfailed;
-      reads = rw (sym is.reader, sym is.reads, k_is.reader) h.heard.reads;
-      spent = rw (k_is.heard, sym is.reader, sym is.reads, k_is.reader) h.heard.spent;
-      refused = rw (sym is.max_cto, sym is.reader, k_is.heard, k_is.reader, k_is.tool, k_is.replies_are) (rw (ap (λ (x : EndSeen). x.put) is.replies) at h.heard.refused);
-      same_tool = rw (k_is.tool) h.heard.same;
-      same_pump = rw (k_is.pump) h.pumped.same;
-    };
-  }
-
 -- what came of a connection, and of its parts
-abbrev Came : {I O N : Type 0} → (I → Option (List ℕ)) → (O → Option (List ℕ)) → Connection N I O → Closed N I O → Type 0
-Came {I} {O} {N} remaining contents c k = (p : Parted N I O) × CameOf remaining contents c p × IsClosingOf p k
+abbrev Came : {N T R I P O : Type 0} → (I → Option (List ℕ)) → (O → Option (List ℕ)) → Connection N T (Tool N R) I P O → Closed CallerValue I O → Type 0
+Came {N} {T} {R} {I} {P} {O} remaining contents c k = (p : Parted (Tool N R) I O) × CameOfTools remaining contents c p × IsEndOf p k
 
-module _ {N G I O : Type 0} (m turns pumps cycles chapter tasks : ℕ) (opened : List CallerValue) (readers : List ReaderEnd) (streams : List (Watched I × Watched O)) (d : Duties N G I O) (deal : Dealt m turns pumps cycles chapter tasks opened readers streams d) where
+module _ {N G R I O : Type 0} (limits : Limits) (cycles chapter tasks : ℕ) (opened : List CallerValue) (readers : List ReaderEnd) (streams : List (Watched I × Watched O)) (d : Duties N G R I O) (deal : Dealt limits cycles chapter tasks opened readers streams d) where
   abbrev tools : List CallerValue
-  tools = map (λ c. c.0.caller) d.connections.items
+  tools = map (λ c. c.0.station.caller) d.connections.items
 
   abbrev hired : List CallerValue
   hired = map (λ w. w.caller) deal.workers
 
   abbrev drains : List CallerValue
-  drains = map (λ c. c.1.caller) d.connections.items
+  drains = map (λ c. c.1.station.caller) d.connections.items
 
   pub as_many_connections : length d.connections.items ≡ length streams
-  as_many_connections = AllZip-long (IsConnectionOf m turns pumps) streams d.connections.items deal.connections
+  as_many_connections = AllZip-long (IsConnectionWithin limits) streams d.connections.items deal.connections
 
-  pub as_many_tools : length (map (λ c. c.0.caller) d.connections.items) ≡ length streams
-  as_many_tools = length_map (λ c. c.0.caller) d.connections.items ∙ as_many_connections
+  pub as_many_tools : length (map (λ c. c.0.station.caller) d.connections.items) ≡ length streams
+  as_many_tools = length_map (λ c. c.0.station.caller) d.connections.items ∙ as_many_connections
 
-  pub as_many_pumps : length (map (λ c. c.1.caller) d.connections.items) ≡ length streams
-  as_many_pumps = length_map (λ c. c.1.caller) d.connections.items ∙ as_many_connections
+  pub as_many_pumps : length (map (λ c. c.1.station.caller) d.connections.items) ≡ length streams
+  as_many_pumps = length_map (λ c. c.1.station.caller) d.connections.items ∙ as_many_connections
 
   pub as_many_tasks : length d.tasks.items ≡ tasks
   as_many_tasks = each_length (IsTaskOf cycles chapter) 0 deal.workers d.tasks.items deal.numbered ∙ deal.hired
@@ -154,14 +112,14 @@ module _ {N G I O : Type 0} (m turns pumps cycles chapter tasks : ℕ) (opened :
       let n = deal.hired in omega (arith, whole, a, w, n)
 
   -- each connection was served for the callers of its place
-  pub all_served : (remaining : I → Option (List ℕ)) (contents : O → Option (List ℕ)) (parted : List (Parted N I O)) (closed : List (Closed N I O)) → AllZip (CameOf remaining contents) d.connections.items parted → AllZip IsClosingOf parted closed
-      → EachFrom (ServedAt remaining contents m turns tools drains) 0 streams closed
-  all_served remaining contents parted closed came put =
-      each_through (λ i e c. (IsConnectionOf m turns pumps e c × (slice_get tools i ≡ Some c.0.caller)) × (slice_get drains i ≡ Some c.1.caller)) (Came remaining contents) (ServedAt remaining contents m turns tools drains)
-      (λ i e c k is h. served_at remaining contents m turns pumps tools drains i e c h.0 k is.0.0 is.0.1 is.1 h.1 h.2) 0 streams d.connections.items closed
-      (each_also (λ i e c. IsConnectionOf m turns pumps e c × (slice_get tools i ≡ Some c.0.caller)) (λ c. c.1.caller) streams d.connections.items
-      (each_also (λ i e c. IsConnectionOf m turns pumps e c) (λ c. c.0.caller) streams d.connections.items (zip_from (IsConnectionOf m turns pumps) 0 streams d.connections.items deal.connections)))
-      (zip_through (CameOf remaining contents) IsClosingOf (Came remaining contents) (λ c p k x y. (p, x, y)) d.connections.items parted closed came put)
+  pub all_served : limits.goes_on ≡ false → (remaining : I → Option (List ℕ)) (contents : O → Option (List ℕ)) (parted : List (Parted (Tool N R) I O)) (closed : List (Closed CallerValue I O)) → AllZip (CameOfTools remaining contents) d.connections.items parted → AllZip IsEndOf parted closed
+      → EachFrom (ServedAt remaining contents limits.max_cto limits.turns tools drains) 0 streams closed
+  all_served once remaining contents parted closed came put =
+      each_through (λ i e c. (IsConnectionWithin limits e c × (slice_get tools i ≡ Some c.0.station.caller)) × (slice_get drains i ≡ Some c.1.station.caller)) (Came remaining contents) (ServedAt remaining contents limits.max_cto limits.turns tools drains)
+      (λ i e c k is h. served_at remaining contents limits once tools drains i e c h.0 k is.0.0 is.0.1 is.1 h.1 h.2) 0 streams d.connections.items closed
+      (each_also (λ i e c. IsConnectionWithin limits e c × (slice_get tools i ≡ Some c.0.station.caller)) (λ c. c.1.station.caller) streams d.connections.items
+      (each_also (λ i e c. IsConnectionWithin limits e c) (λ c. c.0.station.caller) streams d.connections.items (zip_from (IsConnectionWithin limits) 0 streams d.connections.items deal.connections)))
+      (zip_through (CameOfTools remaining contents) IsEndOf (Came remaining contents) (λ c p k x y. (p, x, y)) d.connections.items parted closed came put)
 
   -- each task was done for the worker of its place
   pub all_worked : (layout : LayoutValue) (may_end : Type 0) (done : List (Done N)) → AllZip (DoneAs layout may_end) d.tasks.items done → EachFrom (WorkedAs layout may_end cycles chapter) 0 deal.workers done
@@ -170,11 +128,11 @@ module _ {N G I O : Type 0} (m turns pumps cycles chapter tasks : ℕ) (opened :
       (λ i w t k is h. worked_as layout may_end cycles t.cycles chapter t.chapter i t.task w t.worker k.worker k.fault is.number is.cycles_are is.chapter_is is.worker h) 0 deal.workers d.tasks.items done deal.numbered
 
   -- as many callers come back as were dealt out
-  pub all_there : (closed : List (Closed N I O)) (done : List (Done N)) → length closed ≡ length d.connections.items → length done ≡ length d.tasks.items
+  pub all_there : (closed : List (Closed CallerValue I O)) (done : List (Done N)) → length closed ≡ length d.connections.items → length done ≡ length d.tasks.items
       → ((length closed + length done) + length closed) + length (into_iter_items d.spare) ≡ length opened
   all_there closed done a b = let tools_are = as_many_connections in let tasks_are = as_many_tasks in let whole = as_many_callers in omega (arith, a, b, tools_are, tasks_are, whole)
 
-  pub back_in_order : (closed : List (Closed N I O)) (done : List (Done N)) → length closed ≡ length d.connections.items → length done ≡ length d.tasks.items
+  pub back_in_order : (closed : List (Closed CallerValue I O)) (done : List (Done N)) → length closed ≡ length d.connections.items → length done ≡ length d.tasks.items
       → length (map (λ k. k.tool) closed ++ map (λ k. k.worker.caller) done ++ map (λ k. k.pump) closed ++ into_iter_items d.spare) ≡ length opened
   back_in_order closed done a b =
       let there = all_there closed done a b in
@@ -188,12 +146,6 @@ module _ {N G I O : Type 0} (m turns pumps cycles chapter tasks : ℕ) (opened :
       let q = length_map (λ k. k.worker.caller) done in
       let r = length_map (λ k. k.pump) closed in
       omega (arith, there, x, y, z, p, q, r)
-
--- the same MAX_CTO, the same callers and the same readers
-pub dealt_as : {N G I O : Type 0} (m m' turns pumps cycles chapter tasks : ℕ) (opened opened' : List CallerValue) (readers readers' : List ReaderEnd) (streams : List (Watched I × Watched O)) (d : Duties N G I O) → m ≡ m' → opened ≡ opened' → readers ≡ readers'
-    → Dealt m turns pumps cycles chapter tasks opened readers streams d → Dealt m' turns pumps cycles chapter tasks opened' readers' streams d
-dealt_as m m' turns pumps cycles chapter tasks opened opened' readers readers' streams d e f r h =
-    subst (λ rs. Dealt m' turns pumps cycles chapter tasks opened' rs streams d) r (subst (λ k. Dealt k turns pumps cycles chapter tasks opened' readers streams d) e (subst (λ cs. Dealt m turns pumps cycles chapter tasks cs readers streams d) f h))
 
 -- what is left behind the first ones
 pub left_behind : {A : Type 0} (first rest all : List A) → first ++ rest ≡ all → length first + length rest ≡ length all

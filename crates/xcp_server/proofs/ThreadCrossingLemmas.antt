@@ -1,66 +1,20 @@
--- Which of the types of a connection may cross to another thread.
+-- Which stations may cross to another thread.
 use denote.RattleType.{RattleType}
 use denote.Ref.{NamedLft}
-use denote.Param.Send.{AllSend, IsSend, recorded_send, sendable, struct_send, view_send}
+use denote.Param.Send.{AllSend, IsSend, IsSync, recorded_send, sendable, struct_send}
 use denote.Struct.Declared as declared
 use denote.Struct.Struct.{Struct}
 use Rattle.std.proofs.Crossing.{crosses}
 use Rattle.std.specs.declared.sync.ledger.Ledger as Ledger
 use Rattle.xcp_locked.specs.declared.name.Name as Name
-use Rattle.xcp_framing.proofs.serving.ServeError.TheSendSync as error
-use Rattle.xcp_framing.proofs.serving.Served.TheSendSync as served
-use Rattle.xcp_framing.specs.contracts.tally.Tally as Tally
-use Rattle.xcp_framing.specs.contracts.watched.Watched as Watched
-use Rattle.xcp_framing.specs.contracts.watched.Watched.TheInside as Inside
+use Rattle.xcp_locked.specs.contracts.tool.Tool as Tool
 use Rattle.xcp_locked.proofs.caller.Caller.TheSendSync as caller
 use Rattle.xcp_locked.proofs.locked.Locked.TheSendSync as locked
-use Rattle.xcp_server.specs.contracts.hearing.Heard as Heard
-use Rattle.xcp_server.specs.contracts.hearing.Hearing as Hearing
-use Rattle.xcp_server.specs.contracts.pumping.Pumped as Pumped
-use Rattle.xcp_server.specs.contracts.pumping.Pumping as Pumping
-use Rattle.xcp_server.specs.contracts.sending.Sending as Sending
-use Rattle.xcp_server.specs.contracts.sending.Wrote as Wrote
-use Rattle.xcp_outlet.proofs.end.PutEnd.TheSendSync as ends
-use Rattle.xcp_outlet.proofs.intake.SendEnd.TheSendSync as sender
-use Rattle.xcp_outlet.proofs.put.Put.TheSendSync as put
-use Rattle.xcp_outlet.proofs.sending.Sent.TheSendSync as sent
 
 -- a struct, as all its fields may
 struct_crosses : (T : declared.Declared) → AllSend (declared.fields T) → IsSend (declared.row T)
 struct_crosses T all = recorded_send (Struct (declared.shape T)) T.D T.to T.to_one (struct_send (declared.shape T) all)
 
--- a tally owns nothing
-tally_crosses : IsSend Tally.the_field.row
-tally_crosses = search (sendable, crosses) depth 20
-
-watched_crosses : (T : RattleType) → IsSend T → IsSend (Watched.the_row T)
-watched_crosses T s = view_send (Inside.the_row T) _ _ _ _ (struct_crosses (Inside.the_type T) (s, (tally_crosses, (tally_crosses, tt))))
-
--- what comes of hearing a tool, and of a pump
-pub heard_crosses : (N I : RattleType) (g : Name.Ghosts N.Denot) (l : Ledger.Ghosts N.Denot) → IsSend (Heard.the_row N I g l)
-heard_crosses N I g l =
-    struct_crosses (Heard.the_type N I g l) (caller.the_send N g l, (search (sendable, crosses, error.the_send, served.the_send) depth 20, (search (sendable, crosses) depth 20, (put.the_send, tt))))
-
--- what comes of a pump may cross to another thread
-pub pumped_crosses : (N : RattleType) (g : Name.Ghosts N.Denot) (l : Ledger.Ghosts N.Denot) → IsSend (Pumped.the_row N g l)
-pumped_crosses N g l = struct_crosses (Pumped.the_type N g l) (caller.the_send N g l, (search (sendable, crosses, error.the_send) depth 20, (put.the_send, tt)))
-
--- what comes of sending may cross to another thread, whatever the writer
-pub wrote_crosses : (O : RattleType) → IsSend (Wrote.the_row O)
-wrote_crosses O = struct_crosses (Wrote.the_type O) (sent.the_field_send, (search (sendable, crosses) depth 20, tt))
-
--- the three parts of a connection
-pub hearing_crosses : (κ : NamedLft) (N I : RattleType) (g : Name.Ghosts N.Denot) (l : Ledger.Ghosts N.Denot) → IsSend I → IsSend (Hearing.the_row κ N I g l)
-hearing_crosses κ N I g l i =
-    struct_crosses (Hearing.the_type κ N I g l)
-    (search (sendable, crosses, locked.the_send) depth 20, (caller.the_send N g l, (watched_crosses I i, (search (sendable, crosses, ends.the_send) depth 20, (search (sendable, crosses) depth 20, (search (sendable, crosses) depth 20, (search sendable, (search sendable, tt))))))))
-
--- a connection's pump may cross to another thread
-pub pumping_crosses : (κ : NamedLft) (N : RattleType) (g : Name.Ghosts N.Denot) (l : Ledger.Ghosts N.Denot) → IsSend (Pumping.the_row κ N g l)
-pumping_crosses κ N g l =
-    struct_crosses (Pumping.the_type κ N g l)
-    (search (sendable, crosses, locked.the_send) depth 20, (caller.the_send N g l, (search (sendable, crosses, ends.the_send) depth 20, (search (sendable, crosses) depth 20, (search sendable, tt)))))
-
--- a connection's sending may cross to another thread, where its writer may
-pub sending_crosses : (O : RattleType) → IsSend O → IsSend (Sending.the_row O)
-sending_crosses O o = struct_crosses (Sending.the_type O) (sender.the_send, (watched_crosses O o, tt))
+-- a tool's station may cross to another thread, where the runtime may be shared
+pub tool_crosses : (κ : NamedLft) (N R : RattleType) (g : Name.Ghosts N.Denot) (l : Ledger.Ghosts N.Denot) → IsSync R → IsSend (Tool.the_row κ N R g l)
+tool_crosses κ N R g l r = struct_crosses (Tool.the_type κ N R g l) (search (sendable, crosses, locked.the_send) depth 20, (caller.the_send N g l, (search (sendable, crosses, r) depth 20, tt)))

@@ -1,5 +1,5 @@
 -- What is told at the end of a server.
-use Rattle.std.specs.Prelude.{◌≡◌, ℕ, ◌+◌, ◌-◌, ◌^◌, min, sum_by, count_by, Bool, true, false, List, [], ◌∷◌, ◌++◌, Option, Some, None, Result, Ok, Err, MatchResult, length, map}
+use Rattle.std.specs.Prelude.{◌≡◌, ℕ, ◌+◌, ◌-◌, ◌^◌, min, sum_by, count_by, Bool, List, [], ◌∷◌, ◌++◌, Option, Some, None, Result, Ok, Err, MatchResult, length, map}
 use Rattle.std.specs.List.{slice_get}
 use Rattle.std.specs.Option.{option_or}
 use Rattle.xcp_bank.specs.BankId.{BankId}
@@ -8,8 +8,7 @@ use Rattle.xcp_memory.specs.Layout.{LayoutValue}
 use Rattle.xcp_slave.specs.Run.{Run}
 use Rattle.xcp_scribe.specs.Given.{Given}
 use Rattle.xcp_slave.specs.SlaveValue.{opening}
-use Rattle.xcp_slave.specs.Outcomes.{Answer}
-use Rattle.xcp_slave.specs.declared.Outcome.TheVariants as answers
+use Rattle.xcp_trace.specs.Lost.{is_overrun}
 use Rattle.xcp_framing.specs.Serve.{number_of}
 use Rattle.xcp_framing.specs.CountedCalls.{Watched}
 use Rattle.xcp_framing.specs.declared.serving.ServeError.{ServeError}
@@ -32,11 +31,6 @@ use Rattle.xcp_program.specs.declared.fault.Fault.{Fault}
 use Rattle.xcp_program.specs.declared.fault.Fault.TheVariants.{Memory, Mismatch, MismatchedChapter, Stream}
 use Rattle.xcp_server.specs.declared.report.Ending.{Ending}
 use Rattle.xcp_server.specs.declared.report.Report.{Report}
-
--- an event's packets found no room
-abbrev pub is_overrun : Answer → Bool
-is_overrun answers.Overrun = true
-is_overrun _ = false
 
 -- how many of these calls, and of a caller's, were such events
 abbrev pub lost_in : List Receipt → ℕ

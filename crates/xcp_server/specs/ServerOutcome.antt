@@ -8,18 +8,12 @@ use Rattle.xcp_framing.specs.declared.serving.Served.{Served}
 use Rattle.xcp_bank.specs.BankEnds.{ReaderEnd}
 use Rattle.xcp_memory.specs.Layout.{LayoutValue}
 use Rattle.xcp_framing.specs.CountedCalls.{Watched}
-use Rattle.xcp_server.specs.declared.hearing.Hearing.{Hearing}
-use Rattle.xcp_server.specs.declared.hearing.Heard.{Heard}
-use Rattle.xcp_server.specs.declared.pumping.Pumping.{Pumping}
-use Rattle.xcp_server.specs.declared.pumping.Pumped.{Pumped}
-use Rattle.xcp_server.specs.declared.sending.Sending.{Sending}
-use Rattle.xcp_server.specs.declared.sending.Wrote.{Wrote}
-use Rattle.xcp_server.specs.declared.connection.Closed.{Closed}
+use Rattle.xcp_connection.specs.declared.closing.Closed.{Closed}
 use Rattle.xcp_server.specs.declared.closing.Closing.{Closing}
 use Rattle.xcp_locked.specs.declared.receipt.Receipt.{Receipt}
 use Rattle.xcp_locked.specs.declared.tasks.Done.{Done}
 use Rattle.xcp_locked.specs.declared.worker.Worker.{Worker}
-use Rattle.xcp_server.specs.ConnectionOutcome.{Attended, HeardFor, PumpedFor, WroteFor}
+use Rattle.xcp_server.specs.ConnectionOutcome.{Attended}
 use Rattle.xcp_locked.specs.Caller.{CallerValue}
 use Rattle.xcp_server.specs.LastHangup.{HungUp}
 use Rattle.xcp_locked.specs.PairedLists.{EachFrom}
@@ -36,14 +30,6 @@ pub record SameClosing {N I O : Type 0} (old new : Closing N I O) : Type 0 where
   pub left : new.left ≡ old.left
   pub fault : new.fault ≡ old.fault
 
--- the three parts of a connection
-abbrev pub Connection : Type 0 → Type 0 → Type 0 → Type 0
-Connection N I O = Hearing N I × Pumping N × Sending O
-
--- what comes of them
-abbrev pub Parted : Type 0 → Type 0 → Type 0 → Type 0
-Parted N I O = Heard N I × Pumped N × Wrote O
-
 -- whether a request is a command of a tool
 abbrev pub is_command : Request → Bool
 is_command (requests.Command packet) = true
@@ -58,14 +44,8 @@ abbrev pub CountTheirCommands : List (Result Served ServeError) → List CallerV
 CountTheirCommands outcomes callers = (i : ℕ) (served : Served) (c : CallerValue) → slice_get outcomes i ≡ Some (Ok served) → slice_get callers i ≡ Some c → served.frames ≡ commands c.receipts
 
 module _ {I O : Type 0} (remaining : I → Option (List ℕ)) (contents : O → Option (List ℕ)) where
-  -- what came of the parts of a connection
-  pub record CameOf {N : Type 0} (c : Connection N I O) (d : Parted N I O) : Type 0 where
-    pub heard : HeardFor remaining c.0.max_cto c.0.turns c.0.reader c.0.caller c.0.replies d.0
-    pub pumped : PumpedFor c.1.caller c.1.samples d.1
-    pub wrote : WroteFor contents c.2.end.outlet c.2.writer d.2
-
   -- the connection at this place was served for the callers of this place among those of tools and those of pumps
-  pub record ServedAt {N : Type 0} (m turns : ℕ) (tools pumps : List CallerValue) (place : ℕ) (stream : Watched I × Watched O) (d : Closed N I O) : Type 0 where
+  pub record ServedAt (m turns : ℕ) (tools pumps : List CallerValue) (place : ℕ) (stream : Watched I × Watched O) (d : Closed CallerValue I O) : Type 0 where
     pub tool : CallerValue
     pub tool_at : slice_get tools place ≡ Some tool
     pub pump : CallerValue
@@ -89,7 +69,7 @@ module _ {I O : Type 0} (remaining : I → Option (List ℕ)) (contents : O → 
     pub stores : 0 < tasks → cuts_at_stores (chapters_of workers).way ≡ each_store
     pub dealt : opened ≡ tools ++ map (λ w. w.caller) workers ++ pumps ++ spare
     -- the connections
-    pub closed : List (Closed N I O)
+    pub closed : List (Closed CallerValue I O)
     pub served : EachFrom (ServedAt m turns tools pumps) 0 streams closed
     pub outcomes_are : r.outcomes.items ≡ map (λ d. d.outcome) closed
     pub left_is : r.left.items ≡ map (λ d. d.left) closed

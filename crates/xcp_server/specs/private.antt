@@ -1,5 +1,4 @@
 -- Words that contracts of private functions cite. No contract of a public function needs them.
-pub mod ConnectionOf
 pub mod ConnectionParts
 pub mod DealtCallers
 pub mod GivenBack

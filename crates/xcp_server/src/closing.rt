@@ -10,10 +10,10 @@ ghost use Rattle.xcp_locked.specs.TaskOutcome.{chapters_of, first_fault};
 ghost use Rattle.xcp_locked.specs.Chapters.{Disagree, IsWhole, entries_of};
 
 use crate::dealing::{Ended, add_rest, dismiss, take_apart};
-use crate::{Closed, Gone};
 use std::alloc::{AllocError, Global};
 use std::io::{Read, Write};
 use std::vec::IntoIter;
+use xcp_connection::{Closed, Gone};
 use xcp_framing::{ServeError, Served};
 use xcp_locked::{
     Caller, Chapter, Discord, Done, Handing, Locked, Name, Ran, Reader, TaskError, Worker,
@@ -40,7 +40,7 @@ pub struct Closing<N: Name, I: Read + Drop, O: Write + Drop> {
 /// Room for what a server gives back, made before anybody begins.
 #[derive(Drop)]
 pub struct Rooms<N: Name, I: Read + Drop, O: Write + Drop> {
-    pub closed: Vec<Closed<N, I, O>>,
+    pub closed: Vec<Closed<Caller<N>, I, O>>,
     pub ended: Ended<N, I, O>,
     pub workers: Vec<Worker<N>>,
     pub readers: Vec<Reader<N>>,
@@ -83,7 +83,7 @@ pub(crate) fn make_rooms<N: Name, I: Read + Drop, O: Write + Drop>(
 pub(crate) fn close_all<N: Name, I: Read + Drop, O: Write + Drop>(
     alloc: Global,
     locked: Locked<N>,
-    closed: Vec<Closed<N, I, O>>,
+    closed: Vec<Closed<Caller<N>, I, O>>,
     done: Vec<Done<N>>,
     spare: IntoIter<Caller<N>>,
     unused: IntoIter<Reader<N>>,

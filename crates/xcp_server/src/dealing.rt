@@ -4,47 +4,36 @@ ghost use Rattle.std.specs.Vec.Iter.{into_iter_items, into_iter_len};
 ghost use Rattle.xcp_server.specs.private.DealtCallers.{Dealt};
 ghost use Rattle.std.specs.List.{AllZip};
 ghost use Rattle.xcp_locked.specs.TaskOutcome.{chapters_of};
-ghost use Rattle.xcp_server.specs.private.ConnectionOf.{IsConnectionOf};
+ghost use Rattle.xcp_server.specs.private.ConnectionParts.{IsConnectionWithin};
 ghost use Rattle.xcp_locked.specs.Excerpts.{HandsNone, way_of};
 ghost use Rattle.xcp_server.specs.private.WrittenChapters.{first_way};
 
-use crate::hearing::Hearing;
-use crate::pumping::Pumping;
-use crate::sending::Sending;
-use crate::{Closed, Connection, Gone};
+use crate::connection::Connection;
 use std::alloc::{AllocError, Global};
 use std::io::{Read, Write};
-use std::sync::Mutex;
 use std::sync::atomic::AtomicBool;
+use std::sync::{Mutex, Wait};
 use std::vec::IntoIter;
-use xcp_framing::{ServeError, Served, Watched};
+use xcp_connection::{Closed, Gone, Limits};
+use xcp_framing::{ServeError, Served, Watched, Whole};
 use xcp_locked::{
-    Caller, Chapters, Gate, Handing, Locked, Name, Reader, Task, Worker, number_tasks,
+    Caller, Chapters, Gate, Handing, Locked, Name, Reader, Task, Tool, Worker, number_tasks,
 };
-use xcp_outlet::outlet;
 
 /// Connections and tasks that have not begun, and the callers and readers that have nothing to do.
 #[derive(Drop)]
-pub struct Duties<'a, N: Name, G: Gate, I: Read + Drop, O: Write + Drop> {
-    pub connections: Vec<Connection<'a, N, I, O>>,
+pub struct Duties<'a, N: Name, G: Gate, R: Wait, I: Read + Drop, O: Write + Drop> {
+    pub connections: Vec<Connection<'a, N, R, I, O>>,
     pub tasks: Vec<Task<'a, N, G>>,
     pub spare: IntoIter<Caller<N>>,
     pub unused: IntoIter<Reader<N>>,
 }
 
-/// How long connections may go on: the largest packet, and how many turns their reads and their
-/// pumps have.
-#[derive(Clone, Copy)]
-pub struct Limits {
-    pub max_cto: u8,
-    pub turns: u32,
-    pub pump_turns: u32,
-}
-
 /// Deals the callers out: the first to the readers and writers, the next to so many tasks, the next
 /// to the connections' pumps. The first readers go to the tasks, and the first task hands its chapters'
 /// excerpts in, if they go anywhere. Each connection has a stop of its own.
-pub fn deal<'a, N: Name, G: Gate, I: Read + Drop, O: Write + Drop>(
+pub fn deal<'a, N: Name, G: Gate, R: Wait, I: Read + Drop, O: Write + Drop>(
+    rt: &'a R,
     alloc: Global,
     lock: &'a Mutex<Locked<N>>,
     gate: &'a G,
@@ -57,20 +46,19 @@ pub fn deal<'a, N: Name, G: Gate, I: Read + Drop, O: Write + Drop>(
     chapter: u32,
     limits: Limits,
     handing: Option<Handing>,
-) -> Result<Duties<'a, N, G, I, O>, AllocError>
+) -> Result<Duties<'a, N, G, R, I, O>, AllocError>
     requires enough { vec_len streams + tasks + vec_len streams ≤ vec_len callers }
     requires few { (tasks ≤ 16) × (tasks ≤ vec_len readers) }
     requires stops { length stops.now ≡ vec_len streams }
     requires handing { HandsNone handing × (tasks ≡ 0 → handing ≡ None) }
-    ensures dealt { IfOk result (λ d. Dealt limits.max_cto limits.turns limits.pump_turns cycles chapter tasks
-        callers.items readers.items streams.items d) }
+    ensures dealt { IfOk result (λ d. Dealt limits cycles chapter tasks callers.items readers.items streams.items d) }
     ensures way { IfOk result (λ d. first_way d.tasks.items ≡ way_of handing) }
 {
     let mut spare = callers.into_iter();
     let mut unused = readers.into_iter();
     let tools = next_callers(alloc, &mut spare, streams.len())?;
     let workers = employ(alloc, &mut spare, &mut unused, tasks, handing)?;
-    let connections = connect(alloc, lock, stops, streams, tools, &mut spare, limits)?;
+    let connections = connect(rt, alloc, lock, stops, streams, tools, &mut spare, limits)?;
     let tasks = number_tasks(alloc, lock, workers, cycles, chapter, gate)?;
     Ok(Duties {
         connections,
@@ -102,7 +90,8 @@ pub fn next_callers<N: Name>(
 
 /// A connection for each reader and writer, in order, each with the next of these tools' callers, with
 /// the next of the other callers for its pump, and with an outlet of its own.
-pub fn connect<'a, N: Name, I: Read + Drop, O: Write + Drop>(
+pub fn connect<'a, N: Name, R: Wait, I: Read + Drop, O: Write + Drop>(
+    rt: &'a R,
     alloc: Global,
     lock: &'a Mutex<Locked<N>>,
     stops: &'a [AtomicBool],
@@ -110,15 +99,14 @@ pub fn connect<'a, N: Name, I: Read + Drop, O: Write + Drop>(
     tools: Vec<Caller<N>>,
     pumps: &mut IntoIter<Caller<N>>,
     limits: Limits,
-) -> Result<Vec<Connection<'a, N, I, O>>, AllocError>
+) -> Result<Vec<Connection<'a, N, R, I, O>>, AllocError>
     requires tools { vec_len tools ≡ vec_len streams }
     requires pumps { vec_len streams ≤ length (into_iter_items pumps.old) }
     requires stops { length stops.now ≡ vec_len streams }
-    ensures each { IfOk result (λ cs. AllZip
-        (IsConnectionOf limits.max_cto limits.turns limits.pump_turns) streams.items cs.items) }
-    ensures tools { IfOk result (λ cs. map (λ c. c.0.caller) cs.items ≡ tools.items) }
+    ensures each { IfOk result (λ cs. AllZip (IsConnectionWithin limits) streams.items cs.items) }
+    ensures tools { IfOk result (λ cs. map (λ c. c.0.station.caller) cs.items ≡ tools.items) }
     ensures dealt { IfOk result (λ cs.
-        map (λ c. c.1.caller) cs.items ++ into_iter_items pumps.new ≡ into_iter_items pumps.old) }
+        map (λ c. c.1.station.caller) cs.items ++ into_iter_items pumps.new ≡ into_iter_items pumps.old) }
 {
     let mut connections = Vec::with_capacity(alloc, streams.len())?;
     let mut tools = tools.into_iter();
@@ -131,14 +119,15 @@ pub fn connect<'a, N: Name, I: Read + Drop, O: Write + Drop>(
             unreachable!()
         };
         let stop = &stops[place];
-        connections.push_reserved(connection(alloc, lock, stop, stream, tool, pump, limits)?);
+        connections.push_reserved(connection(rt, alloc, lock, stop, stream, tool, pump, limits)?);
         place += 1;
     }
     Ok(connections)
 }
 
-/// A connection with a new outlet.
-fn connection<'a, N: Name, I: Read + Drop, O: Write + Drop>(
+/// A connection with a new outlet, whose stations submit for these callers.
+fn connection<'a, N: Name, R: Wait, I: Read + Drop, O: Write + Drop>(
+    rt: &'a R,
     alloc: Global,
     lock: &'a Mutex<Locked<N>>,
     stop: &'a AtomicBool,
@@ -146,35 +135,17 @@ fn connection<'a, N: Name, I: Read + Drop, O: Write + Drop>(
     tool: Caller<N>,
     pump: Caller<N>,
     limits: Limits,
-) -> Result<Connection<'a, N, I, O>, AllocError>
-    ensures is { IfOk result (λ c. IsConnectionOf limits.max_cto limits.turns limits.pump_turns stream c) }
-    ensures tool { IfOk result (λ c. c.0.caller ≡ tool) }
-    ensures pump { IfOk result (λ c. c.1.caller ≡ pump) }
+) -> Result<Connection<'a, N, R, I, O>, AllocError>
+    ensures is { IfOk result (λ c. IsConnectionWithin limits stream c) }
+    ensures tool { IfOk result (λ c. c.0.station.caller ≡ tool) }
+    ensures pump { IfOk result (λ c. c.1.station.caller ≡ pump) }
 {
-    let (reader, writer) = stream;
-    let (replies, samples, sender) = outlet(alloc)?;
-    let hearing = Hearing {
-        lock,
-        caller: tool,
-        reader,
-        replies,
-        stop,
-        alloc,
-        max_cto: limits.max_cto,
-        turns: limits.turns,
-    };
-    let pumping = Pumping {
-        lock,
-        caller: pump,
-        samples,
-        stop,
-        turns: limits.pump_turns,
-    };
-    let sending = Sending {
-        end: sender,
-        writer,
-    };
-    Ok((hearing, pumping, sending))
+    let tool = Tool::new(rt, lock, tool);
+    let pump = Tool::new(rt, lock, pump);
+    match xcp_connection::connect(alloc, lock, stop, stream, tool, pump, Whole, limits) {
+        Ok(connection) => Ok(connection),
+        Err(_) => Err(AllocError),
+    }
 }
 
 /// So many workers, with the next callers and the next readers. The first one's chapters are handed in here, if they are anywhere.
@@ -221,7 +192,7 @@ pub struct Ended<N: Name, I: Read + Drop, O: Write + Drop> {
 
 /// Takes what came of the connections apart.
 pub fn take_apart<N: Name, I: Read + Drop, O: Write + Drop>(
-    closed: Vec<Closed<N, I, O>>,
+    closed: Vec<Closed<Caller<N>, I, O>>,
     room: Ended<N, I, O>,
 ) -> Ended<N, I, O>
     requires empty { (room.callers.items ≡ []) × (room.pumps.items ≡ [])

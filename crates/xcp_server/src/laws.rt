@@ -4,7 +4,7 @@ ghost use Rattle.xcp_framing.specs.declared.serving.ServeError.{ServeError};
 ghost use Rattle.xcp_framing.specs.declared.serving.ServeError.TheVariants as errors;
 ghost use Rattle.xcp_framing.specs.declared.serving.Served.{Served};
 ghost use Rattle.xcp_outlet.specs.declared.fault.SendError.{SendError};
-ghost use Rattle.xcp_server.specs.ConnectionOutcome.{outcome_of};
+ghost use Rattle.xcp_connection.specs.Connections.{outcome_of};
 
 /// A connection ends well exactly where its reading, its pump and its sender did; else its fault is that of its reading, or of its
 /// pump, or it is Write and its sender has one. Where its reading has a fault, it is that one.

@@ -5,8 +5,9 @@ ghost use Rattle.xcp_locked.specs.Caller.{accepted_by};
 ghost use Rattle.xcp_server.specs.ServerOutcome.{SameClosing};
 ghost use Rattle.xcp_server.specs.Report.{IsMismatch, IsReport, fault_of_outcome, fault_of_outcomes, fault_of_tasks, lost_by, lost_in};
 
-use crate::{Closing, Gone, settle_all};
+use crate::{Closing, settle_all};
 use std::io::{Read, Write};
+use xcp_connection::Gone;
 use xcp_framing::{ServeError, Served};
 use xcp_locked::{Caller, Discord, Journal, Name, Receipts, TaskError};
 use xcp_program::Fault;

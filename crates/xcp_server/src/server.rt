@@ -1,30 +1,32 @@
 //! Connections and tasks of one slave, all at the same time.
-ghost use Rattle.std.specs.Prelude.{◌≡◌, ◌<◌, ◌≤◌, ◌+◌, [], IfOk, vec_len};
+ghost use Rattle.std.specs.Prelude.{◌≡◌, ◌<◌, ◌≤◌, ◌+◌, [], IfOk, false, vec_len};
 ghost use Rattle.std.specs.List.{AllZip};
 ghost use Rattle.xcp_bank.specs.BankEnds.{six_readers};
 ghost use Rattle.xcp_locked.specs.Caller.{callers_of};
 ghost use Rattle.xcp_locked.specs.Publications.{image_of};
 ghost use Rattle.xcp_locked.specs.TaskOutcome.{DoneAs};
 ghost use Rattle.xcp_slave.specs.SlaveValue.{opening};
-ghost use Rattle.xcp_server.specs.ServerOutcome.{CameOf, Closes, CountTheirCommands};
+ghost use Rattle.xcp_server.specs.ServerOutcome.{Closes, CountTheirCommands};
 ghost use Rattle.xcp_server.specs.ServerEnd.{LeavesAll};
+ghost use Rattle.xcp_server.specs.private.ConnectionParts.{CameOfTools};
 ghost use Rattle.xcp_server.specs.private.ReadyServer.{IsReady};
 ghost use Rattle.xcp_server.specs.private.ServerRoom.{IsRoom};
 ghost use Rattle.xcp_server.specs.private.WrittenChapters.{relay_of};
 
+use crate::Closing;
 use crate::closing::{Rooms, close_all, make_rooms};
-use crate::connection::close_each;
-use crate::dealing::{Duties, Limits, deal};
+use crate::connection::{Connection, Parted, close_each};
+use crate::dealing::{Duties, deal};
 use crate::recording::Writing;
-use crate::{Closing, Connection, Parted};
 use std::alloc::{AllocError, Global};
 use std::io::{Read, Write};
 use std::sync::atomic::AtomicBool;
 use std::sync::{Mutex, Wait};
 use std::thread::Threads;
 use together::run_crews_and;
+use xcp_connection::Limits;
 use xcp_framing::Watched;
-use xcp_locked::{Caller, Done, Gate, Handing, Locked, Name, Opening, Reader, Task, Unnamed};
+use xcp_locked::{Caller, Done, Gate, Handing, Locked, Name, Opening, Reader, Task, Tool, Unnamed};
 use xcp_scribe::Scribe;
 
 /// Opens a slave, serves each reader and writer by frames, and runs so many tasks, all at the same
@@ -75,6 +77,7 @@ pub fn run_server<
         max_cto: unnamed.max_cto(),
         turns,
         pump_turns,
+        goes_on: false,
     };
     let opening = Locked::<N>::new(alloc, unnamed)?;
     let ready = prepare(alloc, opening, streams, tasks, each_store, scribe)?;
@@ -196,6 +199,7 @@ fn run_ready<
     requires enough { vec_len ready.streams + tasks + vec_len ready.streams ≤ vec_len ready.callers }
     requires few { (tasks ≤ 16) × (tasks ≤ vec_len ready.readers) }
     requires ready { IsReady tasks each_store ready }
+    requires once { limits.goes_on ≡ false }
     ensures closes { IfOk result (λ r. Closes I.remaining O.contents N.layout G.may_end
         limits.max_cto limits.turns cycles chapter each_store tasks
         ready.callers.items ready.readers.items ready.streams.items r.0) }
@@ -218,7 +222,7 @@ fn run_ready<
         spare,
         unused,
     } = deal(
-        alloc, &lock, gate, &stops, callers, readers, streams, tasks, cycles, chapter, limits,
+        rt, alloc, &lock, gate, &stops, callers, readers, streams, tasks, cycles, chapter, limits,
         handing,
     )?;
     let (parted, done, writing) = run_all(rt, alloc, connections, tasks, writing)?;
@@ -250,7 +254,10 @@ fn make_stops(alloc: Global, count: usize) -> Result<Vec<AtomicBool>, AllocError
 }
 
 /// What comes of connections and of tasks, each at its place, and of a scribe.
-type Results<N, I, O, S> = Result<(Vec<Parted<N, I, O>>, Vec<Done<N>>, Writing<S>), AllocError>;
+type Results<'a, N, R, I, O, S> = Result<
+    (Vec<Parted<Tool<'a, N, R>, I, O>>, Vec<Done<N>>, Writing<S>),
+    AllocError,
+>;
 
 /// Runs connections and tasks, each part of a connection and each task in a thread of its own, and
 /// writes chapters down meanwhile.
@@ -265,12 +272,12 @@ fn run_all<
 >(
     rt: &R,
     alloc: Global,
-    connections: Vec<Connection<'a, N, I, O>>,
+    connections: Vec<Connection<'a, N, R, I, O>>,
     tasks: Vec<Task<'a, N, G>>,
     writing: Writing<S>,
-) -> Results<N, I, O, S>
+) -> Results<'a, N, R, I, O, S>
     ensures parted { IfOk result (λ r.
-        AllZip (CameOf I.remaining O.contents) connections.entry.items r.0.items) }
+        AllZip (CameOfTools I.remaining O.contents) connections.entry.items r.0.items) }
     ensures worked { IfOk result (λ r. AllZip (DoneAs N.layout G.may_end) tasks.entry.items r.1.items) }
     ensures writing { IfOk result (λ r. relay_of r.2 ≡ relay_of writing) }
 {

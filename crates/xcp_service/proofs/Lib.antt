@@ -6,3 +6,4 @@ pub mod CountLemmas
 pub mod HandedLemmas
 pub mod ParcelLemmas
 pub mod ResidentLemmas
+pub mod LosingLemmas

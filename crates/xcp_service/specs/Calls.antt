@@ -1,11 +1,15 @@
 -- A call of a slave whose chapters are cut by its calls.
-use Rattle.std.specs.Prelude.{◌≡◌, ◌⊎◌, ◌++◌, ℕ, [], ◌∷◌}
+use Rattle.std.specs.Prelude.{◌≡◌, ◌⊎◌, ◌++◌, ℕ, List, [], ◌∷◌, length}
 use Rattle.xcp_slave.specs.Step.{Answers}
 use Rattle.xcp_slave.specs.Outcomes.{Answer}
 use Rattle.xcp_slave.specs.declared.Request.{Request}
-use Rattle.xcp_locked.specs.Journal.{entry}
-use Rattle.xcp_locked.specs.LockedSlave.{SameChapter}
-use Rattle.xcp_locked.specs.PublishingCalls.{Publishes}
+use Rattle.xcp_memory.specs.Layout.{LayoutValue}
+use Rattle.xcp_slave.specs.SlaveValue.{SlaveValue}
+use Rattle.xcp_trace.specs.declared.Entry.{Entry}
+use Rattle.xcp_locked.specs.Journal.{entry, exchanges}
+use Rattle.xcp_locked.specs.LockedSlave.{IsReached, SameChapter}
+use Rattle.xcp_locked.specs.PublishingCalls.{AreImagesFrom, Publishes}
+use Rattle.xcp_locked.specs.declared.receipt.Receipt.{Receipt}
 use Rattle.xcp_service.specs.Residents.{ResidentValue, with_a_cut}
 
 -- The caller of this number was answered so: one call more stands in the journal, and the image is published where it changed. The
@@ -24,3 +28,15 @@ pub record Calls (number : ℕ) (request : Request) (answer : Answer) (old new :
 -- Nothing was executed: at most, the open chapter was cut off.
 abbrev pub ExecutesNothing : ResidentValue → ResidentValue → Type 0
 ExecutesNothing old new = (new ≡ old) ⊎ (new ≡ with_a_cut old)
+
+-- What was published for the readers behind this caller's call: when it stood last in its chapter, these were the images, and the last of
+-- them is the image behind the call. A chapter that was cut off behind it published nothing.
+pub record IsPublished (layout : LayoutValue) (caller : ℕ) (call : Receipt) (new : ResidentValue) : Type 0 where
+  -- where the call's chapter begins, and the calls of the chapter before it
+  pub before : ℕ
+  pub base : SlaveValue
+  pub reached : IsReached layout before base
+  pub earlier : List Entry
+  pub place : length earlier ≡ call.at
+  pub first : ℕ
+  pub images : AreImagesFrom first base (exchanges (earlier ++ entry caller call.request call.answer ∷ [])) new.locked.writer.publications

@@ -1,5 +1,6 @@
 pub mod Calls
 pub mod Keeping
+pub mod Losing
 pub mod Noted
 pub mod Parcels
 pub mod Residents

@@ -5,7 +5,7 @@ ghost use Rattle.xcp_slave.specs.AskedRequest.{IsShort, request_asked};
 ghost use Rattle.xcp_locked.specs.Caller.{accepting};
 ghost use Rattle.xcp_locked.specs.Journal.{journal_limit};
 ghost use Rattle.xcp_locked.specs.Receipts.{receipt};
-ghost use Rattle.xcp_service.specs.Calls.{Calls, ExecutesNothing};
+ghost use Rattle.xcp_service.specs.Calls.{Calls, ExecutesNothing, IsPublished};
 
 use crate::member::Member;
 use crate::post::Post;
@@ -37,7 +37,8 @@ pub fn call<N: Name, M: Route>(
     requires { IsShort asked }
     ensures calls { IfOk result (λ told. Calls member.old.number (request_asked asked.entry) (answer_in told packet.new) resident.old resident.new) }
     ensures member { IfOk result (λ told. (chapter at : ℕ)
-        × (member.new ≡ accepting member.old (receipt chapter at (request_asked asked.entry) (answer_in told packet.new)))) }
+        × (member.new ≡ accepting member.old (receipt chapter at (request_asked asked.entry) (answer_in told packet.new)))
+        × IsPublished N.layout member.old.number (receipt chapter at (request_asked asked.entry) (answer_in told packet.new)) resident.new) }
     ensures full { result ≡ Err LockedError.JournalFull → journal_limit ≤ length resident.old.locked.journal }
     ensures err { OnErr result ((member.new ≡ member.old) × ExecutesNothing resident.old resident.new) }
 {
@@ -46,6 +47,7 @@ pub fn call<N: Name, M: Route>(
     }
     member.hand_over(rt, alloc, resident, post);
     let told = member.submit(resident, asked, packet)?;
+    resident.audit();
     if ends_chapter(resident.locked().len(), &told) {
         resident.cut(rt, alloc, post);
     }

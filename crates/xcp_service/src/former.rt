@@ -59,6 +59,7 @@ pub fn resign_all<N: Name, M: Route, S: Scribe>(
     members: Vec<Member<N, M>>,
 ) -> Result<Resigned<N, S>, Unkept>
     ensures keeper { IfOk result (λ r. r.keeper ≡ collector) }
+    ensures members { IfOk result (λ r. r.members.items ≡ members.items) }
     ensures numbered { IfOk result (λ r. AreNumbered 0 r.members.items) }
     ensures handed { IfOk result (λ r. AllByRecursion (IsHandedOver r.keeper) r.members.items) }
     ensures wrote { IfOk result (λ r. S.wrote r.scribe (given_in r.keeper.chapters)) }

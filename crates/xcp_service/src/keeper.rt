@@ -1,9 +1,11 @@
 //! What settles chapters and drops them.
 ghost use Rattle.std.specs.List.{AllByRecursion};
-ghost use Rattle.std.specs.Prelude.{◌≡◌, ◌≢◌, ◌++◌, [], ◌∷◌, true, false, length, MatchBool, OnOk, OnErr, IfErr, ◌⊎◌};
+ghost use Rattle.std.specs.Prelude.{◌≡◌, ◌≢◌, ◌++◌, ◌-◌, ◌^◌, min, [], ◌∷◌, true, false, length, MatchBool, OnOk, OnErr, IfErr, ◌⊎◌};
 ghost use Rattle.xcp_locked.specs.Chapters.{AreJoined, Follows};
 ghost use Rattle.xcp_service.specs.Keeping.{AreDroppedSettled, AreKeptSettled};
+ghost use Rattle.xcp_service.specs.Losing.{lost_in};
 
+use crate::losing::count_lost;
 use crate::noted::Noted;
 use crate::parcel::Parcel;
 use crate::waiting::{Waiting, check_sheaf, count_calls, discord, drop_settled, mark_all};
@@ -31,6 +33,8 @@ pub struct Keeper<N: Name> {
     number: u64,
     /// How many calls there were before it.
     before: u64,
+    /// How many of them were events that found no room for their packets, 2^64 - 1 at most.
+    lost: u64,
     /// The slave with which it must begin, behind the first one.
     at: Option<Arc<Slave>>,
     waiting: Vec<Waiting<N>>,
@@ -45,13 +49,15 @@ impl<N: Name> Model for Keeper<N> {
     ghost use Rattle.xcp_slave.specs.SlaveValue.{opening};
     ghost use Rattle.xcp_locked.specs.Chapters.{AreJoined};
     ghost use Rattle.xcp_service.specs.Keeping.{KeeperValue};
+    ghost use Rattle.std.specs.Prelude.{◌-◌, ◌^◌, min};
+    ghost use Rattle.xcp_service.specs.Losing.{lost_in};
     ghost use Rattle.xcp_service.specs.private.Waiting.{AreKept, chapters_in};
 
     ghost Value = { KeeperValue };
 
     ghost view = { λ k. record { chapters = k.chapters.list; sheaves = k.sheaves.list; waiting = chapters_in k.waiting.items; number = k.number; before = k.before; last = option_map_or arc_value k.at (opening N.layout) } };
 
-    ghost invariant = { λ k. AreJoined N.layout k.chapters.list k.number k.before (option_map_or arc_value k.at (opening N.layout)) × AreKept k.chapters.list k.sheaves.list k.waiting.items × (k.at ≡ None → k.before ≡ 0) };
+    ghost invariant = { λ k. AreJoined N.layout k.chapters.list k.number k.before (option_map_or arc_value k.at (opening N.layout)) × AreKept k.chapters.list k.sheaves.list k.waiting.items × (k.at ≡ None → k.before ≡ 0) × (k.lost ≡ min (lost_in k.chapters.list) (2 ^ 64 - 1)) };
 }
 
 impl<N: Name> Keeper<N> {
@@ -62,6 +68,7 @@ impl<N: Name> Keeper<N> {
         Keeper {
             number: 0,
             before: 0,
+            lost: 0,
             at: None,
             waiting: Vec::new(alloc),
             chapters: Noted::new(alloc),
@@ -74,6 +81,13 @@ impl<N: Name> Keeper<N> {
         ensures { result ≡ length self.now.chapters }
     {
         self.number
+    }
+
+    /// How many calls of these chapters were events that found no room for their packets, 2^64 - 1 at most.
+    pub fn lost(&self) -> u64
+        ensures { result ≡ min (lost_in self.now.chapters) (2 ^ 64 - 1) }
+    {
+        self.lost
     }
 
     /// Takes the next chapter, which must follow the one before it. The error `Discord::Chapter` says that it doesn't, with the number
@@ -97,9 +111,11 @@ impl<N: Name> Keeper<N> {
         };
         chapter.audit();
         let owed = count_calls(&chapter);
+        let more = count_lost(&chapter);
         let Keeper {
             number,
             before,
+            lost,
             at,
             waiting,
             chapters,
@@ -107,6 +123,7 @@ impl<N: Name> Keeper<N> {
         } = self;
         *number += 1;
         *before += chapter.len();
+        *lost = lost.saturating_add(more);
         *at = Some(last);
         chapters.push_reserved(&chapter);
         waiting.push_reserved(Waiting { chapter, owed });

@@ -14,6 +14,7 @@ mod collector;
 mod former;
 mod keeper;
 mod lag;
+mod losing;
 mod member;
 mod noted;
 mod opening;

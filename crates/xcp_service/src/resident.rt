@@ -1,11 +1,13 @@
 //! A slave that stays.
 ghost use Rattle.std.specs.Prelude.{◌≡◌, ◌≤◌, ◌↔◌, ◌++◌, [], ◌∷◌, Err, IfOk, IfSome, MatchBool, OnErr, length};
+ghost use Rattle.xcp_bank.specs.BankEnds.{ReaderDoes};
+ghost use Rattle.xcp_bank.specs.PinHistory.{looked_at};
 ghost use Rattle.xcp_slave.specs.AnswerInBytes.{answer_in};
 ghost use Rattle.xcp_slave.specs.AskedRequest.{IsShort, request_asked};
 ghost use Rattle.xcp_slave.specs.Step.{Answers};
 ghost use Rattle.xcp_locked.specs.Caller.{accepting};
 ghost use Rattle.xcp_locked.specs.Journal.{entry, exchanges, journal_limit};
-ghost use Rattle.xcp_locked.specs.LockedSlave.{SameChapter};
+ghost use Rattle.xcp_locked.specs.LockedSlave.{IsReached, SameChapter};
 ghost use Rattle.xcp_locked.specs.PublishingCalls.{AreImagesFrom, Publishes};
 ghost use Rattle.xcp_locked.specs.Receipts.{receipt};
 ghost use Rattle.xcp_service.specs.Parcels.{chapters_put, parcel_of_sheaf};
@@ -150,6 +152,8 @@ impl<N: Name, M: Route> Resident<N, M> {
         ensures past { reader.new.past ≡ reader.old.seen ∷ reader.old.past }
         ensures history { reader.new.history ≡ reader.old.history }
         ensures held { reader.new.held ≡ reader.old.held }
+        ensures does { ReaderDoes reader.old reader.new (looked_at reader.old.index self.old.locked.writer.current
+            ∷ looked_at reader.old.index self.old.locked.writer.current ∷ []) }
         ensures same { self.new ≡ self.old }
         ensures same_reader { (reader.new.bank ≡ reader.old.bank) × (reader.new.index ≡ reader.old.index) }
     {
@@ -158,9 +162,12 @@ impl<N: Name, M: Route> Resident<N, M> {
 
     /// Does nothing: its contract says what the type keeps. The chapters that were cut off are one run from the opening to the open one.
     pub fn audit(&self)
-        ensures { GoesOn N.layout self.now }
+        ensures goes_on { GoesOn N.layout self.now }
+        ensures reached { IsReached N.layout self.now.locked.before self.now.locked.base }
+        ensures images { AreImagesFrom self.now.locked.first self.now.locked.base
+            (exchanges self.now.locked.journal) self.now.locked.writer.publications }
     {
-        let _ = &self.locked;
+        self.locked.audit();
     }
 
     /// The slave, which is called no more, once the keeper took all chapters that were ever cut off it. `None` where one of them is still

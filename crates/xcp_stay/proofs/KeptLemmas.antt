@@ -1,5 +1,5 @@
 -- What is told of a server that stayed.
-use Rattle.std.proofs.Common.{◌≡◌, ℕ, List, subst, sym}
+use Rattle.std.proofs.Common.{◌≡◌, ◌-◌, ◌^◌, ℕ, min, List, subst, sym}
 use Rattle.xcp_memory.specs.Layout.{LayoutValue}
 use Rattle.xcp_slave.specs.SlaveValue.{SlaveValue}
 use Rattle.xcp_scribe.specs.Given.{Given}
@@ -7,19 +7,21 @@ use Rattle.xcp_locked.specs.Caller.{CallerValue}
 use Rattle.xcp_locked.specs.Chapters.{AreJoined}
 use Rattle.xcp_locked.specs.LockedSlave.{LockedValue}
 use Rattle.xcp_service.specs.Keeping.{AreKeptSettled, KeeperValue}
+use Rattle.xcp_service.specs.Losing.{lost_in}
 use Rattle.xcp_service.specs.Parcels.{given_in}
 use Rattle.xcp_stay.specs.Stay.{AreAllMembers, IsKept, LeavesKept}
 use Rattle.xcp_stay.specs.declared.staying.Report.{Report}
 
-pub kept_as : (l : LayoutValue) (count : ℕ) (wrote : List Given → Type 0) (k : KeeperValue) (cs : List CallerValue) (n m : ℕ) (v : SlaveValue) (r : Report) → r.chapters ≡ n → r.calls ≡ m
+pub kept_as : (l : LayoutValue) (count : ℕ) (wrote : List Given → Type 0) (k : KeeperValue) (cs : List CallerValue) (n m : ℕ) (v : SlaveValue) (r : Report) → r.chapters ≡ n → r.calls ≡ m → r.lost ≡ min (lost_in k.chapters) (2 ^ 64 - 1)
     → AreJoined l k.chapters n m v → AreKeptSettled k → AreAllMembers count k cs → wrote (given_in k.chapters) → IsKept l count wrote r
-kept_as l count wrote k cs n m v r chapters calls joined settled all written = record {
+kept_as l count wrote k cs n m v r chapters calls lost joined settled all written = record {
   keeper = k;
   last = v;
   joined = subst (λ (x : ℕ). AreJoined l k.chapters x r.calls v) (sym chapters) (subst (λ (x : ℕ). AreJoined l k.chapters n x v) (sym calls) joined);
   settled = settled;
   members = cs;
   all = all;
+  lost = lost;
   written = written;
 }
 

@@ -1,5 +1,5 @@
 -- What is true of all calls of a server that stayed.
-use Rattle.std.specs.Prelude.{◌≡◌, ℕ, List, [], length}
+use Rattle.std.specs.Prelude.{◌≡◌, ◌-◌, ◌^◌, ℕ, min, List, [], length}
 use Rattle.std.specs.List.{AllByRecursion}
 use Rattle.xcp_memory.specs.Layout.{LayoutValue}
 use Rattle.xcp_slave.specs.SlaveValue.{SlaveValue}
@@ -8,6 +8,7 @@ use Rattle.xcp_locked.specs.Caller.{CallerValue}
 use Rattle.xcp_locked.specs.Chapters.{AreJoined}
 use Rattle.xcp_locked.specs.LockedSlave.{LockedValue}
 use Rattle.xcp_service.specs.Keeping.{AreKeptSettled, KeeperValue}
+use Rattle.xcp_service.specs.Losing.{lost_in}
 use Rattle.xcp_service.specs.Parcels.{AreNumbered, IsHandedOver, given_in}
 use Rattle.xcp_service.specs.declared.keeper.Unkept.{Unkept}
 use Rattle.xcp_service.specs.declared.keeper.Unkept.TheVariants as unkept
@@ -27,8 +28,8 @@ pub record AreAllMembers (count : ℕ) (k : KeeperValue) (members : List CallerV
   pub handed : AllByRecursion (IsHandedOver k) members
 
 -- What is told of a server that stayed: so many chapters, one behind another from the opening of the layout, with so many calls, are one
--- run of the slave, and each is settled by all callers, with all receipts that so many members ever had. The scribe was given just these
--- chapters, in order.
+-- run of the slave, and each is settled by all callers, with all receipts that so many members ever had; so many of them were events
+-- that found no room. The scribe was given just these chapters, in order.
 pub record IsKept (layout : LayoutValue) (count : ℕ) (wrote : List Given → Type 0) (r : Report) : Type 0 where
   pub keeper : KeeperValue
   pub last : SlaveValue
@@ -36,6 +37,7 @@ pub record IsKept (layout : LayoutValue) (count : ℕ) (wrote : List Given → T
   pub settled : AreKeptSettled keeper
   pub members : List CallerValue
   pub all : AreAllMembers count keeper members
+  pub lost : r.lost ≡ min (lost_in keeper.chapters) (2 ^ 64 - 1)
   pub written : wrote (given_in keeper.chapters)
 
 -- What a server that stayed leaves: a slave of this layout, its keeper and so many members; `written` says what its scribe was given.

@@ -2,11 +2,12 @@
 ghost use Rattle.std.specs.Prelude.{◌≡◌, [], IfOk, true};
 ghost use Rattle.xcp_stay.specs.Stay.{LeavesKept};
 
+use crate::running::Ended;
 use std::alloc::{AllocError, Global};
 use std::sync::Wait;
 use xcp_locked::{Discord, Locked, Name};
 use xcp_scribe::Scribe;
-use xcp_seats::{Outcome, Performed};
+use xcp_seats::{Left, Rested};
 use xcp_service::{
     Collector, Former, Keeper, Member, Post, Resident, Resigned, Route, Unkept, resign_all,
 };
@@ -52,74 +53,30 @@ pub struct Stayed<N: Name, S: Scribe> {
     pub keeper: Keeper<N>,
     pub scribe: S,
     pub locked: Locked<N>,
-    /// The callers of seats and tasks, in the order of their numbers.
+    /// The callers of seats and tasks, in the order of their numbers: those of the seats' tools, then those of the tasks, then those of
+    /// the seats' pumps.
     pub members: Vec<Former<N>>,
-    /// How many events of tasks found no room for their packets.
-    pub lost: u64,
 }
 
-/// The members of seats and tasks, and what came of their keeper, once all have ended.
-#[derive(Drop)]
-pub(crate) struct Gathered<N: Name, M: Route, S: Scribe> {
-    pub members: Vec<Member<N, M>>,
-    pub kept: Option<Result<Collector<N, M, S>, Unkept>>,
-}
-
-impl<N: Name, M: Route, S: Scribe> Gathered<N, M, S> {
-    /// One member more. `false` where there is no memory.
-    fn add(&mut self, member: Member<N, M>) -> bool {
-        self.members.push(member).is_ok()
-    }
-
-    /// What came of a duty. `false` where there is no memory.
-    fn take(&mut self, performed: Performed<N, M, S>) -> bool {
-        match performed {
-            Performed::Task(member) => self.add(member),
-            Performed::Kept(kept) => {
-                self.kept = Some(kept);
-                true
-            }
-            Performed::Warded => true,
-        }
-    }
-
-    /// The members of the seats. `false` where there is no memory for all.
-    fn take_seats(&mut self, seats: Vec<(Member<N, M>, Member<N, M>, ())>) -> bool {
-        let mut fit = true;
-        for (tool, pump, ()) in seats {
-            fit &= self.add(tool);
-            fit &= self.add(pump);
-        }
-        fit
-    }
-
-    /// What came of the duties. `false` where there is no memory for all.
-    fn take_duties(&mut self, duties: Vec<Outcome<N, M, S>>) -> bool {
-        let mut fit = true;
-        for Outcome(performed) in duties {
-            fit &= self.take(performed);
-        }
-        fit
-    }
-}
-
-/// Gathers what came of the seats and of the duties beside them.
-pub(crate) fn gather<N: Name, M: Route, S: Scribe>(
+/// The members of a team: those of the seats' tools, then those of the tasks, then those of the seats' pumps.
+fn gather<N: Name, M: Route>(
     alloc: Global,
-    seats: Vec<(Member<N, M>, Member<N, M>, ())>,
-    duties: Vec<Outcome<N, M, S>>,
-) -> Result<Gathered<N, M, S>, AllocError> {
-    let mut gathered = Gathered {
-        members: Vec::new(alloc),
-        kept: None,
-    };
-    let seated = gathered.take_seats(seats);
-    let performed = gathered.take_duties(duties);
-    if seated && performed {
-        Ok(gathered)
-    } else {
-        Err(AllocError)
+    left: Vec<Left<N, M>>,
+    rested: Vec<Rested<N, M>>,
+) -> Result<Vec<Member<N, M>>, AllocError> {
+    let mut members = Vec::new(alloc);
+    let mut pumps = Vec::new(alloc);
+    for Left { tool, pump } in left {
+        members.push(tool)?;
+        pumps.push(pump)?;
     }
+    for Rested { member, .. } in rested {
+        members.push(member)?;
+    }
+    for pump in pumps {
+        members.push(pump)?;
+    }
+    Ok(members)
 }
 
 /// All members hand over what they have at hand.
@@ -165,28 +122,17 @@ pub(crate) fn conclude<N: Name, M: Route, S: Scribe, R: Wait>(
     alloc: Global,
     resident: Resident<N, M>,
     post: &Post<N, M>,
-    gathered: Gathered<N, M, S>,
+    ended: Ended<N, M, S>,
     count: usize,
-    lost: u64,
 ) -> Result<Stayed<N, S>, StayError>
     ensures leaves { IfOk result (λ s. LeavesKept N.layout count (S.wrote s.scribe)
         s.keeper s.locked s.members.items) }
 {
-    let Gathered { members, kept } = gathered;
-    let collector = collector_of(kept)?;
-    let mut members = members;
+    let Ended { left, rested, kept } = ended;
+    let collector = kept?;
+    let mut members = gather(alloc, left, rested)?;
     let (locked, collector) = take_rest(rt, alloc, resident, post, collector, &mut members)?;
-    settle(alloc, locked, post, collector, members, count, lost)
-}
-
-/// The keeper with its end of the post, if it has ended well.
-fn collector_of<N: Name, M: Route, S: Scribe>(
-    kept: Option<Result<Collector<N, M, S>, Unkept>>,
-) -> Result<Collector<N, M, S>, StayError> {
-    match kept {
-        Some(kept) => Ok(kept?),
-        None => Err(StayError::Memory),
-    }
+    settle(alloc, locked, post, collector, members, count)
 }
 
 /// The open chapter is cut off, all members hand over what they have at hand, and the keeper takes what is left. The slave makes no more
@@ -249,7 +195,6 @@ fn settle<N: Name, M: Route, S: Scribe>(
     collector: Collector<N, M, S>,
     members: Vec<Member<N, M>>,
     count: usize,
-    lost: u64,
 ) -> Result<Stayed<N, S>, StayError>
     requires closed { (locked.journal ≡ []) × (locked.base ≡ locked.slave) }
     ensures leaves { IfOk result (λ s. LeavesKept N.layout count (S.wrote s.scribe)
@@ -268,6 +213,5 @@ fn settle<N: Name, M: Route, S: Scribe>(
         scribe,
         locked,
         members,
-        lost,
     })
 }

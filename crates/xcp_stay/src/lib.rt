@@ -5,7 +5,9 @@
 #![tactic(auto)]
 
 mod boxed;
+mod dealing;
 mod ending;
+mod running;
 mod staying;
 mod stop_line;
 

@@ -1,13 +1,15 @@
 //! A server that stays.
-ghost use Rattle.std.specs.Prelude.{◌≡◌, ◌≤◌, ◌+◌, [], IfOk, length, vec_len};
-ghost use Rattle.std.specs.Vec.Iter.{into_iter_items};
+ghost use Rattle.std.specs.Prelude.{◌≡◌, ◌≤◌, ◌+◌, ◌-◌, ◌^◌, min, [], IfOk, length};
 ghost use Rattle.xcp_locked.specs.Caller.{callers_of};
+ghost use Rattle.xcp_service.specs.Losing.{lost_in};
 ghost use Rattle.xcp_service.specs.Parcels.{AreOpened};
 ghost use Rattle.xcp_service.specs.Residents.{IsUncut};
 ghost use Rattle.xcp_stay.specs.Stay.{IsKept, LeavesKept};
 
 use crate::boxed::Boxed;
-use crate::ending::{Gathered, StayError, Stayed, conclude, gather};
+use crate::dealing::{deal, make_doors};
+use crate::ending::{StayError, Stayed, conclude};
+use crate::running::run;
 use std::alloc::{AllocError, Global};
 use std::boxed::Box;
 use std::marker::Brand;
@@ -15,15 +17,10 @@ use std::net::TcpListener;
 use std::sync::{Mutex, Wait};
 use std::thread::Threads;
 use std::time::{Clock, Duration};
-use std::vec::IntoIter;
-use together::run_crews;
-use xcp_locked::{Locked, Name, Opening, Reader, Unnamed};
+use xcp_locked::{Locked, Name, Opening, Unnamed};
 use xcp_scribe::Scribe;
-use xcp_seats::{
-    Assigned, Door, Duty, Hall, Halt, Keeping, Outcome, Pace, Parts, Place, Ticker, Warding,
-    Watcher, make_seat,
-};
-use xcp_service::{Collector, Member, Posting, Route, Shared, Unrouted};
+use xcp_seats::{Hall, Halt, Watcher};
+use xcp_service::{Posting, Route, Shared, Unrouted};
 
 /// How a server stays.
 #[derive(Clone, Copy, Debug)]
@@ -45,7 +42,7 @@ pub struct Report {
     pub chapters: u64,
     /// How many calls were accepted, all of them in these chapters.
     pub calls: u64,
-    /// How many of them were events of tasks that found no room for their packets.
+    /// How many of them were events of tasks that found no room for their packets, 2^64 - 1 at most.
     pub lost: u64,
 }
 
@@ -57,22 +54,11 @@ struct Ready<N: Name> {
     max_cto: u8,
 }
 
-/// What the parts of a server share.
-#[derive(Drop)]
-struct Common<'a, N: Name, M: Route, C, W> {
-    shared: &'a Shared<N, M>,
-    doors: &'a [Door],
-    hall: &'a Hall,
-    pace: &'a Pace<'a, C>,
-    halt: &'a Halt,
-    watcher: &'a W,
-}
-
 /// Opens a slave, and serves tools that come to the listener, so many at a time, one behind another, and runs so many tasks meanwhile,
 /// until somebody asks it to end; each chapter of its journal is settled and dropped when its callers have handed their receipts
 /// over. It closes the connections then, lets the tasks end their cycle, settles what is left, and tells how many chapters and calls
-/// there were. The first callers are those of the seats, for each its tool and its pump, and the next those of the tasks, which also
-/// have the first readers.
+/// there were. The first callers are those of the seats' tools, the next those of the tasks, which also have the first readers, and the
+/// next those of the seats' pumps.
 ///
 /// Where a chapter or a caller's receipts aren't as they must be it ends at once, with `Discord`. `Memory` and `Listener` come before
 /// anybody has begun; `Memory` comes also where the keeper has none, or a caller that hands over what it has at last.
@@ -130,12 +116,12 @@ fn stay_and_tell<
 fn tell<N: Name, S: Scribe>(stayed: &Stayed<N, S>) -> Report
     ensures chapters { result.chapters ≡ stayed.now.locked.chapter }
     ensures calls { result.calls ≡ stayed.now.locked.before }
-    ensures lost { result.lost ≡ stayed.now.lost }
+    ensures lost { result.lost ≡ min (lost_in stayed.now.keeper.chapters) (2 ^ 64 - 1) }
 {
     Report {
         chapters: stayed.locked.chapter(),
         calls: stayed.locked.before(),
-        lost: stayed.lost,
+        lost: stayed.keeper.lost(),
     }
 }
 
@@ -203,14 +189,12 @@ fn unboxed<N: Name, S: Scribe>(stayed: Stayed<N, Boxed<S>>) -> Stayed<N, S>
         scribe,
         locked,
         members,
-        lost,
     } = stayed;
     Stayed {
         keeper,
         scribe: Box::into_inner(scribe.scribe),
         locked,
         members,
-        lost,
     }
 }
 
@@ -262,220 +246,21 @@ fn stay_by_post<
         post,
     };
     let hall = Hall::new();
-    let pace = Pace::new(rt, plan.periods);
-    let common = Common {
-        shared: &shared,
-        doors: doors.as_slice(),
-        hall: &hall,
-        pace: &pace,
-        halt,
-        watcher,
-    };
-    let crew = Crew {
-        members,
-        readers,
-        collector,
-    };
-    let gathered = serve(rt, alloc, &common, listener, crew, max_cto, plan)?;
-    let Shared { lock, post } = shared;
-    let count = plan.tools as usize + plan.tools as usize + plan.tasks as usize;
-    conclude(
+    let crew = deal(alloc, members, readers, collector, plan)?;
+    let ended = run(
         rt,
         alloc,
-        lock.into_inner(),
-        &post,
-        gathered,
-        count,
-        pace.lost(),
-    )
-}
-
-/// Who serves: members and readers, of whom the first ones get something to do, and a keeper.
-#[derive(Drop)]
-struct Crew<N: Name, M: Route, S: Scribe> {
-    members: Vec<Member<N, M>>,
-    readers: [Reader<N>; 6],
-    collector: Collector<N, M, S>,
-}
-
-/// Serves until somebody asks for the end, and gathers all who did.
-fn serve<
-    'a,
-    N: Name + Send + Sync,
-    M: Route + Send + Sync,
-    S: Scribe + Send,
-    C: Clock + Sync,
-    W: Watcher + Sync,
-    R: Threads + Wait + Sync,
->(
-    rt: &R,
-    alloc: Global,
-    common: &Common<'a, N, M, C, W>,
-    listener: &TcpListener,
-    crew: Crew<N, M, S>,
-    max_cto: u8,
-    plan: Plan,
-) -> Result<Gathered<N, M, S>, StayError>
-    requires doors { length common.now.doors.now ≡ plan.tools }
-    requires callers { plan.tools + plan.tools + plan.tasks ≤ length crew.members.items }
-    requires readers { plan.tasks ≤ 6 }
-{
-    let (seats, duties) = assign(alloc, common, listener, crew, max_cto, plan)?;
-    let (seats, duties) = run(rt, alloc, seats, duties)?;
-    Ok(gather(alloc, seats, duties)?)
-}
-
-/// The seats, and what is done beside them.
-type Assignments<'a, N, M, S, C, W> = (Vec<Parts<'a, N, M, W>>, Vec<Assigned<'a, N, M, S, C, W>>);
-
-/// Gives the first members and readers something to do, and the keeper.
-fn assign<'a, N: Name, M: Route, S: Scribe, C, W>(
-    alloc: Global,
-    common: &Common<'a, N, M, C, W>,
-    listener: &TcpListener,
-    crew: Crew<N, M, S>,
-    max_cto: u8,
-    plan: Plan,
-) -> Result<Assignments<'a, N, M, S, C, W>, StayError>
-    requires doors { length common.now.doors.now ≡ plan.tools }
-    requires callers { plan.tools + plan.tools + plan.tasks ≤ length crew.members.items }
-    requires readers { plan.tasks ≤ 6 }
-{
-    let Crew {
-        members,
-        readers,
-        collector,
-    } = crew;
-    let Ok(readers) = Vec::from_array(alloc, readers) else {
-        return Err(StayError::Memory);
-    };
-    let mut members = members.into_iter();
-    let seats = make_seats(alloc, common, listener, &mut members, max_cto, plan)?;
-    let duties = make_duties(
-        alloc,
-        common,
-        &mut members,
-        &mut readers.into_iter(),
-        collector,
-        plan.tasks,
+        listener,
+        &shared,
+        doors.as_slice(),
+        &hall,
+        halt,
+        watcher,
+        crew,
+        max_cto,
+        plan,
     )?;
-    Ok((seats, duties))
-}
-
-/// A door for each seat.
-fn make_doors(alloc: Global, count: u8) -> Result<Vec<Door>, AllocError>
-    ensures { IfOk result (λ ds. vec_len ds ≡ count) }
-{
-    let mut doors = Vec::with_capacity(alloc, count as usize)?;
-    for _one in 0..count {
-        doors.push_reserved(Door::new());
-    }
-    Ok(doors)
-}
-
-/// A seat behind each door, with the next two members, for its tool and for its pump.
-fn make_seats<'a, N: Name, M: Route, C, W>(
-    alloc: Global,
-    common: &Common<'a, N, M, C, W>,
-    listener: &TcpListener,
-    members: &mut IntoIter<Member<N, M>>,
-    max_cto: u8,
-    plan: Plan,
-) -> Result<Vec<Parts<'a, N, M, W>>, StayError>
-    requires doors { length common.now.doors.now ≡ plan.tools }
-    requires callers { plan.tools + plan.tools ≤ length (into_iter_items members.old) }
-    ensures left { IfOk result (λ _. length (into_iter_items members.old)
-        ≤ plan.tools + plan.tools + length (into_iter_items members.new)) }
-{
-    let mut seats = Vec::with_capacity(alloc, plan.tools as usize)?;
-    for number in 0..plan.tools {
-        let Ok(shared) = listener.try_clone() else {
-            return Err(StayError::Listener);
-        };
-        let Some(tool) = members.next() else {
-            unreachable!()
-        };
-        let Some(pump) = members.next() else {
-            unreachable!()
-        };
-        let place = Place {
-            number,
-            max_cto,
-            patience: plan.patience,
-            door: &common.doors[number as usize],
-            halt: common.halt,
-            hall: common.hall,
-            watcher: common.watcher,
-        };
-        seats.push_reserved(make_seat(alloc, common.shared, shared, tool, pump, place)?);
-    }
-    Ok(seats)
-}
-
-/// What is done beside the seats: so many tasks, with the next members and the next readers; a keeper; and a ward.
-fn make_duties<'a, N: Name, M: Route, S: Scribe, C, W>(
-    alloc: Global,
-    common: &Common<'a, N, M, C, W>,
-    members: &mut IntoIter<Member<N, M>>,
-    readers: &mut IntoIter<Reader<N>>,
-    collector: Collector<N, M, S>,
-    tasks: u8,
-) -> Result<Vec<Assigned<'a, N, M, S, C, W>>, AllocError>
-    requires callers { tasks ≤ length (into_iter_items members.old) }
-    requires readers { tasks ≤ length (into_iter_items readers.old) }
-{
-    let mut duties = Vec::with_capacity(alloc, tasks as usize + 2)?;
-    for task in 0..tasks {
-        let Some(member) = members.next() else {
-            unreachable!()
-        };
-        let Some(reader) = readers.next() else {
-            unreachable!()
-        };
-        duties.push_reserved(Assigned(Duty::Task(Ticker {
-            shared: common.shared,
-            alloc,
-            task,
-            member,
-            reader,
-            pace: common.pace,
-            halt: common.halt,
-        })));
-    }
-    duties.push_reserved(Assigned(Duty::Keep(Keeping {
-        collector,
-        post: &common.shared.post,
-        halt: common.halt,
-    })));
-    duties.push_reserved(Assigned(Duty::Ward(Warding {
-        doors: common.doors,
-        post: &common.shared.post,
-        halt: common.halt,
-        watcher: common.watcher,
-    })));
-    Ok(duties)
-}
-
-/// What comes of the seats and of the duties, each at its place.
-type Results<N, M, S> = Result<
-    (Vec<(Member<N, M>, Member<N, M>, ())>, Vec<Outcome<N, M, S>>),
-    AllocError,
->;
-
-/// Runs the parts of all seats and the duties, each in a thread of its own.
-fn run<
-    'a,
-    N: Name + Send + Sync,
-    M: Route + Send + Sync,
-    S: Scribe + Send,
-    C: Clock + Sync,
-    W: Watcher + Sync,
-    R: Threads + Wait + Sync,
->(
-    rt: &R,
-    alloc: Global,
-    seats: Vec<Parts<'a, N, M, W>>,
-    duties: Vec<Assigned<'a, N, M, S, C, W>>,
-) -> Results<N, M, S> {
-    run_crews(rt, alloc, seats, duties)
+    let Shared { lock, post } = shared;
+    let count = plan.tools as usize + plan.tools as usize + plan.tasks as usize;
+    conclude(rt, alloc, lock.into_inner(), &post, ended, count)
 }

@@ -3,9 +3,10 @@ ghost use Rattle.std.specs.Prelude.{◌≡◌, ◌≢◌, ℕ, List, IfSome, IfN
 ghost use Rattle.xcp_trace.specs.EntryBytes.{BeginWithEntry};
 ghost use Rattle.xcp_trace.specs.EntrySpelling.{IsEntryString};
 ghost use Rattle.xcp_trace.specs.ExchangeSpelling.{IsExchangeString, exchange_in};
+ghost use Rattle.xcp_trace.specs.Lost.{is_overrun};
 
 use crate::checking::first_string;
-use crate::spelling::read_exchange;
+use crate::spelling::{OVERRUN, read_exchange};
 use std::marker::Model;
 use xcp_slave::{Exchange, Request};
 
@@ -61,6 +62,13 @@ impl<'a> LentEntry<'a> {
         ensures { result ≡ self.now.exchange }
     {
         read_exchange(&self.string[1..])
+    }
+
+    /// Whether it is an event whose packets found no room. Nothing else of the entry is read.
+    pub fn is_overrun(&self) -> bool
+        ensures { result ≡ is_overrun self.now.exchange.answer }
+    {
+        self.string[4] == OVERRUN
     }
 }
 

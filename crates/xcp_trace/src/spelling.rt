@@ -19,6 +19,9 @@ const PACKET_BYTES: usize = 255;
 /// The most bytes of an exchange's string: its head, a command and a packet.
 pub(crate) const EXCHANGE_BYTES: usize = HEAD_BYTES + PACKET_BYTES + PACKET_BYTES;
 
+/// The tag of an answer that says that an event's packets found no room.
+pub(crate) const OVERRUN: u8 = 3;
+
 /// The tag of an answer that is a block.
 const BLOCK: u8 = 10;
 
@@ -106,7 +109,7 @@ fn answer_parts<'a>(told: &Told, packet: &'a Packet) -> (u8, u8, &'a [u8])
         Told::Packets(Cut::Whole) => (1, 0, packet.as_slice()),
         Told::Packets(Cut::Block(width)) => (BLOCK, width.bytes(), packet.as_slice()),
         Told::Sampled(count) => (2, *count, &[]),
-        Told::Overrun => (3, 0, &[]),
+        Told::Overrun => (OVERRUN, 0, &[]),
         Told::NoChannel => (4, 0, &[]),
         Told::BadSignals => (5, 0, &[]),
         Told::Nothing => (6, 0, &[]),
@@ -141,7 +144,7 @@ fn answer_of(tag: u8, count: u8, bytes: &[u8]) -> Answer
         0 => Answer::Silent,
         1 => Answer::Packets(Train::one(taken(bytes))),
         2 => Answer::Sampled(count),
-        3 => Answer::Overrun,
+        OVERRUN => Answer::Overrun,
         4 => Answer::NoChannel,
         5 => Answer::BadSignals,
         6 => Answer::Nothing,

@@ -5,6 +5,7 @@ use denote.Struct.Declared as declared
 use denote.Struct.Struct.{Struct}
 use Rattle.std.proofs.Crossing.{crosses}
 use Rattle.xcp_flash.proofs.references.References.TheSendSync as references
+use Rattle.xcp_framing.specs.contracts.record.Record as Record
 use Rattle.xcp_framing.specs.contracts.tally.Tally as Tally
 use Rattle.xcp_framing.specs.contracts.watched.Watched as Watched
 use Rattle.xcp_framing.specs.contracts.watched.Watched.TheInside as WatchedInside
@@ -23,8 +24,12 @@ struct_crosses T all = recorded_send (Struct (declared.shape T)) T.D T.to T.to_o
 tally_crosses : IsSend Tally.the_field.row
 tally_crosses = search (sendable, crosses) depth 20
 
+-- nor does a record of bytes
+record_crosses : IsSend Record.the_field.row
+record_crosses = search (sendable, crosses) depth 20
+
 watched_crosses : (T : RattleType) → IsSend T → IsSend (Watched.the_row T)
-watched_crosses T s = view_send (WatchedInside.the_row T) _ _ _ _ (struct_crosses (WatchedInside.the_type T) (s, (tally_crosses, (tally_crosses, tt))))
+watched_crosses T s = view_send (WatchedInside.the_row T) _ _ _ _ (struct_crosses (WatchedInside.the_type T) (s, (tally_crosses, (tally_crosses, (record_crosses, tt)))))
 
 recorder_crosses : (W : RattleType) → IsSend W → IsSend (Recorder.the_field W).row
 recorder_crosses W w =

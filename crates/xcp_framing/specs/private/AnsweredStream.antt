@@ -1,8 +1,9 @@
 -- The packets of a stream, answered one after another, whatever answers them.
-use Rattle.std.specs.Prelude.{◌≡◌, ◌++◌, [], ℕ, List, length, IfOk, Option, Result, Ok, Err}
+use Rattle.std.specs.Prelude.{◌≡◌, ◌++◌, [], ℕ, List, length, IfOk, Result, Ok, Err}
 use Rattle.xcp_framing.specs.declared.serving.Served.{Served}
 use Rattle.xcp_framing.specs.declared.serving.ServeError.{ServeError}
 use Rattle.xcp_framing.specs.declared.serving.ServeError.TheVariants as errors
+use Rattle.xcp_framing.specs.CountedCalls.{Place}
 use Rattle.xcp_framing.specs.Frames.{frames, rest}
 use Rattle.xcp_framing.specs.Serve.{OnRead, EndsStream}
 use Rattle.xcp_framing.specs.ServeParts.{IsInterruption}
@@ -37,13 +38,12 @@ outcome (Err errors.JournalFull) = Err errors.JournalFull
 outcome (Err errors.NoRoom) = Err errors.NoRoom
 outcome _ = Ok tt
 
--- One call of `answer_stream`, where MAX_CTO is m: `input` and `left` are the reader's bytes before and after, where it tells
--- them; `Answers` says what answering packets does, and an interruption.
-pub record Streams {A : Type 0} (Answers : Result (Unit {0}) ServeError → List (List ℕ) → A → A → Type 0) (m : ℕ) (result : Result Served ServeError) (input left : Option (List ℕ)) (old new : A) : Type 0 where
+-- One call of `answer_stream`, where MAX_CTO is m: `from` and `to` are where the stream stands before and after; `Answers` says what answering packets does, and an interruption.
+pub record Streams {A : Type 0} (Answers : Result (Unit {0}) ServeError → List (List ℕ) → A → A → Type 0) (m : ℕ) (result : Result Served ServeError) (from to : Place) (old new : A) : Type 0 where
   -- the packets of the bytes read, and what stands behind them
   pub packets : List (List ℕ)
   pub behind : List ℕ
-  pub read : OnRead input left (λ stream. (packets ≡ frames m stream) × (behind ≡ rest m stream))
+  pub read : OnRead from to (λ stream. (packets ≡ frames m stream) × (behind ≡ rest m stream))
   pub answered : Answers (outcome result) packets old new
   -- the end of the stream
   pub ends : EndsStream m result behind

@@ -1,30 +1,31 @@
--- What the threads of a connection give back.
-use Rattle.std.specs.Prelude.{◌≡◌, ℕ, true, false}
-use Rattle.xcp_server.specs.declared.connection.Closed.{Closed}
-use Rattle.xcp_server.specs.declared.hearing.Heard.{Heard}
-use Rattle.xcp_server.specs.declared.pumping.Pumped.{Pumped}
-use Rattle.xcp_server.specs.declared.sending.Wrote.{Wrote}
-use Rattle.xcp_server.specs.ConnectionOutcome.{outcome_of, Delivered}
+-- The parts of a connection whose stations submit for callers.
+use Rattle.std.specs.Prelude.{ℕ, List, Option}
+use Rattle.xcp_framing.specs.CountedCalls.{Watched}
+use Rattle.xcp_connection.specs.Closing.{IsClosingOf}
+use Rattle.xcp_connection.specs.Parts.{CameOf, Connection, IsConnectionOf, Parted}
+use Rattle.xcp_connection.specs.declared.closing.Closed.{Closed}
+use Rattle.xcp_connection.specs.declared.connection.Limits.{Limits}
+use Rattle.xcp_locked.specs.Caller.{CallerValue}
+use Rattle.xcp_locked.specs.Receipts.{exchanges_of}
+use Rattle.xcp_locked.specs.Tasks.{Same}
+use Rattle.xcp_locked.specs.declared.tool.Tool.{Tool}
 
--- the three ends of one outlet, of which the first two have put no more
-pub record AreOfOneOutlet {N I O : Type 0} (d : Heard N I × Pumped N × Wrote O) : Type 0 where
-  pub replies : d.2.sent.took.outlet ≡ d.0.put.outlet
-  pub samples : d.2.sent.took.outlet ≡ d.1.put.outlet
-  pub reply_side : d.0.put.side ≡ false
-  pub sample_side : d.1.put.side ≡ true
+-- the connection of this reader and this writer, within these limits, whoever its stations are
+abbrev pub IsConnectionWithin : {N T S I P O : Type 0} → Limits → Watched I × Watched O → Connection N T S I P O → Type 0
+IsConnectionWithin limits stream c = IsConnectionOf limits stream c.0.station c.1.station c
 
--- what came of the three parts of a connection, put together
-pub record IsClosingOf {N I O : Type 0} (d : Heard N I × Pumped N × Wrote O) (c : Closed N I O) : Type 0 where
-  pub tool : c.tool ≡ d.0.caller
-  pub pump : c.pump ≡ d.1.caller
-  pub heard : c.heard ≡ d.0.outcome
-  pub pumped : c.pumped ≡ d.1.outcome
-  pub sent : c.sent ≡ d.2.sent.count
-  pub outcome : c.outcome ≡ outcome_of c.heard c.pumped c.sent
-  pub reader : c.left.reader.value ≡ d.0.reader.value
-  pub writer : c.left.writer.value ≡ d.2.writer.value
-  pub replies_are : c.left.replies.value.put ≡ d.0.put.put
-  pub samples_are : c.left.samples.value.put ≡ d.1.put.put
-  pub taken_is : c.left.took.value.taken ≡ d.2.sent.took.taken
-  pub replies : Delivered false c.left.took.value.taken c.left.replies.value.put
-  pub samples : Delivered true c.left.took.value.taken c.left.samples.value.put
+-- what came of a connection of one passage, where a station's exchanges are those of its caller's receipts
+abbrev pub CameOfTools : {N T R I P O : Type 0} → (I → Option (List ℕ)) → (O → Option (List ℕ)) → Connection N T (Tool N R) I P O → Parted (Tool N R) I O → Type 0
+CameOfTools remaining contents = CameOf (λ t. exchanges_of t.caller.receipts) (λ old new. Same old.caller new.caller) ⊥ remaining contents
+
+-- what came of the three parts, with the callers of their stations in place of these
+abbrev pub with_callers : {N R I O : Type 0} → Parted (Tool N R) I O → Parted CallerValue I O
+with_callers d = (
+  record { station = d.0.station.caller; outcome = d.0.outcome; reader = d.0.reader; put = d.0.put },
+  record { station = d.1.station.caller; outcome = d.1.outcome; put = d.1.put },
+  d.2,
+)
+
+-- that, put together
+abbrev pub IsEndOf : {N R I O : Type 0} → Parted (Tool N R) I O → Closed CallerValue I O → Type 0
+IsEndOf d = IsClosingOf (with_callers d)

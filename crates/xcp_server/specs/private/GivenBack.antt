@@ -9,7 +9,7 @@ use Rattle.xcp_locked.specs.Excerpts.{ChaptersValue, HandingValue, KeepsPace, wa
 use Rattle.xcp_locked.specs.Journal.{exchanges}
 use Rattle.xcp_locked.specs.LockedSlave.{ChapterValue, IsReached}
 use Rattle.xcp_server.specs.declared.closing.Closing.{Closing}
-use Rattle.xcp_server.specs.declared.connection.Gone.{Gone}
+use Rattle.xcp_connection.specs.declared.closing.Gone.{Gone}
 
 -- What became of connections and readers is given back, and the slave as it is.
 pub record GivesBack {N I O : Type 0} (layout : LayoutValue) (outcomes : List (Result Served ServeError)) (left : List (Gone I O)) (readers : List ReaderEnd) (r : Closing N I O) : Type 0 where

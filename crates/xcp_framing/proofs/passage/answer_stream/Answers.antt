@@ -19,17 +19,19 @@ loop-turn-init g c =
     }
 
 pub returns-in_default-clause-streams : goal.returns-in_default-clause-streams
-returns-in_default-clause-streams g c = streams_read g.A.Answerer.answers _ _ _ _ _ _ _ c.loop-turn.invariant.along c.in_default.ensures.bytes
+returns-in_default-clause-streams g c = streams_read g.A.Answerer.answers _ _ _ _ _ _ _ c.loop-turn.invariant.along c.in_default.ensures.bytes c.in_default.ensures.gives
 
 pub returns-then-inside-clause-streams : goal.returns-then-inside-clause-streams
 returns-then-inside-clause-streams g c =
     let read = rw (c.if-length-eq0.true) at c.in-Ok.ensures.bytes.0 in
-    streams_truncated g.A.Answerer.answers _ _ _ _ _ _ _ c.loop-turn.invariant.along read (c.inside.ensures.0 c.if-inside.true)
+    let gave = rw (c.if-length-eq0.true) at c.in-Ok.ensures.gives in
+    streams_truncated g.A.Answerer.answers _ _ _ _ _ _ _ c.loop-turn.invariant.along read gave (c.inside.ensures.0 c.if-inside.true)
 
 pub returns-then-length-eq0-clause-streams : goal.returns-then-length-eq0-clause-streams
 returns-then-length-eq0-clause-streams g c =
     let read = rw (c.if-length-eq0.true) at c.in-Ok.ensures.bytes.0 in
-    streams_all g.A.Answerer.answers _ _ _ _ _ _ _ _ c.loop-turn.invariant.along read (nothing_held _ (λ some. false≢true (sym c.if-inside.false ∙ c.inside.ensures.1 some)))
+    let gave = rw (c.if-length-eq0.true) at c.in-Ok.ensures.gives in
+    streams_all g.A.Answerer.answers _ _ _ _ _ _ _ _ c.loop-turn.invariant.along read gave (nothing_held _ (λ some. false≢true (sym c.if-inside.false ∙ c.inside.ensures.1 some)))
 
 pub returns-in_err-hand_on-clause-streams : goal.returns-in_err-hand_on-clause-streams
 returns-in_err-hand_on-clause-streams g c =
@@ -37,7 +39,7 @@ returns-in_err-hand_on-clause-streams g c =
     let answered = rw (c.loop-turn.invariant.limit) at c.answer_piece-answered.ensures.answered in
     let held = c.requires.handing_on.held _ e _ _ _ _ _ answered c.in_err-hand_on.ensures.hands in
     rw (passed_on c.from_residual.result e c.from_residual.ensures.1)
-    (streams_held g.A.Answerer.answers c.requires.packets.more _ e _ _ _ _ _ _ _ _ c.in_err-hand_on.ensures.stops c.loop-turn.invariant.along c.in-Ok.ensures.bytes.0 held)
+    (streams_held g.A.Answerer.answers c.requires.packets.more _ e _ _ _ _ _ _ _ _ c.in_err-hand_on.ensures.stops c.loop-turn.invariant.along c.in-Ok.ensures.bytes.0 c.in-Ok.ensures.gives held)
 
 pub returns-in_err-answered-clause-streams : goal.returns-in_err-answered-clause-streams
 returns-in_err-answered-clause-streams g c =
@@ -47,7 +49,7 @@ returns-in_err-answered-clause-streams g c =
     let chunk : List ℕ = take c.in-Ok.length c.read.new.buf in
     let ends = ends_for (Unit {0}) _ _ e c.answer_piece-answered.new.framer.held c.loop-turn.framer.held chunk chunk c.loop-turn.invariant.limit refl c.in_err-answered.ensures.ends in
     rw (passed_on c.from_residual-in_err-answered.result e c.from_residual-in_err-answered.ensures.1)
-    (streams_part g.A.Answerer.answers c.requires.packets.more (Unit {0}) _ e _ _ _ _ _ _ _ _ _ c.loop-turn.invariant.along c.in-Ok.ensures.bytes.0 handed ends)
+    (streams_part g.A.Answerer.answers c.requires.packets.more (Unit {0}) _ e _ _ _ _ _ _ _ _ _ c.loop-turn.invariant.along c.in-Ok.ensures.bytes.0 c.in-Ok.ensures.gives handed ends)
 
 pub returns-in_err-answered-clause-ends : goal.returns-in_err-answered-clause-ends
 returns-in_err-answered-clause-ends g c =
@@ -62,7 +64,7 @@ loop-turn-preserved g c =
     let count = rw (c.loop-turn.invariant.limit) at c.in_ok-answered.ensures.counts in
     let piece : length (take c.in-Ok.length c.read.new.buf) ≤ 512 = omega (arith, c.in-Ok.ensures.bound.0, length-take c.in-Ok.length c.read.new.buf, c.read.auto.buf, c.loop-turn.invariant.size) in
     record {
-      along = along_more g.A.Answerer.answers c.requires.packets.more _ _ _ _ _ _ _ _ _ _ c.loop-turn.invariant.along c.in-Ok.ensures.bytes.0 handed ends.0 ends.1 count;
+      along = along_more g.A.Answerer.answers c.requires.packets.more _ _ _ _ _ _ _ _ _ _ c.loop-turn.invariant.along c.in-Ok.ensures.bytes.0 c.in-Ok.ensures.gives handed ends.0 ends.1 count;
       rests = c.hand_on.ensures.rests;
       size = c.read.auto.buf ∙ c.loop-turn.invariant.size;
       limit = c.in_ok-answered.ensures.kept ∙ c.loop-turn.invariant.limit;

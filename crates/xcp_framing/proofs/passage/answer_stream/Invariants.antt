@@ -1,11 +1,12 @@
 use Rattle.std.proofs.Common.{◌≡◌, ◌≤◌, ◌+◌, ◌*◌, length}
+use Rattle.xcp_framing.specs.CountedCalls.{place_of}
 use Rattle.xcp_framing.specs.private.MostPackets.{most_packets}
 use Rattle.xcp_framing.proofs.AnsweredStreamLemmas.{Along}
 use Rattle.xcp_framing.proofs.passage.answer_stream.Given as goal
 
 abbrev pub invariant-loop-turn : goal.invariant-loop-turn
 invariant-loop-turn g l = record {
-  along : Along g.A.Answerer.answers l.max_cto (g.R.Read.remaining l.fn.reader.inner) (g.R.Read.remaining l.reader.inner) l.framer.held (record { station = l.fn.station; state = l.fn.state; out = l.fn.out }) (record { station = l.station; state = l.state; out = l.out }) l.count;
+  along : Along g.A.Answerer.answers l.max_cto (place_of g.R.Read.remaining l.fn.reader) (place_of g.R.Read.remaining l.reader) l.framer.held (record { station = l.fn.station; state = l.fn.state; out = l.fn.out }) (record { station = l.station; state = l.state; out = l.out }) l.count;
   rests : g.A.Answerer.rests l.state;
   size : length l.buffer ≡ 512;
   limit : l.framer.max_cto ≡ l.max_cto;

@@ -1,8 +1,8 @@
 use Rattle.std.proofs.Common.{rules, ◌≡◌, ℕ, ◌+◌, List, [], ◌∷◌, Bool, true, false, true≢false, refl, sym, subst}
 use Rattle.xcp_locked.specs.Tasks.{Duty, Grew, closing_of, duty, event_of}
 use Rattle.xcp_bank.specs.BankEnds.{ReaderEnd}
-use Rattle.xcp_locked.specs.TaskImages.{Took}
-use Rattle.xcp_locked.specs.private.TaskSteps.{Adds, IsTold}
+use Rattle.xcp_locked.specs.TaskImages.{IsTold, Took}
+use Rattle.xcp_locked.specs.private.TaskSteps.{Adds}
 use Rattle.xcp_locked.specs.declared.receipt.Receipt.{Receipt}
 use Rattle.xcp_locked.proofs.TaskPlanLemmas.{nothing_done, event_done, all_done}
 use Rattle.xcp_locked.proofs.TaskImageLaws.{is_fresh, took_it, took_nothing, took_told}

@@ -1,6 +1,6 @@
 use Rattle.std.proofs.Common.{◌∷◌, [], ◌++◌, length, map, ap, sym, subst, arith}
 use Rattle.std.specs.List.{AllZip}
-use Rattle.xcp_server.specs.private.ConnectionOf.{IsConnectionOf}
+use Rattle.xcp_server.specs.private.ConnectionParts.{IsConnectionWithin}
 use Rattle.xcp_locked.proofs.PairedListLemmas.{turn, finish, zip_more, dealt_more}
 use Rattle.xcp_server.proofs.dealing.connect.Goals as goal
 
@@ -16,16 +16,15 @@ loop-stream-preserved g c =
     let heard = c.in-Some-next.ensures.items in
     let drained = c.in-Some-next-2.ensures.items in
     let one_heard = ap length heard in
-    let one_drained = ap length drained in
-    let Of = IsConnectionOf {N = g.row.N.Denot} {I = g.row.I.Denot} {O = g.row.O.Denot} c.args.limits.max_cto c.args.limits.turns c.args.limits.pump_turns in (
+    let one_drained = ap length drained in (
       turn at.yielded _ _ _ c.in-Some.stream was.0 steps.0,
       omega (arith, short, gone, was.1),
       omega (arith, gone, pushed, room, was.2),
-      subst (λ z. AllZip Of (at.yielded ++ c.in-Some.stream ∷ []) z) (sym c.push_reserved.ensures.items)
-          (zip_more Of at.yielded at.connections.items c.in-Some.stream _ was.3 c.in_ok-connection.ensures.is),
-      dealt_more (λ k. k.0.caller) at.connections.items _ _ c.in-Some-next.tool _ _ _ was.4 heard c.in_ok-connection.ensures.tool c.push_reserved.ensures.items,
+      subst (λ z. AllZip (IsConnectionWithin c.args.limits) (at.yielded ++ c.in-Some.stream ∷ []) z) (sym c.push_reserved.ensures.items)
+          (zip_more (IsConnectionWithin c.args.limits) at.yielded at.connections.items c.in-Some.stream _ was.3 c.in_ok-connection.ensures.is),
+      dealt_more (λ k. k.0.station.caller) at.connections.items _ _ c.in-Some-next.tool _ _ _ was.4 heard c.in_ok-connection.ensures.tool c.push_reserved.ensures.items,
       omega (arith, gone, one_heard, was.5),
-      dealt_more (λ k. k.1.caller) at.connections.items _ _ c.in-Some-next-2.pump _ _ _ was.6 drained c.in_ok-connection.ensures.pump c.push_reserved.ensures.items,
+      dealt_more (λ k. k.1.station.caller) at.connections.items _ _ c.in-Some-next-2.pump _ _ _ was.6 drained c.in_ok-connection.ensures.pump c.push_reserved.ensures.items,
       omega (arith, gone, one_drained, was.7),
       omega (arith, gone, was.8),
     )
@@ -34,11 +33,10 @@ pub returns-clause-each : goal.returns-clause-each
 returns-clause-each g c =
     let at = c.loop-stream in
     let was = at.invariant in
-    let Of = IsConnectionOf {N = g.row.N.Denot} {I = g.row.I.Denot} {O = g.row.O.Denot} c.args.limits.max_cto c.args.limits.turns c.args.limits.pump_turns in
-    subst (λ xs. AllZip Of xs at.connections.items) (finish at.yielded _ _ c.args.streams.items _ was.0 was.1 c.in-None.ensures.steps.0 c.into_iter-stream-iterator.ensures.into_iter_gives.0) was.3
+    subst (λ xs. AllZip (IsConnectionWithin c.args.limits) xs at.connections.items) (finish at.yielded _ _ c.args.streams.items _ was.0 was.1 c.in-None.ensures.steps.0 c.into_iter-stream-iterator.ensures.into_iter_gives.0) was.3
 
 pub returns-clause-tools : goal.returns-clause-tools
 returns-clause-tools g c =
     let at = c.loop-stream in
     let was = at.invariant in
-    finish (map (λ k. k.0.caller) at.connections.items) _ _ c.args.tools.items _ was.4 was.5 c.in-None.ensures.steps.0 c.into_iter-tools.ensures.rest
+    finish (map (λ k. k.0.station.caller) at.connections.items) _ _ c.args.tools.items _ was.4 was.5 c.in-None.ensures.steps.0 c.into_iter-tools.ensures.rest

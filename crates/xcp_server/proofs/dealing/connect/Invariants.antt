@@ -1,7 +1,7 @@
 use Rattle.std.specs.Prelude.{◌≡◌, ◌+◌, ◌≤◌, ◌++◌, map, length, vec_len, vec_capacity}
 use Rattle.std.specs.Vec.Iter.{into_iter_items, into_iter_len}
 use Rattle.std.specs.List.{AllZip}
-use Rattle.xcp_server.specs.private.ConnectionOf.{IsConnectionOf}
+use Rattle.xcp_server.specs.private.ConnectionParts.{IsConnectionWithin}
 use Rattle.xcp_server.proofs.dealing.connect.Given as goal
 
 abbrev pub invariant-loop-stream : goal.invariant-loop-stream
@@ -10,9 +10,9 @@ invariant-loop-stream g l =
     (l.yielded ++ into_iter_items rest ≡ into_iter_items first)
     × (into_iter_len rest ≡ length (into_iter_items rest))
     × (vec_len l.connections + into_iter_len rest ≤ vec_capacity l.connections)
-    × AllZip (IsConnectionOf l.limits.max_cto l.limits.turns l.limits.pump_turns) l.yielded l.connections.items
-    × (map (λ c. c.0.caller) l.connections.items ++ into_iter_items l.tools ≡ into_iter_items l.initial.tools)
+    × AllZip (IsConnectionWithin l.limits) l.yielded l.connections.items
+    × (map (λ c. c.0.station.caller) l.connections.items ++ into_iter_items l.tools ≡ into_iter_items l.initial.tools)
     × (into_iter_len rest ≡ length (into_iter_items l.tools))
-    × (map (λ c. c.1.caller) l.connections.items ++ into_iter_items l.pumps ≡ into_iter_items l.fn.pumps)
+    × (map (λ c. c.1.station.caller) l.connections.items ++ into_iter_items l.pumps ≡ into_iter_items l.fn.pumps)
     × (into_iter_len rest ≤ length (into_iter_items l.pumps))
     × (l.place + into_iter_len rest ≡ length l.stops)

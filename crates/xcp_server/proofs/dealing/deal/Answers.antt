@@ -60,7 +60,7 @@ returns-clause-dealt g c = record {
   fresh = c.in_ok-workers.ensures.fresh;
   numbered = c.in_ok-tasks.ensures;
   in_order =
-      in_three_turns (map (λ k. k.0.caller) c.in_ok-connections.connections.items) (map (λ w. w.caller) c.in_ok-workers.workers.items) (map (λ k. k.1.caller) c.in_ok-connections.connections.items)
+      in_three_turns (map (λ k. k.0.station.caller) c.in_ok-connections.connections.items) (map (λ w. w.caller) c.in_ok-workers.workers.items) (map (λ k. k.1.station.caller) c.in_ok-connections.connections.items)
       (into_iter_items c.connect.new.pumps) (into_iter_items c.next_callers.new.callers) (into_iter_items c.employ.new.callers) (into_iter_items c.into_iter-spare.result) c.args.callers.items
       (ap (λ z. z ++ into_iter_items c.next_callers.new.callers) c.in_ok-connections.ensures.tools ∙ c.in_ok-tools.ensures.dealt) c.in_ok-workers.ensures.dealt c.in_ok-connections.ensures.dealt c.into_iter-spare.ensures.rest;
   readers_in_order = search rules;

@@ -2,12 +2,12 @@ use Rattle.std.proofs.Common.{rules, ◌≡◌, length, map, vec_len, ap, subst,
 use Rattle.std.specs.Prelude.{Option}
 use Rattle.xcp_locked.specs.Excerpts.{Way, cuts_at_stores}
 use Rattle.std.specs.Vec.Iter.{into_iter_items}
-use Rattle.xcp_server.specs.private.ConnectionParts.{IsClosingOf}
+use Rattle.xcp_server.specs.private.ConnectionParts.{CameOfTools, IsEndOf}
 use Rattle.xcp_server.specs.private.DealtCallers.{Dealt}
 use Rattle.xcp_locked.specs.TaskOutcome.{DoneAs}
-use Rattle.xcp_server.specs.ServerOutcome.{CameOf}
 use Rattle.std.proofs.lemmas.Slice.Zip.{AllZip-long}
-use Rattle.xcp_server.proofs.ServerOutcomeLemmas.{all_come_back, all_served, all_there, all_worked, as_many_connections, as_many_pumps, as_many_readers, as_many_tasks, as_many_tools, back_in_order, one_outlet_each, room_for_fewer}
+use Rattle.xcp_server.proofs.ServerOutcomeLemmas.{all_come_back, all_served, all_there, all_worked, as_many_connections, as_many_pumps, as_many_readers, as_many_tasks, as_many_tools, back_in_order, room_for_fewer}
+use Rattle.xcp_server.proofs.ConnectionOutcomeLemmas.{one_outlet_each}
 use Rattle.xcp_server.specs.private.WrittenChapters.{relay_to}
 use Rattle.xcp_server.proofs.CommandCountLemmas.{ends_session}
 use Rattle.xcp_server.proofs.WrittenChapterLemmas.{first_way_of, way_back}
@@ -17,23 +17,23 @@ pub close_each-closed-requires-clause-room : goal.close_each-closed-requires-cla
 close_each-closed-requires-clause-room g c =
     let streams : vec_len c.args.ready.streams ≡ length c.args.ready.streams.items = search rules in
     let parted : vec_len c.in_ok-parted.parted ≡ length c.in_ok-parted.parted.items = search rules in
-    let all = AllZip-long (CameOf g.I.Read.remaining g.O.Write.contents) c.in_ok-connections.field-0.connections.items c.in_ok-parted.parted.items c.in_ok-parted.ensures.parted in
-    let connected = as_many_connections _ _ _ _ _ _ _ _ _ _ c.in_ok-connections.ensures.dealt in
+    let all = AllZip-long (CameOfTools g.I.Read.remaining g.O.Write.contents) c.in_ok-connections.field-0.connections.items c.in_ok-parted.parted.items c.in_ok-parted.ensures.parted in
+    let connected = as_many_connections _ _ _ _ _ _ _ _ c.in_ok-connections.ensures.dealt in
     let room = c.requires.ready.rooms.for_closed in
     (c.requires.ready.rooms.none_closed, omega (arith, streams, parted, all, connected, room))
 
 pub close_each-closed-requires-clause-one : goal.close_each-closed-requires-clause-one
 close_each-closed-requires-clause-one g c =
     let deal = c.in_ok-connections.ensures.dealt in
-    one_outlet_each g.I.Read.remaining g.O.Write.contents _ _ _ c.args.ready.streams.items c.in_ok-connections.field-0.connections.items c.in_ok-parted.parted.items deal.connections c.in_ok-parted.ensures.parted
+    one_outlet_each g.I.Read.remaining g.O.Write.contents c.args.limits c.args.ready.streams.items c.in_ok-connections.field-0.connections.items c.in_ok-parted.parted.items deal.connections c.in_ok-parted.ensures.parted
 
 pub close_all-closing-requires-clause-some : goal.close_all-closing-requires-clause-some
 close_all-closing-requires-clause-some g c =
     let streams : vec_len c.args.ready.streams ≡ length c.args.ready.streams.items = search rules in
     let closed : vec_len c.close_each-closed.result ≡ length c.close_each-closed.result.items = search rules in
-    let put = AllZip-long IsClosingOf c.in_ok-parted.parted.items c.close_each-closed.result.items c.close_each-closed.ensures in
-    let all = AllZip-long (CameOf g.I.Read.remaining g.O.Write.contents) c.in_ok-connections.field-0.connections.items c.in_ok-parted.parted.items c.in_ok-parted.ensures.parted in
-    let connected = as_many_connections _ _ _ _ _ _ _ _ _ _ c.in_ok-connections.ensures.dealt in
+    let put = AllZip-long IsEndOf c.in_ok-parted.parted.items c.close_each-closed.result.items c.close_each-closed.ensures in
+    let all = AllZip-long (CameOfTools g.I.Read.remaining g.O.Write.contents) c.in_ok-connections.field-0.connections.items c.in_ok-parted.parted.items c.in_ok-parted.ensures.parted in
+    let connected = as_many_connections _ _ _ _ _ _ _ _ c.in_ok-connections.ensures.dealt in
     let some = c.requires.some in
     omega (arith, streams, closed, put, all, connected, some)
 
@@ -44,11 +44,11 @@ close_all-closing-requires-clause-ended g c =
     let closed : vec_len c.close_each-closed.result ≡ length c.close_each-closed.result.items = search rules in
     let done : vec_len c.in_ok-parted.done ≡ length c.in_ok-parted.done.items = search rules in
     let d = c.in_ok-connections.field-0 in
-    let put = AllZip-long IsClosingOf c.in_ok-parted.parted.items c.close_each-closed.result.items c.close_each-closed.ensures in
-    let all = AllZip-long (CameOf g.I.Read.remaining g.O.Write.contents) d.connections.items c.in_ok-parted.parted.items c.in_ok-parted.ensures.parted in
+    let put = AllZip-long IsEndOf c.in_ok-parted.parted.items c.close_each-closed.result.items c.close_each-closed.ensures in
+    let all = AllZip-long (CameOfTools g.I.Read.remaining g.O.Write.contents) d.connections.items c.in_ok-parted.parted.items c.in_ok-parted.ensures.parted in
     let tasks = AllZip-long (DoneAs g.N.Name.layout g.G.Gate.may_end) d.tasks.items c.in_ok-parted.done.items c.in_ok-parted.ensures.worked in
-    let connected = as_many_connections _ _ _ _ _ _ _ _ _ _ c.in_ok-connections.ensures.dealt in
-    let there = all_there _ _ _ _ _ _ _ _ _ _ c.in_ok-connections.ensures.dealt c.close_each-closed.result.items c.in_ok-parted.done.items (put ∙ all) tasks in
+    let connected = as_many_connections _ _ _ _ _ _ _ _ c.in_ok-connections.ensures.dealt in
+    let there = all_there _ _ _ _ _ _ _ _ c.in_ok-connections.ensures.dealt c.close_each-closed.result.items c.in_ok-parted.done.items (put ∙ all) tasks in
     room_for_fewer _ _ _ _ c.args.ready.rooms.ended (omega (arith, callers, closed, done, there)) (omega (arith, streams, closed, put, all, connected)) c.requires.ready.rooms.for_ended
 
 pub close_all-closing-requires-clause-workers : goal.close_all-closing-requires-clause-workers
@@ -56,7 +56,7 @@ close_all-closing-requires-clause-workers g c =
     let done : vec_len c.in_ok-parted.done ≡ length c.in_ok-parted.done.items = search rules in
     let d = c.in_ok-connections.field-0 in
     let tasks = AllZip-long (DoneAs g.N.Name.layout g.G.Gate.may_end) d.tasks.items c.in_ok-parted.done.items c.in_ok-parted.ensures.worked in
-    let hired = as_many_tasks _ _ _ _ _ _ _ _ _ _ c.in_ok-connections.ensures.dealt in
+    let hired = as_many_tasks _ _ _ _ _ _ _ _ c.in_ok-connections.ensures.dealt in
     let room = c.requires.ready.rooms.for_workers in
     (c.requires.ready.rooms.no_worker, omega (arith, done, tasks, hired, room))
 
@@ -65,17 +65,15 @@ close_all-closing-requires-clause-readers g c =
     let done : vec_len c.in_ok-parted.done ≡ length c.in_ok-parted.done.items = search rules in
     let d = c.in_ok-connections.field-0 in
     let tasks = AllZip-long (DoneAs g.N.Name.layout g.G.Gate.may_end) d.tasks.items c.in_ok-parted.done.items c.in_ok-parted.ensures.worked in
-    let hired = as_many_tasks _ _ _ _ _ _ _ _ _ _ c.in_ok-connections.ensures.dealt in
-    let lent = as_many_readers _ _ _ _ _ _ _ _ _ _ c.in_ok-connections.ensures.dealt in
+    let hired = as_many_tasks _ _ _ _ _ _ _ _ c.in_ok-connections.ensures.dealt in
+    let lent = as_many_readers _ _ _ _ _ _ _ _ c.in_ok-connections.ensures.dealt in
     let readers = c.args.ready.readers.ok.0 in
     let room = c.requires.ready.rooms.for_readers in
     (c.requires.ready.rooms.no_reader, omega (arith, done, tasks, hired, lent, readers, room))
 
 pub returns-clause-closes : goal.returns-clause-closes
 returns-clause-closes g c =
-    let m = c.args.limits.max_cto in
-    let turns = c.args.limits.turns in
-    let pumps = c.args.limits.pump_turns in
+    let limits = c.args.limits in
     let opened = c.args.ready.callers.items in
     let streams = c.args.ready.streams.items in
     let readers = c.args.ready.readers.items in
@@ -84,12 +82,12 @@ returns-clause-closes g c =
     let closed = c.close_each-closed.result.items in
     let done = c.in_ok-parted.done.items in
     let came = c.in_ok-parted.ensures in
-    let deal : Dealt m turns pumps c.args.cycles c.args.chapter c.args.tasks opened readers streams d = c.in_ok-connections.ensures.dealt in
+    let deal : Dealt limits c.args.cycles c.args.chapter c.args.tasks opened readers streams d = c.in_ok-connections.ensures.dealt in
     record {
-      tools = map (λ k. k.0.caller) d.connections.items;
-      connected = as_many_tools m turns pumps c.args.cycles c.args.chapter c.args.tasks opened readers streams d deal;
-      pumps = map (λ k. k.1.caller) d.connections.items;
-      drained = as_many_pumps m turns pumps c.args.cycles c.args.chapter c.args.tasks opened readers streams d deal;
+      tools = map (λ k. k.0.station.caller) d.connections.items;
+      connected = as_many_tools limits c.args.cycles c.args.chapter c.args.tasks opened readers streams d deal;
+      pumps = map (λ k. k.1.station.caller) d.connections.items;
+      drained = as_many_pumps limits c.args.cycles c.args.chapter c.args.tasks opened readers streams d deal;
       spare = into_iter_items d.spare;
       workers = deal.workers;
       hired = deal.hired;
@@ -97,11 +95,11 @@ returns-clause-closes g c =
       stores = λ some. subst (λ (w : Option Way). cuts_at_stores w ≡ c.args.each_store) (sym c.in_ok-connections.ensures.way ∙ first_way_of c.args.cycles c.args.chapter 0 deal.workers d.tasks.items deal.numbered) (c.requires.ready.stores some);
       dealt = deal.in_order;
       closed = closed;
-      served = all_served m turns pumps c.args.cycles c.args.chapter c.args.tasks opened readers streams d deal g.I.Read.remaining g.O.Write.contents parted closed came.parted c.close_each-closed.ensures;
+      served = all_served limits c.args.cycles c.args.chapter c.args.tasks opened readers streams d deal c.requires.once g.I.Read.remaining g.O.Write.contents parted closed came.parted c.close_each-closed.ensures;
       outcomes_are = c.close_all-closing.ensures.back.outcomes_are;
       left_is = c.close_all-closing.ensures.back.left_is;
       done = done;
-      worked = all_worked m turns pumps c.args.cycles c.args.chapter c.args.tasks opened readers streams d deal g.N.Name.layout g.G.Gate.may_end done came.worked;
+      worked = all_worked limits c.args.cycles c.args.chapter c.args.tasks opened readers streams d deal g.N.Name.layout g.G.Gate.may_end done came.worked;
       hung_up = c.close_all-closing.ensures.hung_up;
       chapters_are = c.close_all-closing.ensures.cut.chapters_are;
       unused = into_iter_items d.unused;
@@ -114,10 +112,10 @@ returns-clause-leaves g c =
     let back : vec_len c.close_all-closing.result.0.callers ≡ length c.close_all-closing.result.0.callers.items = search rules in
     let given : length c.args.ready.callers.items ≡ vec_len c.args.ready.callers = search rules in
     let d = c.in_ok-connections.field-0 in
-    let put = AllZip-long IsClosingOf c.in_ok-parted.parted.items c.close_each-closed.result.items c.close_each-closed.ensures in
-    let all = AllZip-long (CameOf g.I.Read.remaining g.O.Write.contents) d.connections.items c.in_ok-parted.parted.items c.in_ok-parted.ensures.parted in
+    let put = AllZip-long IsEndOf c.in_ok-parted.parted.items c.close_each-closed.result.items c.close_each-closed.ensures in
+    let all = AllZip-long (CameOfTools g.I.Read.remaining g.O.Write.contents) d.connections.items c.in_ok-parted.parted.items c.in_ok-parted.ensures.parted in
     let tasks = AllZip-long (DoneAs g.N.Name.layout g.G.Gate.may_end) d.tasks.items c.in_ok-parted.done.items c.in_ok-parted.ensures.worked in
-    let there = back_in_order _ _ _ _ _ _ _ _ _ _ c.in_ok-connections.ensures.dealt c.close_each-closed.result.items c.in_ok-parted.done.items (put ∙ all) tasks in
+    let there = back_in_order _ _ _ _ _ _ _ _ c.in_ok-connections.ensures.dealt c.close_each-closed.result.items c.in_ok-parted.done.items (put ∙ all) tasks in
     record {
       callers = back ∙ (all_come_back _ _ _ _ _ _ c.close_all-closing.ensures.hung_up ∙ (there ∙ given));
       hangup = ends_session _ _ _ _ _ _ c.close_all-closing.ensures.hung_up;

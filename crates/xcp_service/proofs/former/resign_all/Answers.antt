@@ -1,5 +1,7 @@
-use Rattle.std.proofs.Common.{◌≡◌, ◌∙◌, ◌++◌, ◌∷◌, [], List, ap, sym, subst, arith}
+use Rattle.std.proofs.Common.{◌≡◌, ◌∙◌, ◌++◌, ◌∷◌, [], List, length, ap, sym, subst, arith}
 use Rattle.std.specs.List.{AllByRecursion}
+use Rattle.std.specs.Vec.Iter.{into_iter_items}
+use Rattle.xcp_locked.proofs.PairedListLemmas.{finish, turn}
 use Rattle.xcp_locked.specs.Caller.{CallerValue}
 use Rattle.xcp_service.specs.Keeping.{KeeperValue}
 use Rattle.xcp_service.specs.Parcels.{AreNumbered, IsHandedOver}
@@ -22,4 +24,11 @@ loop-member-preserved g c =
           (subst (λ (k : KeeperValue). AllByRecursion (IsHandedOver k) at.all.items) (sym same) at.invariant.1)
           (c.in-Some-resign.ensures.handed)),
       same ∙ at.invariant.2,
+      subst (λ (l : List CallerValue). l ++ into_iter_items c.next.new.self ≡ into_iter_items c.into_iter-member-iterator.result) (sym items) (turn at.all.items _ _ _ former at.invariant.3 (c.in-Some.ensures.steps.0 ∙ ap (λ (x : CallerValue). x ∷ into_iter_items c.next.new.self) (sym c.in-Some-resign.ensures.former))),
+      omega (arith, ap length c.in-Some.ensures.steps.0, c.in-Some.ensures.steps.1, at.invariant.4),
     )
+
+pub returns-clause-members : goal.returns-clause-members
+returns-clause-members g c =
+    let at = c.loop-member in
+    finish at.all.items _ _ c.args.members.items _ at.invariant.3 at.invariant.4 c.in-None.ensures.steps.0 c.into_iter-member-iterator.ensures.into_iter_gives.0

@@ -1,7 +1,12 @@
-use Rattle.std.specs.Prelude.{◌≡◌}
+use Rattle.std.specs.Prelude.{◌≡◌, ◌++◌, length}
 use Rattle.std.specs.List.{AllByRecursion}
+use Rattle.std.specs.Vec.Iter.{into_iter_items, into_iter_len}
 use Rattle.xcp_service.specs.Parcels.{AreNumbered, IsHandedOver}
 use Rattle.xcp_service.proofs.former.resign_all.Given as goal
 
 abbrev pub invariant-loop-member : goal.invariant-loop-member
-invariant-loop-member g l = AreNumbered 0 l.all.items × AllByRecursion (IsHandedOver l.collector) l.all.items × (l.collector ≡ l.initial.collector)
+invariant-loop-member g l =
+    let rest = l.member-iterator in let first = l.initial.member-iterator in
+    AreNumbered 0 l.all.items × AllByRecursion (IsHandedOver l.collector) l.all.items × (l.collector ≡ l.initial.collector)
+    × (l.all.items ++ into_iter_items rest ≡ into_iter_items first)
+    × (into_iter_len rest ≡ length (into_iter_items rest))

@@ -9,4 +9,5 @@ invariant_of-self g c =
       c.self.invariant.0,
       subst (λ (ws : List WaitingValue). AreKept k.chapters.list k.sheaves.list ws) (sym c.drop_settled.ensures) (kept_dropped k.chapters.list k.sheaves.list k.waiting.items c.self.invariant.1),
       c.self.invariant.2,
+      c.self.invariant.3,
     )

@@ -8,6 +8,7 @@ use Rattle.xcp_service.specs.Keeping.{KeeperValue}
 use Rattle.xcp_service.specs.private.Waiting.{AreKept, WaitingValue}
 use Rattle.xcp_service.proofs.JoinedMoreLemmas.{count_of, joined_more}
 use Rattle.xcp_service.proofs.KeepingLemmas.{kept_chapter}
+use Rattle.xcp_service.proofs.LosingLemmas.{lost_more}
 use Rattle.xcp_service.proofs.keeper.Keeper.join.Goals as goal
 
 some_is_there : {X : Type 0} (x : X) → Some x ≡ None → ⊥
@@ -32,4 +33,5 @@ invariant_of-self-2 g c =
           (subst (λ (v : SlaveValue). AreJoined g.N.Name.layout (k.chapters.list ++ chapter ∷ []) (k.number + 1) (k.before + length chapter.entries) v) (sym (c.in-Ok.ensures {u = tt})) joined)),
       subst (λ (cs : List ChapterValue). AreKept cs k.sheaves.list c.push_reserved-2.new.self.items) chapters (subst (λ (ws : List WaitingValue). AreKept (k.chapters.list ++ chapter ∷ []) k.sheaves.list ws) items kept),
       λ e. absurd (some_is_there _ e),
+      c.saturating_add.ensures ∙ lost_more k.chapters.list chapter k.lost c.count_lost-more.result c.push_reserved.new.self.list c.self.invariant.3 c.count_lost-more.ensures (sym chapters),
     )

@@ -33,6 +33,7 @@ invariant_of-self-2 g c =
       c.self.invariant.0,
       subst (λ (ws : List WaitingValue). AreKept k.chapters.list c.push_reserved.new.self.list ws) (sym marked_all) (subst (λ (l : List SheafValue). AreKept k.chapters.list l (map (marked s.caller s.until) k.waiting.items)) sheaves kept),
       c.self.invariant.2,
+      c.self.invariant.3,
     )
 
 pub returns-clause-waiting : goal.returns-clause-waiting

@@ -1,0 +1,42 @@
+use Rattle.std.proofs.Common.{◌≡◌, ◌++◌, ◌∷◌, [], Bool, true, false, MatchBool, length, ap, refl, subst, sym, ◌∙◌}
+use Rattle.xcp_slave.specs.AnswerInBytes.{answer_in}
+use Rattle.xcp_slave.specs.AskedRequest.{request_asked}
+use Rattle.xcp_locked.specs.Caller.{accepting}
+use Rattle.xcp_locked.specs.Journal.{entry, exchanges}
+use Rattle.xcp_locked.specs.PublishingCalls.{AreImagesFrom}
+use Rattle.xcp_locked.specs.Receipts.{receipt}
+use Rattle.xcp_service.specs.Residents.{ResidentValue, with_a_cut}
+use Rattle.xcp_service.proofs.calling.call.Goals as goal
+use Rattle.xcp_service.proofs.calling.call.Goals.{then-ends_chapter, else-ends_chapter}
+
+-- a cut publishes nothing
+kept : (b : Bool) (old new : ResidentValue) → MatchBool b (new ≡ with_a_cut old) (new ≡ old) → new.locked.writer.publications ≡ old.locked.writer.publications
+kept true old new h = ap (λ r. r.locked.writer.publications) h
+kept false old new h = ap (λ r. r.locked.writer.publications) h
+
+pub returns-clause-member : goal.returns-clause-member
+returns-clause-member g c =
+    let begun = c.hand_over.new.resident in
+    let done = c.submit.new.resident in
+    let request = request_asked c.args.asked in
+    let answer = answer_in c.in_ok-told.told c.submit.new.packet in
+    let same = c.hand_over.ensures.0 in
+    let published : c.if-ends_chapter.resident.locked.writer.publications ≡ done.locked.writer.publications = elim c.if-ends_chapter.branch [
+      | then-ends_chapter w ↦ ap (λ r. r.locked.writer.publications) w.resident-is ∙ kept w.cut-then-ends_chapter.result done w.cut-then-ends_chapter.new.self w.cut-then-ends_chapter.ensures
+      | else-ends_chapter w ↦ ap (λ r. r.locked.writer.publications) w.resident-is
+    ] in
+    let journal = subst (λ m. done.locked.journal ≡ begun.locked.journal ++ entry m.number request answer ∷ []) same c.in_ok-told.ensures.journal in
+    let images = subst (λ j. AreImagesFrom done.locked.first done.locked.base (exchanges j) done.locked.writer.publications) journal c.audit.ensures.images in (
+      begun.locked.chapter,
+      length begun.locked.journal,
+      subst (λ m. c.submit.new.self ≡ accepting m (receipt begun.locked.chapter (length begun.locked.journal) request answer)) same c.in_ok-told.ensures.caller,
+      record {
+        before = done.locked.before;
+        base = done.locked.base;
+        reached = c.audit.ensures.reached;
+        earlier = begun.locked.journal;
+        place = refl;
+        first = done.locked.first;
+        images = subst (λ ps. AreImagesFrom done.locked.first done.locked.base (exchanges (begun.locked.journal ++ entry c.args.member.now.number request answer ∷ [])) ps) (sym published) images;
+      },
+    )

@@ -1,0 +1,10 @@
+use Rattle.std.specs.Prelude.{◌≡◌, ◌+◌, ◌≤◌, length, vec_len, vec_capacity}
+use Rattle.std.specs.Vec.Iter.{into_iter_items}
+use Rattle.xcp_stay.proofs.dealing.make_seats.Given as goal
+
+abbrev pub invariant-loop-number : goal.invariant-loop-number
+invariant-loop-number g l =
+    (vec_len l.seats ≡ l.number)
+    × (l.plan.tools ≤ vec_capacity l.seats)
+    × (l.plan.tools ≡ l.number + length (into_iter_items l.tools))
+    × (l.plan.tools ≡ l.number + length (into_iter_items l.pumps))

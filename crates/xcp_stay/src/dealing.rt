@@ -1,0 +1,180 @@
+//! Members and readers are dealt to seats and tasks.
+ghost use Rattle.std.specs.Prelude.{◌≡◌, ◌≤◌, ◌+◌, ◌++◌, IfOk, length, vec_len};
+ghost use Rattle.std.specs.Vec.Iter.{into_iter_items};
+
+use crate::ending::StayError;
+use crate::staying::Plan;
+use std::alloc::{AllocError, Global};
+use std::net::TcpListener;
+use std::vec::IntoIter;
+use xcp_locked::{Name, Reader};
+use xcp_scribe::Scribe;
+use xcp_seats::{Door, Hall, Halt, Pace, Place, Seat, Ticker};
+use xcp_service::{Collector, Member, Route, Shared};
+
+/// What the seats of a server share.
+#[derive(Drop)]
+pub(crate) struct Common<'a, N: Name, M: Route, W, R> {
+    pub rt: &'a R,
+    pub shared: &'a Shared<N, M>,
+    pub doors: &'a [Door],
+    pub hall: &'a Hall,
+    pub halt: &'a Halt,
+    pub watcher: &'a W,
+}
+
+/// Who serves: the members of the seats, for their tools and for their pumps, those of the tasks, with all readers, and a keeper.
+#[derive(Drop)]
+pub(crate) struct Crew<N: Name, M: Route, S: Scribe> {
+    pub tools: Vec<Member<N, M>>,
+    pub hired: Vec<Member<N, M>>,
+    pub pumps: Vec<Member<N, M>>,
+    pub readers: Vec<Reader<N>>,
+    pub collector: Collector<N, M, S>,
+}
+
+/// A door for each seat.
+pub(crate) fn make_doors(alloc: Global, count: u8) -> Result<Vec<Door>, AllocError>
+    ensures { IfOk result (λ ds. vec_len ds ≡ count) }
+{
+    let mut doors = Vec::with_capacity(alloc, count as usize)?;
+    for _one in 0..count {
+        doors.push_reserved(Door::new());
+    }
+    Ok(doors)
+}
+
+/// Deals members out: the first to the seats, for their tools, the next to so many tasks, and the next to the seats, for their pumps.
+pub(crate) fn deal<N: Name, M: Route, S: Scribe>(
+    alloc: Global,
+    members: Vec<Member<N, M>>,
+    readers: [Reader<N>; 6],
+    collector: Collector<N, M, S>,
+    plan: Plan,
+) -> Result<Crew<N, M, S>, AllocError>
+    requires callers { plan.tools + plan.tools + plan.tasks ≤ length members.items }
+    ensures tools { IfOk result (λ c. vec_len c.tools ≡ plan.tools) }
+    ensures hired { IfOk result (λ c. vec_len c.hired ≡ plan.tasks) }
+    ensures pumps { IfOk result (λ c. vec_len c.pumps ≡ plan.tools) }
+    ensures readers { IfOk result (λ c. vec_len c.readers ≡ 6) }
+{
+    let Ok(readers) = Vec::from_array(alloc, readers) else {
+        return Err(AllocError);
+    };
+    let mut members = members.into_iter();
+    let tools = next_members(alloc, &mut members, plan.tools as usize)?;
+    let hired = next_members(alloc, &mut members, plan.tasks as usize)?;
+    let pumps = next_members(alloc, &mut members, plan.tools as usize)?;
+    Ok(Crew {
+        tools,
+        hired,
+        pumps,
+        readers,
+        collector,
+    })
+}
+
+/// So many of the next members.
+fn next_members<N: Name, M: Route>(
+    alloc: Global,
+    members: &mut IntoIter<Member<N, M>>,
+    count: usize,
+) -> Result<Vec<Member<N, M>>, AllocError>
+    requires { count ≤ length (into_iter_items members.old) }
+    ensures count { IfOk result (λ ms. vec_len ms ≡ count) }
+    ensures dealt { IfOk result (λ ms. ms.items ++ into_iter_items members.new ≡ into_iter_items members.old) }
+{
+    let mut taken = Vec::with_capacity(alloc, count)?;
+    for _one in 0..count {
+        let Some(member) = members.next() else {
+            unreachable!()
+        };
+        taken.push_reserved(member);
+    }
+    Ok(taken)
+}
+
+/// A seat behind each door, with a member for its tools and one for their pumps.
+pub(crate) fn make_seats<'a, N: Name, M: Route, W, R>(
+    alloc: Global,
+    common: &Common<'a, N, M, W, R>,
+    listener: &TcpListener,
+    tools: Vec<Member<N, M>>,
+    pumps: Vec<Member<N, M>>,
+    max_cto: u8,
+    plan: Plan,
+) -> Result<Vec<Seat<'a, N, M, W, R>>, StayError>
+    requires doors { length common.now.doors.now ≡ plan.tools }
+    requires tools { vec_len tools ≡ plan.tools }
+    requires pumps { vec_len pumps ≡ plan.tools }
+{
+    let mut seats = Vec::with_capacity(alloc, plan.tools as usize)?;
+    let mut tools = tools.into_iter();
+    let mut pumps = pumps.into_iter();
+    for number in 0..plan.tools {
+        let Ok(listener) = listener.try_clone() else {
+            return Err(StayError::Listener);
+        };
+        let Some(tool) = tools.next() else {
+            unreachable!()
+        };
+        let Some(pump) = pumps.next() else {
+            unreachable!()
+        };
+        let place = Place {
+            number,
+            max_cto,
+            patience: plan.patience,
+            door: &common.doors[number as usize],
+            halt: common.halt,
+            hall: common.hall,
+            watcher: common.watcher,
+        };
+        seats.push_reserved(Seat {
+            rt: common.rt,
+            shared: common.shared,
+            alloc,
+            listener,
+            tool,
+            pump,
+            place,
+        });
+    }
+    Ok(seats)
+}
+
+/// So many tasks, numbered from 0, with these members and the first of these readers.
+pub(crate) fn make_tickers<'a, N: Name, M: Route, R>(
+    alloc: Global,
+    shared: &'a Shared<N, M>,
+    halt: &'a Halt,
+    pace: &'a Pace<'a, R>,
+    members: Vec<Member<N, M>>,
+    readers: Vec<Reader<N>>,
+    tasks: u8,
+) -> Result<Vec<Ticker<'a, N, M, R>>, AllocError>
+    requires members { vec_len members ≡ tasks }
+    requires readers { tasks ≤ vec_len readers }
+{
+    let mut tickers = Vec::with_capacity(alloc, tasks as usize)?;
+    let mut members = members.into_iter();
+    let mut readers = readers.into_iter();
+    for task in 0..tasks {
+        let Some(member) = members.next() else {
+            unreachable!()
+        };
+        let Some(reader) = readers.next() else {
+            unreachable!()
+        };
+        tickers.push_reserved(Ticker {
+            shared,
+            alloc,
+            task,
+            member,
+            reader,
+            pace,
+            halt,
+        });
+    }
+    Ok(tickers)
+}
