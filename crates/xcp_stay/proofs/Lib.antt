@@ -1,3 +1,4 @@
 pub mod CountLemmas
 pub mod CrossingLemmas
 pub mod KeptLemmas
+pub mod TeamLemmas

@@ -1,6 +1,7 @@
 //! Members and readers are dealt to seats and tasks.
-ghost use Rattle.std.specs.Prelude.{◌≡◌, ◌≤◌, ◌+◌, ◌++◌, IfOk, length, vec_len};
+ghost use Rattle.std.specs.Prelude.{◌≡◌, ◌≤◌, ◌+◌, ◌++◌, All, IfOk, List, length, map, vec_len};
 ghost use Rattle.std.specs.Vec.Iter.{into_iter_items};
+ghost use Rattle.xcp_stay.specs.Team.{TasksFrom};
 
 use crate::ending::StayError;
 use crate::staying::Plan;
@@ -57,6 +58,9 @@ pub(crate) fn deal<N: Name, M: Route, S: Scribe>(
     ensures hired { IfOk result (λ c. vec_len c.hired ≡ plan.tasks) }
     ensures pumps { IfOk result (λ c. vec_len c.pumps ≡ plan.tools) }
     ensures readers { IfOk result (λ c. vec_len c.readers ≡ 6) }
+    ensures members { IfOk result (λ c. (spare : List _)
+        × (members.items ≡ c.tools.items ++ (c.hired.items ++ (c.pumps.items ++ spare)))) }
+    ensures all_readers { IfOk result (λ c. c.readers.items ≡ readers) }
 {
     let Ok(readers) = Vec::from_array(alloc, readers) else {
         return Err(AllocError);
@@ -107,6 +111,9 @@ pub(crate) fn make_seats<'a, N: Name, M: Route, W, R>(
     requires doors { length common.now.doors.now ≡ plan.tools }
     requires tools { vec_len tools ≡ plan.tools }
     requires pumps { vec_len pumps ≡ plan.tools }
+    ensures tools { IfOk result (λ ss. map (λ s. s.tool) ss.items ≡ tools.items) }
+    ensures pumps { IfOk result (λ ss. map (λ s. s.pump) ss.items ≡ pumps.items) }
+    ensures limit { IfOk result (λ ss. All (λ s. s.max_cto ≡ max_cto) ss.items) }
 {
     let mut seats = Vec::with_capacity(alloc, plan.tools as usize)?;
     let mut tools = tools.into_iter();
@@ -155,6 +162,9 @@ pub(crate) fn make_tickers<'a, N: Name, M: Route, R>(
 ) -> Result<Vec<Ticker<'a, N, M, R>>, AllocError>
     requires members { vec_len members ≡ tasks }
     requires readers { tasks ≤ vec_len readers }
+    ensures members { IfOk result (λ ts. map (λ t. t.caller) ts.items ≡ members.items) }
+    ensures readers { IfOk result (λ ts. (unused : List _) × (map (λ t. t.reader) ts.items ++ unused ≡ readers.items)) }
+    ensures numbered { IfOk result (λ ts. TasksFrom 0 ts.items) }
 {
     let mut tickers = Vec::with_capacity(alloc, tasks as usize)?;
     let mut members = members.into_iter();

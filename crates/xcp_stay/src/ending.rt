@@ -1,5 +1,5 @@
 //! How a server that stays ends.
-ghost use Rattle.std.specs.Prelude.{◌≡◌, [], IfOk, true};
+ghost use Rattle.std.specs.Prelude.{◌≡◌, ◌++◌, [], IfOk, map, true};
 ghost use Rattle.xcp_stay.specs.Stay.{LeavesKept};
 
 use crate::running::Ended;
@@ -63,7 +63,10 @@ fn gather<N: Name, M: Route>(
     alloc: Global,
     left: Vec<Left<N, M>>,
     rested: Vec<Rested<N, M>>,
-) -> Result<Vec<Member<N, M>>, AllocError> {
+) -> Result<Vec<Member<N, M>>, AllocError>
+    ensures { IfOk result (λ ms. ms.items ≡ map (λ l. l.tool) left.items
+        ++ (map (λ r. r.member) rested.items ++ map (λ l. l.pump) left.items)) }
+{
     let mut members = Vec::new(alloc);
     let mut pumps = Vec::new(alloc);
     for Left { tool, pump } in left {
@@ -87,7 +90,8 @@ fn hand_all_over<N: Name, M: Route, R: Wait>(
     post: &Post<N, M>,
     members: &mut [Member<N, M>],
 )
-    ensures { resident.new ≡ resident.old }
+    ensures resident { resident.new ≡ resident.old }
+    ensures members { members.new ≡ members.old }
 {
     for member in members.iter_mut() {
         member.hand_rest_over(rt, alloc, resident, post);
@@ -102,8 +106,9 @@ fn close<N: Name, M: Route, R: Wait>(
     post: &Post<N, M>,
     members: &mut [Member<N, M>],
 ) -> bool
-    ensures { result ≡ true → (resident.new.locked.journal ≡ [])
+    ensures closed { result ≡ true → (resident.new.locked.journal ≡ [])
         × (resident.new.locked.base ≡ resident.new.locked.slave) }
+    ensures members { members.new ≡ members.old }
 {
     if !resident.cut(rt, alloc, post) {
         return false;
@@ -145,7 +150,8 @@ fn take_rest<N: Name, M: Route, S: Scribe, R: Wait>(
     collector: Collector<N, M, S>,
     members: &mut [Member<N, M>],
 ) -> Result<(Locked<N>, Collector<N, M, S>), StayError>
-    ensures { IfOk result (λ r. (r.0.journal ≡ []) × (r.0.base ≡ r.0.slave)) }
+    ensures closed { IfOk result (λ r. (r.0.journal ≡ []) × (r.0.base ≡ r.0.slave)) }
+    ensures members { members.new ≡ members.old }
 {
     let mut resident = resident;
     if close(rt, alloc, &mut resident, post, members) {
@@ -199,6 +205,7 @@ fn settle<N: Name, M: Route, S: Scribe>(
     requires closed { (locked.journal ≡ []) × (locked.base ≡ locked.slave) }
     ensures leaves { IfOk result (λ s. LeavesKept N.layout count (S.wrote s.scribe)
         s.keeper s.locked s.members.items) }
+    ensures former { IfOk result (λ s. s.members.items ≡ members.items) }
 {
     let Resigned {
         keeper,

@@ -1,6 +1,8 @@
 //! All that a server does at the same time.
-ghost use Rattle.std.specs.Prelude.{◌≡◌, ◌≤◌, length, vec_capacity, vec_len};
+ghost use Rattle.std.specs.Prelude.{◌≡◌, ◌≤◌, IfOk, length, map, true, vec_capacity, vec_len};
 ghost use Rattle.std.specs.List.{AllZip};
+ghost use Rattle.xcp_seats.specs.Seating.{pair};
+ghost use Rattle.xcp_stay.specs.Team.{SeatsServed, TasksServed};
 
 use crate::dealing::{Common, Crew, make_seats, make_tickers};
 use crate::ending::StayError;
@@ -57,6 +59,9 @@ pub(crate) fn run<
     requires hired { vec_len crew.hired ≡ plan.tasks }
     requires pumps { vec_len crew.pumps ≡ plan.tools }
     requires readers { plan.tasks ≤ vec_len crew.readers }
+    ensures seats { IfOk result (λ e. SeatsServed max_cto crew.tools.items crew.pumps.items
+        (map (λ l. pair l.tool l.pump) e.left.items)) }
+    ensures tasks { IfOk result (λ e. TasksServed N.layout crew.hired.items (map (λ d. d.member) e.rested.items)) }
 {
     let start = Mutex::new(false);
     let signal = &start;
@@ -67,6 +72,9 @@ pub(crate) fn run<
             requires { (length doors.now ≡ plan.tools) × (vec_len crew.tools ≡ plan.tools)
                 × (vec_len crew.hired ≡ plan.tasks) × (vec_len crew.pumps ≡ plan.tools)
                 × (plan.tasks ≤ vec_len crew.readers) }
+            ensures { IfOk result (λ e. SeatsServed max_cto crew.tools.items crew.pumps.items
+                (map (λ l. pair l.tool l.pump) e.left.items)
+                × TasksServed N.layout crew.hired.items (map (λ d. d.member) e.rested.items)) }
         {
             in_scope(
                 scope, rt, signal, alloc, listener, shared, doors, hall, halt, watcher, crew,
@@ -105,6 +113,9 @@ fn in_scope<
     requires hired { vec_len crew.hired ≡ plan.tasks }
     requires pumps { vec_len crew.pumps ≡ plan.tools }
     requires readers { plan.tasks ≤ vec_len crew.readers }
+    ensures seats { IfOk result (λ e. SeatsServed max_cto crew.tools.items crew.pumps.items
+        (map (λ l. pair l.tool l.pump) e.left.items)) }
+    ensures tasks { IfOk result (λ e. TasksServed N.layout crew.hired.items (map (λ d. d.member) e.rested.items)) }
 {
     let Crew {
         tools,
@@ -169,6 +180,7 @@ fn run_tasks<
 ) -> Result<Performed<N, M, S>, AllocError>
     requires members { vec_len members ≡ plan.tasks }
     requires readers { plan.tasks ≤ vec_len readers }
+    ensures served { IfOk result (λ r. TasksServed N.layout members.items (map (λ d. d.member) r.0.items)) }
 {
     let pace = Pace::new(rt, plan.periods);
     let tickers = make_tickers(alloc, shared, halt, &pace, members, readers, plan.tasks)?;
@@ -213,6 +225,7 @@ fn start_seats<
 ) -> (Handles<'s, N, M, W, R>, bool)
     requires { (vec_len handles ≡ 0) × (vec_len seats ≤ vec_capacity handles) }
     ensures few { vec_len result.0 ≤ vec_len seats.entry }
+    ensures seated { result.1 ≡ true → map (λ h. h.promise.0.value) result.0.items ≡ seats.entry.items }
 {
     let mut handles = handles;
     for seat in seats {

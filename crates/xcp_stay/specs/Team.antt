@@ -1,0 +1,35 @@
+-- What the seats and tasks of a server that stayed did with the callers that they were dealt.
+use Rattle.std.specs.Prelude.{◌≡◌, ◌+◌, ℕ, List, [], ◌∷◌, All, map}
+use Rattle.std.specs.List.{AllZip}
+use Rattle.xcp_memory.specs.Layout.{LayoutValue}
+use Rattle.xcp_locked.specs.Caller.{CallerValue}
+use Rattle.xcp_seats.specs.Seating.{Pair, Sat, SeatValue, pair}
+use Rattle.xcp_seats.specs.Ticking.{TaskValue, Ticks}
+
+-- tasks are numbered from k on
+abbrev pub TasksFrom : ℕ → List TaskValue → Type 0
+TasksFrom k [] = Unit {0}
+TasksFrom k (t ∷ ts) = (t.task ≡ k) × TasksFrom (k + 1) ts
+
+-- what a seat did: all its visits, from its two callers as they were dealt to these as they are left
+abbrev pub SeatLeft : SeatValue → Pair → Type 0
+SeatLeft s p = Sat s.max_cto (pair s.tool s.pump) p
+
+-- what a task did: all its cycles, from its caller and its reader as they were dealt to this caller as it is left, and some reader
+abbrev pub TaskLeft : LayoutValue → TaskValue → CallerValue → Type 0
+TaskLeft layout t caller = (reader : _) × Ticks layout t.task t.caller caller t.reader reader
+
+-- Tasks with these callers, numbered from 0, did all their cycles, and these callers are left.
+pub record TasksServed (layout : LayoutValue) (callers rested : List CallerValue) : Type 0 where
+  pub tickers : List TaskValue
+  pub numbered : TasksFrom 0 tickers
+  pub callers_are : map (λ t. t.caller) tickers ≡ callers
+  pub ticked : AllZip (TaskLeft layout) tickers rested
+
+-- Seats with these callers, for their tools and for their pumps, did all their visits, with MAX_CTO m, and this is left.
+pub record SeatsServed (m : ℕ) (tools pumps : List CallerValue) (left : List Pair) : Type 0 where
+  pub seats : List SeatValue
+  pub limit : All (λ s. s.max_cto ≡ m) seats
+  pub tools_are : map (λ s. s.tool) seats ≡ tools
+  pub pumps_are : map (λ s. s.pump) seats ≡ pumps
+  pub sat : AllZip SeatLeft seats left
