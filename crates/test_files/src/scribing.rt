@@ -15,7 +15,10 @@ fn recording(alloc: Global, room: usize) -> Result<Recording<Narrow>, RecordFaul
         bytes: Vec::new(alloc),
         room,
     };
-    Recording::new(alloc, stream, LAYOUT)
+    match Recording::new(alloc, stream, LAYOUT) {
+        Ok(recording) => Ok(recording),
+        Err(unbegun) => Err(unbegun.fault),
+    }
 }
 
 /// Gives a scribe a chapter of these calls, which ends with this slave.

@@ -4,3 +4,4 @@ mod FaultLemmas
 mod LayoutLemmas
 mod TakingLemmas
 mod FittingLemmas
+mod SizeLemmas

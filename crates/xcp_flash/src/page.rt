@@ -1,5 +1,5 @@
 //! One reference page.
-ghost use Rattle.std.specs.Prelude.{◌≡◌, ◌≢◌, ◌≤◌, ◌++◌, MatchBool, IfOk, OnOk, length};
+ghost use Rattle.std.specs.Prelude.{◌≡◌, ◌≢◌, ◌≤◌, ◌<◌, ◌+◌, ◌++◌, MatchBool, IfOk, OnOk, OnErr, length, vec_capacity, vec_len};
 ghost use Rattle.xcp_flash.specs.FlashFile.{page_in};
 
 use crate::head::same;
@@ -55,7 +55,10 @@ impl Page {
     /// Puts the page behind the bytes, with its length before it.
     #[tactic(auto, unfolding(crate::specs::FlashFile::page_in))]
     pub(crate) fn append_to(&self, out: &mut Vec<u8>) -> Result<(), AllocError>
-        ensures { OnOk result (out.new.items ≡ out.old.items ++ page_in self.now) }
+        ensures bytes { OnOk result (out.new.items ≡ out.old.items ++ page_in self.now) }
+        ensures size { OnOk result (vec_len out.new ≡ vec_len out.old + (4 + length self.now)) }
+        ensures full { OnErr result (vec_capacity out.old < vec_len out.old + (4 + length self.now)) }
+        ensures capacity { vec_capacity out.old ≤ vec_capacity out.new }
     {
         let length = (self.bytes.len() as u32).to_le_bytes();
         out.extend_from_slice(&length)?;

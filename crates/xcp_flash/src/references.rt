@@ -1,9 +1,9 @@
 //! The reference pages of all segments.
-ghost use Rattle.std.specs.Prelude.{◌≡◌, ◌≢◌, ◌++◌, MatchBool, IfOk, OnOk};
+ghost use Rattle.std.specs.Prelude.{◌≡◌, ◌≢◌, ◌≤◌, ◌<◌, ◌+◌, ◌++◌, MatchBool, IfOk, OnOk, OnErr, length, map, vec_capacity, vec_len};
 ghost use Rattle.std.specs.List.{flat_map};
 ghost use Rattle.xcp_memory.specs.Pages.{IsPages};
 ghost use Rattle.xcp_slave.specs.SlaveValue.{layout_of};
-ghost use Rattle.xcp_flash.specs.FlashFile.{file_of, page_in};
+ghost use Rattle.xcp_flash.specs.FlashFile.{file_of, file_size, page_in, pages_size};
 ghost use Rattle.xcp_flash.specs.References.{AreReferences, laid_out, references};
 
 use crate::fitting::fit_each;
@@ -59,9 +59,13 @@ impl References {
         take_each(&mut self.pages, slave)
     }
 
-    /// The file of these pages, in place of the bytes, where the layout's file has this SHA-256.
+    /// The file of these pages, in place of the bytes, where the layout's file has this SHA-256. It takes memory only where these have
+    /// less room than the file needs.
     pub fn file(&self, layout_digest: &[u8; 32], out: &mut Vec<u8>) -> Result<(), AllocError>
-        ensures { OnOk result (out.new.items ≡ file_of layout_digest.now self.now) }
+        ensures whole { OnOk result (out.new.items ≡ file_of layout_digest.now self.now) }
+        ensures size { OnOk result (vec_len out.new ≡ file_size (map (λ page. length page) self.now)) }
+        ensures full { OnErr result (vec_capacity out.old < file_size (map (λ page. length page) self.now)) }
+        ensures capacity { vec_capacity out.old ≤ vec_capacity out.new }
     {
         out.clear();
         out.extend_from_slice(&MAGIC)?;
@@ -91,7 +95,10 @@ fn take_each(pages: &mut [Page], slave: &Slave) -> bool
 
 /// Puts each page behind the bytes, with its length before it.
 fn append_each(pages: &[Page], out: &mut Vec<u8>) -> Result<(), AllocError>
-    ensures { OnOk result (out.new.items ≡ out.old.items ++ flat_map page_in pages.now) }
+    ensures bytes { OnOk result (out.new.items ≡ out.old.items ++ flat_map page_in pages.now) }
+    ensures size { OnOk result (vec_len out.new ≡ vec_len out.old + pages_size (map (λ page. length page) pages.now)) }
+    ensures full { OnErr result (vec_capacity out.old < vec_len out.old + pages_size (map (λ page. length page) pages.now)) }
+    ensures capacity { vec_capacity out.old ≤ vec_capacity out.new }
 {
     for page in pages {
         page.append_to(out)?;

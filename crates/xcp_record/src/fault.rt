@@ -2,8 +2,9 @@
 ghost use Rattle.std.specs.Prelude.{◌≡◌};
 
 use std::alloc::AllocError;
+use std::fmt::{self, Debug};
 use thiserror::Error;
-use xcp_framing::WriteFailed;
+use xcp_framing::{Watched, WriteFailed};
 
 /// Why a chapter isn't in the file.
 #[derive(Clone, Copy, Debug, Error, PartialEq, Eq)]
@@ -20,6 +21,20 @@ pub enum RecordFault {
     /// An earlier chapter isn't in the file.
     #[error("an earlier chapter could not be written")]
     Stopped,
+}
+
+/// Why no recorder began, and the stream, with what was written of the head.
+#[derive(Drop)]
+pub struct NotBegun<W> {
+    pub fault: RecordFault,
+    pub writer: Watched<W>,
+}
+
+/// The fault alone.
+impl<W> Debug for NotBegun<W> {
+    fn fmt<F: fmt::Write>(&self, f: &mut fmt::Formatter<F>) -> fmt::Result {
+        self.fault.fmt(f)
+    }
 }
 
 impl From<WriteFailed> for RecordFault {

@@ -16,7 +16,7 @@ mod recorder;
 mod witness;
 
 pub use auditing::audit;
-pub use fault::{AuditFault, RecordFault};
+pub use fault::{AuditFault, NotBegun, RecordFault};
 pub use law::a_file_has_one_journal;
 pub use recorder::Recorder;
 pub use witness::{Silent, Witness};

@@ -1,12 +1,14 @@
 //! What writes a journal's file.
 ghost use Rattle.std.specs.Prelude.{◌≡◌, ◌≤◌, ◌<◌, ◌+◌, ◌≢◌, ◌⊎◌, ◌*◌, ◌++◌, ◌∷◌, [], ℕ, List, Option, Err, OnOk, OnErr, IfOk, IfErr, length, true, false};
+ghost use Rattle.std.specs.Io.KnownBytes.{Appends};
 ghost use Rattle.sha2.specs.Hashers.{Holds256};
+ghost use Rattle.xcp_framing.specs.Prefix.{AppendsFront};
 ghost use Rattle.xcp_trace.specs.declared.journal.Entry.{Entry};
-ghost use Rattle.xcp_record.specs.FileFormat.{last_chapter, most_call, most_calls};
+ghost use Rattle.xcp_record.specs.FileFormat.{head, last_chapter, most_call, most_calls};
 ghost use Rattle.xcp_record.specs.Recording.{Records, StopsInside};
 ghost use Rattle.xcp_record.specs.private.Calls.{IsSealed};
 
-use crate::fault::RecordFault;
+use crate::fault::{NotBegun, RecordFault};
 use crate::head::{MAGIC, chapter_head, digest_of};
 use sha2::{Digest, Sha256};
 use std::alloc::{AllocError, Global};
@@ -32,29 +34,32 @@ pub struct Recorder<W> {
 
 impl<W: Write> Recorder<W> {
     /// A recorder that has written the head of a file to the stream, of the layout whose file has this SHA-256.
-    pub fn new(alloc: Global, stream: W, layout: &[u8; 32]) -> Result<Recorder<W>, RecordFault>
-    where
-        W: Drop,
+    pub fn new(alloc: Global, stream: W, layout: &[u8; 32]) -> Result<Recorder<W>, NotBegun<W>>
         ensures records { IfOk result (λ r. Records layout.now (W.contents stream)
             (W.contents r.writer.inner) r.hasher r.chapters r.calls []) }
         ensures begins { IfOk result (λ r. r.stopped ≡ false) }
-        ensures refused { IfErr result (λ e. (e ≡ RecordFault.Write) ⊎ (e ≡ RecordFault.Memory)) }
+        ensures unfailed { IfOk result (λ r. r.writer.failures ≡ 0) }
+        ensures refused { IfErr result (λ e. (e.fault ≡ RecordFault.Write) ⊎ (e.fault ≡ RecordFault.Memory)) }
+        // A fault of the stream comes exactly where a write failed, and want of memory before anything is written.
+        ensures write { IfErr result (λ e. e.fault ≡ RecordFault.Write → e.writer.failures ≡ 1) }
+        ensures front { IfErr result (λ e. AppendsFront (W.contents stream) (W.contents e.writer.inner) (head layout.now)) }
+        ensures unwritten { IfErr result (λ e. e.fault ≡ RecordFault.Memory
+            → e.writer ≡ record { inner = stream; calls = 0; failures = 0; read = [] }) }
     {
         let mut writer = Watched::new(stream);
         let mut hasher = Sha256::new();
         let mut chapter = Vec::new(alloc);
-        chapter.extend_from_slice(&MAGIC)?;
-        chapter.extend_from_slice(layout)?;
-        hasher.update(&chapter);
-        writer.write_all(&chapter)?;
-        Ok(Recorder {
-            writer,
-            hasher,
-            chapters: 0,
-            calls: 0,
-            stopped: false,
-            chapter,
-        })
+        match begin(layout, &mut writer, &mut hasher, &mut chapter) {
+            Ok(()) => Ok(Recorder {
+                writer,
+                hasher,
+                chapters: 0,
+                calls: 0,
+                stopped: false,
+                chapter,
+            }),
+            Err(fault) => Err(NotBegun { fault, writer }),
+        }
     }
 
     /// How many calls stand in the file, in whole chapters.
@@ -101,11 +106,15 @@ impl<W: Write> Recorder<W> {
         ensures stopped { self.old.stopped ≡ true
             → (result ≡ Err RecordFault.Stopped) × (self.new ≡ self.old) }
         ensures write { result ≡ Err RecordFault.Write
-            → self.old.writer.failures < self.new.writer.failures }
+            → self.new.writer.failures ≡ self.old.writer.failures + 1 }
         ensures unfailed { result ≢ Err RecordFault.Write
             → self.new.writer.failures ≡ self.old.writer.failures }
+        ensures unwritten { (result ≡ Err RecordFault.Memory) ⊎ (result ≡ Err RecordFault.Number)
+            → self.new.writer ≡ self.old.writer }
         ensures number { result ≡ Err RecordFault.Number
             → (number ≢ self.old.chapters) ⊎ (last_chapter < number) }
+        ensures misnumbered { self.old.stopped ≡ false
+            → (number ≢ self.old.chapters) ⊎ (last_chapter < number) → result ≡ Err RecordFault.Number }
         ensures since { result ≡ Err RecordFault.Stopped → self.old.stopped ≡ true }
     {
         if self.stopped {
@@ -132,6 +141,30 @@ impl<W: Write> Recorder<W> {
         self.stopped = false;
         Ok(())
     }
+}
+
+/// Writes the head of a file of this layout. The hasher holds it then.
+fn begin<W: Write>(
+    layout: &[u8; 32],
+    writer: &mut Watched<W>,
+    hasher: &mut Sha256,
+    chapter: &mut Vec<u8>,
+) -> Result<(), RecordFault>
+    requires fresh { Holds256 hasher.old [] }
+    requires empty { chapter.old.items ≡ [] }
+    ensures written { OnOk result (Appends (W.contents writer.old.inner) (W.contents writer.new.inner) (head layout.now)) }
+    ensures held { OnOk result (Holds256 hasher.new (head layout.now)) }
+    ensures unfailed { OnOk result (writer.new.failures ≡ writer.old.failures) }
+    ensures refused { IfErr result (λ e. (e ≡ RecordFault.Write) ⊎ (e ≡ RecordFault.Memory)) }
+    ensures write { result ≡ Err RecordFault.Write → writer.new.failures ≡ writer.old.failures + 1 }
+    ensures front { OnErr result (AppendsFront (W.contents writer.old.inner) (W.contents writer.new.inner) (head layout.now)) }
+    ensures unwritten { result ≡ Err RecordFault.Memory → writer.new ≡ writer.old }
+{
+    chapter.extend_from_slice(&MAGIC)?;
+    chapter.extend_from_slice(layout)?;
+    hasher.update(&*chapter);
+    writer.write_all(chapter)?;
+    Ok(())
 }
 
 /// Puts a chapter together behind what the hasher holds: its head, its calls and its digest. The hasher

@@ -1,15 +1,19 @@
 -- Stored pages, as one chapter more is given.
-use Rattle.std.proofs.Common.{◌≡◌, ℕ, List, [], ◌∷◌, ◌++◌, length, map, true, refl, sym, ap, subst, ◌∙◌}
+use Rattle.std.proofs.Common.{◌≡◌, ◌≤◌, ◌⊎◌, inl, inr, ℕ, Bool, List, [], ◌∷◌, ◌++◌, length, map, true≢false, refl, sym, ap, subst, ◌∙◌}
+use Rattle.std.specs.Prelude.{◌≢◌, false, nat_lt, vec_capacity}
 use Rattle.std.specs.List.{AllByRecursion}
-use Rattle.xcp_memory.specs.Layout.{LayoutValue, SegmentValue}
+use Rattle.xcp_memory.specs.Layout.{LayoutValue}
 use Rattle.xcp_slave.specs.SlaveValue.{layout_of}
-use Rattle.xcp_flash.specs.FlashFile.{file_of}
+use Rattle.xcp_flash.specs.FlashFile.{file_of, file_size}
 use Rattle.xcp_flash.specs.References.{AreReferences, references}
 use Rattle.xcp_scribe.specs.Given.{Given}
-use Rattle.xcp_scribe.specs.Flashing.{HasKept, Keeps, Stands, last_references}
-use Rattle.xcp_scribe.specs.declared.flashing.Flashing.{Flashing}
-use Rattle.xcp_scribe.specs.declared.flashing.Standing.{Standing}
-use Rattle.xcp_scribe.specs.declared.flashing.Standing.TheVariants.{Untouched, Current, Behind}
+use Rattle.xcp_scribe.specs.Flashing.{AsksFor, HasKept, IsDue, Keeps, Stands, last_references}
+use Rattle.xcp_scribe.specs.ShelfCalls.{Asked, failures, last_failed}
+use Rattle.xcp_scribe.specs.Standing.{is_behind}
+use Rattle.xcp_scribe.proofs.AskLemmas.{asks_no_more, asks_once_more}
+use Rattle.xcp_scribe.specs.declared.standing.Flashing.{Flashing}
+use Rattle.xcp_scribe.specs.declared.standing.Standing.{Standing}
+use Rattle.xcp_scribe.specs.declared.standing.Standing.TheVariants.{Untouched, Current, Behind}
 
 -- of all, the first ones and the last one
 all_front : {X : Type 0} (P : X → Type 0) (xs : List X) (y : X) → AllByRecursion P (xs ++ y ∷ []) → AllByRecursion P xs
@@ -48,33 +52,46 @@ kept_unfit holds f given g was unfit = λ all.
     let k = was (all_front _ given g all) in
     absurd (unfit (same_sizes f.pages f.start.value (layout_of g.last) k.sized (all_back _ given g all)))
 
+-- none is due
+not_due : (pages start more : List (List ℕ)) (failed : Bool) (standing : Standing) (g : Given) → pages ≡ more → pages ≡ references g.last → is_behind standing ≡ failed → (standing ≡ Behind → ⊥) → IsDue more failed g → ⊥
+not_due pages start more failed standing g was same told not (inl other) = other (sym same ∙ was)
+not_due pages start more failed Untouched g was same told not (inr due) = true≢false (sym due ∙ sym told)
+not_due pages start more failed Current g was same told not (inr due) = true≢false (sym due ∙ sym told)
+not_due pages start more failed Behind g was same told not (inr due) = not refl
+
 -- the same pages again, where the file isn't behind
-pub kept_same : {F : Type 0} (holds : F → List ℕ → Type 0) (f : Flashing F) (p : List (List ℕ)) (given : List Given) (g : Given) → HasKept holds f given → p ≡ references g.last → AreReferences p (layout_of g.last) → f.pages ≡ references g.last → (f.standing ≡ Behind → ⊥) → HasKept holds (record f { pages = p }) (given ++ g ∷ [])
-kept_same {F} holds f p given g was is fit same not = λ all.
+pub kept_same : {F : Type 0} (holds : F → List ℕ → Type 0) (f : Flashing F) (p : List (List ℕ)) (room : file_size (map (λ page. length page) p) ≤ vec_capacity f.file) (told : f.failed ≡ nat_lt 0 (failures f.shelf.asked)) (behind : is_behind f.standing ≡ last_failed false f.shelf.asked) (given : List Given) (g : Given) → HasKept holds f given → p ≡ references g.last → AreReferences p (layout_of g.last) → f.pages ≡ references g.last → (f.standing ≡ Behind → ⊥)
+    → HasKept holds (record f { pages = p; room = room; told = told; behind = behind }) (given ++ g ∷ [])
+kept_same {F} holds f p room told behind given g was is fit same not = λ all.
     let k = was (all_front _ given g all) in
     record {
       pages = is ∙ sym (last_more f.start.value given g);
       sized = both_sizes p f.start.value (layout_of g.last) fit (all_back _ given g all);
       stands = stands_on k f.standing refl k.stands;
+      asks = asks_no_more f.layout f.start.value false given f.shelf.asked g k.asks (not_due f.pages f.start.value (last_references f.start.value given) (last_failed false f.shelf.asked) f.standing g k.pages same f.behind not);
     }
   where
-    stands_on : Keeps holds f given → (s : Standing) → f.standing ≡ s → Stands holds s f given → Stands holds s (record f { pages = p }) (given ++ g ∷ [])
-    stands_on k Untouched e h = all_more (λ (x : Given). references x.last ≡ f.start.value) given g h (sym same ∙ k.pages ∙ last_untouched f.start.value given h)
-    stands_on k Current e h = subst (λ (q : List (List ℕ)). holds f.shelf (file_of f.layout q)) (same ∙ sym is) h
+    stands_on : Keeps holds f given → (s : Standing) → f.standing ≡ s → Stands holds s f given → Stands holds s (record f { pages = p; room = room; told = told; behind = behind }) (given ++ g ∷ [])
+    stands_on k Untouched e h = (all_more (λ (x : Given). references x.last ≡ f.start.value) given g h.0 (sym same ∙ k.pages ∙ last_untouched f.start.value given h.0), h.1)
+    stands_on k Current e h = subst (λ (q : List (List ℕ)). holds f.shelf.inner (file_of f.layout q)) (same ∙ sym is) h
     stands_on k Behind e h = absurd (not e)
 
--- others, which the file has
-pub kept_put : {F : Type 0} (holds : F → List ℕ → Type 0) (f : Flashing F) (given : List Given) (g : Given) → f.pages ≡ references g.last → AreReferences f.pages (layout_of g.last) → f.standing ≡ Current → holds f.shelf (file_of f.layout f.pages) → HasKept holds f (given ++ g ∷ [])
-kept_put holds f given g is fit standing put = λ all. record {
-  pages = is ∙ sym (last_more f.start.value given g);
-  sized = both_sizes f.pages f.start.value (layout_of g.last) fit (all_back _ given g all);
-  stands = subst (λ (s : Standing). Stands holds s f (given ++ g ∷ [])) (sym standing) put;
-}
+-- The shelf was asked, and had to be: the pages are others, or the file was behind.
+module _ {F : Type 0} (holds : F → List ℕ → Type 0) (old f : Flashing F) (given : List Given) (g : Given) (call : Asked) (was : HasKept holds old given) (start : f.start.value ≡ old.start.value) (layout : f.layout ≡ old.layout) where
+  is_due : Keeps holds old given → (references g.last ≢ old.pages) ⊎ (old.standing ≡ Behind) → IsDue (last_references old.start.value given) (last_failed false old.shelf.asked) g
+  is_due k (inl other) = inl (λ e. other (e ∙ sym k.pages))
+  is_due k (inr behind) = inr (sym old.behind ∙ ap is_behind behind)
 
--- others, which it hasn't
-pub kept_behind : {F : Type 0} (holds : F → List ℕ → Type 0) (f : Flashing F) (given : List Given) (g : Given) → f.pages ≡ references g.last → AreReferences f.pages (layout_of g.last) → f.standing ≡ Behind → f.failed ≡ true → HasKept holds f (given ++ g ∷ [])
-kept_behind holds f given g is fit standing failed = λ all. record {
-  pages = is ∙ sym (last_more f.start.value given g);
-  sized = both_sizes f.pages f.start.value (layout_of g.last) fit (all_back _ given g all);
-  stands = subst (λ (s : Standing). Stands holds s f (given ++ g ∷ [])) (sym standing) failed;
-}
+  pub kept_asked : f.pages ≡ references g.last → AreReferences f.pages (layout_of g.last) → f.shelf.asked ≡ old.shelf.asked ++ call ∷ [] → call.file ≡ file_of f.layout f.pages → (references g.last ≢ old.pages) ⊎ (old.standing ≡ Behind)
+      → Stands holds f.standing f (given ++ g ∷ []) → HasKept holds f (given ++ g ∷ [])
+  kept_asked is fit asked file due stands = λ all.
+      let k = was (subst (λ (s : List (List ℕ)). AllByRecursion (λ (x : Given). AreReferences s (layout_of x.last)) given) start (all_front _ given g all)) in
+      let calls = asks_once_more old.layout old.start.value false given old.shelf.asked g call k.asks (is_due k due) (file ∙ ap (λ (l : List ℕ). file_of l f.pages) layout ∙ ap (λ (p : List (List ℕ)). file_of old.layout p) is) in
+      record {
+        pages = is ∙ sym (last_more f.start.value given g);
+        sized = both_sizes f.pages f.start.value (layout_of g.last) fit (all_back _ given g all);
+        stands = stands;
+        asks = subst (λ (s : List (List ℕ)). AsksFor f.layout s false (given ++ g ∷ []) f.shelf.asked) (sym start)
+            (subst (λ (l : List ℕ). AsksFor l old.start.value false (given ++ g ∷ []) f.shelf.asked) (sym layout)
+            (subst (λ (all : List Asked). AsksFor old.layout old.start.value false (given ++ g ∷ []) all) (sym asked) calls));
+      }

@@ -1,1 +1,3 @@
+mod AskLemmas
 mod FlashingLemmas
+mod ShelfLemmas

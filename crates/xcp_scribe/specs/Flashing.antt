@@ -1,32 +1,48 @@
--- What stands in the file of stored pages.
-use Rattle.std.specs.Prelude.{◌≡◌, ⊤, ℕ, List, [], ◌∷◌, length, map, Option, MatchOption, true}
+-- What stands in the file of stored pages, and when its shelf is asked for it.
+use Rattle.std.specs.Prelude.{◌≡◌, ◌≢◌, ◌⊎◌, ⊤, ℕ, Bool, List, [], ◌∷◌, length, map, not, Option, MatchOption, true, false}
 use Rattle.std.specs.List.{AllByRecursion}
 use Rattle.xcp_slave.specs.SlaveValue.{layout_of}
 use Rattle.xcp_flash.specs.FlashFile.{file_of}
 use Rattle.xcp_flash.specs.References.{AreReferences, references}
 use Rattle.xcp_scribe.specs.Given.{Given}
-use Rattle.xcp_scribe.specs.declared.flashing.Flashing.{Flashing}
-use Rattle.xcp_scribe.specs.declared.flashing.Standing.{Standing}
-use Rattle.xcp_scribe.specs.declared.flashing.Standing.TheVariants as standings
+use Rattle.xcp_scribe.specs.ShelfCalls.{Asked}
+use Rattle.xcp_scribe.specs.declared.standing.Flashing.{Flashing}
+use Rattle.xcp_scribe.specs.declared.standing.Standing.{Standing}
+use Rattle.xcp_scribe.specs.declared.standing.Standing.TheVariants as standings
 
 -- the reference pages with which the last of these chapters ends; where there is none, these
 abbrev pub last_references : List (List ℕ) → List Given → List (List ℕ)
 last_references pages [] = pages
 last_references pages (g ∷ given) = last_references (references g.last) given
 
+-- The shelf has to be asked at the end of this chapter: it has other reference pages than these, with which the one before ended, or the
+-- last call failed.
+abbrev pub IsDue : List (List ℕ) → Bool → Given → Type 0
+IsDue pages failed g = (references g.last ≢ pages) ⊎ (failed ≡ true)
+
+-- The calls of the shelf while these chapters came: one at the end of each where it had to be asked, for the file of the reference pages
+-- of that end, and no other.
+abbrev pub AsksFor : List ℕ → List (List ℕ) → Bool → List Given → List Asked → Type 0
+AsksFor layout pages failed [] asked = asked ≡ []
+AsksFor layout pages failed (g ∷ given) asked =
+    ((IsDue pages failed g → ⊥) × AsksFor layout (references g.last) failed given asked)
+    ⊎ (IsDue pages failed g × ((call : Asked) × (more : List Asked) × (asked ≡ call ∷ more) × (call.file ≡ file_of layout (references g.last))
+    × AsksFor layout (references g.last) (not call.put) given more))
+
 -- What is true of the file by its standing. Untouched: no chapter ended with other reference pages than those of the beginning, and
--- nothing was written. Current: it has those of the last chapter's end. Behind: the last write failed, which is told.
+-- the shelf was asked for nothing. Current: it has those of the last chapter's end. Behind: the last write failed, which is told.
 abbrev pub Stands : {F : Type 0} → (F → List ℕ → Type 0) → Standing → Flashing F → List Given → Type 0
-Stands holds standings.Untouched f given = AllByRecursion (λ (g : Given). references g.last ≡ f.start.value) given
-Stands holds standings.Current f given = holds f.shelf (file_of f.layout f.pages)
+Stands holds standings.Untouched f given = AllByRecursion (λ (g : Given). references g.last ≡ f.start.value) given × (f.shelf.asked ≡ [])
+Stands holds standings.Current f given = holds f.shelf.inner (file_of f.layout f.pages)
 Stands holds standings.Behind f given = f.failed ≡ true
 
 -- The scribe has the reference pages of the last chapter's end, which are of the sizes of those of the beginning, and so has its file,
--- by its standing.
+-- by its standing; and the shelf was asked for what it had to be.
 pub record Keeps {F : Type 0} (holds : F → List ℕ → Type 0) (f : Flashing F) (given : List Given) : Type 0 where
   pub pages : f.pages ≡ last_references f.start.value given
   pub sized : map (λ page. length page) f.pages ≡ map (λ page. length page) f.start.value
   pub stands : Stands holds f.standing f given
+  pub asks : AsksFor f.layout f.start.value false given f.shelf.asked
 
 -- the same, where all these chapters are of slaves whose reference pages have the sizes of those of the beginning
 abbrev pub HasKept : {F : Type 0} → (F → List ℕ → Type 0) → Flashing F → List Given → Type 0

@@ -12,11 +12,15 @@ use Rattle.xcp_scribe.specs.declared.recording.Recording.{Recording}
 pub record StandsWhole {W : Type 0} (contents : W → Option (List ℕ)) (r : Recording W) (chapters : List (List Entry)) : Type 0 where
   pub fine : r.fault ≡ None
   pub going : r.recorder.stopped ≡ false
+  pub unfailed : r.recorder.writer.failures ≡ 0
   pub records : Records r.layout (contents r.start.value) (contents r.recorder.writer.inner) r.recorder.hasher r.recorder.chapters r.recorder.calls chapters
 
--- why a recording writes no more: there was no memory, a write failed, or a journal can't have more chapters
+-- Why a recording writes no more: a write failed, and no other before it; or none failed, and there was no memory, or a journal can't have
+-- more chapters.
 abbrev pub IsFaulty : {W : Type 0} → Recording W → Type 0
-IsFaulty r = (r.fault ≡ Some Memory) ⊎ (((r.fault ≡ Some Write) × (0 < r.recorder.writer.failures)) ⊎ ((r.fault ≡ Some Number) × (last_chapter < r.recorder.chapters)))
+IsFaulty r =
+    ((r.fault ≡ Some Write) × (r.recorder.writer.failures ≡ 1))
+    ⊎ ((r.recorder.writer.failures ≡ 0) × ((r.fault ≡ Some Memory) ⊎ ((r.fault ≡ Some Number) × (last_chapter < r.recorder.chapters))))
 
 -- The first ones of these chapters stand in the file, whole, with as many calls as the recording says; of the next one a prefix of its bytes,
 -- and nothing of those behind it.

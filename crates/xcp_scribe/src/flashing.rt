@@ -1,41 +1,20 @@
 //! A scribe that keeps the file of stored pages.
-ghost use Rattle.std.specs.Prelude.{◌≡◌, [], List, ℕ, IfOk, true, false};
-ghost use Rattle.xcp_flash.specs.FlashFile.{file_of};
+ghost use Rattle.std.specs.Prelude.{◌≡◌, ◌≢◌, ◌⊎◌, ◌≤◌, ◌++◌, [], ◌∷◌, List, ℕ, IfOk, MatchBool, true, false, length, map, vec_capacity, nat_lt};
+ghost use Rattle.xcp_flash.specs.FlashFile.{file_of, file_size};
 ghost use Rattle.xcp_flash.specs.References.{laid_out};
 ghost use Rattle.xcp_scribe.specs.Flashing.{HasKept};
+ghost use Rattle.xcp_scribe.specs.ShelfCalls.{Asked, failures};
 
 use crate::scribe::Scribe;
 use crate::shelf::Shelf;
+use crate::standing::{Flashing, Standing};
+use crate::watched_shelf::WatchedShelf;
 use std::alloc::{AllocError, Global};
 use std::snapshot::Snapshot;
 use xcp_flash::References;
 use xcp_memory::Layout;
 use xcp_slave::Slave;
 use xcp_trace::Entries;
-
-/// How a file stands beside the reference pages of a slave.
-#[derive(Clone, Copy, Debug, PartialEq, Eq)]
-pub enum Standing {
-    /// They are those with which the slave began: nothing was written.
-    Untouched,
-    /// The file has them.
-    Current,
-    /// The last write failed.
-    Behind,
-}
-
-/// Replaces a file of stored pages where a chapter ends with other reference pages than the one before. Where that fails it is tried
-/// again at the end of the next chapter.
-#[derive(Drop)]
-pub struct Flashing<F> {
-    shelf: F,
-    layout: [u8; 32],
-    pages: References,
-    start: Snapshot<References>,
-    file: Vec<u8>,
-    standing: Standing,
-    failed: bool,
-}
 
 impl<F: Shelf> Flashing<F> {
     /// Keeps the file of a slave of this layout at its opening, where the layout's file has this SHA-256. Nothing is written yet.
@@ -48,16 +27,18 @@ impl<F: Shelf> Flashing<F> {
         ensures kept { IfOk result (λ f. HasKept F.holds f []) }
         ensures layout { IfOk result (λ f. f.layout ≡ digest) }
         ensures start { IfOk result (λ f. f.start.value ≡ laid_out layout.now) }
-        ensures shelf { IfOk result (λ f. f.shelf ≡ shelf) }
+        ensures shelf { IfOk result (λ f. f.shelf ≡ record { inner = shelf; asked = [] }) }
     {
         let pages = References::of(alloc, layout)?;
         let start = Snapshot::of(&pages);
+        let mut file = Vec::new(alloc);
+        pages.file(&digest, &mut file)?;
         Ok(Flashing {
-            shelf,
+            shelf: WatchedShelf::new(shelf),
             layout: digest,
             pages,
             start,
-            file: Vec::new(alloc),
+            file,
             standing: Standing::Untouched,
             failed: false,
         })
@@ -65,28 +46,44 @@ impl<F: Shelf> Flashing<F> {
 
     /// Whether a write failed, at any time. Where that was the last one, the file lacks what was stored last.
     pub fn has_failed(&self) -> bool
-        ensures { result ≡ self.now.failed }
+        ensures kept { result ≡ self.now.failed }
+        ensures told { result ≡ nat_lt 0 (failures self.now.shelf.asked) }
     {
         self.failed
     }
 
     /// What keeps the file.
     pub fn into_shelf(self) -> F
-        ensures { result ≡ self.shelf }
+        ensures { result ≡ self.shelf.inner }
     {
-        self.shelf
+        self.shelf.into_inner()
     }
 }
 
-/// Replaces the file by that of these pages, and answers whether it could.
-fn put<F: Shelf>(shelf: &mut F, pages: &References, layout: &[u8; 32], file: &mut Vec<u8>) -> bool
-    ensures put { result ≡ true → F.holds shelf.new (file_of layout.now pages.now) }
-    ensures kept { result ≡ false → (bytes : List ℕ) → F.holds shelf.old bytes → F.holds shelf.new bytes }
+/// Whether the file has to be replaced at the end of a chapter: its pages have changed, or the last write failed.
+fn is_due(changed: bool, standing: Standing) -> bool
+    ensures { MatchBool result ((changed ≡ true) ⊎ (standing ≡ Standing.Behind)) ((changed ≡ false) × (standing ≢ Standing.Behind)) }
 {
-    match pages.file(layout, file) {
-        Ok(()) => shelf.replace(file),
-        Err(_) => false,
-    }
+    changed || standing == Standing::Behind
+}
+
+/// Replaces the file by that of these pages, for which the bytes have room, and answers whether it could.
+fn put<F: Shelf>(
+    shelf: &mut WatchedShelf<F>,
+    pages: &References,
+    layout: &[u8; 32],
+    file: &mut Vec<u8>,
+) -> bool
+    requires { file_size (map (λ page. length page) pages.now) ≤ vec_capacity file.old }
+    ensures put { result ≡ true → F.holds shelf.new.inner (file_of layout.now pages.now) }
+    ensures kept { result ≡ false → (bytes : List ℕ) → F.holds shelf.old.inner bytes → F.holds shelf.new.inner bytes }
+    ensures asked { shelf.new.asked ≡ shelf.old.asked ++ record { file = file_of layout.now pages.now; put = result } ∷ [] }
+    ensures room { vec_capacity file.old ≤ vec_capacity file.new }
+{
+    let Ok(()) = pages.file(layout, file) else {
+        unreachable!()
+    };
+    shelf.replace(file)
 }
 
 impl<F: Shelf> Scribe for Flashing<F> {
@@ -99,7 +96,7 @@ impl<F: Shelf> Scribe for Flashing<F> {
             return;
         }
         let changed = self.pages.take(last);
-        if !changed && self.standing != Standing::Behind {
+        if !is_due(changed, self.standing) {
             return;
         }
         if put(&mut self.shelf, &self.pages, &self.layout, &mut self.file) {

@@ -4,19 +4,22 @@
 //! the file of a journal; where nobody asks for one, `None` does; a [`Flashing`] keeps the pages that tools
 //! store in a file of their own; [`Both`] are two scribes.
 //! `specs/Given.antt` has what a scribe is given, `specs/Scribing.antt` what stands in the file of a recording, `specs/Flashing.antt` in that
-//! of stored pages.
+//! of stored pages and when its shelf is asked, and `specs/ShelfCalls.antt` what contracts see of the shelf.
 #![tactic(auto)]
 
+mod asking;
 mod both;
 mod flashing;
 mod recording;
 mod scribe;
 mod shelf;
+mod standing;
 mod synced;
+mod watched_shelf;
 
 pub use both::Both;
-pub use flashing::{Flashing, Standing};
 pub use recording::Recording;
 pub use scribe::Scribe;
 pub use shelf::Shelf;
+pub use standing::{Flashing, Standing};
 pub use synced::Synced;

@@ -1,6 +1,7 @@
 //! A scribe that writes the file of a journal.
 ghost use Rattle.std.specs.Prelude.{◌≡◌, ◌≤◌, ◌++◌, [], ◌∷◌, List, IfOk, IfErr, ◌⊎◌, length};
-ghost use Rattle.xcp_record.specs.FileFormat.{most_calls};
+ghost use Rattle.xcp_framing.specs.Prefix.{AppendsFront};
+ghost use Rattle.xcp_record.specs.FileFormat.{head, most_calls};
 ghost use Rattle.xcp_trace.specs.declared.journal.Entry.{Entry};
 ghost use Rattle.xcp_scribe.specs.Scribing.{HasWritten};
 
@@ -8,7 +9,7 @@ use crate::scribe::Scribe;
 use std::alloc::Global;
 use std::io::Write;
 use std::snapshot::Snapshot;
-use xcp_record::{RecordFault, Recorder};
+use xcp_record::{NotBegun, RecordFault, Recorder};
 use xcp_slave::Slave;
 use xcp_trace::Entries;
 
@@ -24,22 +25,27 @@ pub struct Recording<W> {
 
 impl<W: Write> Recording<W> {
     /// A recording that has written the head of a file to the stream, of the layout whose file has this SHA-256.
-    pub fn new(alloc: Global, stream: W, layout: [u8; 32]) -> Result<Recording<W>, RecordFault>
-    where
-        W: Drop,
+    pub fn new(alloc: Global, stream: W, layout: [u8; 32]) -> Result<Recording<W>, NotBegun<W>>
         ensures written { IfOk result (λ r. HasWritten W.contents r []) }
         ensures layout { IfOk result (λ r. r.layout ≡ layout) }
         ensures start { IfOk result (λ r. r.start.value ≡ stream) }
-        ensures refused { IfErr result (λ e. (e ≡ RecordFault.Write) ⊎ (e ≡ RecordFault.Memory)) }
+        ensures refused { IfErr result (λ e. (e.fault ≡ RecordFault.Write) ⊎ (e.fault ≡ RecordFault.Memory)) }
+        // A fault of the stream comes exactly where a write failed, and want of memory before anything is written.
+        ensures write { IfErr result (λ e. e.fault ≡ RecordFault.Write → e.writer.failures ≡ 1) }
+        ensures front { IfErr result (λ e. AppendsFront (W.contents stream) (W.contents e.writer.inner) (head layout)) }
+        ensures unwritten { IfErr result (λ e. e.fault ≡ RecordFault.Memory
+            → e.writer ≡ record { inner = stream; calls = 0; failures = 0; read = [] }) }
     {
         let start = Snapshot::of(&stream);
-        let recorder = Recorder::new(alloc, stream, &layout)?;
-        Ok(Recording {
-            recorder,
-            layout,
-            start,
-            fault: None,
-        })
+        match Recorder::new(alloc, stream, &layout) {
+            Ok(recorder) => Ok(Recording {
+                recorder,
+                layout,
+                start,
+                fault: None,
+            }),
+            Err(unbegun) => Err(unbegun),
+        }
     }
 
     /// How many calls stand in the file, in whole chapters.

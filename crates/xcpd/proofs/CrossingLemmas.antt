@@ -11,9 +11,12 @@ use Rattle.xcp_framing.specs.contracts.watched.Watched as Watched
 use Rattle.xcp_framing.specs.contracts.watched.Watched.TheInside as WatchedInside
 use Rattle.xcp_record.proofs.fault.RecordFault.TheSendSync as fault
 use Rattle.xcp_record.specs.contracts.recorder.Recorder as Recorder
+use Rattle.xcp_scribe.specs.contracts.asking.Asking as Asking
 use Rattle.xcp_scribe.specs.contracts.both.Both as Both
-use Rattle.xcp_scribe.specs.contracts.flashing.Flashing as Flashing
+use Rattle.xcp_scribe.specs.contracts.standing.Flashing as Flashing
 use Rattle.xcp_scribe.specs.contracts.recording.Recording as Recording
+use Rattle.xcp_scribe.specs.contracts.watched_shelf.WatchedShelf as WatchedShelf
+use Rattle.xcp_scribe.specs.contracts.watched_shelf.WatchedShelf.TheInside as WatchedShelfInside
 use Rattle.xcpd.specs.contracts.flash.Place as Place
 
 -- a struct, as all its fields may
@@ -42,11 +45,18 @@ recording_crosses W w =
     struct_crosses (Recording.the_type W)
     (recorder_crosses W w, (search (sendable, crosses) depth 20, (search (sendable, crosses) depth 20, (search (sendable, crosses, fault.the_send) depth 20, tt))))
 
+-- nor does a list of calls
+asking_crosses : IsSend Asking.the_field.row
+asking_crosses = search (sendable, crosses) depth 20
+
+shelf_crosses : (F : RattleType) → IsSend F → IsSend (WatchedShelf.the_row F)
+shelf_crosses F f = view_send (WatchedShelfInside.the_row F) _ _ _ _ (struct_crosses (WatchedShelfInside.the_type F) (f, (asking_crosses, tt)))
+
 -- what keeps stored pages, where its shelf may
 pub flashing_crosses : (F : RattleType) → IsSend F → IsSend (Flashing.the_row F)
 flashing_crosses F f =
     struct_crosses (Flashing.the_type F)
-    (f, (search (sendable, crosses) depth 20, (references.the_send, (search (sendable, crosses) depth 20, (search (sendable, crosses) depth 20, (search (sendable, crosses) depth 20, (search (sendable, crosses) depth 20, tt)))))))
+    (shelf_crosses F f, (search (sendable, crosses) depth 20, (references.the_send, (search (sendable, crosses) depth 20, (search (sendable, crosses) depth 20, (search (sendable, crosses) depth 20, (search (sendable, crosses) depth 20, tt)))))))
 
 -- two scribes that may
 pub both_crosses : (A B : RattleType) → IsSend A → IsSend B → IsSend (Both.the_row A B)

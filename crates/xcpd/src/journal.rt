@@ -5,7 +5,7 @@ ghost use Rattle.xcp_scribe.specs.Scribing.{HasBegun};
 use sha2::{Digest, Sha256};
 use std::fs::File;
 use xcp_program::Fault;
-use xcp_record::RecordFault;
+use xcp_record::{NotBegun, RecordFault};
 use xcp_scribe::{Recording, Synced};
 
 /// What writes a server's journal down, if the words name a file.
@@ -27,7 +27,12 @@ pub fn journal_at(rt: &HostRuntime, text: &str, path: &Option<String>) -> Result
         Sha256::digest(text.as_bytes()),
     ) {
         Ok(recording) => Ok(Some(recording)),
-        Err(RecordFault::Memory) => Err(Fault::Memory),
+        Err(
+            NotBegun {
+                fault: RecordFault::Memory,
+                ..
+            },
+        ) => Err(Fault::Memory),
         Err(_) => Err(Fault::Journal(1)),
     }
 }

@@ -5,13 +5,13 @@ use Rattle.xcp_flash.specs.FlashFile.{body_of, head, magic, page_in}
 use Rattle.xcp_flash.proofs.FileLemmas.{body_is, file_is, head_is}
 use Rattle.xcp_flash.proofs.references.References.file.Goals as goal
 
-pub returns : goal.returns
-returns c =
+pub returns-clause-whole : goal.returns-clause-whole
+returns-clause-whole c =
     let d = c.args.layout_digest.now in
     let pages = c.args.self.now in
     let one = (c.in_ok-extend_from_slice.ensures {u = tt}).items in
     let two = (c.in_ok-extend_from_slice-2.ensures {u = tt}).items in
-    let three = c.in_ok-append_each.ensures {u = tt} in
+    let three = (c.in_ok-append_each.ensures {u = tt}).bytes in
     let four = (c.in_ok-extend_from_slice-3.ensures {u = tt}).items in
     let start : c.extend_from_slice-2.new.self.items ≡ head d = two ∙ ap (λ (b : List ℕ). b ++ d) (one ∙ ap (λ (b : List ℕ). b ++ magic) c.clear.ensures.items) ∙ sym (head_is d) in
     let body : c.append_each.new.out.items ≡ body_of d pages =

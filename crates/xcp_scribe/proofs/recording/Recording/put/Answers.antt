@@ -1,5 +1,5 @@
 use Rattle.std.proofs.Common.{◌≡◌, ◌<◌, ◌⊎◌, ℕ, arith, inl, inr, ◌∙◌, List, [], ◌∷◌, ◌++◌, refl, sym, ap, subst, append_assoc, true≢false}
-use Rattle.std.specs.Prelude.{false, Err, Option, None, Some, is_some}
+use Rattle.std.specs.Prelude.{Bool, true, false, Result, Ok, Err, Option, None, Some, is_some}
 use Rattle.xcp_record.specs.FileFormat.{last_chapter}
 use Rattle.xcp_record.specs.Recording.{StopsInside}
 use Rattle.xcp_record.specs.declared.fault.RecordFault.{RecordFault}
@@ -19,16 +19,23 @@ none_of (Some x) e = absurd (true≢false e)
 
 -- a fault is none of these
 not_none : {W : Type 0} (r : Recording W) → IsFaulty r → r.fault ≡ None → ⊥
-not_none r (inl memory) none = some_is_none _ (sym memory ∙ none)
-not_none r (inr (inl write)) none = some_is_none _ (sym write.0 ∙ none)
-not_none r (inr (inr number)) none = some_is_none _ (sym number.0 ∙ none)
+not_none r (inl write) none = some_is_none _ (sym write.0 ∙ none)
+not_none r (inr other) none = elim other.1 [ inl memory ↦ some_is_none _ (sym memory ∙ none) | inr number ↦ some_is_none _ (sym number.0 ∙ none) ]
+
+abbrev is_write : RecordFault → Bool
+is_write Write = true
+is_write fault = false
+
+abbrev fault_in : {A : Type 0} → Result A RecordFault → RecordFault
+fault_in (Ok x) = Write
+fault_in (Err fault) = fault
 
 -- its first one
-first_fault : {W : Type 0} (r : Recording W) (f : RecordFault) → r.fault ≡ Some f → (f ≡ Write → 0 < r.recorder.writer.failures) → (f ≡ Number → last_chapter < r.recorder.chapters) → (f ≡ Stopped → ⊥) → IsFaulty r
-first_fault r Memory is write number stopped = inl is
-first_fault r Write is write number stopped = inr (inl (is, write refl))
-first_fault r Number is write number stopped = inr (inr (is, number refl))
-first_fault r Stopped is write number stopped = absurd (stopped refl)
+first_fault : {W : Type 0} (r : Recording W) (f : RecordFault) → r.fault ≡ Some f → (f ≡ Write → r.recorder.writer.failures ≡ 1) → ((f ≡ Write → ⊥) → r.recorder.writer.failures ≡ 0) → (f ≡ Number → last_chapter < r.recorder.chapters) → (f ≡ Stopped → ⊥) → IsFaulty r
+first_fault r Memory is write other number stopped = inr (other (λ e. true≢false (sym (ap is_write e))), inl is)
+first_fault r Write is write other number stopped = inl (is, write refl)
+first_fault r Number is write other number stopped = inr (other (λ e. true≢false (sym (ap is_write e))), inr (is, number refl))
+first_fault r Stopped is write other number stopped = absurd (stopped refl)
 
 -- chapters are numbered as they come
 numbered : (number old new : ℕ) → number ≡ old → new ≡ old → (number ≡ old → ⊥) ⊎ (last_chapter < number) → last_chapter < new
@@ -40,7 +47,8 @@ returns-then-is_none g c = λ chapters was. elim was [
   | inl whole ↦ inr (record {
     faulty = first_fault
         (record { recorder = c.append-appended.new.self; layout = c.args.self.now.layout; start = c.args.self.now.start; fault = Some c.in-Err.fault })
-        c.in-Err.fault refl (λ e. let grown = c.in-Err.ensures.write (ap Err e) in omega (arith, grown))
+        c.in-Err.fault refl (λ e. let grown = c.in-Err.ensures.write (ap Err e) in let none = whole.unfailed in omega (arith, grown, none))
+        (λ other. c.in-Err.ensures.unfailed (λ e. other (ap fault_in e)) ∙ whole.unfailed)
         (λ e. numbered c.chapters-number.result c.args.self.now.recorder.chapters c.append-appended.new.self.chapters c.chapters-number.ensures c.in-Err.ensures.err.2 (c.in-Err.ensures.number (ap Err e)))
         (λ e. true≢false (sym (c.in-Err.ensures.since (ap Err e)) ∙ whole.going));
     stopped = c.in-Err.ensures.err.0;
