@@ -1,5 +1,5 @@
 -- What one number more adds to a checksum.
-use Rattle.std.proofs.Common.{◌≡◌, ◌+◌, ◌-◌, ◌*◌, ◌/◌, ◌<◌, ◌≤◌, ◌%◌, ℕ, zero, suc, List, [], ◌∷◌, length, drop, sum, refl, sym, ap, ◌∙◌, arith}
+use Rattle.std.proofs.Common.{◌≡◌, ◌+◌, ◌-◌, ◌*◌, ◌/◌, ◌<◌, ◌≤◌, ◌%◌, ℕ, suc, List, [], ◌∷◌, length, drop, sum, refl, sym, ap, ◌∙◌, arith}
 use Rattle.std.proofs.Math.Nat.{add-mod-mod, div-eq-sub-div}
 use Rattle.std.proofs.lemmas.List.Sums.{sum_by-cons}
 use Rattle.xcp_packet.specs.declared.Order.{Order}

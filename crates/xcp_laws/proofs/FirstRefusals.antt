@@ -1,11 +1,10 @@
 -- Why commands are refused first.
-use Rattle.std.proofs.Common.{◌≡◌, ◌≢◌, ◌<◌, ◌+◌, ℕ, Bool, true, false, List, [], ◌∷◌, ◌++◌, length, Option, Some, None, Result, Ok, Err, refl, sym, ap, subst, ◌∙◌, nat_lt, nat_le}
+use Rattle.std.proofs.Common.{◌≡◌, ◌≢◌, ◌+◌, ℕ, Bool, true, false, List, [], ◌∷◌, length, Option, Some, None, Result, Ok, Err, refl, sym, ap, subst, ◌∙◌, nat_lt}
 use Rattle.std.specs.Prelude.{◌==◌, ◌||◌, not, MatchBool}
 use Rattle.arrayvec.specs.ArrayVec.{ArrayVec}
 use Rattle.xcp_packet.proofs.DecodingLaws.{decodes_once}
 use Rattle.xcp_packet.specs.CommandSpelling.{spells}
 use Rattle.xcp_packet.specs.Rows.{first_holding, refused}
-use Rattle.xcp_packet.specs.ReplyPacket.{number_of}
 use Rattle.xcp_packet.specs.declared.Code.{Code}
 use Rattle.xcp_packet.specs.declared.Code.TheVariants.{Sequence, DaqActive, OutOfRange, MemoryOverflow}
 use Rattle.xcp_packet.specs.declared.Command.{Command}
@@ -14,8 +13,7 @@ use Rattle.xcp_packet.specs.declared.Refuse.{Refuse}
 use Rattle.xcp_packet.specs.declared.Reply.{Reply}
 use Rattle.xcp_packet.specs.declared.Reply.TheVariants as replies
 use Rattle.xcp_daq.specs.AllocationSequence.{may_follow}
-use Rattle.xcp_daq.specs.Allocating.{alloc_daq_refusal, alloc_odt_refusal, alloc_odt_entry_refusal}
-use Rattle.xcp_daq.specs.DaqLists.{DaqValue, all_entries, all_odts, any_running, lacks_list, lacks_odt, list_at}
+use Rattle.xcp_daq.specs.DaqLists.{all_entries, all_odts, any_running, lacks_list, lacks_odt, list_at}
 use Rattle.xcp_daq.specs.declared.Allocation.{Allocation}
 use Rattle.xcp_daq.specs.declared.Allocation.TheVariants.{FreeDaq, AllocDaq, AllocOdt, AllocOdtEntry}
 use Rattle.xcp_slave.specs.Rows.{row}
@@ -26,19 +24,19 @@ use Rattle.xcp_slave.specs.declared.Outcome.TheVariants as answers
 use Rattle.xcp_slave.specs.declared.Request.TheVariants as requests
 
 -- a test that holds has its first case
-first_case : (t : Bool) (P Q : Type 0) → t ≡ true → MatchBool t P Q → P
+pub first_case : (t : Bool) (P Q : Type 0) → t ≡ true → MatchBool t P Q → P
 first_case true P Q e h = h
 first_case false P Q e h = cc
 
 -- while a tool is connected a packet that spells a command has that command executed
-executes : (c : Command) (v w : SlaveValue) (packet : ArrayVec ℕ) (a : Answer) → v.connected ≡ true → spells (layout_of v).order c packet.items → Answers v (requests.Command packet) a w → Executes c v a w
+pub executes : (c : Command) (v w : SlaveValue) (packet : ArrayVec ℕ) (a : Answer) → v.connected ≡ true → spells (layout_of v).order c packet.items → Answers v (requests.Command packet) a w → Executes c v a w
 executes c v w packet a on spelt h =
     let same : h.0 ≡ Ok c = decodes_once (layout_of v).order packet.items h.0 (Ok c) h.1 spelt in
     let heeds : Heeds v (Ok c) a w = subst (λ (d : Result Command Refuse). Heeds v d a w) same h.2 in
     first_case (v.connected || is_connect c) _ _ (ap (λ (b : Bool). b || is_connect c) on) heeds
 
 -- a row none of whose refusals holds is answered by its reply
-replied : (c : Command) (v w : SlaveValue) (a : Answer) → first_holding (row c (found_by c v)).refusals ≡ None → Executes c v a w → a ≡ answer_of (layout_of v) (row c (found_by c v)).reply
+pub replied : (c : Command) (v w : SlaveValue) (a : Answer) → first_holding (row c (found_by c v)).refusals ≡ None → Executes c v a w → a ≡ answer_of (layout_of v) (row c (found_by c v)).reply
 replied c v w a none (Ok o, m, s) = s ∙ ap (answer_of (layout_of v)) m.1
 replied c v w a none (Err f, m, s) = absurd (let z : ◌≡◌ {A = Option Reply} None (Some f) = sym none ∙ m.0 in cc)
 

@@ -1,5 +1,5 @@
 -- Where the bytes of the controller's pages stand in the image.
-use Rattle.std.proofs.Common.{◌≡◌, ℕ, ◌+◌, ◌-◌, ◌<◌, ◌≤◌, List, [], ◌++◌, length, map, take, get_or, replicate, inl, refl, ap, sym, ◌∙◌, arith, sum, length-append}
+use Rattle.std.proofs.Common.{◌≡◌, ℕ, ◌+◌, ◌-◌, ◌<◌, ◌≤◌, List, length, map, take, get_or, replicate, inl, refl, ap, sym, ◌∙◌, arith, sum, length-append}
 use Rattle.std.specs.Prelude.{sum_by}
 use Rattle.std.specs.List.{flat_map}
 use Rattle.std.proofs.lemmas.List.{get_or-map, length-map, ext_get_or, length-take-le, get_or-take, get_or_append_left, get_or-append_right, get_or-replicate, length-replicate, take_all}
@@ -8,7 +8,7 @@ use Rattle.std.proofs.lemmas.List.Folds.{length-flat_map-take}
 use Rattle.std.proofs.lemmas.List.Sums.{sum-map}
 use Rattle.xcp_memory.specs.EcuImage.{ecu_image, ecu_pages}
 use Rattle.xcp_memory.specs.Layout.{SegmentValue, IsLayout}
-use Rattle.xcp_memory.specs.Memory.{Controller, InSegment, Stands}
+use Rattle.xcp_memory.specs.Memory.{Controller}
 use Rattle.xcp_memory.specs.Pages.{PagesValue, SegmentPages, IsPages, ecu_page, segment_at, no_segment, no_pages}
 use Rattle.xcp_memory.proofs.EcuImageLemmas.{length-ecu_pages}
 use Rattle.xcp_memory.proofs.ReadLaws.{controller_sized}

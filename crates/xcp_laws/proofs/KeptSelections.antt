@@ -1,5 +1,5 @@
 -- Requests that keep the selection of lists.
-use Rattle.std.proofs.Common.{◌≡◌, ℕ, zero, suc, ◌+◌, Bool, true, false, List, [], ◌∷◌, get_or, length, map, refl, sym, ap, ◌∙◌, nat_lt, nat_le}
+use Rattle.std.proofs.Common.{◌≡◌, ℕ, zero, suc, ◌+◌, Bool, true, false, List, [], ◌∷◌, get_or, length, map, refl, ap, ◌∙◌, nat_lt, nat_le}
 use Rattle.std.specs.Prelude.{◌==◌, ◌&&◌, ◌%◌, if◌then◌else◌}
 use Rattle.arrayvec.specs.ArrayVec.{ArrayVec}
 use Rattle.xcp_daq.specs.DaqLists.{DaqList, DaqValue, list_at, no_list}

@@ -5,3 +5,15 @@ pub mod ListModes
 pub mod ModifiedBits
 pub mod FirstRefusals
 pub mod KeptSelections
+pub mod PositiveAnswers
+pub mod PageRanges
+pub mod ListRanges
+pub mod EventAnswers
+pub mod TransferRanges
+pub mod ToldLimits
+pub mod WrittenEntries
+pub mod DownloadRanges
+pub mod Allocations
+pub mod SpeltCommands
+pub mod NoCommands
+pub mod Stores

@@ -1,13 +1,12 @@
 -- The modes of lists that are switched and cleared.
-use Rattle.std.proofs.Common.{◌≡◌, ◌≢◌, ℕ, zero, suc, ◌<◌, ◌≤◌, Bool, true, false, List, [], ◌∷◌, get_or, length, map, Option, Some, None, refl, sym, ap, ◌∙◌, lt_of_not-le, nat_le, nat_lt, inl, inr}
-use Rattle.std.specs.Prelude.{◌==◌, ◌&&◌, not, ◌⊎◌, if◌then◌else◌}
-use Rattle.std.proofs.lemmas.Bool.{cases_lt}
-use Rattle.std.proofs.lemmas.List.{get_or-map, get_or-set_same, get_or-set_other, get_or_past, length-map}
+use Rattle.std.proofs.Common.{◌≡◌, ◌≢◌, ℕ, zero, suc, ◌<◌, Bool, true, false, List, [], ◌∷◌, get_or, length, map, Option, None, refl, sym, ap, ◌∙◌, nat_lt}
+use Rattle.std.specs.Prelude.{◌==◌, ◌&&◌, not, if◌then◌else◌}
+use Rattle.std.proofs.lemmas.List.{get_or-set_same, get_or-set_other, length-map}
 use Rattle.xcp_packet.specs.declared.Command.TheVariants as commands
 use Rattle.xcp_packet.specs.declared.Code.TheVariants.{OutOfRange, DaqConfig, ModeNotValid}
 use Rattle.xcp_daq.specs.declared.Element.{Element}
 use Rattle.xcp_daq.specs.Configuring.{cleared}
-use Rattle.xcp_daq.specs.DaqLists.{DaqList, DaqValue, has_large_odt, lacks_list, list_at, no_list}
+use Rattle.xcp_daq.specs.DaqLists.{DaqList, has_large_odt, lacks_list, list_at, no_list}
 use Rattle.xcp_daq.specs.Starting.{switched, synchronised}
 use Rattle.xcp_slave.specs.AcceptedCommands.{Accepts}
 use Rattle.xcp_slave.specs.SlaveValue.{SlaveValue, layout_of}

@@ -1,6 +1,6 @@
 -- The bits of a double word after MODIFY_BITS.
 use Rattle.std.proofs.Common.{◌≡◌, ℕ, ◌+◌, ◌-◌, ◌*◌, ◌/◌, ◌%◌, ◌^◌, ◌<◌, ◌≤◌, ◌⊎◌, inl, inr, sym, ap, ◌∙◌, arith}
-use Rattle.std.specs.Prelude.{min, bit_and, bit_xor}
+use Rattle.std.specs.Prelude.{min, bit_and}
 use Rattle.std.specs.Int.{bit_at, bit_not, w16, w32}
 use Rattle.std.proofs.lemmas.Nat.{div-add-mod', mod_below, pow_pos}
 use Rattle.std.proofs.lemmas.Nat.Bits.{bit_at_and, bit_at_xor, bit_at_not, bit_at-lt, bit_at_above, bit_at_cat_low, bit_at_cat_high, bit_at-zero}

@@ -1,7 +1,6 @@
 -- What the commands that only ask are told.
-use Rattle.std.proofs.Common.{◌≡◌, ℕ, ◌+◌, ◌<◌, Bool, true, false, List, [], ◌∷◌, ◌++◌, get_or, length, Option, Some, None, refl, sym, ap, ◌∙◌, lt_of_not-le, ◌≤◌, nat_le, zero, suc, drop}
-use Rattle.std.specs.Prelude.{◌↔◌, ◌==◌, ◌&&◌, bit_and, slice_index, if◌then◌else◌}
-use Rattle.std.specs.List.{list_any}
+use Rattle.std.proofs.Common.{◌≡◌, ℕ, ◌+◌, ◌<◌, Bool, true, false, List, [], ◌∷◌, ◌++◌, get_or, length, Option, Some, None, refl, sym, ap, ◌∙◌, lt_of_not-le, ◌≤◌, nat_le, drop}
+use Rattle.std.specs.Prelude.{◌↔◌, bit_and, slice_index, if◌then◌else◌}
 use Rattle.std.proofs.lemmas.List.{get_or_past}
 use Rattle.std.proofs.lemmas.List.Elements.{All-from_get_or}
 use Rattle.std.proofs.lemmas.List.Folds.{list_any_at, list_any_none}
@@ -11,7 +10,6 @@ use Rattle.xcp_packet.specs.declared.Command.{Command}
 use Rattle.xcp_packet.specs.declared.Command.TheVariants as commands
 use Rattle.xcp_packet.specs.declared.Code.TheVariants.{OutOfRange}
 use Rattle.xcp_packet.specs.declared.Reply.{Reply}
-use Rattle.xcp_packet.specs.declared.Reply.TheVariants as replies
 use Rattle.xcp_memory.specs.Layout.{no_event}
 use Rattle.xcp_memory.specs.Pages.{no_segment, segment_at}
 use Rattle.xcp_daq.specs.DaqInfo.{mode_bits}
@@ -25,12 +23,12 @@ use Rattle.xcp_slave.proofs.ListInvariantLemmas.{none-holds, is_below}
 use Rattle.xcp_slave.proofs.TransferInvariantLemmas.{none-refused}
 
 -- the bytes behind FF of the reply
-abbrev told : SlaveValue → Option Reply → List ℕ
+abbrev pub told : SlaveValue → Option Reply → List ℕ
 told v None = []
 told v (Some reply) = drop 1 (layout (layout_of v).order reply)
 
 -- a command that is accepted is told its row's reply
-bytes-told : (c : Command) (v : SlaveValue) (bytes : List ℕ) (w : SlaveValue) → Accepts v c bytes w → bytes ≡ told v (row c (found_by c v)).reply
+pub bytes-told : (c : Command) (v : SlaveValue) (bytes : List ℕ) (w : SlaveValue) → Accepts v c bytes w → bytes ≡ told v (row c (found_by c v)).reply
 bytes-told c v bytes w h =
     let k = accepted c v bytes w h in
     k.sent ∙ ap (told v) (sym k.replied)

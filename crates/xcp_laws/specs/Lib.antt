@@ -1,1 +1,3 @@
+pub mod AskedCommands
 pub mod ImagePlace
+pub mod NumberBytes

@@ -1,0 +1,37 @@
+//! What an event is refused for, and which texts a tool uploads.
+ghost use Rattle.std.specs.Prelude.{◌≡◌, ◌≢◌, ◌⊎◌, ◌+◌, ◌<◌, ◌≤◌, ℕ, List, [], ◌∷◌, ◌++◌, drop, get_or, length, take};
+ghost use Rattle.arrayvec.specs.ArrayVec.{ArrayVec};
+ghost use Rattle.xcp_packet.specs.ByteOrder.{double_bytes};
+ghost use Rattle.xcp_packet.specs.declared.Command.{Command};
+ghost use Rattle.xcp_memory.specs.Layout.{no_event};
+ghost use Rattle.xcp_transfer.specs.declared.Mta.{Mta};
+ghost use Rattle.xcp_transfer.specs.declared.TextId.{TextId};
+ghost use Rattle.xcp_slave.specs.AcceptedCommands.{Accepts};
+ghost use Rattle.xcp_slave.specs.Step.{Answers};
+ghost use Rattle.xcp_slave.specs.SlaveValue.{SlaveValue, layout_of};
+ghost use Rattle.xcp_slave.specs.Outcomes.{Answer};
+ghost use Rattle.xcp_slave.specs.declared.Outcome.{Outcome};
+ghost use Rattle.xcp_slave.specs.declared.Request.{Request};
+
+/// An event whose channel the layout doesn't have is refused for that, whatever its signals are; an event of a
+/// channel that it has is refused if its signals are not as many bytes as the layout says. Either leaves the slave
+/// as it was. Any other is sampled or overruns, and its signals are then in their place.
+/// ASAM MCD-1 XCP, protocol layer: DAQ, event channels.
+pub fn an_event_is_asked_for_its_channel_first()
+    ensures channel { (v w : SlaveValue) (channel : ℕ) (signals : ArrayVec ℕ) (a : Answer) → length (layout_of v).events ≤ channel → Answers v (Request.Event channel signals) a w → (a ≡ Outcome.NoChannel) × (w ≡ v) }
+    ensures signals { (v w : SlaveValue) (channel : ℕ) (signals : ArrayVec ℕ) (a : Answer) → channel < length (layout_of v).events → length signals.items ≢ (layout_of v).signals_length → Answers v (Request.Event channel signals) a w → (a ≡ Outcome.BadSignals) × (w ≡ v) }
+    ensures taken { (v w : SlaveValue) (channel : ℕ) (signals : ArrayVec ℕ) (a : Answer) → channel < length (layout_of v).events → length signals.items ≡ (layout_of v).signals_length → Answers v (Request.Event channel signals) a w → ((a ≡ Outcome.Overrun) ⊎ ((n : ℕ) × (a ≡ Outcome.Sampled n))) × (w.transfer.pages.signals ≡ signals.items) }
+{}
+
+/// What a tool uploads at the name of an event channel, to which GET_DAQ_EVENT_INFO leaves the MTA, is that
+/// channel's own name; and at the identification, to which GET_ID of kind 0 leaves it, the layout's. An UPLOAD ends
+/// with the text, or before. GET_ID tells how long the identification is, and length 0 of any other kind.
+/// ASAM MCD-1 XCP, protocol layer, description of commands: GET_DAQ_EVENT_INFO, GET_ID, UPLOAD.
+pub fn a_text_is_uploaded_as_it_is()
+    ensures name { (v w : SlaveValue) (channel place n : ℕ) (bytes : List ℕ) → v.transfer.mta ≡ Mta.Text (TextId.Name channel) place → Accepts v (Command.Upload n) bytes w → (place + n ≤ length (get_or (layout_of v).events channel no_event).name) × (bytes ≡ take n (drop place (get_or (layout_of v).events channel no_event).name)) }
+    ensures whole_name { (v m w : SlaveValue) (channel : ℕ) (told bytes : List ℕ) → Accepts v (Command.GetDaqEventInfo channel) told m → Accepts m (Command.Upload (length (get_or (layout_of v).events channel no_event).name)) bytes w → bytes ≡ (get_or (layout_of v).events channel no_event).name }
+    ensures id { (v w : SlaveValue) (place n : ℕ) (bytes : List ℕ) → v.transfer.mta ≡ Mta.Text TextId.Id place → Accepts v (Command.Upload n) bytes w → (place + n ≤ length (layout_of v).id) × (bytes ≡ take n (drop place (layout_of v).id)) }
+    ensures whole_id { (v m w : SlaveValue) (told bytes : List ℕ) → Accepts v (Command.GetId 0) told m → Accepts m (Command.Upload (length (layout_of v).id)) bytes w → bytes ≡ (layout_of v).id }
+    ensures id_told { (v w : SlaveValue) (bytes : List ℕ) → Accepts v (Command.GetId 0) bytes w → bytes ≡ 0 ∷ 0 ∷ 0 ∷ double_bytes (layout_of v).order (length (layout_of v).id) }
+    ensures no_id { (v w : SlaveValue) (kind : ℕ) (bytes : List ℕ) → kind ≢ 0 → Accepts v (Command.GetId kind) bytes w → bytes ≡ 0 ∷ 0 ∷ 0 ∷ double_bytes (layout_of v).order 0 }
+{}
