@@ -1,6 +1,6 @@
 //! Plays books: texts of parts, each of which has rows of questions with their answers. It prints for each book how many parts and
-//! answers it has, and each part's first answer that is wrong. With `--self-test` each line of an answer is altered too, and has to be
-//! noticed.
+//! answers it has, and each part's first answer that is wrong. Each line of an answer of the books behind the word `--self-test` is
+//! altered too, and has to be noticed.
 //!
 //! `README.md` beside this folder says what a book is, and where its answers come from.
 #![tactic(auto)]
@@ -33,7 +33,7 @@ use std::{fs, io};
 use trouble::Trouble;
 use xcp_program::read_words;
 
-/// The word that asks for altered answers.
+/// The word that asks for altered answers of the books behind it.
 const SELF_TEST: &str = "--self-test";
 
 /// A line feed and the text of the book that a word names; nothing where the word is none of a book.
@@ -55,16 +55,6 @@ fn read_books(rt: &HostRuntime, words: &[String]) -> io::Result<Vec<String>> {
     Ok(books)
 }
 
-/// Whether one of these words asks for altered answers.
-fn wants_alterations(words: &[String]) -> bool {
-    for word in words {
-        if word.as_str() == SELF_TEST {
-            return true;
-        }
-    }
-    false
-}
-
 /// Prints what was told of a book, and why it is none, and tells whether it is one.
 fn print_book(
     rt: &HostRuntime,
@@ -82,7 +72,8 @@ fn print_book(
     Ok(false)
 }
 
-/// Plays the books of the words behind the first, in order, up to the first that is none, and tells whether there is no such.
+/// Plays the books of the words behind the first, in order, up to the first that is none, and tells whether there is no such. From
+/// the word that asks for it on, answers are altered too.
 fn play_books<'a>(
     rt: &HostRuntime,
     words: &[String],
@@ -90,7 +81,9 @@ fn play_books<'a>(
     report: &mut Report<'a>,
 ) -> io::Result<bool> {
     for (word, book) in words.iter().skip(1).zip(books.iter()) {
-        if !book.is_empty() {
+        if book.is_empty() {
+            report.alters = true;
+        } else {
             report.text.clear();
             let played = report.play_book(word.as_str(), book.as_str());
             if !print_book(rt, word.as_str(), report.text.as_str(), &played)? {
@@ -116,7 +109,7 @@ fn print_end(rt: &HostRuntime, report: &Report<'_>) -> io::Result<u8> {
 fn main(rt: HostRuntime) -> io::Result<ExitCode> {
     let words = read_words(&rt)?;
     let books = read_books(&rt, words.as_slice())?;
-    let mut report = Report::new(rt.alloc(), wants_alterations(words.as_slice()));
+    let mut report = Report::new(rt.alloc());
     if !play_books(&rt, words.as_slice(), books.as_slice(), &mut report)? {
         return Ok(ExitCode::from(2));
     }

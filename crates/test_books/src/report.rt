@@ -24,12 +24,12 @@ pub struct Report<'a> {
 }
 
 impl<'a> Report<'a> {
-    /// No book yet.
-    pub fn new(alloc: Global, alters: bool) -> Report<'a> {
+    /// No book yet, and no answers altered.
+    pub fn new(alloc: Global) -> Report<'a> {
         Report {
             alloc,
             layouts: Vec::new(alloc),
-            alters,
+            alters: false,
             altered: 0,
             wrong: 0,
             text: String::new(alloc),

@@ -13,12 +13,13 @@ fn want_of_memory_is_told(rt: HostRuntime) {
     assert!(rt; told_of_memory(rt.alloc()).is_ok_and(|told| told.as_str() == "4 xcpd: memory\n"));
 }
 
-/// The number of the fault of words of `serve` that want so many tools, or 0 where there is none.
-fn number_of(alloc: Global, tools: &str) -> Result<u8, AllocError> {
+/// The number of the fault of words of `serve`, of which these stand behind its file and port, or 0 where there is none.
+fn number_of(alloc: Global, others: &str) -> Result<u8, AllocError> {
     let mut given = Vec::new(alloc);
-    for word in [
-        "xcpd", "serve", "--config", "F", "--port", "5555", "--tools", tools,
-    ] {
+    for word in ["xcpd", "serve", "--config", "F", "--port", "5555"] {
+        given.push(word.to_string(alloc)?)?;
+    }
+    for word in others.split(' ') {
         given.push(word.to_string(alloc)?)?;
     }
     match options(alloc, &given) {
@@ -27,12 +28,21 @@ fn number_of(alloc: Global, tools: &str) -> Result<u8, AllocError> {
     }
 }
 
-/// How many tools are wanted, and the number of the fault.
-static TOOLS: [(&str, u8); 4] = [("2", 0), ("3", 3), ("4", 3), ("5", 2)];
+/// The last words, and the number of the fault.
+static WORDS: [(&str, u8); 8] = [
+    ("--tools 2", 0),
+    ("--tools 3", 3),
+    ("--tools 4", 3),
+    ("--tools 5", 2),
+    ("--stay --patience 60", 0),
+    ("--stay --cycles 100", 4),
+    ("--stay --chapter 65536", 4),
+    ("--patience 60", 5),
+];
 
 fn first_other_number(alloc: Global) -> Result<Option<usize>, AllocError> {
-    for (row, (tools, number)) in TOOLS.iter().enumerate() {
-        if number_of(alloc, tools)? != *number {
+    for (row, (others, number)) in WORDS.iter().enumerate() {
+        if number_of(alloc, others)? != *number {
             return Ok(Some(row));
         }
     }

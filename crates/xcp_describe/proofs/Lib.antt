@@ -1,1 +1,3 @@
 mod ArrayLemmas
+mod CleanLemmas
+mod PlainLemmas

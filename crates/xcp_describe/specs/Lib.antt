@@ -1,3 +1,9 @@
+pub mod FaultWords
+pub mod Files
+pub mod FindingsText
+pub mod Hosts
+pub mod Places
+pub mod RefusalWords
 pub mod UnreadKeys
 pub mod Findings
 pub mod private

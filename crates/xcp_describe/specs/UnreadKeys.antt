@@ -1,11 +1,12 @@
--- The keys of a layout file that nothing reads. `crates/xcp_config/specs/TableChecks.antt` reads those of the document, of its segments,
+-- The keys of a layout file that nothing reads, each with its place. `crates/xcp_config/specs/TableChecks.antt` reads those of the document, of its segments,
 -- of its signals and of its event channels; a description reads those of its parameters and measurements.
 use Rattle.std.specs.Prelude.{ℕ, Bool, not, List, [], ◌∷◌, ◌++◌, map, filter, codes, Option, Some, None, unwrap_or, if◌then◌else◌}
 use Rattle.std.specs.Option.{option_and_then}
-use Rattle.std.specs.List.{list_any, flat_map}
+use Rattle.std.specs.List.{list_any, flat_map, enumerate_from}
 use Rattle.std.specs.Str.{bytes_eq}
 use Rattle.toml.specs.Data.{Data, table, Members, no_members, member, as_table, get}
 use Rattle.xcp_config.specs.TomlValues.{members_of}
+use Rattle.xcp_describe.specs.Places.{Place, no_table, table_named, member_of, PlacedKey}
 
 -- the keys that are read outside of the tables
 abbrev pub top_keys : List (List ℕ)
@@ -33,26 +34,32 @@ abbrev pub is_among : List ℕ → List (List ℕ) → Bool
 is_among key known = list_any (bytes_eq key) known
 
 -- the keys of a table's members that aren't
-abbrev pub unread_members : List (List ℕ) → Members → List (List ℕ)
-unread_members known no_members = []
-unread_members known (member key d rest) = if is_among key known then unread_members known rest else key ∷ unread_members known rest
+abbrev pub unread_members : Place → List (List ℕ) → Members → List PlacedKey
+unread_members place known no_members = []
+unread_members place known (member key d rest) =
+    if is_among key known then unread_members place known rest
+    else record { place = place; key = key } ∷ unread_members place known rest
 
 -- the same of a value, which has none where it is no table
-abbrev pub unread_of : List (List ℕ) → Data → List (List ℕ)
-unread_of known d = unread_members known (unwrap_or (as_table d) no_members)
+abbrev pub unread_of : Place → List (List ℕ) → Data → List PlacedKey
+unread_of place known d = unread_members place known (unwrap_or (as_table d) no_members)
+
+-- of a member of the array at a name
+abbrev pub unread_member : List ℕ → List (List ℕ) → ℕ × Data → List PlacedKey
+unread_member name known (i, d) = unread_of (member_of name i) known d
 
 -- of each table of the array at a name
-abbrev pub unread_each : List ℕ → List (List ℕ) → Data → List (List ℕ)
-unread_each name known t = flat_map (unread_of known) (members_of (get name t))
+abbrev pub unread_each : List ℕ → List (List ℕ) → Data → List PlacedKey
+unread_each name known t = flat_map (unread_member name known) (enumerate_from 0 (members_of (get name t)))
 
 -- of the table `signals`
-abbrev pub unread_signals : Data → List (List ℕ)
-unread_signals t = unread_of signals_keys (unwrap_or (get (codes "signals") t) (table no_members))
+abbrev pub unread_signals : Data → List PlacedKey
+unread_signals t = unread_of (table_named (codes "signals")) signals_keys (unwrap_or (get (codes "signals") t) (table no_members))
 
 -- all of a document
-abbrev pub unread_keys : Data → List (List ℕ)
+abbrev pub unread_keys : Data → List PlacedKey
 unread_keys t =
-    unread_of top_keys t
+    unread_of no_table top_keys t
     ++ unread_each (codes "segment") segment_keys t
     ++ unread_signals t
     ++ unread_each (codes "event") event_keys t

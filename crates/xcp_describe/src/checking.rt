@@ -1,15 +1,19 @@
 //! A check of a layout file.
-ghost use Rattle.std.specs.Prelude.{◌≡◌, ◌≢◌, ◌⊎◌, ◌+◌, ℕ, List, Some, None, Err, OnOk, IfOk, IfErr, IfSome, string_bytes};
+ghost use Rattle.std.specs.Prelude.{◌≡◌, ◌≢◌, ◌⊎◌, ◌++◌, ◌+◌, ℕ, List, Some, None, Err, Ok, OnOk, IfOk, IfErr, IfSome, string_bytes};
+ghost use Rattle.std.specs.List.{flat_map};
 ghost use Rattle.std.specs.Io.KnownBytes.{Appends};
 ghost use Rattle.toml.specs.View.{view};
 ghost use Rattle.xcp_framing.specs.Prefix.{AppendsFront};
 ghost use Rattle.xcp_memory.specs.Layout.{LayoutValue};
 ghost use Rattle.xcp_config.specs.ConfigText.{HasLayout};
 ghost use Rattle.xcp_config.specs.TableChecks.{first_fault};
-ghost use Rattle.xcp_describe.specs.Findings.{IsChecked, IsClean, IsEntry, IsUnreadable, clean_text, unreadable};
+ghost use Rattle.xcp_describe.specs.Findings.{IsClean, IsEntry, IsFound, unreadable};
+ghost use Rattle.xcp_describe.specs.FindingsText.{IsSyntaxLine, clean_text, fault_line, findings_text, line_if, no_utf8_text, refused_line, unread_line};
 ghost use Rattle.xcp_describe.specs.private.Document.{IsDocument};
+ghost use Rattle.xcp_describe.specs.private.TableKeys.{keys_of};
 
 use crate::findings::Findings;
+use crate::plain::put_lines;
 use crate::refusal::DescribeError;
 use crate::tables::Tables;
 use crate::unread::{Unread, unread_in};
@@ -33,12 +37,11 @@ pub fn check<W: Write>(
     file: &[u8],
     writer: &mut Watched<W>,
 ) -> Result<Findings, Fault>
-    // A file that is no document is told as that alone; else the fault and the keys are those of its document, neither more nor fewer.
-    ensures found { IfOk result (λ f. IsUnreadable file.now f ⊎ IsChecked file.now f) }
+    // A file that is no document is told as that alone; else the fault and the keys are those of its document, neither more nor fewer,
+    // and what is written is one text, all of it: their lines.
+    ensures found { IfOk result (λ f. (text : List ℕ) × IsFound file.now f text × Appends (W.contents writer.old.inner) (W.contents writer.new.inner) text) }
     ensures layout { IfOk result (λ f. f.fault ≡ None → (l : LayoutValue) × HasLayout file.now l) }
     ensures refused { IfErr result (λ e. (e ≡ Fault.Memory) ⊎ (e ≡ Fault.Stream 2)) }
-    // What is written is one text, all of it or a front of it.
-    ensures written { OnOk result ((text : List ℕ) × Appends (W.contents writer.old.inner) (W.contents writer.new.inner) text) }
     ensures clean { IfOk result (λ f. IsClean f → Appends (W.contents writer.old.inner) (W.contents writer.new.inner) clean_text) }
     // A fault of the writer comes exactly where a write failed, and want of memory before anything is written.
     ensures write { result ≡ Err (Fault.Stream 2) → writer.new.failures ≡ writer.old.failures + 1 }
@@ -55,13 +58,12 @@ pub fn check<W: Write>(
 
 /// What is found in a file, and the text that tells it.
 fn findings_in(alloc: Global, file: &[u8]) -> Result<(Findings, String), Fault>
-    ensures found { IfOk result (λ r. IsUnreadable file.now r.0 ⊎ IsChecked file.now r.0) }
+    ensures found { IfOk result (λ r. IsFound file.now r.0 (string_bytes r.1)) }
     ensures layout { IfOk result (λ r. r.0.fault ≡ None → (l : LayoutValue) × HasLayout file.now l) }
-    ensures clean { IfOk result (λ r. IsClean r.0 → string_bytes r.1 ≡ clean_text) }
     ensures refused { IfErr result (λ e. e ≡ Fault.Memory) }
 {
     let Ok(config) = str::from_utf8(file) else {
-        return no_document(String::from_str(alloc, "configuration 1: it is no UTF-8\n"));
+        return no_document(no_utf8(alloc));
     };
     match toml::table_from_str(alloc, config) {
         Ok(table) => findings_of(alloc, config, &Value::Table(table)),
@@ -73,6 +75,7 @@ fn findings_in(alloc: Global, file: &[u8]) -> Result<(Findings, String), Fault>
 /// The findings in a file that is no document, with their text, if there was memory for it.
 fn no_document(text: Result<String, AllocError>) -> Result<(Findings, String), Fault>
     ensures found { IfOk result (λ r. r.0 ≡ unreadable) }
+    ensures told { IfOk result (λ r. text ≡ Ok r.1) }
     ensures refused { IfErr result (λ e. e ≡ Fault.Memory) }
 {
     match text {
@@ -81,13 +84,20 @@ fn no_document(text: Result<String, AllocError>) -> Result<(Findings, String), F
     }
 }
 
+/// What is told of a file that isn't UTF-8.
+fn no_utf8(alloc: Global) -> Result<String, AllocError>
+    ensures { IfOk result (λ text. string_bytes text ≡ no_utf8_text) }
+{
+    String::from_str(alloc, "configuration 1: it is no UTF-8\n")
+}
+
 /// Where a text is no TOML, and why, in one line.
-fn syntax(alloc: Global, error: &Error) -> Result<String, AllocError> {
+fn syntax(alloc: Global, error: &Error) -> Result<String, AllocError>
+    ensures { IfOk result (λ text. IsSyntaxLine (string_bytes text)) }
+{
     let told = format!(in alloc; "{error}")?;
     let mut text = String::from_str(alloc, "configuration 1")?;
-    for line in told.as_str().lines() {
-        write!(text, ": {line}")?;
-    }
+    put_lines(told.as_str(), &mut text)?;
     text.push('\n')?;
     Ok(text)
 }
@@ -95,9 +105,8 @@ fn syntax(alloc: Global, error: &Error) -> Result<String, AllocError> {
 /// What is found in a document, which this text is, and the text that tells it.
 fn findings_of(alloc: Global, config: &str, document: &Value) -> Result<(Findings, String), Fault>
     requires { IsDocument config.now (view document.now) }
-    ensures found { IfOk result (λ r. IsChecked config.now r.0) }
+    ensures found { IfOk result (λ r. IsFound config.now r.0 (string_bytes r.1)) }
     ensures layout { IfOk result (λ r. r.0.fault ≡ None → (l : LayoutValue) × HasLayout config.now l) }
-    ensures clean { IfOk result (λ r. IsClean r.0 → string_bytes r.1 ≡ clean_text) }
     ensures refused { IfErr result (λ e. e ≡ Fault.Memory) }
 {
     let (fault, refused) = layout_findings(alloc, config, document)?;
@@ -109,7 +118,7 @@ fn findings_of(alloc: Global, config: &str, document: &Value) -> Result<(Finding
         unread: unread.len(),
         refused,
     };
-    match text_of(alloc, findings, unread.as_slice()) {
+    match text_of(alloc, fault, unread.as_slice(), refused) {
         Ok(text) => Ok((findings, text)),
         Err(_) => Err(Fault::Memory),
     }
@@ -151,21 +160,56 @@ fn refused_in(
 }
 
 /// A line for each thing that was found, or one that says that nothing was.
-fn text_of(alloc: Global, findings: Findings, unread: &[Unread<'_>]) -> Result<String, AllocError>
-    ensures { IsClean findings → IfOk result (λ text. string_bytes text ≡ clean_text) }
+fn text_of(
+    alloc: Global,
+    fault: Option<ConfigError>,
+    unread: &[Unread<'_>],
+    refused: Option<DescribeError>,
+) -> Result<String, AllocError>
+    requires { IfSome refused IsEntry }
+    ensures { IfOk result (λ text. string_bytes text ≡ findings_text fault (keys_of unread.now) refused) }
 {
-    if findings.is_empty() {
-        return String::from_str(alloc, "no fault, and every key is read\n");
-    }
     let mut text = String::new(alloc);
-    if let Some(fault) = findings.fault {
-        writeln!(text, "configuration {}: {}", fault.number(), InWords(fault))?;
-    }
-    for key in unread {
-        writeln!(text, "{key}")?;
-    }
-    if let Some(refusal) = findings.refused {
-        writeln!(text, "{refusal}")?;
+    put_fault(fault, &mut text)?;
+    put_unread(unread, &mut text)?;
+    put_refused(refused, &mut text)?;
+    if text.is_empty() {
+        text.push_str("no fault, and every key is read\n")?;
     }
     Ok(text)
+}
+
+/// Appends the line of a fault, if there is one.
+fn put_fault(fault: Option<ConfigError>, text: &mut String) -> Result<(), AllocError>
+    ensures { OnOk result (string_bytes text.new ≡ string_bytes text.old ++ line_if fault_line fault) }
+{
+    match fault {
+        Some(fault) => {
+            let number = fault.number();
+            let words = InWords(fault);
+            writeln!(text, "configuration {number}: {words}")
+        }
+        None => Ok(()),
+    }
+}
+
+/// Appends the line of each key.
+fn put_unread(unread: &[Unread<'_>], text: &mut String) -> Result<(), AllocError>
+    ensures { OnOk result (string_bytes text.new ≡ string_bytes text.old ++ flat_map unread_line (keys_of unread.now)) }
+{
+    for key in unread {
+        key.put(text)?;
+    }
+    Ok(())
+}
+
+/// Appends the line of an entry that is refused, if there is one.
+fn put_refused(refused: Option<DescribeError>, text: &mut String) -> Result<(), AllocError>
+    requires { IfSome refused IsEntry }
+    ensures { OnOk result (string_bytes text.new ≡ string_bytes text.old ++ line_if refused_line refused) }
+{
+    match refused {
+        Some(refusal) => writeln!(text, "{refusal}"),
+        None => Ok(()),
+    }
 }

@@ -1,14 +1,18 @@
 //! The whole description.
-ghost use Rattle.std.specs.Prelude.{◌≡◌, ◌≢◌, ◌⊎◌, ◌+◌, ℕ, List, OnOk, OnErr, IfErr};
+ghost use Rattle.std.specs.Prelude.{◌≡◌, ◌≢◌, ◌⊎◌, ◌↔◌, ◌+◌, ℕ, List, OnOk, OnErr, IfOk, IfErr, string_bytes};
 ghost use Rattle.std.specs.Io.KnownBytes.{Appends};
 ghost use Rattle.xcp_framing.specs.Prefix.{AppendsFront};
 ghost use Rattle.xcp_memory.specs.Layout.{LayoutValue};
 ghost use Rattle.xcp_config.specs.ConfigText.{HasLayout};
 ghost use Rattle.xcp_program.specs.ReplayOutcome.{IsFault};
+ghost use Rattle.xcp_describe.specs.Files.{IsFile};
+ghost use Rattle.xcp_describe.specs.Hosts.{IsHost};
+ghost use Rattle.xcp_describe.specs.private.Refusals.{IsEntryOrMemory};
 
 use crate::aml::AML;
 use crate::asking::Asked;
 use crate::daq::Daq;
+use crate::host::is_host;
 use crate::memory::Paging;
 use crate::naming::put_tables;
 use crate::protocol::Protocol;
@@ -33,9 +37,9 @@ struct Signals {
 /// Writes the A2L description of the slave that the text of a layout file describes, for tools that reach it at this host and
 /// port. The whole text is made before any of it is written.
 ///
-/// Faults: `Program` of `Configuration` first, 1 to 6, where the text describes no layout; then `Parameter` and `Measurement` of
-/// the first entry that has one, the parameters first; `Program` of `Memory` where an allocation fails, of `Stream(2)` where a
-/// write failed.
+/// Faults: `Host` first, where the host isn't 1 to 255 printable ASCII characters without a blank; then `Program` of
+/// `Configuration`, 1 to 6, where the text describes no layout; then `Parameter` and `Measurement` of the first entry that has
+/// one, the parameters first; `Program` of `Memory` where an allocation fails, of `Stream(2)` where a write failed.
 pub fn describe<W: Write>(
     alloc: Global,
     config: &str,
@@ -44,8 +48,9 @@ pub fn describe<W: Write>(
     writer: &mut Watched<W>,
 ) -> Result<(), DescribeError>
     // What is written is one text, all of it or a front of it, and of a layout alone.
-    ensures written { OnOk result ((text : List ℕ) × Appends (W.contents writer.old.inner) (W.contents writer.new.inner) text) }
+    ensures written { OnOk result ((text : List ℕ) × IsFile text × Appends (W.contents writer.old.inner) (W.contents writer.new.inner) text) }
     ensures layout { OnOk result ((l : LayoutValue) × HasLayout config.now l) }
+    ensures host { (result ≡ Err DescribeError.Host) ↔ (¬ (IsHost host.now)) }
     ensures configuration { (f : Fault) → result ≡ Err (DescribeError.Program f) → (f ≡ Fault.Memory) ⊎ (f ≡ Fault.Stream 2) ⊎ IsFault config.now f }
     // A fault of the writer comes exactly where a write failed, and any other before anything is written.
     ensures write { result ≡ Err (DescribeError.Program (Fault.Stream 2)) → writer.new.failures ≡ writer.old.failures + 1 }
@@ -53,6 +58,9 @@ pub fn describe<W: Write>(
     ensures unfailed { result ≢ Err (DescribeError.Program (Fault.Stream 2)) → writer.new.failures ≡ writer.old.failures }
     ensures unwritten { OnErr result (result ≢ Err (DescribeError.Program (Fault.Stream 2)) → writer.new ≡ writer.old) }
 {
+    if !is_host(host) {
+        return Err(DescribeError::Host);
+    }
     let layout = layout_of(alloc, config)?;
     let text = described(alloc, config, layout, host, port)?;
     match writer.write_all(text.as_bytes()) {
@@ -69,7 +77,8 @@ fn described(
     host: &str,
     port: u16,
 ) -> Result<String, DescribeError>
-    ensures { IfErr result (λ e. (f : Fault) → e ≡ DescribeError.Program f → f ≡ Fault.Memory) }
+    ensures written { IfOk result (λ text. IsFile (string_bytes text)) }
+    ensures refused { IfErr result IsEntryOrMemory }
 {
     let Ok(table) = toml::table_from_str(alloc, config) else {
         return Err(DescribeError::Program(Fault::Memory));
@@ -82,26 +91,31 @@ fn described(
     }
 }
 
+/// The whole text: its first line, what the blocks of the module have, and the ends of the blocks around them.
 fn text_of(
     alloc: Global,
     layout: Layout,
     tables: &Tables<'_>,
     host: &str,
     port: u16,
-) -> Result<String, AllocError> {
+) -> Result<String, AllocError>
+    ensures { IfOk result (λ text. IsFile (string_bytes text)) }
+{
     let signals = Signals {
         address: layout.signals_address(),
         length: layout.signals_length(),
     };
     let mut asked = Asked::new(alloc, layout)?;
-    let mut text = String::new(alloc);
-    put_module(&mut asked, signals, host, port, &mut text)?;
-    put_tables(tables, &mut text)?;
+    let mut blocks = String::new(alloc);
+    put_module(&mut asked, signals, host, port, &mut blocks)?;
+    put_tables(tables, &mut blocks)?;
+    let mut text = String::from_str(alloc, "ASAP2_VERSION 1 60\n/begin PROJECT xcpd ")?;
+    text.push_str(blocks.as_str())?;
     text.push_str("  /end MODULE\n/end PROJECT\n")?;
     Ok(text)
 }
 
-/// Appends the blocks PROJECT and MODULE, but for their ends and what stands before these.
+/// Appends what stands behind the name of the block PROJECT, up to the entries in the block MODULE.
 fn put_module(
     asked: &mut Asked,
     signals: Signals,
@@ -111,8 +125,6 @@ fn put_module(
 ) -> Result<(), AllocError> {
     let protocol = Protocol::ask(asked);
     let id = identification(asked);
-    writeln!(text, "ASAP2_VERSION 1 60")?;
-    text.push_str("/begin PROJECT xcpd ")?;
     put_quoted(text, id.as_slice(), id.len())?;
     text.push_str("\n  /begin MODULE slave ")?;
     put_quoted(text, id.as_slice(), id.len())?;

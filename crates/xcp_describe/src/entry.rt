@@ -1,4 +1,7 @@
 //! One parameter or measurement: what the layout file says of it.
+ghost use Rattle.std.specs.Prelude.{IfOk};
+ghost use Rattle.xcp_describe.specs.private.FiniteNumbers.{HasFiniteNumbers, IsFinite};
+
 use crate::kind::Kind;
 use crate::refusal::Why;
 use toml::Value;
@@ -26,22 +29,16 @@ pub(crate) struct Entry<'a> {
 
 impl<'a> Entry<'a> {
     /// The entry that a table describes; only where `many` may it have several values.
-    pub(crate) fn read(table: &'a Value, many: bool) -> Result<Entry<'a>, Why> {
+    pub(crate) fn read(table: &'a Value, many: bool) -> Result<Entry<'a>, Why>
+        ensures { IfOk result HasFiniteNumbers }
+    {
         let name = name_in(table)?;
         let address = address_in(table)?;
         let kind = kind_in(table)?;
         let count = if many { count_in(table)? } else { None };
         let factor = number_in(table, "factor", 1.0)?;
         let offset = number_in(table, "offset", 0.0)?;
-        let (least, most) = scaled(kind.bounds(), factor, offset);
-        let low = number_in(table, "low", least)?;
-        let high = number_in(table, "high", most)?;
-        if factor == 0.0 {
-            return Err(Why::Factor);
-        }
-        if !(least <= low && low <= high && high <= most) {
-            return Err(Why::Limits);
-        }
+        let (low, high) = limits_in(table, scaled(kind.bounds(), factor, offset), factor)?;
         Ok(Entry {
             name,
             address,
@@ -69,6 +66,27 @@ impl<'a> Entry<'a> {
     /// Whether all its bytes lie in one segment, or in the signals.
     pub(crate) fn is_in_memory(&self, layout: &Layout) -> bool {
         self.is_in_segments(layout) || layout.is_in_signals(self.address, self.length())
+    }
+}
+
+/// The limits, those of the type where none are given. They are looked at once all four numbers are read, the factor first.
+fn limits_in(table: &Value, bounds: (f64, f64), factor: f64) -> Result<(f64, f64), Why>
+    ensures { IfOk result (λ r. IsFinite r.0 × IsFinite r.1) }
+{
+    let (least, most) = bounds;
+    let low = number_in(table, "low", least)?;
+    let high = number_in(table, "high", most)?;
+    if factor == 0.0 {
+        return Err(Why::Factor);
+    }
+    if !(least <= low && low <= high && high <= most) {
+        return Err(Why::Limits);
+    }
+    // A bound of the type is no number where a large factor or offset takes it beyond all of 64 bits.
+    if low.is_finite() && high.is_finite() {
+        Ok((low, high))
+    } else {
+        Err(Why::Limits)
     }
 }
 
@@ -140,7 +158,9 @@ fn count_in(table: &Value) -> Result<Option<u16>, Why> {
 }
 
 /// A number, an integer or not; the other where none is given.
-fn number_in(table: &Value, key: &str, other: f64) -> Result<f64, Why> {
+fn number_in(table: &Value, key: &str, other: f64) -> Result<f64, Why>
+    ensures { IsFinite other → IfOk result IsFinite }
+{
     let Some(value) = table.get(key) else {
         return Ok(other);
     };

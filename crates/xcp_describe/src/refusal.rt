@@ -1,60 +1,111 @@
 //! Why a slave isn't described.
 ghost use Rattle.std.specs.Prelude.{◌≡◌};
 
+use std::fmt;
 use thiserror::Error;
 use xcp_program::Fault;
 
 /// Why a slave isn't described: one line on standard error behind `xcpd: `, and a status.
 #[derive(Clone, Copy, Debug, PartialEq, Eq, Error)]
 pub enum DescribeError {
+    /// The host is none.
+    Host,
     /// The layout, an allocation or a write.
-    #[error("{0}")]
     Program(Fault),
     /// A parameter of the layout file, by its number from 0.
-    #[error("parameter {0}: {1}")]
     Parameter(usize, Why),
     /// A measurement of the layout file, by its number from 0.
-    #[error("measurement {0}: {1}")]
     Measurement(usize, Why),
 }
 
 /// What is wrong with a parameter or a measurement.
 #[derive(Clone, Copy, Debug, PartialEq, Eq, Error)]
 pub enum Why {
-    #[error("it has to be a table")]
+    /// It is no table, or they are no array.
     Table,
-    #[error("name has to be an identifier: letters, digits and underscores, no digit first")]
+    /// Its name is no identifier, or there is none.
     Name,
-    #[error("its name is an earlier one's")]
+    /// An earlier parameter or measurement has its name.
     Taken,
-    #[error("address has to be an integer, 0 to 0xFFFFFFFF")]
+    /// Its address is no integer of 32 bits, or there is none.
     Address,
-    #[error("type has to be UBYTE, SBYTE, UWORD, SWORD, ULONG, SLONG, FLOAT32_IEEE or FLOAT64_IEEE")]
+    /// Its type is none of those, or there is none.
     Kind,
-    #[error("count has to be an integer, 1 to 2040")]
+    /// Its count is out of its range.
     Count,
-    #[error("low, high, factor and offset have to be finite numbers, integers of 32 bits at most")]
+    /// One of its four numbers is none.
     Number,
-    #[error("factor can't be 0")]
+    /// Its factor is 0.
     Factor,
-    #[error("low and high have to be values of its type, and low not above high")]
+    /// Its limits, given or the bounds of its type, are no values of the type, no finite numbers, or the wrong way round.
     Limits,
-    #[error("unit has to be a text of printable ASCII, at most 128 characters")]
+    /// Its unit is no plain text.
     Unit,
-    #[error("about has to be a text of printable ASCII, at most 128 characters")]
+    /// Its text is no plain text.
     About,
-    #[error("its bytes lie in no segment")]
+    /// Not all its bytes lie in one segment.
     NoSegment,
-    #[error("its bytes lie neither in one segment nor in the signals")]
+    /// Not all its bytes lie in one segment or in the signals.
     NoMemory,
 }
 
+impl fmt::Display for DescribeError {
+    ghost use Rattle.xcp_describe.specs.RefusalWords.{shown_refusal};
+
+    ghost output = { shown_refusal };
+
+    fn fmt<W: fmt::Write>(&self, f: &mut fmt::Formatter<W>) -> fmt::Result {
+        match self {
+            DescribeError::Host => {
+                f.write_str("host has to be 1 to 255 printable ASCII characters without a blank")
+            }
+            DescribeError::Program(fault) => write!(f, "{fault}"),
+            DescribeError::Parameter(number, why) => write!(f, "parameter {number}: {why}"),
+            DescribeError::Measurement(number, why) => write!(f, "measurement {number}: {why}"),
+        }
+    }
+}
+
+impl fmt::Display for Why {
+    ghost use Rattle.std.specs.Prelude.{Some};
+    ghost use Rattle.xcp_describe.specs.RefusalWords.{why_words};
+
+    ghost output = { λ why. Some (why_words why) };
+
+    fn fmt<W: fmt::Write>(&self, f: &mut fmt::Formatter<W>) -> fmt::Result {
+        f.write_str(match self {
+            Why::Table => "it has to be a table",
+            Why::Name =>
+                "name has to be an identifier: letters, digits and underscores, no digit first",
+            Why::Taken => "its name is an earlier one's",
+            Why::Address => "address has to be an integer, 0 to 0xFFFFFFFF",
+            Why::Kind =>
+                "type has to be UBYTE, SBYTE, UWORD, SWORD, ULONG, SLONG, FLOAT32_IEEE or FLOAT64_IEEE",
+            Why::Count => "count has to be an integer, 1 to 2040",
+            Why::Number =>
+                "low, high, factor and offset have to be finite numbers, integers of 32 bits at most",
+            Why::Factor => "factor can't be 0",
+            Why::Limits => "low and high have to be values of its type, and low not above high",
+            Why::Unit => "unit has to be a text of printable ASCII, at most 128 characters",
+            Why::About => "about has to be a text of printable ASCII, at most 128 characters",
+            Why::NoSegment => "its bytes lie in no segment",
+            Why::NoMemory => "its bytes lie neither in one segment nor in the signals",
+        })
+    }
+}
+
 impl DescribeError {
-    /// The status with which the program ends: the fault's own, and 1 for a parameter or a measurement.
-    pub fn status(&self) -> u8 {
+    ghost use Rattle.xcp_describe.specs.RefusalWords.{status_of_description};
+
+    /// The status with which the program ends: the fault's own, and 1 for the host, a parameter or a measurement.
+    pub fn status(&self) -> u8
+        ensures { result ≡ status_of_description self.now }
+    {
         match self {
             DescribeError::Program(fault) => fault.status(),
-            DescribeError::Parameter(_, _) | DescribeError::Measurement(_, _) => 1,
+            DescribeError::Host
+            | DescribeError::Parameter(_, _)
+            | DescribeError::Measurement(_, _) => 1,
         }
     }
 }

@@ -1,5 +1,6 @@
 //! The parameters and measurements of a layout file.
-ghost use Rattle.std.specs.Prelude.{◌≡◌, IfErr};
+ghost use Rattle.std.specs.Prelude.{IfErr};
+ghost use Rattle.xcp_describe.specs.private.Refusals.{IsEntryOrMemory};
 
 use crate::entry::Entry;
 use crate::refusal::{DescribeError, Why};
@@ -22,7 +23,7 @@ impl<'a> Tables<'a> {
         document: &'a Value,
         layout: &Layout,
     ) -> Result<Tables<'a>, DescribeError>
-        ensures { IfErr result (λ e. (f : Fault) → e ≡ DescribeError.Program f → f ≡ Fault.Memory) }
+        ensures { IfErr result IsEntryOrMemory }
     {
         let mut tables = Tables {
             parameters: Vec::new(alloc),
@@ -34,7 +35,7 @@ impl<'a> Tables<'a> {
     }
 
     fn read_parameters(&mut self, document: &'a Value, layout: &Layout) -> Result<(), DescribeError>
-        ensures { IfErr result (λ e. (f : Fault) → e ≡ DescribeError.Program f → f ≡ Fault.Memory) }
+        ensures { IfErr result IsEntryOrMemory }
     {
         let Some(members) = members_in(document, "parameter") else {
             return Err(DescribeError::Parameter(0, Why::Table));
@@ -53,7 +54,7 @@ impl<'a> Tables<'a> {
         document: &'a Value,
         layout: &Layout,
     ) -> Result<(), DescribeError>
-        ensures { IfErr result (λ e. (f : Fault) → e ≡ DescribeError.Program f → f ≡ Fault.Memory) }
+        ensures { IfErr result IsEntryOrMemory }
     {
         let Some(members) = members_in(document, "measurement") else {
             return Err(DescribeError::Measurement(0, Why::Table));
@@ -105,7 +106,7 @@ fn has_name(entries: &[Entry<'_>], name: &str) -> bool {
 }
 
 fn keep<'a>(entries: &mut Vec<Entry<'a>>, entry: Entry<'a>) -> Result<(), DescribeError>
-    ensures { IfErr result (λ e. (f : Fault) → e ≡ DescribeError.Program f → f ≡ Fault.Memory) }
+    ensures { IfErr result IsEntryOrMemory }
 {
     match entries.push(entry) {
         Ok(()) => Ok(()),

@@ -1,15 +1,16 @@
 //! The keys of a layout file that nothing reads.
-ghost use Rattle.std.specs.Prelude.{◌≡◌, ◌++◌, map, IfOk};
-ghost use Rattle.std.specs.List.{flat_map};
+ghost use Rattle.std.specs.Prelude.{◌≡◌, ◌++◌, map, IfOk, OnOk, string_bytes};
+ghost use Rattle.std.specs.List.{enumerate_from, flat_map};
 ghost use Rattle.toml.specs.Data.{get};
 ghost use Rattle.toml.specs.View.{table_view, view};
 ghost use Rattle.xcp_config.specs.TomlValues.{members_of};
-ghost use Rattle.xcp_describe.specs.UnreadKeys.{is_among, unread_each, unread_keys, unread_members, unread_of, unread_signals};
-ghost use Rattle.xcp_describe.specs.private.TableKeys.{keys_of};
+ghost use Rattle.xcp_describe.specs.FindingsText.{unread_line};
+ghost use Rattle.xcp_describe.specs.UnreadKeys.{is_among, unread_each, unread_keys, unread_member, unread_members, unread_of, unread_signals};
+ghost use Rattle.xcp_describe.specs.private.TableKeys.{keys_of, place_of, placed};
 
+use crate::key_text::put_key;
 use crate::place::Place;
 use std::alloc::{AllocError, Global};
-use std::fmt;
 use toml::{Table, Value};
 
 /// The keys of a layout file, outside its tables.
@@ -52,9 +53,14 @@ pub(crate) struct Unread<'a> {
     pub(crate) key: &'a str,
 }
 
-impl fmt::Display for Unread<'_> {
-    fn fmt<W: fmt::Write>(&self, f: &mut fmt::Formatter<W>) -> fmt::Result {
-        write!(f, "unread: {}{}", self.place, self.key)
+impl Unread<'_> {
+    /// Appends the line of the key.
+    pub(crate) fn put(&self, text: &mut String) -> Result<(), AllocError>
+        ensures { OnOk result (string_bytes text.new ≡ string_bytes text.old ++ unread_line (placed self.now)) }
+    {
+        write!(text, "unread: {}", self.place)?;
+        put_key(self.key, text)?;
+        text.push('\n')
     }
 }
 
@@ -77,7 +83,7 @@ fn gather_keys<'a>(
     known: &[&str],
     found: &mut Vec<Unread<'a>>,
 ) -> Result<(), AllocError>
-    ensures { IfOk result (λ _. keys_of found.new.items ≡ keys_of found.old.items ++ unread_members (map (λ k. k.now) known.now) (table_view table.now)) }
+    ensures { IfOk result (λ _. keys_of found.new.items ≡ keys_of found.old.items ++ unread_members (place_of place) (map (λ k. k.now) known.now) (table_view table.now)) }
 {
     'keys: for (key, _member) in table.iter() {
         if !is_among(key.as_str(), known) {
@@ -97,7 +103,7 @@ fn gather<'a>(
     known: &[&str],
     found: &mut Vec<Unread<'a>>,
 ) -> Result<(), AllocError>
-    ensures { IfOk result (λ _. keys_of found.new.items ≡ keys_of found.old.items ++ unread_of (map (λ k. k.now) known.now) (view value.now)) }
+    ensures { IfOk result (λ _. keys_of found.new.items ≡ keys_of found.old.items ++ unread_of (place_of place) (map (λ k. k.now) known.now) (view value.now)) }
 {
     match value.as_table() {
         Some(table) => gather_keys(table, place, known, found),
@@ -112,7 +118,7 @@ fn gather_members<'a>(
     known: &[&str],
     found: &mut Vec<Unread<'a>>,
 ) -> Result<(), AllocError>
-    ensures { IfOk result (λ _. keys_of found.new.items ≡ keys_of found.old.items ++ flat_map (unread_of (map (λ k. k.now) known.now)) (map view members.now)) }
+    ensures { IfOk result (λ _. keys_of found.new.items ≡ keys_of found.old.items ++ flat_map (unread_member name.now (map (λ k. k.now) known.now)) (enumerate_from 0 (map view members.now))) }
 {
     for (i, member) in members.iter().enumerate() {
         gather(member, Place::Member(name, i), known, found)?;

@@ -1,4 +1,9 @@
 //! The fault of a layout, in words.
+ghost use Rattle.std.specs.Prelude.{◌≡◌};
+ghost use Rattle.xcp_describe.specs.FaultWords.{most_of_key, name_of_key, place_of_key, range_of_key, type_of_key};
+ghost use Rattle.xcp_describe.specs.Places.{place_text};
+ghost use Rattle.xcp_describe.specs.private.TableKeys.{place_of as told_place};
+
 use crate::place::Place;
 use std::fmt;
 use xcp_config::ConfigError;
@@ -9,6 +14,11 @@ use xcp_memory::{Area, Key};
 pub(crate) struct InWords(pub(crate) ConfigError);
 
 impl fmt::Display for InWords {
+    ghost use Rattle.std.specs.Prelude.{Some};
+    ghost use Rattle.xcp_describe.specs.FaultWords.{words_of};
+
+    ghost output = { λ fault. Some (words_of fault.0) };
+
     fn fmt<W: fmt::Write>(&self, f: &mut fmt::Formatter<W>) -> fmt::Result {
         match self.0 {
             ConfigError::Text => f.write_str("it is no TOML document"),
@@ -42,6 +52,11 @@ impl fmt::Display for InWords {
 struct Named(Area);
 
 impl fmt::Display for Named {
+    ghost use Rattle.std.specs.Prelude.{Some};
+    ghost use Rattle.xcp_describe.specs.FaultWords.{area_text};
+
+    ghost output = { λ area. Some (area_text area.0) };
+
     fn fmt<W: fmt::Write>(&self, f: &mut fmt::Formatter<W>) -> fmt::Result {
         match self.0 {
             Area::Segment(number) => write!(f, "segment {number}"),
@@ -51,7 +66,9 @@ impl fmt::Display for Named {
 }
 
 /// The table that a key stands in.
-fn place_of(key: Key) -> Place {
+fn place_of(key: Key) -> Place
+    ensures { place_text (told_place result) ≡ place_of_key key }
+{
     match key {
         Key::Address(number) | Key::Data(number) | Key::Pages(number) => {
             Place::Member("segment", usize::from(number))
@@ -65,7 +82,9 @@ fn place_of(key: Key) -> Place {
 }
 
 /// The name of a key.
-fn name_of(key: Key) -> &'static str {
+fn name_of(key: Key) -> &'static str
+    ensures { result.now ≡ name_of_key key }
+{
     match key {
         Key::Id => "id",
         Key::MaxCto => "max_cto",
@@ -87,7 +106,9 @@ fn name_of(key: Key) -> &'static str {
 }
 
 /// The type of a key's value.
-fn kind_of(key: Key) -> &'static str {
+fn kind_of(key: Key) -> &'static str
+    ensures { result.now ≡ type_of_key key }
+{
     match key {
         Key::Id | Key::ByteOrder | Key::Checksum | Key::Data(_) | Key::Name(_) => "a text",
         Key::Segment | Key::Event => "an array of tables",
@@ -97,7 +118,9 @@ fn kind_of(key: Key) -> &'static str {
 }
 
 /// What its value has to be besides.
-fn range_of(key: Key) -> &'static str {
+fn range_of(key: Key) -> &'static str
+    ensures { result.now ≡ range_of_key key }
+{
     match key {
         Key::Id => " of 1 to 64 printable ASCII characters",
         Key::MaxCto | Key::MaxDto => ", 8 to 255",
@@ -115,7 +138,9 @@ fn range_of(key: Key) -> &'static str {
 }
 
 /// How much there is at most of what a key says.
-fn most_of(key: Key) -> &'static str {
+fn most_of(key: Key) -> &'static str
+    ensures { result.now ≡ most_of_key key }
+{
     match key {
         Key::Segment => "4 segments",
         Key::Event => "8 event channels",

@@ -1,12 +1,21 @@
 -- What clap's matches say of the options of a subcommand.
-use Rattle.std.proofs.Common.{◌≡◌, ◌≤◌, ◌<◌, arith, ℕ, codes, List, Option, Some, None, slice_index, IfSome, Bor, Box, refl, sym, ◌∙◌, ap, subst}
-use Rattle.std.specs.Option.{option_map, option_and_then}
+use Rattle.std.proofs.Common.{◌≡◌, ◌≤◌, ◌<◌, arith, ℕ, Bool, true, false, cond, codes, List, [], ◌∷◌, map, Option, Some, None, slice_index, IfSome, Bor, Box, refl, sym, ◌∙◌, ap, subst}
+use Rattle.std.specs.List.{find}
+use Rattle.std.specs.Str.{bytes_eq}
+use Rattle.std.specs.Prelude.{is_some}
+use Rattle.std.specs.Option.{option_map, option_and_then, option_map_or}
 use Rattle.std.specs.Box.{box_value}
-use Rattle.clap.specs.Words.{Row, Text, first_of, subcommand_rows}
+use Rattle.clap.specs.Facts.{Entry, explicit_source}
+use Rattle.clap.specs.declared.parser.matches.Found.{Found}
+use Rattle.clap.specs.declared.parser.matches.MatchedArg.{MatchedArg}
+use Rattle.clap.specs.declared.parser.matches.ValueSource.{ValueSource}
+use Rattle.clap.specs.Takes.{is_given}
+use Rattle.clap.specs.Walk.{row_of}
+use Rattle.clap.specs.Words.{Row, Text, first_of, matched_of, rows_of, subcommand_rows}
 use Rattle.clap.specs.declared.parser.matches.SubCommand.{SubCommand}
 use Rattle.clap.specs.declared.parser.matches.ArgMatches.TheViews.{out-SubCommand}
 use Rattle.std.specs.Str.Parse.{digits_value, without_leading_plus}
-use Rattle.xcp_program.specs.CommandLine.{Asks, AsksTooMany, HasNumber, HasNumberIn, HasText, Numeric, Spells, SpellsIn, tools}
+use Rattle.xcp_program.specs.CommandLine.{Asks, AsksTooMany, HasNumber, HasNumberIn, HasText, Numeric, Spells, SpellsIn, gives, tools}
 use Rattle.xcp_program.specs.declared.purpose.Options.{Options}
 use Rattle.xcp_program.specs.declared.purpose.Options.TheVariants.{Audit, Describe, Replay, Serve, Stay}
 
@@ -78,3 +87,31 @@ not_too_many found (Serve config host p t k n m ms journal flash pace) h many =
 not_too_many found (Stay config host p t k ms s journal flash pace) h many = many.ends h.stays
 not_too_many found (Describe config host p check) h many = named_apart (codes "describe") (codes "serve") found h.config.text.name many.tools.spelt.value.name no_description
 not_too_many found (Audit config file flash lines) h many = named_apart (codes "audit") (codes "serve") found h.config.text.name many.tools.spelt.value.name no_audit
+
+-- whether the words give an option, by the entry that was found for it
+given_in : (id : Text) (es : List Entry) → option_map_or (λ r. explicit_source r.source) (find (λ r. bytes_eq r.id id) (map row_of es)) false ≡ option_map_or (λ a. explicit_source a.source) (option_map (λ e. e.1) (find (λ e. bytes_eq e.0.now id) es)) false
+given_in id [] = refl
+given_in id (e ∷ es) = go (bytes_eq e.0.now id) (given_in id es)
+  where
+    go : (b : Bool) → option_map_or (λ r. explicit_source r.source) (find (λ r. bytes_eq r.id id) (map row_of es)) false ≡ option_map_or (λ a. explicit_source a.source) (option_map (λ x. x.1) (find (λ x. bytes_eq x.0.now id) es)) false
+        → option_map_or (λ r. explicit_source r.source) (cond b (Some (row_of e)) (find (λ r. bytes_eq r.id id) (map row_of es))) false ≡ option_map_or (λ a. explicit_source a.source) (option_map (λ x. x.1) (cond b (Some e) (find (λ x. bytes_eq x.0.now id) es))) false
+    go true h = refl
+    go false h = h
+
+-- the same of the rows of a subcommand
+pub gives_as : (id : Text) (found : Option (Text × List Row)) (f : Found) → option_map (λ p. p.1) found ≡ Some (rows_of f) → gives id found ≡ option_map_or (λ a. explicit_source a.source) (matched_of f id) false
+gives_as id None f e = cc
+gives_as id (Some p) f e = ap (is_given id) (rows_are p.1 (rows_of f) e) ∙ given_in id f.entries.items
+  where
+    rows_are : (a b : List Row) → Some a ≡ Some b → a ≡ b
+    rows_are a b e = cc
+
+-- an option that has no entry isn't given
+pub not_there : (m : Option MatchedArg) (there : Bool) → there ≡ is_some m → there ≡ false → there ≡ option_map_or (λ a. explicit_source a.source) m false
+not_there None there e f = f
+not_there (Some a) there e f = cc
+
+-- and one that has is, where its value is no default
+pub is_there : (m : Option MatchedArg) (there : Bool) (source : Option ValueSource) (r : Bool) → there ≡ is_some m → there ≡ true → source ≡ option_and_then (λ a. a.source) m → r ≡ explicit_source source → r ≡ option_map_or (λ a. explicit_source a.source) m false
+is_there None there source r e t s is = cc
+is_there (Some a) there source r e t s is = is ∙ ap explicit_source s

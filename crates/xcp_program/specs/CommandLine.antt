@@ -7,7 +7,7 @@ use Rattle.clap.specs.Words.{App, IsAmong, Kinds, Row, Rule, Text, first_of, kin
 use Rattle.xcp_program.specs.declared.purpose.Options.{Options}
 use Rattle.xcp_program.specs.declared.purpose.Options.TheVariants.{Audit, Describe, Replay, Serve, Stay}
 use Rattle.xcp_program.specs.declared.purpose.OptionsFault.{OptionsFault}
-use Rattle.xcp_program.specs.declared.purpose.OptionsFault.TheVariants.{Memory, TooManyTools, Words}
+use Rattle.xcp_program.specs.declared.purpose.OptionsFault.TheVariants.{Memory, NotForStay, OnlyForStay, TooManyTools, Words}
 use Rattle.xcp_program.specs.declared.words.Unasked.{Unasked}
 use Rattle.xcp_program.specs.declared.words.Unasked.TheVariants as unasked
 use Rattle.clap.specs.declared.error.kind.ErrorKind.TheVariants.{DisplayHelp, DisplayVersion}
@@ -196,6 +196,8 @@ pub record IsServe (found : Option (Text × List Row)) (file address : Text) (p 
   pub flash : HasFlash found (codes "serve") stored
   pub pace : gives (codes "pace") found ≡ paced
   pub ends : ¬ (Stays found)
+  -- the words give no option that only a server that stays has
+  pub others : gives patience.name found ≡ false
 
 -- a subcommand with its rows is a server that stays, likewise
 pub record IsStay (found : Option (Text × List Row)) (file address : Text) (p t k ms s : ℕ) (written stored : Option Text) (paced : Bool) : Type 0 where
@@ -210,6 +212,8 @@ pub record IsStay (found : Option (Text × List Row)) (file address : Text) (p t
   pub flash : HasFlash found (codes "serve") stored
   pub pace : gives (codes "pace") found ≡ paced
   pub stays : Stays found
+  -- the words give no option that only a server that ends has
+  pub others : (gives cycles.name found ≡ false) × (gives chapter.name found ≡ false)
 
 -- a subcommand with its rows is a server that ends, with more tools than such a one may have
 pub record AsksTooMany (found : Option (Text × List Row)) : Type 0 where
@@ -217,6 +221,16 @@ pub record AsksTooMany (found : Option (Text × List Row)) : Type 0 where
   pub tools : HasNumber found tools number
   pub many : few < number
   pub ends : ¬ (Stays found)
+
+-- a subcommand with its rows is a server that stays, with an option that only a server that ends has
+pub record AsksToEnd (found : Option (Text × List Row)) : Type 0 where
+  pub stays : Stays found
+  pub given : (gives cycles.name found ≡ true) ⊎ (gives chapter.name found ≡ true)
+
+-- a subcommand with its rows is a server that ends, with an option that only a server that stays has
+pub record AsksToStay (found : Option (Text × List Row)) : Type 0 where
+  pub ends : ¬ (Stays found)
+  pub given : gives patience.name found ≡ true
 
 -- a subcommand with its rows is a description by this configuration file, for this host and port, with or without the flag `--check`
 pub record IsDescription (found : Option (Text × List Row)) (file address : Text) (p : ℕ) (checked : Bool) : Type 0 where
@@ -252,24 +266,30 @@ InRange (Describe config host p check) = (named_port.least ≤ p) × (p ≤ name
 InRange (Audit config file flash lines) = ⊤
 
 -- Why the words ask for nothing, by the kinds of error of the first fault that clap finds in them (a wish for help is one), and by the
--- subcommand that they name, with its rows: the error has one of these kinds; or clap finds no fault, and the tools are too many. Memory: an
--- allocation may fail at any place.
+-- subcommand that they name, with its rows: the error has one of these kinds; or clap finds no fault, and the tools are too many, or an
+-- option doesn't apply. Memory: an allocation may fail at any place.
 abbrev pub IsMistake : Kinds → Option (Text × List Row) → OptionsFault → Type 0
 IsMistake kinds found Memory = Unit {0}
 IsMistake kinds found (Words e) = IsAmong (kind_of e) kinds
 IsMistake kinds found TooManyTools = (kinds ≡ []) × AsksTooMany found
+IsMistake kinds found NotForStay = (kinds ≡ []) × AsksToEnd found
+IsMistake kinds found OnlyForStay = (kinds ≡ []) × AsksToStay found
 
 -- the number of a fault of the words
 abbrev pub number_of : OptionsFault → ℕ
 number_of Memory = 1
 number_of (Words e) = 2
 number_of TooManyTools = 3
+number_of NotForStay = 4
+number_of OnlyForStay = 5
 
 -- what `options` answers, as the program tells it
 abbrev pub unasked_of : OptionsFault → Unasked
 unasked_of Memory = unasked.Memory
 unasked_of (Words e) = unasked.Words e
 unasked_of TooManyTools = unasked.TooManyTools
+unasked_of NotForStay = unasked.NotForStay
+unasked_of OnlyForStay = unasked.OnlyForStay
 
 -- Why words that the system gave ask for nothing, as the program tells it, by the same kinds and rows: NoText is no fault of such words.
 abbrev pub IsUnaskedFor : Kinds → Option (Text × List Row) → Unasked → Type 0
@@ -277,6 +297,8 @@ IsUnaskedFor kinds found unasked.Memory = ⊤
 IsUnaskedFor kinds found unasked.NoText = ⊥
 IsUnaskedFor kinds found (unasked.Words e) = IsMistake kinds found (Words e)
 IsUnaskedFor kinds found unasked.TooManyTools = IsMistake kinds found TooManyTools
+IsUnaskedFor kinds found unasked.NotForStay = IsMistake kinds found NotForStay
+IsUnaskedFor kinds found unasked.OnlyForStay = IsMistake kinds found OnlyForStay
 
 -- clap's error is a wish, for help or for the version, and no mistake
 abbrev pub IsWish : Error → Type 0
@@ -287,4 +309,6 @@ abbrev pub EndsWith : Unasked → ℕ → Type 0
 EndsWith unasked.Memory n = n ≡ 4
 EndsWith unasked.NoText n = n ≡ 1
 EndsWith unasked.TooManyTools n = n ≡ 1
+EndsWith unasked.NotForStay n = n ≡ 1
+EndsWith unasked.OnlyForStay n = n ≡ 1
 EndsWith (unasked.Words e) n = (IsWish e × (n ≡ 0)) ⊎ ((¬ (IsWish e)) × (n ≡ 1))

@@ -1,6 +1,7 @@
 //! The words of the command line.
-ghost use Rattle.std.specs.Prelude.{◌≡◌, ◌⊎◌, ◌<◌, ◌^◌, List, [], ℕ, codes, map, option_map, false, true, None};
+ghost use Rattle.std.specs.Prelude.{◌≡◌, ◌⊎◌, ◌<◌, ◌^◌, List, [], ℕ, codes, map, option_map, false, true, None, Some};
 ghost use Rattle.std.specs.Prelude.{IfOk, IfErr, IfSome, string_bytes};
+ghost use Rattle.clap.specs.Facts.{explicit_source};
 ghost use Rattle.clap.specs.Words.{app_of, kind_of, rule_of, subcommand_of, subcommand_rows_of, takes};
 ghost use Rattle.clap.specs.Words.{fault_of as faults_in};
 ghost use Rattle.clap.specs.declared.builder.command.Command.TheViews.{out-Command as fields_of};
@@ -12,6 +13,7 @@ use crate::fault_words::help;
 use crate::purpose::{Options, OptionsFault};
 use clap::builder::ValueParser;
 use clap::error::ErrorKind;
+use clap::parser::ValueSource;
 use clap::{Arg, ArgAction, ArgMatches, Command, Error};
 use std::alloc::{AllocError, Global};
 
@@ -40,8 +42,8 @@ number of all calls), and: settled (what was answered is what the slave's journa
 that of a fault, but not before that of a mismatch, of a faulty configuration, of stream 0, or of memory where nothing
 had begun.
 With --stay tools come and go, up to T at a time (1 to 4), until a line `stop` on standard input ends it; the tasks run
-until then, and --cycles and --chapter are ignored. How each connection ended is told on standard error then, and the
-status is not that of a connection's fault. Without it T is 1 or 2, and --patience is ignored.
+until then, and --cycles and --chapter are refused. How each connection ended is told on standard error then, and the
+status is not that of a connection's fault. Without it T is 1 or 2, and --patience is refused.
 With --pace a task's period is the time that its channel's cycle and unit say; where these say none, it is --period.
 With --journal all calls are written to FILE, which must not be there yet: each chapter when it is cut off, and the open
 one at the end. One line more is printed then, behind settled: recorded N (N is the number of calls that stand in FILE).
@@ -359,8 +361,8 @@ fn decimal_in(matches: &ArgMatches<'_>, command: &str, option: &str) -> u32
 }
 
 /// What the words ask for, of which the first is the program's name: only where clap finds no fault in them. `Words`
-/// has clap's error for the first fault, a wish for help among them; `TooManyTools` comes where clap finds none; `Memory`
-/// where an allocation fails, at any place.
+/// has clap's error for the first fault, a wish for help among them; `TooManyTools`, and then an option that doesn't apply, come
+/// where clap finds none; `Memory` where an allocation fails, at any place.
 pub fn options(alloc: Global, words: &[String]) -> Result<Options, OptionsFault>
     ensures asked { IfOk result (λ o. Asks (subcommand_of program (map string_bytes words.now)) o) }
     ensures range { IfOk result InRange }
@@ -369,7 +371,7 @@ pub fn options(alloc: Global, words: &[String]) -> Result<Options, OptionsFault>
     ensures mistake { IfErr result (λ e. IsMistake (faults_in program (map string_bytes words.now))
         (subcommand_of program (map string_bytes words.now)) e) }
     ensures refused { IfErr result (λ e. takes program (map string_bytes words.now) ≡ true
-        → (e ≡ OptionsFault.Memory) ⊎ (e ≡ OptionsFault.TooManyTools)) }
+        → (e ≡ OptionsFault.Memory) ⊎ (e ≡ OptionsFault.TooManyTools) ⊎ (e ≡ OptionsFault.NotForStay) ⊎ (e ≡ OptionsFault.OnlyForStay)) }
 {
     let command = program(alloc)?;
     match command.try_get_matches_from(words) {
@@ -449,6 +451,27 @@ fn replay_asked(alloc: Global, matches: &ArgMatches<'_>) -> Result<Options, Opti
     Ok(Options::Replay { config, flash })
 }
 
+/// Whether a value comes from the words, and isn't a default.
+fn is_explicit(source: Option<ValueSource>) -> bool
+    ensures { result ≡ explicit_source source }
+{
+    match source {
+        Some(ValueSource::DefaultValue) => false,
+        Some(ValueSource::CommandLine) | None => true,
+    }
+}
+
+/// Whether the words after `serve` give an option.
+fn gives(matches: &ArgMatches<'_>, option: &str) -> bool
+    requires { option_map (λ p. p.0) (subcommand_rows_of matches.now) ≡ Some (codes "serve") }
+    ensures { result ≡ gives option.now (subcommand_rows_of matches.now) }
+{
+    let Some(found) = matches.subcommand_matches("serve") else {
+        unreachable!()
+    };
+    found.contains_id(option) && is_explicit(found.value_source(option))
+}
+
 /// What the matches of a server ask for.
 fn server_asked(alloc: Global, matches: &ArgMatches<'_>) -> Result<Options, OptionsFault>
     requires { AsksServe (subcommand_rows_of matches.now) }
@@ -471,6 +494,9 @@ fn server_asked(alloc: Global, matches: &ArgMatches<'_>) -> Result<Options, Opti
     let journal = choice_in(alloc, matches, "serve", "journal")?;
     let flash = choice_in(alloc, matches, "serve", "flash")?;
     if has_flag(matches, "serve", "stay") {
+        if gives(matches, "cycles") || gives(matches, "chapter") {
+            return Err(OptionsFault::NotForStay);
+        }
         Ok(Options::Stay {
             config,
             host,
@@ -485,6 +511,8 @@ fn server_asked(alloc: Global, matches: &ArgMatches<'_>) -> Result<Options, Opti
         })
     } else if tools > MOST_TOOLS {
         Err(OptionsFault::TooManyTools)
+    } else if gives(matches, "patience") {
+        Err(OptionsFault::OnlyForStay)
     } else {
         Ok(Options::Serve {
             config,

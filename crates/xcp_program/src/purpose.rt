@@ -95,12 +95,16 @@ pub enum OptionsFault {
     Words(Error),
     /// The words ask for more than 2 tools, and not that the server stays.
     TooManyTools,
+    /// The words ask that the server stays, and give an option that only a server that ends has: `--cycles` or `--chapter`.
+    NotForStay,
+    /// The words don't ask that the server stays, and give an option that only such a server has: `--patience`.
+    OnlyForStay,
 }
 
 impl OptionsFault {
     ghost use Rattle.xcp_program.specs.CommandLine.{number_of};
 
-    /// The fault's number: 1 Memory, 2 Words, 3 TooManyTools.
+    /// The fault's number: 1 Memory, 2 Words, 3 TooManyTools, 4 NotForStay, 5 OnlyForStay.
     pub fn number(&self) -> u8
         ensures { result ≡ number_of self.now }
     {
@@ -108,6 +112,8 @@ impl OptionsFault {
             OptionsFault::Memory => 1,
             OptionsFault::Words(_) => 2,
             OptionsFault::TooManyTools => 3,
+            OptionsFault::NotForStay => 4,
+            OptionsFault::OnlyForStay => 5,
         }
     }
 }

@@ -30,6 +30,12 @@ pub enum Unasked {
     /// The words ask for more than 2 tools, and not that the server stays.
     #[error("xcpd: more than 2 tools want --stay\n")]
     TooManyTools,
+    /// The words ask that the server stays, and give an option that only a server that ends has.
+    #[error("xcpd: --cycles and --chapter aren't for --stay\n")]
+    NotForStay,
+    /// The words don't ask that the server stays, and give an option that only such a server has.
+    #[error("xcpd: --patience wants --stay\n")]
+    OnlyForStay,
 }
 
 impl Unasked {
@@ -40,7 +46,8 @@ impl Unasked {
     {
         match self {
             Unasked::Memory => Fault::Memory.status(),
-            Unasked::NoText | Unasked::TooManyTools => 1,
+            Unasked::NoText | Unasked::TooManyTools | Unasked::NotForStay | Unasked::OnlyForStay =>
+                1,
             Unasked::Words(e) if e.use_stderr() => 1,
             Unasked::Words(_) => 0,
         }
@@ -67,6 +74,8 @@ impl From<OptionsFault> for Unasked {
             OptionsFault::Memory => Unasked::Memory,
             OptionsFault::Words(e) => Unasked::Words(e),
             OptionsFault::TooManyTools => Unasked::TooManyTools,
+            OptionsFault::NotForStay => Unasked::NotForStay,
+            OptionsFault::OnlyForStay => Unasked::OnlyForStay,
         }
     }
 }
@@ -102,7 +111,7 @@ pub fn asked(alloc: Global, words: io::Result<Vec<String>>) -> Result<Options, U
         (subcommand_of program (map string_bytes given.items)) e)) }
     ensures refused { IfErr result (λ e. IfOk words (λ given.
         takes program (map string_bytes given.items) ≡ true
-        → (e ≡ Unasked.Memory) ⊎ (e ≡ Unasked.TooManyTools))) }
+        → (e ≡ Unasked.Memory) ⊎ (e ≡ Unasked.TooManyTools) ⊎ (e ≡ Unasked.NotForStay) ⊎ (e ≡ Unasked.OnlyForStay))) }
     ensures text { IfErr words (λ e. error_kind e ≡ ErrorKind.InvalidData
         → result ≡ Err Unasked.NoText) }
     ensures memory { IfErr words (λ e. ¬ (error_kind e ≡ ErrorKind.InvalidData)

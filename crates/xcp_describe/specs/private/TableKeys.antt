@@ -1,6 +1,19 @@
 -- The keys that were found.
-use Rattle.std.specs.Prelude.{ℕ, List, map}
+use Rattle.std.specs.Prelude.{List, map}
+use Rattle.xcp_describe.specs.declared.place.Place.{Place}
+use Rattle.xcp_describe.specs.declared.place.Place.TheVariants as place
 use Rattle.xcp_describe.specs.declared.unread.Unread.{Unread}
+use Rattle.xcp_describe.specs.Places as told
 
-abbrev pub keys_of : List Unread → List (List ℕ)
-keys_of = map (λ u. u.key.now)
+-- a place, without where its name lies in memory
+abbrev pub place_of : Place → told.Place
+place_of place.Top = told.no_table
+place_of (place.Table name) = told.table_named name.now
+place_of (place.Member name n) = told.member_of name.now n
+
+-- a key with its place
+abbrev pub placed : Unread → told.PlacedKey
+placed u = record { place = place_of u.place; key = u.key.now }
+
+abbrev pub keys_of : List Unread → List told.PlacedKey
+keys_of = map placed

@@ -2,8 +2,8 @@
 use Rattle.std.specs.Prelude.{◌≡◌, ◌⊎◌, ℕ, List, Option, codes, true, false}
 use Rattle.clap.specs.Words.{App, Row, Text, new_app, with_rule, with_subcommand}
 use Rattle.xcp_program.specs.declared.purpose.OptionsFault.{OptionsFault}
-use Rattle.xcp_program.specs.declared.purpose.OptionsFault.TheVariants.{Memory, TooManyTools, Words}
-use Rattle.xcp_program.specs.CommandLine.{AsksTooMany, HasFile, HasGiven, HasHost, HasNumber, HasNumberIn, HasText, gives}
+use Rattle.xcp_program.specs.declared.purpose.OptionsFault.TheVariants.{Memory, NotForStay, OnlyForStay, TooManyTools, Words}
+use Rattle.xcp_program.specs.CommandLine.{AsksToEnd, AsksToStay, AsksTooMany, HasFile, HasGiven, HasHost, HasNumber, HasNumberIn, HasText, gives}
 use Rattle.xcp_program.specs.CommandLine.{chapter, config_rule, cycles, flag_rule, host_rule, named_port, numeric_rule, patience, period, port, replay_app, serve_app, tasks, tools, with_a_subcommand_wanted, with_a_version}
 
 -- `serve` with the first four of its options
@@ -88,3 +88,5 @@ abbrev pub IsRefusal : Option (Text × List Row) → OptionsFault → Type 0
 IsRefusal found Memory = Unit {0}
 IsRefusal found (Words e) = ⊥
 IsRefusal found TooManyTools = AsksTooMany found
+IsRefusal found NotForStay = AsksToEnd found
+IsRefusal found OnlyForStay = AsksToStay found

@@ -3,11 +3,11 @@ use Rattle.std.proofs.lemmas.Result.{IfErr-weaker, IfOk-weaker}
 use Rattle.clap.specs.Words.{App, HasKind, Kinds, Row, Text, fault_of, kind_of, is_simple, is_simple_and_free, subcommand_of, subcommand_rows_of, takes}
 use Rattle.clap.specs.declared.error.Error.{Error}
 use Rattle.clap.specs.declared.error.kind.ErrorKind.TheVariants.{OutOfMemory}
-use Rattle.xcp_program.specs.CommandLine.{Asks, AsksTooMany, IsMistake, program}
+use Rattle.xcp_program.specs.CommandLine.{Asks, AsksToEnd, AsksToStay, AsksTooMany, IsMistake, program}
 use Rattle.xcp_program.specs.private.AppArguments.{AsksSomething, IsRefusal}
 use Rattle.xcp_program.specs.declared.purpose.Options.{Options}
 use Rattle.xcp_program.specs.declared.purpose.OptionsFault.{OptionsFault}
-use Rattle.xcp_program.specs.declared.purpose.OptionsFault.TheVariants.{Memory, TooManyTools, Words}
+use Rattle.xcp_program.specs.declared.purpose.OptionsFault.TheVariants.{Memory, NotForStay, OnlyForStay, TooManyTools, Words}
 use Rattle.xcp_program.proofs.CommandLineLemmas.{not_too_many}
 use Rattle.xcp_program.proofs.NoFaultLemmas.{words_ask}
 use Rattle.xcp_program.proofs.command_line.options.Goals as goal
@@ -37,17 +37,21 @@ of_error kinds found e f has memory which =
       ]
     ]
 
--- a refusal of words in which clap finds no fault is one of two
-of_refusal : (found : Option (Text × List Row)) (f : OptionsFault) → IsRefusal found f → (f ≡ Memory) ⊎ (f ≡ TooManyTools)
+-- a refusal of words in which clap finds no fault is one of four
+of_refusal : (found : Option (Text × List Row)) (f : OptionsFault) → IsRefusal found f → (f ≡ Memory) ⊎ (f ≡ TooManyTools) ⊎ (f ≡ NotForStay) ⊎ (f ≡ OnlyForStay)
 of_refusal found Memory h = inl refl
 of_refusal found (Words e) h = absurd h
-of_refusal found TooManyTools h = inr refl
+of_refusal found TooManyTools h = inr (inl refl)
+of_refusal found NotForStay h = inr (inr (inl refl))
+of_refusal found OnlyForStay h = inr (inr (inr refl))
 
 -- and says why, of the rows that the words have
 to_mistake : (found named : Option (Text × List Row)) (kinds : Kinds) → found ≡ named → kinds ≡ [] → (f : OptionsFault) → IsRefusal found f → IsMistake kinds named f
 to_mistake found named kinds same none Memory h = tt
 to_mistake found named kinds same none (Words e) h = absurd h
 to_mistake found named kinds same none TooManyTools h = (none, subst AsksTooMany same h)
+to_mistake found named kinds same none NotForStay h = (none, subst AsksToEnd same h)
+to_mistake found named kinds same none OnlyForStay h = (none, subst AsksToStay same h)
 
 pub asked-requires : goal.asked-requires
 asked-requires c =

@@ -3,25 +3,24 @@ use Rattle.std.proofs.lemmas.Result.{err_from_is_err_and}
 use Rattle.clap.specs.Words.{Text, takes}
 use Rattle.xcp_program.specs.CommandLine.{program, unasked_of}
 use Rattle.xcp_program.specs.declared.purpose.OptionsFault.{OptionsFault}
-use Rattle.xcp_program.specs.declared.purpose.OptionsFault.TheVariants.{Memory, TooManyTools}
+use Rattle.xcp_program.specs.declared.purpose.OptionsFault.TheVariants.{Memory, NotForStay, OnlyForStay, TooManyTools}
 use Rattle.xcp_program.specs.declared.words.Unasked.{Unasked}
 use Rattle.xcp_program.specs.declared.words.Unasked.TheVariants as unasked
 use Rattle.xcp_program.proofs.words.asked.Goals as goal
 
--- where clap takes the words that were seen, which are those that were given, the fault is one of two
-spent : (seen given : List Text) (fault : OptionsFault) → seen ≡ given → (takes program seen ≡ true → (fault ≡ Memory) ⊎ (fault ≡ TooManyTools)) → takes program given ≡ true
-    → (unasked_of fault ≡ unasked.Memory) ⊎ (unasked_of fault ≡ unasked.TooManyTools)
-spent seen given fault same one_of_two taken = elim (one_of_two (subst (λ words. takes program words ≡ true) (sym same) taken)) [
+-- where clap takes the words that were seen, which are those that were given, the fault is one of four
+spent : (seen given : List Text) (fault : OptionsFault) → seen ≡ given → (takes program seen ≡ true → (fault ≡ Memory) ⊎ (fault ≡ TooManyTools) ⊎ (fault ≡ NotForStay) ⊎ (fault ≡ OnlyForStay)) → takes program given ≡ true
+    → (unasked_of fault ≡ unasked.Memory) ⊎ (unasked_of fault ≡ unasked.TooManyTools) ⊎ (unasked_of fault ≡ unasked.NotForStay) ⊎ (unasked_of fault ≡ unasked.OnlyForStay)
+spent seen given fault same one_of_four taken = elim (one_of_four (subst (λ words. takes program words ≡ true) (sym same) taken)) [
   | inl memory ↦ inl (ap unasked_of memory)
-  | inr many ↦ inr (ap unasked_of many)
+  | inr (inl many) ↦ inr (inl (ap unasked_of many))
+  | inr (inr (inl ends)) ↦ inr (inr (inl (ap unasked_of ends)))
+  | inr (inr (inr stays)) ↦ inr (inr (inr (ap unasked_of stays)))
 ]
 
 -- and the same of the error that is told
-told : (e u : Unasked) → e ≡ u → (u ≡ unasked.Memory) ⊎ (u ≡ unasked.TooManyTools) → (e ≡ unasked.Memory) ⊎ (e ≡ unasked.TooManyTools)
-told e u same one_of_two = elim one_of_two [
-  | inl memory ↦ inl (same ∙ memory)
-  | inr many ↦ inr (same ∙ many)
-]
+told : (e u : Unasked) → e ≡ u → (u ≡ unasked.Memory) ⊎ (u ≡ unasked.TooManyTools) ⊎ (u ≡ unasked.NotForStay) ⊎ (u ≡ unasked.OnlyForStay) → (e ≡ unasked.Memory) ⊎ (e ≡ unasked.TooManyTools) ⊎ (e ≡ unasked.NotForStay) ⊎ (e ≡ unasked.OnlyForStay)
+told e u same one_of_four = subst (λ x. (x ≡ unasked.Memory) ⊎ (x ≡ unasked.TooManyTools) ⊎ (x ≡ unasked.NotForStay) ⊎ (x ≡ unasked.OnlyForStay)) (sym same) one_of_four
 
 pub returns-in_err-options-in-Ok-clause-refused : goal.returns-in_err-options-in-Ok-clause-refused
 returns-in_err-options-in-Ok-clause-refused c =
