@@ -1,20 +1,25 @@
 -- What holds where a chapter ends and the next one begins.
-use Rattle.std.proofs.Common.{◌≡◌, ◌≤◌, ℕ, ◌+◌, ◌-◌, List, [], ◌∷◌, ◌++◌, length, refl, sym, ap, ◌∙◌, subst, arith, length-append, append_assoc}
+use Rattle.std.proofs.Common.{◌≡◌, ◌≢◌, ◌≤◌, ◌⊎◌, inl, inr, ℕ, ◌+◌, ◌-◌, List, [], ◌∷◌, ◌++◌, length, refl, sym, ap, ◌∙◌, subst, arith, length-append, append_assoc, append-nil}
 use Rattle.std.specs.Prelude.{vec_len}
 use Rattle.std.proofs.lemmas.List.{map-append}
 use Rattle.xcp_bank.specs.BankId.{BankId}
 use Rattle.xcp_memory.specs.Layout.{LayoutValue}
 use Rattle.xcp_slave.specs.declared.Exchange.{Exchange}
+use Rattle.xcp_slave.specs.declared.Request.{Request}
+use Rattle.xcp_slave.specs.Outcomes.{Answer}
 use Rattle.xcp_slave.specs.SlaveValue.{SlaveValue, layout_of, opening}
 use Rattle.xcp_slave.specs.Run.{Run}
+use Rattle.xcp_slave.specs.Step.{Answers}
 use Rattle.xcp_slave.proofs.RunLaws.{run-layout}
 use Rattle.xcp_trace.specs.declared.Entry.{Entry}
 use Rattle.xcp_locked.specs.declared.publisher.Publisher.{Publisher}
-use Rattle.xcp_locked.specs.Journal.{exchanges}
+use Rattle.xcp_locked.specs.Journal.{entry, exchanges}
 use Rattle.xcp_locked.specs.LockedSlave.{IsReached}
 use Rattle.xcp_locked.specs.Publications.{Publication, publication, image_of, images_of, Published}
-use Rattle.xcp_locked.specs.private.OfferedImages.{IsKept}
-use Rattle.xcp_locked.proofs.PublicationLemmas.{exchanges_length, published_first}
+use Rattle.xcp_locked.specs.PublishingCalls.{AreAllImages, AreImages}
+use Rattle.xcp_locked.specs.private.OfferedImages.{IsKept, Offers}
+use Rattle.xcp_locked.proofs.JournalLemmas.{exchanges_snoc}
+use Rattle.xcp_locked.proofs.PublicationLemmas.{exchanges_length, published_first, published_other, published_same}
 use Rattle.xcp_locked.proofs.PublicationLaws.{published_end}
 use Rattle.xcp_locked.proofs.SettledReaderLemmas.{images_length, places_length}
 
@@ -76,3 +81,51 @@ few_more bank v w es p before k low =
     let few = k.few in
     let l = exchanges_length es in
     omega (arith, places, few, l, low, room)
+
+-- a call publishes the image behind it where that differs from the one before it
+pub images_on : (v : SlaveValue) (xs : List Exchange) (w : SlaveValue) (x : Exchange) (u : SlaveValue) (images more : List (List ℕ)) → Run v xs w → Answers w x.request x.answer u
+    → ((image_of u ≡ image_of w) × (more ≡ images)) ⊎ ((image_of u ≢ image_of w) × (more ≡ images ++ image_of u ∷ [])) → AreImages v xs images → AreImages v (xs ++ x ∷ []) more
+images_on v xs w x u images more r a (inl s) h = (h.0, published_same v xs w x u h.0 r a s.0 h.1, s.1 ∙ h.2)
+images_on v xs w x u images more r a (inr s) h =
+    let place = length xs + 1 in
+    (h.0 ++ publication place (image_of u) ∷ [], published_other v xs w x u place h.0 r a refl s.0 h.1, s.1 ∙ (ap (λ z. z ++ image_of u ∷ []) h.2 ∙ sym (map-append (λ (z : Publication). z.image) h.0 (publication place (image_of u) ∷ []))))
+
+pub all_on : (l : LayoutValue) (n : ℕ) (base w : SlaveValue) (xs : List Exchange) (x : Exchange) (u : SlaveValue) (images more : List (List ℕ)) → Run base xs w → Answers w x.request x.answer u
+    → ((image_of u ≡ image_of w) × (more ≡ images)) ⊎ ((image_of u ≢ image_of w) × (more ≡ images ++ image_of u ∷ [])) → AreAllImages l n base xs images → AreAllImages l n base (xs ++ x ∷ []) more
+all_on l n base w xs x u images more r a is h = record {
+  past = h.past;
+  count = h.count;
+  run = h.run;
+  published = subst (λ ys. AreImages (opening l) ys more) (append_assoc h.past xs (x ∷ [])) (images_on (opening l) (h.past ++ xs) w x u images more (run_joined (opening l) base w h.past xs h.run r) a is h.published);
+}
+
+-- the same, of a journal that is said to be one call longer, where the image was offered
+pub all_goes_on : (l : LayoutValue) (n : ℕ) (base : SlaveValue) (es more : List Entry) (w : SlaveValue) (by : ℕ) (q : Request) (a : Answer) (u : SlaveValue) (place : ℕ) (old mid new : Publisher) → more ≡ es ++ entry by q a ∷ [] → Run base (exchanges es) w → Answers w q a u
+    → mid.writer ≡ old.writer → mid.last ≡ old.last → old.last ≡ image_of w → Offers place (image_of u) mid new → AreAllImages l n base (exchanges es) old.writer.publications → AreAllImages l n base (exchanges more) new.writer.publications
+all_goes_on l n base es more w by q a u place old mid new is run step writer last before o h =
+    let were = ap (λ z. z.publications) writer in
+    let at : mid.last ≡ image_of w = last ∙ before in
+    subst (λ xs. AreAllImages l n base xs new.writer.publications) (sym (ap exchanges is ∙ exchanges_snoc es (entry by q a)))
+    (all_on l n base w (exchanges es) (record { request = q; answer = a }) u old.writer.publications new.writer.publications run step
+    (elim o.outcome [
+      | inl s ↦ inl (s.0 ∙ at, s.1 ∙ were)
+      | inr s ↦ inr ((λ same. s.0 (same ∙ sym at)), s.1 ∙ ap (λ z. z ++ image_of u ∷ []) were)
+    ]) h)
+
+-- nothing was called yet: the opening's image is published
+pub all_first : (l : LayoutValue) (v : SlaveValue) (es : List Entry) (images : List (List ℕ)) → v ≡ opening l → es ≡ [] → images ≡ image_of (opening l) ∷ [] → AreAllImages l 0 v (exchanges es) images
+all_first l v es images is none one = record {
+  past = [];
+  count = refl;
+  run = is;
+  published = subst (λ (z : List Entry). AreImages (opening l) (exchanges z) images) (sym none) (publication 0 (image_of (opening l)) ∷ [], published_first (opening l), one);
+}
+
+-- a cut publishes nothing
+pub all_cut : (l : LayoutValue) (n m : ℕ) (v w base : SlaveValue) (es none : List Entry) (images were : List (List ℕ)) → Run v (exchanges es) w → m ≡ n + length es → none ≡ [] → w ≡ base → images ≡ were → AreAllImages l n v (exchanges es) were → AreAllImages l m base (exchanges none) images
+all_cut l n m v w base es none images were run count empty is same h = record {
+  past = h.past ++ exchanges es;
+  count = length-append h.past (exchanges es) ∙ ((λ i. h.count i + length (exchanges es)) ∙ (ap (λ (k : ℕ). n + k) (exchanges_length es) ∙ sym count));
+  run = subst (λ (z : SlaveValue). Run (opening l) (h.past ++ exchanges es) z) is (run_joined (opening l) v w h.past (exchanges es) h.run run);
+  published = subst (λ (z : List Entry). AreImages (opening l) ((h.past ++ exchanges es) ++ exchanges z) images) (sym empty) (subst (λ xs. AreImages (opening l) xs images) (sym (append-nil (h.past ++ exchanges es))) (h.published.0, h.published.1, same ∙ h.published.2));
+}

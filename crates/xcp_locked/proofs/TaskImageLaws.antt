@@ -152,5 +152,5 @@ is_fresh layout p k caller was mid now a b c told closing begins newest = record
   joined = closing.2 ∙ (ap (λ z. z ++ closing.0) told.added ∙ append_assoc was (told.call ∷ []) closing.0);
   asked = told.asked;
   closed = closing.1;
-  image = record { before = told.calls; base = told.base; reached = told.reached; earlier = told.earlier; place = told.place; first = told.first; published = b.seen; images = told.images; seen = begins.0; holds = newest };
+  image = record { before = told.calls; base = told.base; reached = told.reached; earlier = told.earlier; place = told.place; first = told.first; published = b.seen; images = told.images; all_images = told.all_images; seen = begins.0; holds = newest };
 }

@@ -13,7 +13,7 @@ use Rattle.xcp_trace.specs.declared.Entry.{Entry}
 use Rattle.xcp_locked.specs.declared.receipt.Receipt.{Receipt}
 use Rattle.xcp_locked.specs.Journal.{entry, exchanges}
 use Rattle.xcp_locked.specs.LockedSlave.{IsReached}
-use Rattle.xcp_locked.specs.PublishingCalls.{AreImagesFrom}
+use Rattle.xcp_locked.specs.PublishingCalls.{AreAllImages, AreImagesFrom}
 
 -- whether a reader's step tells it which image is current
 abbrev pub is_look : Event → Bool
@@ -38,6 +38,7 @@ pub record IsTold (layout : LayoutValue) (caller : ℕ) (request : Request) (old
   pub place : length earlier ≡ call.at
   pub first : ℕ
   pub images : AreImagesFrom first base (exchanges (earlier ++ entry caller call.request call.answer ∷ [])) after.seen
+  pub all_images : AreAllImages layout calls base (exchanges (earlier ++ entry caller call.request call.answer ∷ [])) after.seen
   pub deeds : List Deed
   pub did : ReaderDoes before after deeds
   pub twice : looks deeds ≡ 2
@@ -84,5 +85,7 @@ pub record IsNotOlder (layout : LayoutValue) (caller : ℕ) (call : Receipt) (re
   pub first : ℕ
   pub published : List (List ℕ)
   pub images : AreImagesFrom first base (exchanges (earlier ++ entry caller call.request call.answer ∷ [])) published
+  -- all of these, also those of earlier chapters, are images along the calls since the opening
+  pub all_images : AreAllImages layout before base (exchanges (earlier ++ entry caller call.request call.answer ∷ [])) published
   pub seen : IsPrefix published reader.seen
   pub holds : (number : ℕ) → HoldsNumber reader number → length published ≤ number + 1

@@ -11,7 +11,7 @@ ghost use Rattle.xcp_locked.specs.Caller.{accepting};
 ghost use Rattle.xcp_locked.specs.Journal.{entry, exchanges, journal_limit};
 ghost use Rattle.xcp_locked.specs.LockedSlave.{IsReached, SameChapter};
 ghost use Rattle.xcp_locked.specs.Publications.{image_of};
-ghost use Rattle.xcp_locked.specs.PublishingCalls.{AreImagesFrom, Publishes};
+ghost use Rattle.xcp_locked.specs.PublishingCalls.{AreAllImages, AreImagesFrom, Publishes};
 ghost use Rattle.xcp_locked.specs.private.OfferedImages.{Offers};
 ghost use Rattle.xcp_locked.specs.Receipts.{receipt};
 ghost use Rattle.xcp_trace.specs.EntrySpelling.{room_for_any_entry};
@@ -36,8 +36,9 @@ pub const JOURNAL: usize = 65_536;
 /// A slave with its journal, which has chapters: the open one, and those before it that were cut off.
 /// The open chapter is a run of the slave, from its base to the slave as it is; the calls before it are
 /// a run from the opening of the layout to the base; and the book of accepted calls has as many units
-/// as all chapters have entries. The bank's publications since the chapter's first image are the
-/// controller's images along its run: the base's, and each that differs from the one before it.
+/// as all chapters have entries. The bank's publications are the controller's images along all calls
+/// since the opening: the opening's, and each that differs from the one before it; and those since the
+/// chapter's first image are those along the chapter's run.
 ///
 /// Who waits for packets waits at `waits`, which no contract sees: a submit that leaves more packets waiting
 /// than there were tells them.
@@ -60,13 +61,14 @@ impl<N: Name> Model for Locked<N> {
     ghost use Rattle.xcp_slave.specs.SlaveValue.{layout_of};
     ghost use Rattle.xcp_locked.specs.LockedSlave.{IsReached, LockedValue};
     ghost use Rattle.xcp_locked.specs.Journal.{exchanges, journal_limit, last_chapter};
+    ghost use Rattle.xcp_locked.specs.PublishingCalls.{AreAllImages};
     ghost use Rattle.xcp_locked.specs.private.OfferedImages.{IsKept};
 
     ghost Value = { LockedValue };
 
     ghost view = { λ l. record { slave = l.slave; chapter = l.chapter; base = arc_value l.base; journal = l.journal.entries; before = l.before; writer = l.publisher.writer; first = l.publisher.first } };
 
-    ghost invariant = { λ l. Run (arc_value l.base) (exchanges l.journal.entries) l.slave × (l.book.total ≡ l.before + length l.journal.entries) × (length l.journal.entries ≤ journal_limit) × (layout_of l.slave ≡ N.layout) × IsKept N.bank (arc_value l.base) (exchanges l.journal.entries) l.slave l.publisher × IsReached N.layout l.before (arc_value l.base) × (l.before ≤ l.chapter * journal_limit) × (l.chapter ≤ last_chapter) × (l.publisher.first ≤ l.before) };
+    ghost invariant = { λ l. Run (arc_value l.base) (exchanges l.journal.entries) l.slave × (l.book.total ≡ l.before + length l.journal.entries) × (length l.journal.entries ≤ journal_limit) × (layout_of l.slave ≡ N.layout) × IsKept N.bank (arc_value l.base) (exchanges l.journal.entries) l.slave l.publisher × IsReached N.layout l.before (arc_value l.base) × (l.before ≤ l.chapter * journal_limit) × (l.chapter ≤ last_chapter) × (l.publisher.first ≤ l.before) × AreAllImages N.layout l.before (arc_value l.base) (exchanges l.journal.entries) l.publisher.writer.publications };
 }
 
 impl<N: Name> Locked<N> {
@@ -247,8 +249,9 @@ impl<N: Name> Locked<N> {
     }
 
     /// Does nothing: its contract says that the open chapter is a run from its base, which all calls
-    /// before it led to from the opening of the layout that was named, and that what is published since
-    /// its first image are the images of this run, which the type keeps.
+    /// before it led to from the opening of the layout that was named; that what is published since
+    /// its first image are the images of this run, and all that is published those of all calls since
+    /// the opening. The type keeps this.
     pub fn audit(&self)
         ensures run { Run self.now.base (exchanges self.now.journal) self.now.slave }
         ensures reached { IsReached N.layout self.now.before self.now.base }
@@ -256,6 +259,8 @@ impl<N: Name> Locked<N> {
         ensures few { length self.now.journal ≤ journal_limit }
         ensures chapters { self.now.before ≤ self.now.chapter * journal_limit }
         ensures published { AreImagesFrom self.now.first self.now.base (exchanges self.now.journal)
+            self.now.writer.publications }
+        ensures all_published { AreAllImages N.layout self.now.before self.now.base (exchanges self.now.journal)
             self.now.writer.publications }
     {
         let _ = &self.slave;

@@ -20,7 +20,7 @@ raised_of layout p k caller old mid a b c true told begins newest = record {
   call = told.call;
   added = told.added;
   asked = told.asked;
-  image = record { before = told.calls; base = told.base; reached = told.reached; earlier = told.earlier; place = told.place; first = told.first; published = b.seen; images = told.images; seen = begins.0; holds = newest };
+  image = record { before = told.calls; base = told.base; reached = told.reached; earlier = told.earlier; place = told.place; first = told.first; published = b.seen; images = told.images; all_images = told.all_images; seen = begins.0; holds = newest };
 }
 
 -- and an image was taken, whether an event was accepted or not

@@ -1,12 +1,12 @@
 -- Receipts that were handed over, and those at hand.
-use Rattle.std.proofs.Common.{◌≡◌, Bool, true, false, ◌++◌, ◌∷◌, [], List, ap, ap₂, sym, ◌∙◌}
+use Rattle.std.proofs.Common.{◌≡◌, Bool, true, false, ◌++◌, ◌∷◌, [], List, ap, ap₂, sym, ◌∙◌, subst}
 use Rattle.std.specs.Prelude.{MatchBool}
 use Rattle.std.proofs.lemmas.List.{append-nil}
 use Rattle.xcp_locked.specs.Caller.{CallerValue}
 use Rattle.xcp_locked.specs.LockedSlave.{LockedValue}
 use Rattle.xcp_locked.specs.Sheaves.{SheafValue}
 use Rattle.xcp_locked.specs.declared.receipt.Receipt.{Receipt}
-use Rattle.xcp_service.specs.Parcels.{ParcelValue, parcel_of_sheaf, receipts_put}
+use Rattle.xcp_service.specs.Parcels.{HasAllReceipts, ParcelValue, parcel_of_sheaf, receipts_put}
 use Rattle.xcp_service.specs.Sheaves.{sheaf_of}
 use Rattle.xcp_service.proofs.ParcelLemmas.{put_more, with_put}
 
@@ -29,3 +29,8 @@ pub none_at_hand : (c : CallerValue) (ps qs : List ParcelValue) → c.receipts �
 none_at_hand c ps qs none same =
     ap (λ (rs : List Receipt). record { number = c.number; events = c.events; signals = c.signals; receipts = rs; accepted = c.accepted })
     (ap receipts_put same ∙ (sym (append-nil (receipts_put ps)) ∙ ap (λ (l : List Receipt). receipts_put ps ++ l) (sym none)))
+
+-- what is handed over is counted as before
+pub counted_on : (b : Bool) (c d : CallerValue) (ps qs : List ParcelValue) (l : LockedValue)
+    → MatchBool b ((d ≡ record c { receipts = [] }) × (qs ≡ ps ++ parcel_of_sheaf (sheaf_of l c) ∷ [])) ((d ≡ c) × (qs ≡ ps)) → HasAllReceipts (with_put c ps) → HasAllReceipts (with_put d qs)
+counted_on b c d ps qs l h counted = subst HasAllReceipts (sym (handing_over b c d ps qs l h)) counted

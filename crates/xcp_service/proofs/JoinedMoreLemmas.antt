@@ -21,7 +21,7 @@ lead_on : (k n : ℕ) (v : SlaveValue) (cs : List ChapterValue) (k2 n2 : ℕ) (v
 lead_on k n v [] k2 n2 v2 c h a b d = (a ∙ h.0, b ∙ h.1, d ∙ h.2, (λ i. h.0 i + 1, λ i. h.1 i + length c.entries, refl))
 lead_on k n v (e ∷ cs) k2 n2 v2 c h a b d = (h.0, h.1, h.2, lead_on (k + 1) (n + length e.entries) e.last cs k2 n2 v2 c h.3 a b d)
 
-entries_on : (cs : List ChapterValue) (c : ChapterValue) → entries_of (cs ++ c ∷ []) ≡ entries_of cs ++ c.entries
+pub entries_on : (cs : List ChapterValue) (c : ChapterValue) → entries_of (cs ++ c ∷ []) ≡ entries_of cs ++ c.entries
 entries_on [] c = append-nil c.entries
 entries_on (e ∷ cs) c = ap (λ z. e.entries ++ z) (entries_on cs c) ∙ sym (append_assoc e.entries (entries_of cs) c.entries)
 

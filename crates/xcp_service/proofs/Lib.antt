@@ -2,6 +2,7 @@ pub mod AmongLemmas
 pub mod KeepingLemmas
 pub mod JoinedMoreLemmas
 pub mod SheafLemmas
+pub mod OnceLemmas
 pub mod CountLemmas
 pub mod HandedLemmas
 pub mod ParcelLemmas

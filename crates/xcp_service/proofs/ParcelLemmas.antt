@@ -10,7 +10,7 @@ use Rattle.xcp_locked.specs.LockedSlave.{ChapterValue}
 use Rattle.xcp_locked.specs.Sheaves.{SheafValue}
 use Rattle.xcp_locked.specs.declared.receipt.Receipt.{Receipt}
 use Rattle.xcp_service.specs.Keeping.{KeeperValue, receipts_by}
-use Rattle.xcp_service.specs.Parcels.{AreNumbered, ParcelValue, chapters_put, given_in, parcel_of_chapter, receipts_put}
+use Rattle.xcp_service.specs.Parcels.{AreNumbered, HasAllReceipts, ParcelValue, chapters_put, given_in, parcel_of_chapter, receipts_put}
 use Rattle.xcp_service.specs.Sheaves.{receipts_in}
 use Rattle.xcp_service.specs.private.Collected.{IsCollected, IsOfItsCaller, IsOfItsDesk, chapters_taken, sheaves_taken}
 use Rattle.xcp_service.proofs.KeepingLemmas.{all_more}
@@ -108,3 +108,8 @@ length-callers_of l (suc n) = let e = length-callers_of l n in let m = length-ap
 pub numbered_callers : (l : LayoutValue) (n : ℕ) → AreNumbered 0 (callers_of l n)
 numbered_callers l zero = tt
 numbered_callers l (suc n) = numbered_more 0 (callers_of l n) (fresh_caller l n) (numbered_callers l n) (let e = length-callers_of l n in omega (arith, e))
+
+-- and have no receipts, as they have made no calls
+pub counted_callers : (l : LayoutValue) (n : ℕ) → AllByRecursion HasAllReceipts (callers_of l n)
+counted_callers l zero = tt
+counted_callers l (suc n) = all_more HasAllReceipts (callers_of l n) (fresh_caller l n) (counted_callers l n) refl

@@ -8,7 +8,7 @@ use Rattle.xcp_slave.specs.SlaveValue.{SlaveValue}
 use Rattle.xcp_trace.specs.declared.Entry.{Entry}
 use Rattle.xcp_locked.specs.Journal.{entry, exchanges}
 use Rattle.xcp_locked.specs.LockedSlave.{IsReached, SameChapter}
-use Rattle.xcp_locked.specs.PublishingCalls.{AreImagesFrom, Publishes}
+use Rattle.xcp_locked.specs.PublishingCalls.{AreAllImages, AreImagesFrom, Publishes}
 use Rattle.xcp_locked.specs.declared.receipt.Receipt.{Receipt}
 use Rattle.xcp_service.specs.Residents.{ResidentValue, with_a_cut}
 
@@ -40,3 +40,5 @@ pub record IsPublished (layout : LayoutValue) (caller : ℕ) (call : Receipt) (n
   pub place : length earlier ≡ call.at
   pub first : ℕ
   pub images : AreImagesFrom first base (exchanges (earlier ++ entry caller call.request call.answer ∷ [])) new.locked.writer.publications
+  -- all of these, also those of earlier chapters, are images along the calls since the opening
+  pub all_images : AreAllImages layout before base (exchanges (earlier ++ entry caller call.request call.answer ∷ [])) new.locked.writer.publications

@@ -1,7 +1,9 @@
 -- What a keeper has settled of the chapters that it took.
-use Rattle.std.specs.Prelude.{◌≡◌, ◌<◌, ℕ, Bool, false, ◌==◌, List, [], ◌∷◌, ◌++◌, if◌then◌else◌, Some}
-use Rattle.std.specs.List.{list_any, slice_get}
+use Rattle.std.specs.Prelude.{◌≡◌, ◌<◌, ◌≤◌, ℕ, Bool, false, ◌==◌, List, [], ◌∷◌, ◌++◌, length, if◌then◌else◌, Some}
+use Rattle.std.specs.List.{count_by, list_any, slice_get}
 use Rattle.xcp_slave.specs.SlaveValue.{SlaveValue}
+use Rattle.xcp_trace.specs.declared.Entry.{Entry}
+use Rattle.xcp_locked.specs.Chapters.{entries_of}
 use Rattle.xcp_locked.specs.LockedSlave.{ChapterValue}
 use Rattle.xcp_locked.specs.SettledReceipts.{receipts_for, tally}
 use Rattle.xcp_locked.specs.Sheaves.{SheafValue}
@@ -41,3 +43,16 @@ AreDroppedSettled k = (j : ℕ) (c : ChapterValue) → slice_get k.chapters j �
 -- each chapter is settled by all callers
 abbrev pub AreKeptSettled : KeeperValue → Type 0
 AreKeptSettled k = (j : ℕ) (c : ChapterValue) → slice_get k.chapters j ≡ Some c → (caller : ℕ) → caller < caller_limit → IsSettledBy k.sheaves c caller
+
+-- no sheaf has a receipt of a chapter that isn't there yet
+abbrev pub HasNoneAhead : KeeperValue → Type 0
+HasNoneAhead k = (n caller : ℕ) → length k.chapters ≤ n → receipts_for false n (receipts_by caller k.sheaves) ≡ []
+
+-- how many calls of all chapters are this caller's
+abbrev pub calls_by : ℕ → List ChapterValue → ℕ
+calls_by caller chapters = count_by (λ (e : Entry). e.caller == caller) (entries_of chapters)
+
+-- The receipts that a caller ever handed over are as many as the chapters have calls of it. Where each chapter is settled by it, each of
+-- them is one call, and no two are the same one.
+abbrev pub AreOnce : KeeperValue → Type 0
+AreOnce k = (caller : ℕ) → caller < caller_limit → length (receipts_by caller k.sheaves) ≡ calls_by caller k.chapters

@@ -1,5 +1,5 @@
 -- What goes to a keeper by its post, and what came of it.
-use Rattle.std.specs.Prelude.{◌≡◌, ◌+◌, ℕ, ⊤, List, [], ◌∷◌, ◌++◌, map}
+use Rattle.std.specs.Prelude.{◌≡◌, ◌+◌, ℕ, ⊤, List, [], ◌∷◌, ◌++◌, length, map}
 use Rattle.xcp_memory.specs.Layout.{LayoutValue}
 use Rattle.xcp_scribe.specs.Given.{Given}
 use Rattle.xcp_locked.specs.Caller.{CallerValue, callers_of}
@@ -42,6 +42,10 @@ AreOpened count cs = (layout : LayoutValue) × (cs ≡ callers_of layout count)
 abbrev pub AreNumbered : ℕ → List CallerValue → Type 0
 AreNumbered number [] = ⊤
 AreNumbered number (c ∷ cs) = (c.number ≡ number) × AreNumbered (number + 1) cs
+
+-- a caller has as many receipts as calls of it were accepted
+abbrev pub HasAllReceipts : CallerValue → Type 0
+HasAllReceipts c = c.accepted ≡ length c.receipts
 
 -- What the keeper took of a caller's sheaves has all receipts that this caller ever had, in order, and no others.
 abbrev pub IsHandedOver : KeeperValue → CallerValue → Type 0

@@ -2,8 +2,10 @@
 use Rattle.std.specs.Prelude.{◌≡◌, List, [], ◌∷◌, ◌++◌}
 use Rattle.xcp_memory.specs.Layout.{LayoutValue}
 use Rattle.xcp_slave.specs.SlaveValue.{opening}
-use Rattle.xcp_locked.specs.Chapters.{AreJoined}
+use Rattle.xcp_locked.specs.Chapters.{AreJoined, entries_of}
+use Rattle.xcp_locked.specs.Journal.{exchanges}
 use Rattle.xcp_locked.specs.LockedSlave.{ChapterValue, LockedValue, chapter_of, cut_off}
+use Rattle.xcp_locked.specs.PublishingCalls.{AreImages}
 
 -- The slave, with its open chapter, and all chapters that were ever cut off it, in order.
 pub record ResidentValue : Type 0 where
@@ -21,3 +23,7 @@ IsUncut layout l = (l.chapter ≡ 0) × (l.before ≡ 0) × (l.base ≡ opening 
 -- From the opening of the layout the chapters that were cut off lead on to the open one, and are one run to its base.
 abbrev pub GoesOn : LayoutValue → ResidentValue → Type 0
 GoesOn layout r = AreJoined layout r.past r.locked.chapter r.locked.before r.locked.base
+
+-- All that was ever published are the images along the calls of the chapters that were cut off, one behind another, and then of the open one.
+abbrev pub HasPublished : LayoutValue → ResidentValue → Type 0
+HasPublished layout r = AreImages (opening layout) (exchanges (entries_of r.past ++ r.locked.journal)) r.locked.writer.publications

@@ -1,7 +1,8 @@
 //! Callers that call no more.
 ghost use Rattle.std.specs.List.{AllByRecursion};
-ghost use Rattle.std.specs.Prelude.{◌≡◌, IfOk};
-ghost use Rattle.xcp_service.specs.Parcels.{AreNumbered, IsHandedOver, given_in};
+ghost use Rattle.std.specs.Prelude.{◌≡◌, ◌<◌, IfOk};
+ghost use Rattle.xcp_service.specs.Keeping.{caller_limit};
+ghost use Rattle.xcp_service.specs.Parcels.{AreNumbered, HasAllReceipts, IsHandedOver, given_in};
 
 use crate::collector::Collector;
 use crate::keeper::{Keeper, Unkept};
@@ -24,12 +25,15 @@ pub struct Former<N: Name> {
 }
 
 impl<N: Name> Model for Former<N> {
+    ghost use Rattle.std.specs.Prelude.{◌≡◌, length};
     ghost use Rattle.xcp_locked.specs.Caller.{CallerValue};
     ghost use Rattle.xcp_service.specs.Parcels.{receipts_put};
 
     ghost Value = { CallerValue };
 
     ghost view = { λ f. record { number = f.caller.number; events = f.caller.events; signals = f.caller.signals; receipts = receipts_put f.giver.given; accepted = f.caller.accepted } };
+
+    ghost invariant = { λ f. f.caller.accepted ≡ length (receipts_put f.giver.given) };
 }
 
 impl<N: Name> Former<N> {
@@ -51,7 +55,7 @@ pub struct Resigned<N: Name, S: Scribe> {
 }
 
 /// All members resign, which must come in the order of their numbers. The keeper then has all receipts that each of them ever had, in
-/// order. `Memory` comes also where some are still at hand or on their way.
+/// order, one for each of its calls that was accepted. `Memory` comes also where some are still at hand or on their way.
 pub fn resign_all<N: Name, M: Route, S: Scribe>(
     alloc: Global,
     post: &Post<N, M>,
@@ -61,7 +65,9 @@ pub fn resign_all<N: Name, M: Route, S: Scribe>(
     ensures keeper { IfOk result (λ r. r.keeper ≡ collector) }
     ensures members { IfOk result (λ r. r.members.items ≡ members.items) }
     ensures numbered { IfOk result (λ r. AreNumbered 0 r.members.items) }
+    ensures few { IfOk result (λ r. AllByRecursion (λ c. c.number < caller_limit) r.members.items) }
     ensures handed { IfOk result (λ r. AllByRecursion (IsHandedOver r.keeper) r.members.items) }
+    ensures counted { IfOk result (λ r. AllByRecursion HasAllReceipts r.members.items) }
     ensures wrote { IfOk result (λ r. S.wrote r.scribe (given_in r.keeper.chapters)) }
 {
     let mut collector = collector;

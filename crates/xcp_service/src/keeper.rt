@@ -2,7 +2,7 @@
 ghost use Rattle.std.specs.List.{AllByRecursion};
 ghost use Rattle.std.specs.Prelude.{◌≡◌, ◌≢◌, ◌++◌, ◌-◌, ◌^◌, min, [], ◌∷◌, true, false, length, MatchBool, OnOk, OnErr, IfErr, ◌⊎◌};
 ghost use Rattle.xcp_locked.specs.Chapters.{AreJoined, Follows};
-ghost use Rattle.xcp_service.specs.Keeping.{AreDroppedSettled, AreKeptSettled};
+ghost use Rattle.xcp_service.specs.Keeping.{AreDroppedSettled, AreKeptSettled, AreOnce, HasNoneAhead};
 ghost use Rattle.xcp_service.specs.Losing.{lost_in};
 
 use crate::losing::count_lost;
@@ -216,11 +216,14 @@ impl<N: Name> Keeper<N> {
     }
 
     /// Whether all chapters that it took were dropped, and the slave goes on from the last of them. All calls since the opening are
-    /// then one run, those of the open chapter behind those that were dropped.
+    /// then one run, those of the open chapter behind those that were dropped, and each call that stands in a chapter was handed over
+    /// by its caller once.
     pub fn meets(&self, locked: &Locked<N>) -> bool
         ensures joined { result ≡ true → AreJoined N.layout self.now.chapters locked.now.chapter
             locked.now.before locked.now.base }
         ensures settled { result ≡ true → AreKeptSettled self.now }
+        ensures ahead { result ≡ true → HasNoneAhead self.now }
+        ensures once { result ≡ true → AreOnce self.now }
     {
         locked.audit();
         if !self.waiting.is_empty()

@@ -8,7 +8,7 @@ ghost use Rattle.xcp_locked.specs.Journal.{entry, journal_limit};
 ghost use Rattle.xcp_locked.specs.LockedSlave.{SameChapter};
 ghost use Rattle.xcp_locked.specs.PublishingCalls.{Publishes};
 ghost use Rattle.xcp_locked.specs.Receipts.{receipt};
-ghost use Rattle.xcp_service.specs.Parcels.{IsHandedOver};
+ghost use Rattle.xcp_service.specs.Parcels.{HasAllReceipts, IsHandedOver};
 
 use crate::collector::Collector;
 use crate::former::Former;
@@ -38,7 +38,7 @@ pub struct Member<N: Name, M: Route> {
 }
 
 impl<N: Name, M: Route> Model for Member<N, M> {
-    ghost use Rattle.std.specs.Prelude.{◌≡◌, ◌++◌};
+    ghost use Rattle.std.specs.Prelude.{◌≡◌, ◌++◌, length};
     ghost use Rattle.xcp_locked.specs.Caller.{CallerValue};
     ghost use Rattle.xcp_service.specs.Parcels.{receipts_put};
 
@@ -46,13 +46,14 @@ impl<N: Name, M: Route> Model for Member<N, M> {
 
     ghost view = { λ m. record { number = m.caller.number; events = m.caller.events; signals = m.caller.signals; receipts = receipts_put m.tray.put ++ m.caller.receipts; accepted = m.caller.accepted } };
 
-    ghost invariant = { λ m. (m.tray.relay ≡ M.relay) × (m.tray.tag ≡ m.caller.number) };
+    ghost invariant = { λ m. (m.tray.relay ≡ M.relay) × (m.tray.tag ≡ m.caller.number) × (m.caller.accepted ≡ length (receipts_put m.tray.put ++ m.caller.receipts)) };
 }
 
 impl<N: Name, M: Route> Member<N, M> {
-    /// A caller that has handed over nothing yet, with a giver whose tag is its number.
+    /// A caller that has handed over nothing yet and has a receipt for each of its calls, with a giver whose tag is its number.
     pub(crate) fn new(caller: Caller<N>, giver: Giver<Parcel<N>>) -> Member<N, M>
         requires giver { giver ≡ record { relay = M.relay; tag = caller.number; given = [] } }
+        requires counted { HasAllReceipts caller }
         ensures { result ≡ caller }
     {
         Member {
@@ -118,6 +119,7 @@ impl<N: Name, M: Route> Member<N, M> {
     ) -> Option<Former<N>>
         ensures former { IfSome result (λ f. f ≡ self) }
         ensures handed { IfSome result (λ f. IsHandedOver collector.new f) }
+        ensures counted { IfSome result (λ f. HasAllReceipts f) }
         ensures same { collector.new ≡ collector.old }
     {
         let Member { caller, tray, .. } = self;

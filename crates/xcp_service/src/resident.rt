@@ -8,10 +8,10 @@ ghost use Rattle.xcp_slave.specs.Step.{Answers};
 ghost use Rattle.xcp_locked.specs.Caller.{accepting};
 ghost use Rattle.xcp_locked.specs.Journal.{entry, exchanges, journal_limit};
 ghost use Rattle.xcp_locked.specs.LockedSlave.{IsReached, SameChapter};
-ghost use Rattle.xcp_locked.specs.PublishingCalls.{AreImagesFrom, Publishes};
+ghost use Rattle.xcp_locked.specs.PublishingCalls.{AreAllImages, AreImagesFrom, Publishes};
 ghost use Rattle.xcp_locked.specs.Receipts.{receipt};
 ghost use Rattle.xcp_service.specs.Parcels.{chapters_put, parcel_of_sheaf};
-ghost use Rattle.xcp_service.specs.Residents.{GoesOn, IsUncut, with_a_cut};
+ghost use Rattle.xcp_service.specs.Residents.{GoesOn, HasPublished, IsUncut, with_a_cut};
 ghost use Rattle.xcp_service.specs.Sheaves.{sheaf_of};
 
 use crate::collector::Collector;
@@ -28,7 +28,7 @@ use xcp_scribe::Scribe;
 use xcp_slave::{Asked, Told};
 
 /// A slave that stays, as it lies under its lock, with the chapters that were cut off it: those that were put into the post for its
-/// keeper. They are one run from the opening of the layout to the open chapter.
+/// keeper. They are one run from the opening of the layout to the open chapter, and all that is published are the images along that run.
 #[derive(Drop)]
 pub struct Resident<N: Name, M: Route> {
     locked: Locked<N>,
@@ -41,13 +41,13 @@ pub struct Resident<N: Name, M: Route> {
 impl<N: Name, M: Route> Model for Resident<N, M> {
     ghost use Rattle.std.specs.Prelude.{◌≡◌};
     ghost use Rattle.xcp_service.specs.Parcels.{chapters_put};
-    ghost use Rattle.xcp_service.specs.Residents.{GoesOn, ResidentValue};
+    ghost use Rattle.xcp_service.specs.Residents.{GoesOn, HasPublished, ResidentValue};
 
     ghost Value = { ResidentValue };
 
     ghost view = { λ r. record { locked = r.locked; past = chapters_put r.tray.put } };
 
-    ghost invariant = { λ r. (r.tray.relay ≡ M.relay) × (r.tray.tag ≡ N.parts) × GoesOn N.layout (record { locked = r.locked; past = chapters_put r.tray.put }) };
+    ghost invariant = { λ r. (r.tray.relay ≡ M.relay) × (r.tray.tag ≡ N.parts) × GoesOn N.layout (record { locked = r.locked; past = chapters_put r.tray.put }) × HasPublished N.layout (record { locked = r.locked; past = chapters_put r.tray.put }) };
 }
 
 impl<N: Name, M: Route> HasSlave<N> for Resident<N, M> {
@@ -65,6 +65,7 @@ impl<N: Name, M: Route> Resident<N, M> {
         requires chapters { chapters ≡ record { relay = M.relay; tag = N.parts; given = [] } }
         ensures { result ≡ record { locked = locked; past = [] } }
     {
+        locked.audit();
         Resident {
             locked,
             tray: Tray::new(chapters),
@@ -141,6 +142,7 @@ impl<N: Name, M: Route> Resident<N, M> {
         ensures chapter { SameChapter self.old.locked self.new.locked }
         ensures past { self.new.past ≡ self.old.past }
     {
+        self.locked.audit();
         self.locked.submit_into(caller, asked, packet)
     }
 
@@ -160,11 +162,15 @@ impl<N: Name, M: Route> Resident<N, M> {
         self.locked.tell(reader);
     }
 
-    /// Does nothing: its contract says what the type keeps. The chapters that were cut off are one run from the opening to the open one.
+    /// Does nothing: its contract says what the type keeps. The chapters that were cut off are one run from the opening to the open one,
+    /// and what is published are the images along this run and the open chapter's.
     pub fn audit(&self)
         ensures goes_on { GoesOn N.layout self.now }
+        ensures published { HasPublished N.layout self.now }
         ensures reached { IsReached N.layout self.now.locked.before self.now.locked.base }
         ensures images { AreImagesFrom self.now.locked.first self.now.locked.base
+            (exchanges self.now.locked.journal) self.now.locked.writer.publications }
+        ensures all_images { AreAllImages N.layout self.now.locked.before self.now.locked.base
             (exchanges self.now.locked.journal) self.now.locked.writer.publications }
     {
         self.locked.audit();

@@ -1,26 +1,31 @@
 -- What is told of a server that stayed.
-use Rattle.std.proofs.Common.{◌≡◌, ◌-◌, ◌^◌, ℕ, min, List, subst, sym}
+use Rattle.std.proofs.Common.{◌≡◌, ◌<◌, ◌+◌, ◌-◌, ◌^◌, ◌∙◌, ℕ, min, List, [], ◌∷◌, ap, length, subst, sym}
+use Rattle.std.specs.List.{AllByRecursion}
 use Rattle.xcp_memory.specs.Layout.{LayoutValue}
-use Rattle.xcp_slave.specs.SlaveValue.{SlaveValue}
+use Rattle.xcp_slave.specs.SlaveValue.{SlaveValue, opening}
 use Rattle.xcp_scribe.specs.Given.{Given}
 use Rattle.xcp_locked.specs.Caller.{CallerValue}
-use Rattle.xcp_locked.specs.Chapters.{AreJoined}
+use Rattle.xcp_locked.specs.Chapters.{AreJoined, entries_of}
+use Rattle.xcp_locked.specs.Journal.{exchanges}
 use Rattle.xcp_locked.specs.LockedSlave.{LockedValue}
-use Rattle.xcp_service.specs.Keeping.{AreKeptSettled, KeeperValue}
+use Rattle.xcp_locked.specs.PublishingCalls.{AreImages}
+use Rattle.xcp_service.specs.Keeping.{AreKeptSettled, AreOnce, KeeperValue, caller_limit}
 use Rattle.xcp_service.specs.Losing.{lost_in}
-use Rattle.xcp_service.specs.Parcels.{given_in}
-use Rattle.xcp_stay.specs.Stay.{AreAllMembers, IsKept, LeavesKept}
+use Rattle.xcp_service.specs.Parcels.{AreNumbered, HasAllReceipts, IsHandedOver, given_in}
+use Rattle.xcp_stay.specs.Stay.{AreAllMembers, IsKept, IsOnce, LeavesKept}
+use Rattle.xcp_stay.specs.Team.{HaveServed}
 use Rattle.xcp_stay.specs.declared.staying.Report.{Report}
 
-pub kept_as : (l : LayoutValue) (count : ℕ) (wrote : List Given → Type 0) (k : KeeperValue) (cs : List CallerValue) (n m : ℕ) (v : SlaveValue) (r : Report) → r.chapters ≡ n → r.calls ≡ m → r.lost ≡ min (lost_in k.chapters) (2 ^ 64 - 1)
-    → AreJoined l k.chapters n m v → AreKeptSettled k → AreAllMembers count k cs → wrote (given_in k.chapters) → IsKept l count wrote r
-kept_as l count wrote k cs n m v r chapters calls lost joined settled all written = record {
+pub kept_as : (l : LayoutValue) (callers tools tasks : ℕ) (wrote : List Given → Type 0) (k : KeeperValue) (cs : List CallerValue) (n m : ℕ) (v : SlaveValue) (r : Report) → r.chapters ≡ n → r.calls ≡ m → r.lost ≡ min (lost_in k.chapters) (2 ^ 64 - 1)
+    → AreJoined l k.chapters n m v → AreKeptSettled k → AreAllMembers (tools + tools + tasks) k cs → wrote (given_in k.chapters) → HaveServed l callers tools tasks cs → IsKept l callers tools tasks wrote r
+kept_as l callers tools tasks wrote k cs n m v r chapters calls lost joined settled all written served = record {
   keeper = k;
   last = v;
   joined = subst (λ (x : ℕ). AreJoined l k.chapters x r.calls v) (sym chapters) (subst (λ (x : ℕ). AreJoined l k.chapters n x v) (sym calls) joined);
   settled = settled;
   members = cs;
   all = all;
+  served = served;
   lost = lost;
   written = written;
 }
@@ -34,3 +39,21 @@ left_as wrote count l l' s s' k k' v v' cs cs' layout scribe keeper locked membe
     (subst (λ x. LeavesKept l count (wrote s) x v' cs') keeper
     (subst (λ x. LeavesKept l count (wrote s) k x cs') locked
     (subst (λ x. LeavesKept l count (wrote s) k v x) members h))))
+
+-- each accepted call of each caller stands in the chapters once, where these have each caller's calls once
+pub once_of : (k : KeeperValue) (cs : List CallerValue) → AreOnce k → AllByRecursion (IsHandedOver k) cs → AllByRecursion HasAllReceipts cs → AllByRecursion (λ (c : CallerValue). c.number < caller_limit) cs → AllByRecursion (IsOnce k.chapters) cs
+once_of k [] once handed counted few = tt
+once_of k (c ∷ cs) once handed counted few = ((counted.0, sym (ap length handed.0) ∙ once c.number few.0), once_of k cs once handed.1 counted.1 few.1)
+
+-- what is left where the keeper meets the slave, which has no open call, and all members have resigned
+pub left_by : (l : LayoutValue) (count : ℕ) (written : List Given → Type 0) (k was : KeeperValue) (v : LockedValue) (cs : List CallerValue) → (v.journal ≡ []) × (v.base ≡ v.slave) → AreImages (opening l) (exchanges (entries_of was.chapters)) v.writer.publications → k ≡ was
+    → AreJoined l k.chapters v.chapter v.before v.base → AreKeptSettled k → AreOnce k → length cs ≡ count → AreNumbered 0 cs → AllByRecursion (IsHandedOver k) cs → AllByRecursion HasAllReceipts cs → AllByRecursion (λ (c : CallerValue). c.number < caller_limit) cs → written (given_in k.chapters)
+    → LeavesKept l count written k v cs
+left_by l count written k was v cs closed images same joined settled once complete numbered handed counted few wrote = record {
+  joined = joined;
+  settled = settled;
+  closed = closed;
+  members = record { complete = complete; numbered = numbered; handed = handed; once = once_of k cs once handed counted few };
+  wrote = wrote;
+  images = subst (λ (x : KeeperValue). AreImages (opening l) (exchanges (entries_of x.chapters)) v.writer.publications) (sym same) images;
+}

@@ -1,12 +1,13 @@
 -- Lists of callers that are dealt out, and what is left of them.
-use Rattle.std.proofs.Common.{◌≡◌, ◌∙◌, ◌+◌, ℕ, zero, suc, List, [], ◌∷◌, ◌++◌, length, map, refl, sym, ap, subst, slice_index_or, slice_set, append_assoc, arith}
+use Rattle.std.proofs.Common.{◌≡◌, ◌∙◌, ◌+◌, ℕ, zero, suc, List, [], ◌∷◌, ◌++◌, length, map, take, drop, refl, sym, ap, subst, slice_index_or, slice_set, append_assoc, arith}
 use Rattle.std.specs.Prelude.{All}
 use Rattle.std.specs.List.{AllZip}
 use Rattle.xcp_memory.specs.Layout.{LayoutValue}
-use Rattle.xcp_locked.specs.Caller.{CallerValue}
-use Rattle.xcp_seats.specs.Seating.{Pair, SeatValue}
+use Rattle.xcp_locked.specs.Caller.{CallerValue, callers_of}
+use Rattle.xcp_seats.specs.Seating.{Pair, SeatValue, pair}
 use Rattle.xcp_seats.specs.Ticking.{TaskValue}
-use Rattle.xcp_stay.specs.Team.{SeatLeft, SeatsServed, TaskLeft, TasksFrom, TasksServed}
+use Rattle.xcp_service.proofs.KeepingLemmas.{written}
+use Rattle.xcp_stay.specs.Team.{HaveServed, SeatLeft, SeatsServed, TaskLeft, TasksFrom, TasksServed}
 
 one_more_task : (k : ℕ) (ts : List TaskValue) (t : TaskValue) → TasksFrom k ts → t.task ≡ k + length ts → TasksFrom k (ts ++ t ∷ [])
 one_more_task k [] t h n = (omega (arith, n), tt)
@@ -67,3 +68,33 @@ pub set_same : {A : Type 0} (xs : List A) (k : ℕ) (x d : A) → x ≡ slice_in
 set_same [] k x d h = refl
 set_same (y ∷ ys) zero x d h = ap (λ z. z ∷ ys) h
 set_same (y ∷ ys) (suc k) x d h = ap (λ z. y ∷ z) (set_same ys k x d h)
+
+map_map : {A B C : Type 0} (f : A → B) (h : B → C) (xs : List A) → map h (map f xs) ≡ map (λ x. h (f x)) xs
+map_map f h [] = refl
+map_map f h (x ∷ xs) = ap (λ z. h (f x) ∷ z) (map_map f h xs)
+
+-- what was dealt out served, and was gathered in the order in which it was dealt
+pub have_served : {L D : Type 0} (layout : LayoutValue) (callers tools tasks limit : ℕ) (tool pump : L → CallerValue) (member : D → CallerValue) (ls : List L) (ds : List D) (former one two three spare : List CallerValue) → limit ≡ layout.max_cto → callers_of layout callers ≡ one ++ (two ++ (three ++ spare))
+    → length one ≡ tools → length two ≡ tasks → length three ≡ tools → former ≡ map tool ls ++ (map member ds ++ map pump ls) → SeatsServed limit one three (map (λ l. pair (tool l) (pump l)) ls) → TasksServed layout two (map member ds) → HaveServed layout callers tools tasks former
+have_served layout callers tools tasks limit tool pump member ls ds former one two three spare is dealt ones twos threes gathered seats ticked = record {
+  for_tools = one;
+  for_tasks = two;
+  for_pumps = three;
+  spare = spare;
+  dealt = dealt;
+  counted = (ones, twos, threes);
+  left = map (λ l. pair (tool l) (pump l)) ls;
+  rested = map member ds;
+  gathered = gathered ∙ ((λ i. sym (map_map (λ l. pair (tool l) (pump l)) (λ p. p.tool) ls) i ++ (map member ds ++ sym (map_map (λ l. pair (tool l) (pump l)) (λ p. p.pump) ls) i)));
+  seats = subst (λ m. SeatsServed m one three (map (λ l. pair (tool l) (pump l)) ls)) is seats;
+  ticked = ticked;
+}
+
+-- the same of the same layout, number of callers and members
+pub served_as : (layout layout' : LayoutValue) (callers callers' tools tasks : ℕ) (former former' : List CallerValue) → layout ≡ layout' → callers ≡ callers' → former ≡ former' → HaveServed layout callers tools tasks former → HaveServed layout' callers' tools tasks former'
+served_as layout layout' callers callers' tools tasks former former' one two three h =
+    subst (λ x. HaveServed x callers' tools tasks former') one (subst (λ x. HaveServed layout x tools tasks former') two (subst (λ x. HaveServed layout callers tools tasks x) three h))
+
+-- a list that was lent, and came back as it was
+pub written_back : {X : Type 0} (items lent back : List X) (n : ℕ) → lent ≡ items → length lent ≡ n → back ≡ lent → take n (back ++ drop (length back) items) ≡ items
+written_back items lent back n is count same = written back items n (ap length (same ∙ is)) (sym count ∙ ap length is) ∙ (same ∙ is)

@@ -1,13 +1,15 @@
 -- What is true of all calls of a server that stayed.
-use Rattle.std.specs.Prelude.{◌≡◌, ◌-◌, ◌^◌, ℕ, min, List, [], length}
+use Rattle.std.specs.Prelude.{◌≡◌, ◌+◌, ◌-◌, ◌^◌, ℕ, min, List, [], length}
 use Rattle.std.specs.List.{AllByRecursion}
 use Rattle.xcp_memory.specs.Layout.{LayoutValue}
-use Rattle.xcp_slave.specs.SlaveValue.{SlaveValue}
+use Rattle.xcp_slave.specs.SlaveValue.{SlaveValue, opening}
 use Rattle.xcp_scribe.specs.Given.{Given}
 use Rattle.xcp_locked.specs.Caller.{CallerValue}
-use Rattle.xcp_locked.specs.Chapters.{AreJoined}
-use Rattle.xcp_locked.specs.LockedSlave.{LockedValue}
-use Rattle.xcp_service.specs.Keeping.{AreKeptSettled, KeeperValue}
+use Rattle.xcp_locked.specs.Chapters.{AreJoined, entries_of}
+use Rattle.xcp_locked.specs.Journal.{exchanges}
+use Rattle.xcp_locked.specs.LockedSlave.{ChapterValue, LockedValue}
+use Rattle.xcp_locked.specs.PublishingCalls.{AreImages}
+use Rattle.xcp_service.specs.Keeping.{AreKeptSettled, KeeperValue, calls_by}
 use Rattle.xcp_service.specs.Losing.{lost_in}
 use Rattle.xcp_service.specs.Parcels.{AreNumbered, IsHandedOver, given_in}
 use Rattle.xcp_service.specs.declared.keeper.Unkept.{Unkept}
@@ -15,28 +17,37 @@ use Rattle.xcp_service.specs.declared.keeper.Unkept.TheVariants as unkept
 use Rattle.xcp_stay.specs.declared.ending.StayError.{StayError}
 use Rattle.xcp_stay.specs.declared.ending.StayError.TheVariants as errors
 use Rattle.xcp_stay.specs.declared.staying.Report.{Report}
+use Rattle.xcp_stay.specs.Team.{HaveServed}
 
 -- why a server ends whose keeper goes no further
 abbrev pub error_of : Unkept → StayError
 error_of unkept.Memory = errors.Memory
 error_of (unkept.Discord d) = errors.Discord d
 
--- These are the first so many callers of a slave, each with all receipts that it ever had: just those that the keeper took of it.
+-- Each call of this caller that was accepted stands in these chapters once: it has as many receipts, and they have as many calls of it.
+abbrev pub IsOnce : List ChapterValue → CallerValue → Type 0
+IsOnce chapters c = (c.accepted ≡ length c.receipts) × (length c.receipts ≡ calls_by c.number chapters)
+
+-- These are the first so many callers of a slave, each with all receipts that it ever had: just those that the keeper took of it, and one
+-- for each call.
 pub record AreAllMembers (count : ℕ) (k : KeeperValue) (members : List CallerValue) : Type 0 where
   pub complete : length members ≡ count
   pub numbered : AreNumbered 0 members
   pub handed : AllByRecursion (IsHandedOver k) members
+  pub once : AllByRecursion (IsOnce k.chapters) members
 
 -- What is told of a server that stayed: so many chapters, one behind another from the opening of the layout, with so many calls, are one
--- run of the slave, and each is settled by all callers, with all receipts that so many members ever had; so many of them were events
--- that found no room. The scribe was given just these chapters, in order.
-pub record IsKept (layout : LayoutValue) (count : ℕ) (wrote : List Given → Type 0) (r : Report) : Type 0 where
+-- run of the slave, and each is settled by all callers, with all receipts that the members ever had; so many of them were events
+-- that found no room. The scribe was given just these chapters, in order. The members are the callers with which so many seats and so many
+-- tasks did all that they did.
+pub record IsKept (layout : LayoutValue) (callers tools tasks : ℕ) (wrote : List Given → Type 0) (r : Report) : Type 0 where
   pub keeper : KeeperValue
   pub last : SlaveValue
   pub joined : AreJoined layout keeper.chapters r.chapters r.calls last
   pub settled : AreKeptSettled keeper
   pub members : List CallerValue
-  pub all : AreAllMembers count keeper members
+  pub all : AreAllMembers (tools + tools + tasks) keeper members
+  pub served : HaveServed layout callers tools tasks members
   pub lost : r.lost ≡ min (lost_in keeper.chapters) (2 ^ 64 - 1)
   pub written : wrote (given_in keeper.chapters)
 
@@ -52,3 +63,5 @@ pub record LeavesKept (layout : LayoutValue) (count : ℕ) (written : List Given
   pub members : AreAllMembers count k former
   -- the scribe was given just these chapters, in order
   pub wrote : written (given_in k.chapters)
+  -- all images that were ever published for the tasks are those along the calls of these chapters
+  pub images : AreImages (opening layout) (exchanges (entries_of k.chapters)) l.writer.publications

@@ -1,8 +1,8 @@
 -- What the seats and tasks of a server that stayed did with the callers that they were dealt.
-use Rattle.std.specs.Prelude.{◌≡◌, ◌+◌, ℕ, List, [], ◌∷◌, All, map}
+use Rattle.std.specs.Prelude.{◌≡◌, ◌+◌, ℕ, List, [], ◌∷◌, ◌++◌, All, length, map}
 use Rattle.std.specs.List.{AllZip}
 use Rattle.xcp_memory.specs.Layout.{LayoutValue}
-use Rattle.xcp_locked.specs.Caller.{CallerValue}
+use Rattle.xcp_locked.specs.Caller.{CallerValue, callers_of}
 use Rattle.xcp_seats.specs.Seating.{Pair, Sat, SeatValue, pair}
 use Rattle.xcp_seats.specs.Ticking.{TaskValue, Ticks}
 
@@ -33,3 +33,18 @@ pub record SeatsServed (m : ℕ) (tools pumps : List CallerValue) (left : List P
   pub tools_are : map (λ s. s.tool) seats ≡ tools
   pub pumps_are : map (λ s. s.pump) seats ≡ pumps
   pub sat : AllZip SeatLeft seats left
+
+-- Of so many callers of a slave's opening the first were dealt to the tools of so many seats, the next to so many tasks, and the next to the
+-- seats' pumps. With them the seats did all their visits and the tasks all their cycles, and these are left of them, in that order.
+pub record HaveServed (layout : LayoutValue) (callers tools tasks : ℕ) (former : List CallerValue) : Type 0 where
+  pub for_tools : List CallerValue
+  pub for_tasks : List CallerValue
+  pub for_pumps : List CallerValue
+  pub spare : List CallerValue
+  pub dealt : callers_of layout callers ≡ for_tools ++ (for_tasks ++ (for_pumps ++ spare))
+  pub counted : (length for_tools ≡ tools) × (length for_tasks ≡ tasks) × (length for_pumps ≡ tools)
+  pub left : List Pair
+  pub rested : List CallerValue
+  pub gathered : former ≡ map (λ p. p.tool) left ++ (rested ++ map (λ p. p.pump) left)
+  pub seats : SeatsServed layout.max_cto for_tools for_pumps left
+  pub ticked : TasksServed layout for_tasks rested

@@ -1,5 +1,9 @@
 //! How a server that stays ends.
 ghost use Rattle.std.specs.Prelude.{◌≡◌, ◌++◌, [], IfOk, map, true};
+ghost use Rattle.xcp_slave.specs.SlaveValue.{opening};
+ghost use Rattle.xcp_locked.specs.Chapters.{entries_of};
+ghost use Rattle.xcp_locked.specs.Journal.{exchanges};
+ghost use Rattle.xcp_locked.specs.PublishingCalls.{AreImages};
 ghost use Rattle.xcp_stay.specs.Stay.{LeavesKept};
 
 use crate::running::Ended;
@@ -132,6 +136,8 @@ pub(crate) fn conclude<N: Name, M: Route, S: Scribe, R: Wait>(
 ) -> Result<Stayed<N, S>, StayError>
     ensures leaves { IfOk result (λ s. LeavesKept N.layout count (S.wrote s.scribe)
         s.keeper s.locked s.members.items) }
+    ensures former { IfOk result (λ s. s.members.items ≡ map (λ l. l.tool) ended.left.items
+        ++ (map (λ d. d.member) ended.rested.items ++ map (λ l. l.pump) ended.left.items)) }
 {
     let Ended { left, rested, kept } = ended;
     let collector = kept?;
@@ -151,6 +157,7 @@ fn take_rest<N: Name, M: Route, S: Scribe, R: Wait>(
     members: &mut [Member<N, M>],
 ) -> Result<(Locked<N>, Collector<N, M, S>), StayError>
     ensures closed { IfOk result (λ r. (r.0.journal ≡ []) × (r.0.base ≡ r.0.slave)) }
+    ensures images { IfOk result (λ r. AreImages (opening N.layout) (exchanges (entries_of r.1.chapters)) r.0.writer.publications) }
     ensures members { members.new ≡ members.old }
 {
     let mut resident = resident;
@@ -169,7 +176,8 @@ fn collect_rest<N: Name, M: Route, S: Scribe, R: Wait>(
     collector: Collector<N, M, S>,
 ) -> Result<(Locked<N>, Collector<N, M, S>), StayError>
     requires { (resident.locked.journal ≡ []) × (resident.locked.base ≡ resident.locked.slave) }
-    ensures { IfOk result (λ r. (r.0.journal ≡ []) × (r.0.base ≡ r.0.slave)) }
+    ensures closed { IfOk result (λ r. (r.0.journal ≡ []) × (r.0.base ≡ r.0.slave)) }
+    ensures images { IfOk result (λ r. AreImages (opening N.layout) (exchanges (entries_of r.1.chapters)) r.0.writer.publications) }
 {
     match collector.collect(rt, post) {
         Ok(collector) => resign(resident, post, collector),
@@ -184,8 +192,10 @@ fn resign<N: Name, M: Route, S: Scribe>(
     collector: Collector<N, M, S>,
 ) -> Result<(Locked<N>, Collector<N, M, S>), StayError>
     requires { (resident.locked.journal ≡ []) × (resident.locked.base ≡ resident.locked.slave) }
-    ensures { IfOk result (λ r. (r.0.journal ≡ []) × (r.0.base ≡ r.0.slave)) }
+    ensures closed { IfOk result (λ r. (r.0.journal ≡ []) × (r.0.base ≡ r.0.slave)) }
+    ensures images { IfOk result (λ r. AreImages (opening N.layout) (exchanges (entries_of r.1.chapters)) r.0.writer.publications) }
 {
+    resident.audit();
     let mut collector = collector;
     match resident.resign(post, &mut collector) {
         Some(locked) => Ok((locked, collector)),
@@ -203,6 +213,7 @@ fn settle<N: Name, M: Route, S: Scribe>(
     count: usize,
 ) -> Result<Stayed<N, S>, StayError>
     requires closed { (locked.journal ≡ []) × (locked.base ≡ locked.slave) }
+    requires images { AreImages (opening N.layout) (exchanges (entries_of collector.chapters)) locked.writer.publications }
     ensures leaves { IfOk result (λ s. LeavesKept N.layout count (S.wrote s.scribe)
         s.keeper s.locked s.members.items) }
     ensures former { IfOk result (λ s. s.members.items ≡ members.items) }

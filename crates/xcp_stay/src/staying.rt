@@ -2,9 +2,9 @@
 ghost use Rattle.std.specs.Prelude.{◌≡◌, ◌≤◌, ◌+◌, ◌-◌, ◌^◌, min, [], IfOk, length};
 ghost use Rattle.xcp_locked.specs.Caller.{callers_of};
 ghost use Rattle.xcp_service.specs.Losing.{lost_in};
-ghost use Rattle.xcp_service.specs.Parcels.{AreOpened};
 ghost use Rattle.xcp_service.specs.Residents.{IsUncut};
 ghost use Rattle.xcp_stay.specs.Stay.{IsKept, LeavesKept};
+ghost use Rattle.xcp_stay.specs.Team.{HaveServed};
 
 use crate::boxed::Boxed;
 use crate::dealing::{deal, make_doors};
@@ -75,7 +75,7 @@ pub fn stay<S: Scribe + Send, W: Watcher + Sync, R: Threads + Wait + Clock + Syn
     requires callers { plan.tools + plan.tools + plan.tasks ≤ unnamed.callers }
     requires readers { plan.tasks ≤ 6 }
     requires scribe { S.wrote scribe [] }
-    ensures kept { IfOk result (λ r. IsKept unnamed.layout (plan.tools + plan.tools + plan.tasks)
+    ensures kept { IfOk result (λ r. IsKept unnamed.layout unnamed.callers plan.tools plan.tasks
         (S.wrote r.1) r.0) }
 {
     stay_and_tell::<Brand, S, W, R>(rt, alloc, unnamed, listener, plan, scribe, halt, watcher)
@@ -102,7 +102,7 @@ fn stay_and_tell<
     requires callers { plan.tools + plan.tools + plan.tasks ≤ unnamed.callers }
     requires readers { plan.tasks ≤ 6 }
     requires scribe { S.wrote scribe [] }
-    ensures kept { IfOk result (λ r. IsKept unnamed.layout (plan.tools + plan.tools + plan.tasks)
+    ensures kept { IfOk result (λ r. IsKept unnamed.layout unnamed.callers plan.tools plan.tasks
         (S.wrote r.1) r.0) }
 {
     let stayed = stay_named::<N, S, W, R>(
@@ -127,7 +127,7 @@ fn tell<N: Name, S: Scribe>(stayed: &Stayed<N, S>) -> Report
 
 /// Stays as `stay` does, on a slave that has a name, and gives back what is left then. All chapters that its keeper took are one run from
 /// the opening to the slave as it is left, and each of them is settled by all callers; what it took of each member is all that this one ever
-/// had.
+/// had. The members are those callers, as they are left, with which the seats did all their visits and the tasks all their cycles.
 pub fn stay_named<
     N: Name + Send + Sync,
     S: Scribe + Send,
@@ -150,6 +150,7 @@ pub fn stay_named<
     requires scribe { S.wrote scribe [] }
     ensures leaves { IfOk result (λ s. LeavesKept unnamed.layout (plan.tools + plan.tools + plan.tasks)
         (S.wrote s.scribe) s.keeper s.locked s.members.items) }
+    ensures served { IfOk result (λ s. HaveServed unnamed.layout unnamed.callers plan.tools plan.tasks s.members.items) }
 {
     let Ok(scribe) = Box::new(alloc, scribe) else {
         return Err(StayError::Memory);
@@ -168,6 +169,7 @@ fn make_ready<N: Name>(alloc: Global, unnamed: Unnamed) -> Result<Ready<N>, Allo
         × (unnamed.layout ≡ N.layout) × (unnamed.bank ≡ N.bank) }
     ensures first { IfOk result (λ r. IsUncut N.layout r.opening.locked) }
     ensures callers { IfOk result (λ r. r.opening.callers.items ≡ callers_of unnamed.layout unnamed.callers) }
+    ensures limit { IfOk result (λ r. r.max_cto ≡ unnamed.layout.max_cto) }
 {
     let max_cto = unnamed.max_cto();
     let unrouted = Unrouted::new(alloc)?;
@@ -217,12 +219,14 @@ fn stay_by_post<
 ) -> Result<Stayed<N, Boxed<S>>, StayError>
     requires relay { ready.unrouted ≡ M.relay }
     requires first { IsUncut N.layout ready.opening.locked }
-    requires opened { AreOpened N.parts ready.opening.callers.items }
+    requires opened { ready.opening.callers.items ≡ callers_of N.layout N.parts }
+    requires limit { ready.max_cto ≡ N.layout.max_cto }
     requires callers { plan.tools + plan.tools + plan.tasks ≤ length ready.opening.callers.items }
     requires readers { plan.tasks ≤ 6 }
     requires scribe { S.wrote scribe.scribe.value [] }
     ensures leaves { IfOk result (λ s. LeavesKept N.layout (plan.tools + plan.tools + plan.tasks)
         (S.wrote s.scribe.scribe.value) s.keeper s.locked s.members.items) }
+    ensures served { IfOk result (λ s. HaveServed N.layout N.parts plan.tools plan.tasks s.members.items) }
 {
     let Ready {
         opening,

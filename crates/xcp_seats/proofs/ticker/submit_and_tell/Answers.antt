@@ -4,7 +4,7 @@ use Rattle.xcp_slave.specs.AnswerInBytes.{answer_in}
 use Rattle.xcp_slave.specs.AskedRequest.{request_asked}
 use Rattle.xcp_locked.specs.Caller.{CallerValue}
 use Rattle.xcp_locked.specs.Journal.{entry, exchanges}
-use Rattle.xcp_locked.specs.PublishingCalls.{AreImagesFrom}
+use Rattle.xcp_locked.specs.PublishingCalls.{AreAllImages, AreImagesFrom}
 use Rattle.xcp_locked.specs.Receipts.{receipt}
 use Rattle.xcp_seats.proofs.ticker.submit_and_tell.Goals as goal
 
@@ -25,6 +25,7 @@ returns-in-Ok-clause-told g c =
       place = published.place;
       first = published.first;
       images = subst (λ (l : List (List ℕ)). AreImagesFrom published.first published.base (exchanges (published.earlier ++ entry c.args.member.now.number call.request call.answer ∷ [])) l) (sym c.tell.ensures.seen) published.images;
+      all_images = subst (λ (l : List (List ℕ)). AreAllImages g.N.Name.layout published.before published.base (exchanges (published.earlier ++ entry c.args.member.now.number call.request call.answer ∷ [])) l) (sym c.tell.ensures.seen) published.all_images;
       deeds = look ∷ look ∷ [];
       did = c.tell.ensures.does;
       twice = refl;

@@ -3,7 +3,7 @@ use Rattle.xcp_slave.specs.AnswerInBytes.{answer_in}
 use Rattle.xcp_slave.specs.AskedRequest.{request_asked}
 use Rattle.xcp_locked.specs.Caller.{accepting}
 use Rattle.xcp_locked.specs.Journal.{entry, exchanges}
-use Rattle.xcp_locked.specs.PublishingCalls.{AreImagesFrom}
+use Rattle.xcp_locked.specs.PublishingCalls.{AreAllImages, AreImagesFrom}
 use Rattle.xcp_locked.specs.Receipts.{receipt}
 use Rattle.xcp_service.specs.Residents.{ResidentValue, with_a_cut}
 use Rattle.xcp_service.proofs.calling.call.Goals as goal
@@ -26,6 +26,7 @@ returns-clause-member g c =
       | else-ends_chapter w ↦ ap (λ r. r.locked.writer.publications) w.resident-is
     ] in
     let journal = subst (λ m. done.locked.journal ≡ begun.locked.journal ++ entry m.number request answer ∷ []) same c.in_ok-told.ensures.journal in
+    let all_images = subst (λ j. AreAllImages g.N.Name.layout done.locked.before done.locked.base (exchanges j) done.locked.writer.publications) journal c.audit.ensures.all_images in
     let images = subst (λ j. AreImagesFrom done.locked.first done.locked.base (exchanges j) done.locked.writer.publications) journal c.audit.ensures.images in (
       begun.locked.chapter,
       length begun.locked.journal,
@@ -38,5 +39,6 @@ returns-clause-member g c =
         place = refl;
         first = done.locked.first;
         images = subst (λ ps. AreImagesFrom done.locked.first done.locked.base (exchanges (begun.locked.journal ++ entry c.args.member.now.number request answer ∷ [])) ps) (sym published) images;
+        all_images = subst (λ ps. AreAllImages g.N.Name.layout done.locked.before done.locked.base (exchanges (begun.locked.journal ++ entry c.args.member.now.number request answer ∷ [])) ps) (sym published) all_images;
       },
     )

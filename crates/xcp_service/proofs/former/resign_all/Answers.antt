@@ -1,10 +1,10 @@
-use Rattle.std.proofs.Common.{◌≡◌, ◌∙◌, ◌++◌, ◌∷◌, [], List, length, ap, sym, subst, arith}
+use Rattle.std.proofs.Common.{◌≡◌, ◌<◌, ◌∙◌, ◌++◌, ◌∷◌, [], List, length, ap, sym, subst, arith}
 use Rattle.std.specs.List.{AllByRecursion}
 use Rattle.std.specs.Vec.Iter.{into_iter_items}
 use Rattle.xcp_locked.proofs.PairedListLemmas.{finish, turn}
 use Rattle.xcp_locked.specs.Caller.{CallerValue}
-use Rattle.xcp_service.specs.Keeping.{KeeperValue}
-use Rattle.xcp_service.specs.Parcels.{AreNumbered, IsHandedOver}
+use Rattle.xcp_service.specs.Keeping.{KeeperValue, caller_limit}
+use Rattle.xcp_service.specs.Parcels.{AreNumbered, HasAllReceipts, IsHandedOver}
 use Rattle.xcp_service.proofs.KeepingLemmas.{all_more}
 use Rattle.xcp_service.proofs.ParcelLemmas.{numbered_more}
 use Rattle.xcp_service.proofs.former.resign_all.Goals as goal
@@ -26,6 +26,9 @@ loop-member-preserved g c =
       same ∙ at.invariant.2,
       subst (λ (l : List CallerValue). l ++ into_iter_items c.next.new.self ≡ into_iter_items c.into_iter-member-iterator.result) (sym items) (turn at.all.items _ _ _ former at.invariant.3 (c.in-Some.ensures.steps.0 ∙ ap (λ (x : CallerValue). x ∷ into_iter_items c.next.new.self) (sym c.in-Some-resign.ensures.former))),
       omega (arith, ap length c.in-Some.ensures.steps.0, c.in-Some.ensures.steps.1, at.invariant.4),
+      subst (λ (l : List CallerValue). AllByRecursion (λ (x : CallerValue). x.number < caller_limit) l) (sym items)
+          (all_more (λ (x : CallerValue). x.number < caller_limit) at.all.items former at.invariant.5 (omega (arith, number, c.number.type_inv))),
+      subst (λ (l : List CallerValue). AllByRecursion HasAllReceipts l) (sym items) (all_more HasAllReceipts at.all.items former at.invariant.6 c.in-Some-resign.ensures.counted),
     )
 
 pub returns-clause-members : goal.returns-clause-members

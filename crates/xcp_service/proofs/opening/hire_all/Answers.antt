@@ -1,9 +1,10 @@
 use Rattle.std.proofs.Common.{◌∙◌, List, ℕ, arith, length, refl, ap, sym, subst}
+use Rattle.std.specs.List.{AllByRecursion}
 use Rattle.std.specs.Vec.Iter.{into_iter_items}
 use Rattle.relay.specs.Ends.{TakerValue}
 use Rattle.xcp_locked.specs.Caller.{CallerValue}
-use Rattle.xcp_service.specs.Parcels.{AreNumbered, ParcelValue}
-use Rattle.xcp_service.proofs.ParcelLemmas.{length-callers_of, numbered_callers}
+use Rattle.xcp_service.specs.Parcels.{AreNumbered, HasAllReceipts, ParcelValue}
+use Rattle.xcp_service.proofs.ParcelLemmas.{counted_callers, length-callers_of, numbered_callers}
 use Rattle.xcp_service.proofs.opening.hire_all.Goals as goal
 
 pub loop-caller-init : goal.loop-caller-init
@@ -18,4 +19,5 @@ loop-caller-init g c =
       ap (λ (t : TakerValue ParcelValue). t.relay) taker ∙ c.requires.relay,
       ap (λ (t : TakerValue ParcelValue). t.taken) taker,
       (let none = ap (λ (t : TakerValue ParcelValue). t.givers) taker in let many = ap length (items ∙ opened.1) ∙ length-callers_of opened.0 g.N.Ledger.parts in omega (arith, none, many)),
+      subst (λ (l : List CallerValue). AllByRecursion HasAllReceipts l) (sym (items ∙ opened.1)) (counted_callers opened.0 g.N.Ledger.parts),
     )

@@ -1,6 +1,7 @@
 use Rattle.std.specs.Prelude.{◌≡◌, ◌+◌, ◌++◌, [], length}
+use Rattle.std.specs.List.{AllByRecursion}
 use Rattle.std.specs.Vec.Iter.{into_iter_items}
-use Rattle.xcp_service.specs.Parcels.{AreNumbered}
+use Rattle.xcp_service.specs.Parcels.{AreNumbered, HasAllReceipts}
 use Rattle.xcp_service.proofs.opening.hire_all.Given as goal
 
 abbrev pub invariant-loop-caller : goal.invariant-loop-caller
@@ -12,3 +13,4 @@ invariant-loop-caller g l =
     × (l.taker.relay ≡ g.M.Route.relay)
     × (l.taker.taken ≡ [])
     × (l.taker.givers + length (into_iter_items rest) ≡ g.N.Ledger.parts)
+    × AllByRecursion HasAllReceipts (into_iter_items rest)

@@ -3,7 +3,7 @@ use Rattle.std.specs.Arc.{arc_value}
 use Rattle.xcp_slave.specs.SlaveValue.{SlaveValue}
 use Rattle.xcp_locked.specs.LockedSlave.{IsReached}
 use Rattle.xcp_locked.proofs.JournalLemmas.{run_first}
-use Rattle.xcp_locked.proofs.ChapterLemmas.{kept_cut, reached_on, few_more}
+use Rattle.xcp_locked.proofs.ChapterLemmas.{all_cut, few_more, kept_cut, reached_on}
 use Rattle.xcp_locked.proofs.locked.Locked.cut.Goals as goal
 
 pub invariant_of-self-2 : goal.invariant_of-self-2
@@ -27,4 +27,5 @@ invariant_of-self-2 g c =
       omega (arith, count, few, low),
       (let more = c.if-self-ge-LAST_CHAPTER.false in omega (arith, more)),
       (let f = few_more g.N.Name.bank (arc_value c.self.inside.base) c.self.inside.slave c.self.inside.journal.entries c.self.inside.publisher c.self.inside.before c.self.invariant.4 c.self.invariant.8 in omega (arith, f, first, count)),
+      all_cut g.N.Name.layout c.self.inside.before (c.self.inside.before + c.len-calls.result) (arc_value c.self.inside.base) c.self.inside.slave (arc_value c.replace.new.dest) c.self.inside.journal.entries c.exchange.new.journal.entries _ c.self.inside.publisher.writer.publications c.self.invariant.0 (ap (λ (n : ℕ). c.self.inside.before + n) count) none is (ap (λ z. z.publications) c.turn.ensures.writer) c.self.invariant.9,
     )

@@ -1,5 +1,8 @@
-use Rattle.std.proofs.Common.{◌∙◌, ap}
+use Rattle.std.proofs.Common.{◌∙◌, ap, subst, sym}
+use Rattle.std.specs.Arc.{arc_value}
+use Rattle.xcp_locked.specs.Journal.{exchanges}
 use Rattle.xcp_locked.specs.LockedSlave.{LockedValue}
+use Rattle.xcp_locked.specs.PublishingCalls.{AreAllImages}
 use Rattle.xcp_locked.proofs.locked.Locked.held.Goals as goal
 
 pub invariant_of-self : goal.invariant_of-self
@@ -24,6 +27,7 @@ invariant_of-self g c =
       c.self.invariant.6,
       c.self.invariant.7,
       c.self.invariant.8,
+      subst (λ images. AreAllImages g.N.Name.layout c.self.inside.before (arc_value c.self.inside.base) (exchanges c.self.inside.journal.entries) images) (sym c.held.ensures.same_publications) c.self.invariant.9,
     )
 
 pub returns-clause-same : goal.returns-clause-same

@@ -1,11 +1,12 @@
-use Rattle.std.proofs.Common.{◌≡◌, ◌∙◌, ap, arith, length, sym}
+use Rattle.std.proofs.Common.{◌≡◌, ◌∙◌, ◌∷◌, [], ap, arith, length, sym}
 use Rattle.std.specs.Arc.{arc_value}
 use Rattle.xcp_slave.specs.SlaveValue.{layout_of, opening}
 use Rattle.xcp_bank.specs.BankEnds.{new_writer}
+use Rattle.xcp_locked.specs.Publications.{image_of}
 use Rattle.xcp_locked.specs.UnnamedSlave.{UnnamedValue}
 use Rattle.xcp_locked.proofs.JournalLemmas.{run_first}
 use Rattle.xcp_locked.proofs.PublicationLemmas.{kept_first}
-use Rattle.xcp_locked.proofs.ChapterLemmas.{reached_first}
+use Rattle.xcp_locked.proofs.ChapterLemmas.{all_first, reached_first}
 use Rattle.xcp_locked.proofs.locked.Locked.new.Goals as goal
 
 pub invariant_of-locked : goal.invariant_of-locked
@@ -26,4 +27,5 @@ invariant_of-locked g c =
       omega arith,
       omega arith,
       (let f = published.3 in omega (arith, f)),
+      all_first g.N.Name.layout (arc_value c.in_ok-waits.field-0.base) entries _ (base ∙ (was.0 ∙ ap opening layout)) c.new-journal.ensures (ap (λ z. z.publications) (published.0 ∙ was.5) ∙ (ap (λ i. i ∷ []) was.4 ∙ ap (λ v. image_of v ∷ []) (was.0 ∙ ap opening layout))),
     )

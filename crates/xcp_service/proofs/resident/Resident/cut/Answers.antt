@@ -2,7 +2,7 @@ use Rattle.std.proofs.Common.{◌∙◌, ◌++◌, ◌∷◌, [], List, ap}
 use Rattle.relay.specs.Ends.{TrayValue}
 use Rattle.xcp_locked.specs.LockedSlave.{ChapterValue}
 use Rattle.xcp_service.specs.Parcels.{ParcelValue, parcel_of_chapter}
-use Rattle.xcp_service.proofs.ResidentLemmas.{goes_on_more, more_is_a_cut}
+use Rattle.xcp_service.proofs.ResidentLemmas.{goes_on_more, more_is_a_cut, published_cut}
 use Rattle.xcp_service.proofs.resident.Resident.cut.Goals as goal
 
 pub invariant_of-self-2 : goal.invariant_of-self-2
@@ -14,6 +14,7 @@ invariant_of-self-2 g c =
       c.put_chapter.ensures.same.0 ∙ (ap (λ (t : TrayValue ParcelValue). t.relay) c.clear.ensures ∙ c.self.invariant.0),
       c.put_chapter.ensures.same.1 ∙ (ap (λ (t : TrayValue ParcelValue). t.tag) c.clear.ensures ∙ c.self.invariant.1),
       goes_on_more g.N.Name.layout c.self.inside.tray.put c.put_chapter.new.tray.put c.self.inside.locked c.cut.new.self c.self.invariant.2 c.audit.ensures.run done.next put,
+      published_cut g.N.Name.layout c.self.inside.tray.put c.put_chapter.new.tray.put c.self.inside.locked c.cut.new.self c.self.invariant.3 done.next put,
     )
 
 pub returns : goal.returns
