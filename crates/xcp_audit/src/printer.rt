@@ -32,7 +32,7 @@ pub struct Printer<W> {
 impl<W: Write> Printer<W> {
     /// A printer that has printed nothing.
     pub fn new(alloc: Global, stream: W) -> Printer<W>
-        ensures stream { result.writer ≡ record { inner = stream; calls = 0; failures = 0; read = [] } }
+        ensures stream { result.writer ≡ record { inner = stream; calls = 0; failures = 0; read = []; asked = [] } }
         ensures fine { result.trouble ≡ None }
     {
         Printer {

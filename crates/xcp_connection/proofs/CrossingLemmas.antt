@@ -35,7 +35,7 @@ record_crosses : IsSend Record.the_field.row
 record_crosses = search (sendable, crosses) depth 20
 
 watched_crosses : (T : RattleType) → IsSend T → IsSend (Watched.the_row T)
-watched_crosses T s = view_send (Inside.the_row T) _ _ _ _ (struct_crosses (Inside.the_type T) (s, (tally_crosses, (tally_crosses, (record_crosses, tt)))))
+watched_crosses T s = view_send (Inside.the_row T) _ _ _ _ (struct_crosses (Inside.the_type T) (s, (tally_crosses, (tally_crosses, (record_crosses, (record_crosses, tt))))))
 
 -- what comes of hearing a tool, and of a pump
 pub heard_crosses : (S I : RattleType) → IsSend S → IsSend (Heard.the_row S I)

@@ -11,5 +11,6 @@ pub mod PutOutputLemmas
 pub mod PutPacketLemmas
 pub mod ServeRefusalLemmas
 pub mod FrameOutputLemmas
+pub mod ReadSizeLemmas
 pub mod StreamLemmas
 pub mod WholeFrameLaws

@@ -1,18 +1,20 @@
 -- What a contract sees of a watched reader or writer.
-use Rattle.std.specs.Prelude.{◌≡◌, ℕ, Bool, true, false, List, ◌++◌, length, take, Option, Result, Ok, Err, nat_lt, ◌&&◌, ◌==◌, refl, ◌+◌, if◌then◌else◌}
+use Rattle.std.specs.Prelude.{◌≡◌, ℕ, Bool, true, false, List, ◌++◌, All, length, take, Option, Result, Ok, Err, nat_lt, ◌&&◌, ◌==◌, refl, ◌+◌, if◌then◌else◌}
 use Rattle.std.specs.Coded.{Coded, code_by, coded×, coded_ℕ, coded_list}
 
--- the inner reader or writer, how many calls it had, how many of them failed, and the bytes that its reads gave, in order
+-- the inner reader or writer, how many calls it had, how many of them failed, the bytes that its reads gave, in order, and of how many
+-- bytes each read was: as many as its buffer has, in the order of the reads
 pub record Watched (T : Type 0) : Type 0 where
   pub inner : T
   pub calls : ℕ
   pub failures : ℕ
   pub read : List ℕ
+  pub asked : List ℕ
 
--- a watched value is stored as these four
+-- a watched value is stored as these five
 abbrev pub watched_code : {T : Type 0} → Coded T → Coded (Watched T)
 watched_code {T} code =
-    code_by (T × (ℕ × (ℕ × List ℕ))) (coded× code (coded× coded_ℕ (coded× coded_ℕ (coded_list coded_ℕ)))) (λ w. (w.inner, (w.calls, (w.failures, w.read)))) (λ p. record { inner = p.0; calls = p.1.0; failures = p.1.1.0; read = p.1.1.1 }) (λ _. refl)
+    code_by (T × (ℕ × (ℕ × (List ℕ × List ℕ)))) (coded× code (coded× coded_ℕ (coded× coded_ℕ (coded× (coded_list coded_ℕ) (coded_list coded_ℕ))))) (λ w. (w.inner, (w.calls, (w.failures, (w.read, w.asked))))) (λ p. record { inner = p.0; calls = p.1.0; failures = p.1.1.0; read = p.1.1.1.0; asked = p.1.1.1.1 }) (λ _. refl)
 
 -- one more call, and one more failure if it failed
 pub record Counted {T : Type 0} (old new : Watched T) (failed : Bool) : Type 0 where
@@ -42,3 +44,9 @@ pub record Place : Type 0 where
 -- where the stream of a watched reader stands, whose bytes `remaining` tells
 abbrev pub place_of : {I : Type 0} → (I → Option (List ℕ)) → Watched I → Place
 place_of remaining reader = record { left = remaining reader.inner; read = reader.read }
+
+-- each read between these two values of a reader was of such a size
+pub record EachRead {R : Type 0} (Size : ℕ → Type 0) (old new : Watched R) : Type 0 where
+  pub sizes : List ℕ
+  pub reads : new.asked ≡ old.asked ++ sizes
+  pub each : All Size sizes

@@ -130,6 +130,10 @@ abbrev pub Counts : Result Served ServeError → List (List ℕ) → List (List 
 Counts (Ok served) packets sent = (served.frames ≡ length packets) × (served.sent ≡ length sent)
 Counts (Err e) packets sent = ⊤
 
+-- each read of a stream of frames is of 512 bytes
+abbrev pub IsStreamRead : ℕ → Type 0
+IsStreamRead n = n ≡ 512
+
 -- One call of `serve`, where MAX_CTO is m: `from` and `to` are where the stream stands before and after, `old` and `new` the
 -- station's exchanges, `before` and `after` the writer's bytes.
 pub record Serves (m : ℕ) (result : Result Served ServeError) (from to : Place) (old new : List Exchange) (before after : Option (List ℕ)) : Type 0 where

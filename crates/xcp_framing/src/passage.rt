@@ -1,8 +1,8 @@
 //! The packets of a stream, answered one after another, whatever answers them.
 ghost use Rattle.std.specs.Prelude.{◌≡◌, ◌<◌, ◌≤◌, ◌+◌, ◌*◌, ◌^◌, ◌++◌, [], ◌∷◌, ℕ, List, Result, OnOk, IfOk, IfErr, length, Ok, Err};
 ghost use Rattle.xcp_framing.specs.Frames.{frames, rest};
-ghost use Rattle.xcp_framing.specs.CountedCalls.{place_of};
-ghost use Rattle.xcp_framing.specs.Serve.{EndsReader, ReadsWithin};
+ghost use Rattle.xcp_framing.specs.CountedCalls.{EachRead, place_of};
+ghost use Rattle.xcp_framing.specs.Serve.{EndsReader, IsStreamRead, ReadsWithin};
 ghost use Rattle.xcp_framing.specs.ServeParts.{IsInterruption};
 ghost use Rattle.xcp_framing.specs.private.MostPackets.{most_packets};
 ghost use Rattle.xcp_framing.specs.private.GrowingOutput.{EndsPiece};
@@ -124,6 +124,7 @@ pub(crate) fn answer_stream<A: Answerer<S, K, O>, S, K, O, R: Read>(
     ensures sent { IfOk result (λ served. served.sent ≡ A.sent_of state.new) }
     ensures ends { EndsReader result (R.remaining reader.new.inner) }
     ensures reads { ReadsWithin turns result reader.old reader.new }
+    ensures sizes { EachRead IsStreamRead reader.old reader.new }
 {
     let mut framer = Framer::new(max_cto);
     let mut command = Packet::new();

@@ -3,9 +3,9 @@ ghost use Rattle.std.specs.Prelude.{◌≡◌, ◌≢◌, ◌<◌, ◌≤◌, �
 ghost use Rattle.arrayvec.specs.ArrayVec.{ArrayVec};
 ghost use Rattle.xcp_packet.specs.PacketTrains.{block_packets};
 ghost use Rattle.xcp_slave.specs.AnswerInBytes.{answer_in};
-ghost use Rattle.xcp_framing.specs.CountedCalls.{place_of};
+ghost use Rattle.xcp_framing.specs.CountedCalls.{EachRead, place_of};
 ghost use Rattle.xcp_framing.specs.FrameOutput.{Sends, output};
-ghost use Rattle.xcp_framing.specs.Serve.{AnswersSoFar, EndsReader, ReadsWithin, Serves, most_drains, number_of, packet_of};
+ghost use Rattle.xcp_framing.specs.Serve.{AnswersSoFar, EndsReader, IsStreamRead, ReadsWithin, Serves, most_drains, number_of, packet_of};
 ghost use Rattle.xcp_framing.specs.private.MostPackets.{most_packets, most_train};
 ghost use Rattle.xcp_framing.specs.Wire.{wire_from};
 ghost use Rattle.xcp_framing.specs.ServeRefusal.{AsksNext, DrainsNext, OnRefusal, ReadsNext, Refused};
@@ -302,6 +302,8 @@ pub fn serve<R: Read, W: Write, S: Station>(
     ensures ends { EndsReader result (R.remaining reader.new.inner) }
     // When the others come. A stream fails only where the call ends with it.
     ensures reads { ReadsWithin turns result reader.old reader.new }
+    // Of how many bytes each read was.
+    ensures sizes { EachRead IsStreamRead reader.old reader.new }
     ensures write { result ≡ Err ServeError.Write → writer.old.failures < writer.new.failures }
     ensures write_unfailed { result ≢ Err ServeError.Write
         → writer.new.failures ≡ writer.old.failures }

@@ -1,7 +1,7 @@
 //! A station behind a stream, whose answers' packets are put for another thread to send.
 ghost use Rattle.std.specs.Prelude.{◌≡◌, ◌≢◌, ◌<◌, ◌≤◌, ◌+◌, ◌⊎◌, Err};
-ghost use Rattle.xcp_framing.specs.CountedCalls.{place_of};
-ghost use Rattle.xcp_framing.specs.Serve.{EndsReader, ReadsWithin};
+ghost use Rattle.xcp_framing.specs.CountedCalls.{EachRead, place_of};
+ghost use Rattle.xcp_framing.specs.Serve.{EndsReader, IsStreamRead, ReadsWithin};
 ghost use Rattle.xcp_framing.specs.ServeRefusal.{OnRefusal, Refused};
 ghost use Rattle.xcp_framing.specs.ServeBy.{CommandNext, ServesBy};
 
@@ -82,6 +82,7 @@ pub fn serve_by<R: Read, S: Station, E: End>(
     ensures stays { S.same station.old station.new }
     ensures ends { EndsReader result (R.remaining reader.new.inner) }
     ensures reads { ReadsWithin turns result reader.old reader.new }
+    ensures sizes { EachRead IsStreamRead reader.old reader.new }
     ensures refused { OnRefusal result (λ e.
         ((e ≡ StationError.Memory) × (reader.new ≡ reader.old)
         × (station.new ≡ station.old) × (end.new ≡ end.old))

@@ -1,5 +1,5 @@
-//! A reader or a writer whose calls contracts count, and whose bytes that were read they see.
-ghost use Rattle.std.specs.Prelude.{◌≡◌, ◌+◌, [], true, false, OnOk, OnErr};
+//! A reader or a writer whose calls contracts count, and whose reads they see: of how many bytes each was, and the bytes that came.
+ghost use Rattle.std.specs.Prelude.{◌≡◌, ◌+◌, ◌++◌, ◌∷◌, [], length, true, false, OnOk, OnErr};
 ghost use Rattle.std.specs.Io.{ReadsAtMost, WritesAtMost};
 ghost use Rattle.std.specs.Io.KnownBytes.{Appends, ReadConsumes, WriteAppends};
 ghost use Rattle.xcp_framing.specs.Prefix.{AppendsFront};
@@ -13,14 +13,15 @@ use std::marker::Model;
 use thiserror::Error;
 
 /// Passes calls on to a reader or a writer. Contracts alone see how many calls there were, how many
-/// of them failed, and the bytes that its reads gave, whatever the reader is: at run time a
-/// `Watched<T>` is its `T`.
+/// of them failed, of how many bytes each read was, and the bytes that its reads gave, whatever the
+/// reader is: at run time a `Watched<T>` is its `T`.
 #[derive(Drop)]
 pub struct Watched<T> {
     inner: T,
     calls: Tally,
     failures: Tally,
     read: Record,
+    asked: Record,
 }
 
 impl<T> Model for Watched<T> {
@@ -30,19 +31,20 @@ impl<T> Model for Watched<T> {
 
     ghost coded = { watched_code T.code };
 
-    ghost view = { λ w. record { inner = w.inner; calls = w.calls.count; failures = w.failures.count; read = w.read.bytes } };
+    ghost view = { λ w. record { inner = w.inner; calls = w.calls.count; failures = w.failures.count; read = w.read.bytes; asked = w.asked.sizes } };
 }
 
 impl<T> Watched<T> {
     /// Watches `inner` from now on.
     pub fn new(inner: T) -> Self
-        ensures { result ≡ record { inner = inner; calls = 0; failures = 0; read = [] } }
+        ensures { result ≡ record { inner = inner; calls = 0; failures = 0; read = []; asked = [] } }
     {
         Watched {
             inner,
             calls: Tally::new(),
             failures: Tally::new(),
             read: Record::new(),
+            asked: Record::new(),
         }
     }
 
@@ -55,6 +57,7 @@ impl<T> Watched<T> {
             calls: _,
             failures: _,
             read: _,
+            asked: _,
         } = self;
         inner
     }
@@ -65,6 +68,7 @@ impl<R: Read> Watched<R> {
     pub fn begin_again<P: Passages<R>>(&mut self, passages: &P) -> bool
         ensures place { place_of R.remaining self.new ≡ place_of R.remaining self.old }
         ensures calls { (self.new.calls ≡ self.old.calls) × (self.new.failures ≡ self.old.failures) }
+        ensures asked { self.new.asked ≡ self.old.asked }
         ensures more { result ≡ true → P.Passages.goes_on }
         ensures none { result ≡ false → self.new ≡ self.old }
     {
@@ -78,9 +82,12 @@ impl<R: Read> Watched<R> {
             (R.remaining self.old.inner) (R.remaining self.new.inner) result buf.new }
         ensures counted { Counted self.old self.new (is_failed_read result) }
         ensures gives { Gives result buf.new self.old self.new }
+        ensures asked { self.new.asked ≡ self.old.asked ++ length buf.old ∷ [] }
     {
         let result = self.inner.read(buf);
         self.calls = Tally::more(&self.calls);
+        let buffer = Piece { bytes: buf };
+        self.asked = Record::more(&self.asked, &buffer);
         match &result {
             Ok(count) => {
                 let piece = Piece {
@@ -102,6 +109,7 @@ impl<W: Write> Watched<W> {
             (W.contents self.old.inner) (W.contents self.new.inner) result buf.now }
         ensures counted { Counted self.old self.new (is_failed_write result buf.now) }
         ensures read { self.new.read ≡ self.old.read }
+        ensures asked { self.new.asked ≡ self.old.asked }
     {
         let result = self.inner.write(buf);
         self.calls = Tally::more(&self.calls);

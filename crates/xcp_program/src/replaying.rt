@@ -1,5 +1,7 @@
 //! A replay: a script of requests on a slave of a configured layout.
 ghost use Rattle.std.specs.Prelude.{◌≡◌, ◌≢◌, ◌<◌, ◌≤◌, ◌+◌, ◌⊎◌, ℕ, option_map};
+ghost use Rattle.xcp_framing.specs.CountedCalls.{EachRead};
+ghost use Rattle.xcp_script.specs.Replay.{IsTurn};
 ghost use Rattle.xcp_program.specs.ReplayOutcome.{AnswersScript, Ends, ReplaysShort, RunsShort};
 
 use crate::fault::Fault;
@@ -34,6 +36,7 @@ pub fn replay<R: Read, W: Write>(
     ensures read { result ≡ Err (Fault.Stream 1) → (reader.old.failures < reader.new.failures) ⊎ (reader.new.calls ≡ reader.old.calls + turns) }
     ensures read_unfailed { result ≢ Err (Fault.Stream 1) → reader.new.failures ≡ reader.old.failures }
     ensures reads { reader.new.calls ≤ reader.old.calls + turns }
+    ensures sizes { EachRead IsTurn reader.old reader.new }
     ensures write { result ≡ Err (Fault.Stream 2) → writer.old.failures < writer.new.failures }
     ensures write_unfailed { result ≢ Err (Fault.Stream 2) → writer.new.failures ≡ writer.old.failures }
     // Memory comes before anything is read or written, or at a request of the script.
@@ -65,6 +68,7 @@ fn answer_script<R: Read, W: Write>(
     ensures read { result ≡ Err ReplayError.Read → (reader.old.failures < reader.new.failures) ⊎ (reader.new.calls ≡ reader.old.calls + turns) }
     ensures read_unfailed { result ≢ Err ReplayError.Read → reader.new.failures ≡ reader.old.failures }
     ensures reads { reader.new.calls ≤ reader.old.calls + turns }
+    ensures sizes { EachRead IsTurn reader.old reader.new }
     ensures write { result ≡ Err ReplayError.Write → writer.old.failures < writer.new.failures }
     ensures write_unfailed { result ≢ Err ReplayError.Write → writer.new.failures ≡ writer.old.failures }
     ensures memory { result ≡ Err ReplayError.Memory

@@ -44,7 +44,7 @@ impl<W: Write> Recorder<W> {
         ensures write { IfErr result (λ e. e.fault ≡ RecordFault.Write → e.writer.failures ≡ 1) }
         ensures front { IfErr result (λ e. AppendsFront (W.contents stream) (W.contents e.writer.inner) (head layout.now)) }
         ensures unwritten { IfErr result (λ e. e.fault ≡ RecordFault.Memory
-            → e.writer ≡ record { inner = stream; calls = 0; failures = 0; read = [] }) }
+            → e.writer ≡ record { inner = stream; calls = 0; failures = 0; read = []; asked = [] }) }
     {
         let mut writer = Watched::new(stream);
         let mut hasher = Sha256::new();

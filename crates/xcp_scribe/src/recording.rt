@@ -34,7 +34,7 @@ impl<W: Write> Recording<W> {
         ensures write { IfErr result (λ e. e.fault ≡ RecordFault.Write → e.writer.failures ≡ 1) }
         ensures front { IfErr result (λ e. AppendsFront (W.contents stream) (W.contents e.writer.inner) (head layout)) }
         ensures unwritten { IfErr result (λ e. e.fault ≡ RecordFault.Memory
-            → e.writer ≡ record { inner = stream; calls = 0; failures = 0; read = [] }) }
+            → e.writer ≡ record { inner = stream; calls = 0; failures = 0; read = []; asked = [] }) }
     {
         let start = Snapshot::of(&stream);
         match Recorder::new(alloc, stream, &layout) {

@@ -2,6 +2,7 @@ pub mod LineFeedLemmas
 pub mod EventLineLemmas
 pub mod LongLineLemmas
 pub mod ScriptProgressLemmas
+pub mod TurnLemmas
 pub mod HexDigitLemmas
 pub mod MemoryShortageLemmas
 pub mod AnswerTextLemmas

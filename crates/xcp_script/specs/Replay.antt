@@ -76,6 +76,12 @@ pub record NotTold (exchanges : List Exchange) (old new : Option (List ℕ)) : T
 abbrev pub EndsShort : List Request → List Exchange → Option (List ℕ) → Option (List ℕ) → Type 0
 EndsShort asks exchanges old new = NotTaken asks exchanges ⊎ NotTold exchanges old new
 
+-- a turn is one read, of at least 4,096 and at most 65,536 bytes: of 16,384
+pub record IsTurn (bytes : ℕ) : Type 0 where
+  pub exact : bytes ≡ 16384
+  pub least : 4096 ≤ bytes
+  pub most : bytes ≤ 65536
+
 -- What became of a script's reader and writer in one call of at most so many reads.
 pub record UsesStreams {A R W : Type 0} (turns : ℕ) (result : Result A ReplayError) (reader reader' : Watched R) (writer writer' : Watched W) : Type 0 where
   -- at `Read` a read failed, or there was one in each turn

@@ -4,8 +4,9 @@ ghost use Rattle.std.specs.Io.KnownBytes.{Appends, IsAtEnd};
 ghost use Rattle.xcp_slave.specs.Run.{Run, requests_of};
 ghost use Rattle.xcp_slave.specs.SlaveValue.{layout_of, opening};
 ghost use mathlib.Core.List.{IsPrefix};
+ghost use Rattle.xcp_framing.specs.CountedCalls.{EachRead};
 ghost use Rattle.xcp_script.specs.private.LineReading.{OfRead};
-ghost use Rattle.xcp_script.specs.Replay.{EndsShort, OfLines, Replayed, Tells, UsesStreams, asked};
+ghost use Rattle.xcp_script.specs.Replay.{EndsShort, IsTurn, OfLines, Replayed, Tells, UsesStreams, asked};
 ghost use Rattle.xcp_script.specs.AnswerText.{answers_text};
 
 use crate::ReplayError;
@@ -85,6 +86,7 @@ fn run_script<R: Read, W: Write>(
         (W.contents writer.old.inner) (W.contents writer.new.inner) (answers_text desk.new.exchanges) }
     ensures ended { OnOk result (IsAtEnd (R.remaining reader.new.inner)) }
     ensures streams { UsesStreams turns result reader.old reader.new writer.old writer.new }
+    ensures sizes { EachRead IsTurn reader.old reader.new }
     ensures memory { result ≡ Err ReplayError.Memory
         → OfRead (R.remaining reader.old.inner) (λ lines.
         EndsShort (asked (layout_of desk.old.slave).max_cto lines) desk.new.exchanges
@@ -135,6 +137,9 @@ pub fn replay_on<R: Read, W: Write>(
 
     // A fault of a stream comes only where that stream failed, or the turns are spent.
     ensures streams { UsesStreams turns result reader.old reader.new writer.old writer.new }
+
+    // Of how many bytes each read was.
+    ensures sizes { EachRead IsTurn reader.old reader.new }
 
     // Memory comes only at a request of the script: the desk did not take it, or there is no text
     // of its answer.

@@ -2,6 +2,8 @@ use Rattle.std.proofs.Common.{◌≤◌, ◌∙◌, ℕ, List, length, take, sym
 use Rattle.std.proofs.lemmas.Bool.{false≢true}
 use Rattle.xcp_framing.proofs.ExchangeLemmas.{passed_on}
 use Rattle.xcp_framing.proofs.StreamLemmas.{nothing_held, reader_goes_on, ends_for}
+use Rattle.xcp_framing.proofs.ReadSizeLemmas.{no_read, one_read_more}
+use Rattle.xcp_framing.specs.Serve.{IsStreamRead}
 use Rattle.xcp_framing.proofs.AnsweredStreamLemmas.{along_start, along_more, streams_read, streams_all, streams_truncated, streams_part, streams_held}
 use Rattle.xcp_framing.proofs.passage.answer_stream.Goals as goal
 
@@ -16,6 +18,7 @@ loop-turn-init g c =
       few = omega arith;
       calls = omega arith;
       failures = refl;
+      reads = no_read IsStreamRead _;
     }
 
 pub returns-in_default-clause-streams : goal.returns-in_default-clause-streams
@@ -72,4 +75,20 @@ loop-turn-preserved g c =
       few = omega (arith, c.in_ok-answered.ensures.few, c.loop-turn.invariant.few, piece);
       calls = omega (arith, c.in-Ok.ensures.counted.calls, c.loop-turn.invariant.calls);
       failures = c.in-Ok.ensures.counted.failures ∙ c.loop-turn.invariant.failures;
+      reads = one_read_more IsStreamRead _ _ _ _ c.loop-turn.invariant.reads c.in-Ok.ensures.asked c.loop-turn.invariant.size;
     }
+
+pub returns-in_default-clause-sizes : goal.returns-in_default-clause-sizes
+returns-in_default-clause-sizes g c = one_read_more IsStreamRead _ _ _ _ c.loop-turn.invariant.reads c.in_default.ensures.asked c.loop-turn.invariant.size
+
+pub returns-then-inside-clause-sizes : goal.returns-then-inside-clause-sizes
+returns-then-inside-clause-sizes g c = one_read_more IsStreamRead _ _ _ _ c.loop-turn.invariant.reads c.in-Ok.ensures.asked c.loop-turn.invariant.size
+
+pub returns-then-length-eq0-clause-sizes : goal.returns-then-length-eq0-clause-sizes
+returns-then-length-eq0-clause-sizes g c = one_read_more IsStreamRead _ _ _ _ c.loop-turn.invariant.reads c.in-Ok.ensures.asked c.loop-turn.invariant.size
+
+pub returns-in_err-hand_on-clause-sizes : goal.returns-in_err-hand_on-clause-sizes
+returns-in_err-hand_on-clause-sizes g c = one_read_more IsStreamRead _ _ _ _ c.loop-turn.invariant.reads c.in-Ok.ensures.asked c.loop-turn.invariant.size
+
+pub returns-in_err-answered-clause-sizes : goal.returns-in_err-answered-clause-sizes
+returns-in_err-answered-clause-sizes g c = one_read_more IsStreamRead _ _ _ _ c.loop-turn.invariant.reads c.in-Ok.ensures.asked c.loop-turn.invariant.size

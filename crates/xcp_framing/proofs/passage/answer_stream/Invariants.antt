@@ -1,5 +1,6 @@
 use Rattle.std.proofs.Common.{◌≡◌, ◌≤◌, ◌+◌, ◌*◌, length}
-use Rattle.xcp_framing.specs.CountedCalls.{place_of}
+use Rattle.xcp_framing.specs.CountedCalls.{EachRead, place_of}
+use Rattle.xcp_framing.specs.Serve.{IsStreamRead}
 use Rattle.xcp_framing.specs.private.MostPackets.{most_packets}
 use Rattle.xcp_framing.proofs.AnsweredStreamLemmas.{Along}
 use Rattle.xcp_framing.proofs.passage.answer_stream.Given as goal
@@ -14,4 +15,5 @@ invariant-loop-turn g l = record {
   few : l.count ≤ 512 * l._turn;
   calls : l.reader.calls ≡ l.fn.reader.calls + l._turn;
   failures : l.reader.failures ≡ l.fn.reader.failures;
+  reads : EachRead IsStreamRead l.fn.reader l.reader;
 }

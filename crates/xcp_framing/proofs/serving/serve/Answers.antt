@@ -1,5 +1,7 @@
 use Rattle.std.proofs.Common.{rules, refl}
 use Rattle.xcp_framing.proofs.ServeAnswerLemmas.{frames_more, frames_before, frames_handed, frames_held, serves_memory, serves_of, refuses_of, write_of, no_room_of}
+use Rattle.xcp_framing.proofs.ReadSizeLemmas.{no_read}
+use Rattle.xcp_framing.specs.Serve.{IsStreamRead}
 use Rattle.xcp_framing.proofs.serving.serve.Goals as goal
 
 pub answer_stream-requires-clause-packets : goal.answer_stream-requires-clause-packets
@@ -32,3 +34,9 @@ returns-clause-no_room g c = no_room_of _ c.answer_stream.ensures.streams.answer
 
 pub returns-clause-refused : goal.returns-clause-refused
 returns-clause-refused g c = refuses_of _ _ _ _ _ _ _ _ _ _ _ _ c.answer_stream.ensures.streams
+
+pub returns-in_default-clause-sizes : goal.returns-in_default-clause-sizes
+returns-in_default-clause-sizes g c = no_read IsStreamRead _
+
+pub returns-in_default-new-clause-sizes : goal.returns-in_default-new-clause-sizes
+returns-in_default-new-clause-sizes g c = no_read IsStreamRead _

@@ -1,4 +1,6 @@
 use Rattle.std.proofs.Common.{◌≡◌, Err, inl, inr, refl, rules}
+use Rattle.xcp_framing.proofs.ReadSizeLemmas.{no_read}
+use Rattle.xcp_script.specs.Replay.{IsTurn}
 use Rattle.xcp_script.specs.declared.ReplayError.TheVariants as errors
 use Rattle.xcp_program.proofs.replaying.replay.Goals as goal
 
@@ -14,3 +16,6 @@ returns-in-Err-Memory-clause-memory g c =
       | inl before ↦ inl before
       | inr runs ↦ inr (record { layout = c.in_ok-layout.layout; begins = c.in_ok-layout.ensures.layout; runs = runs })
     ]
+
+pub returns-in_err-layout-clause-sizes : goal.returns-in_err-layout-clause-sizes
+returns-in_err-layout-clause-sizes g c = no_read IsTurn _

@@ -2,6 +2,9 @@ use Rattle.std.proofs.Common.{rules, Ok, Err, ℕ, sym, ◌∙◌, ◌≡◌, re
 use Rattle.std.proofs.lemmas.Result.{err_from_is_err_and}
 use Rattle.xcp_slave.specs.Run.{requests_of}
 use Rattle.xcp_framing.proofs.KnownBytesLemmas.{appends_none}
+use Rattle.xcp_framing.proofs.ReadSizeLemmas.{no_read}
+use Rattle.xcp_script.specs.Replay.{IsTurn}
+use Rattle.xcp_script.proofs.TurnLemmas.{one_turn_more}
 use Rattle.xcp_script.proofs.FrontLemmas.{front_all, none_more}
 use Rattle.xcp_script.proofs.ScriptProgressLemmas.{at_end, at_limit, fed_error, last_error, midway_front, midway_init, midway_step}
 use Rattle.xcp_script.specs.declared.fault.ReplayError.TheVariants as errors
@@ -19,6 +22,7 @@ loop-init g c = record {
   calls = search rules;
   read_unfailed = search rules;
   counted = search rules;
+  reads = no_read IsTurn _;
 }
 
 pub returns-in_err-write_out-clause-replayed : goal.returns-in_err-write_out-clause-replayed
@@ -80,6 +84,7 @@ loop-preserved g c =
       calls = search rules;
       read_unfailed = c.in-Ok.ensures.counted.failures ∙ c.loop.invariant.read_unfailed;
       counted = search rules;
+      reads = one_turn_more _ _ _ _ c.loop.invariant.reads c.in-Ok.ensures.asked (search rules);
     }
 
 pub returns-in_default-clause-replayed : goal.returns-in_default-clause-replayed
@@ -87,3 +92,15 @@ returns-in_default-clause-replayed g c = at_limit _ _ _ (Err errors.Read) _ c.ma
 
 pub returns-clause-replayed : goal.returns-clause-replayed
 returns-clause-replayed g c = at_limit _ _ _ (Err errors.Read) _ c.max_cto-max_cto.ensures (midway_front _ _ _ _ _ _ c.loop.invariant.midway)
+
+pub returns-in_default-clause-sizes : goal.returns-in_default-clause-sizes
+returns-in_default-clause-sizes g c = one_turn_more _ _ _ _ c.loop.invariant.reads c.in_default.ensures.asked (search rules)
+
+pub returns-in_err-write_out-clause-sizes : goal.returns-in_err-write_out-clause-sizes
+returns-in_err-write_out-clause-sizes g c = one_turn_more _ _ _ _ c.loop.invariant.reads c.in-Ok.ensures.asked (search rules)
+
+pub returns-then-length-eq0-clause-sizes : goal.returns-then-length-eq0-clause-sizes
+returns-then-length-eq0-clause-sizes g c = one_turn_more _ _ _ _ c.loop.invariant.reads c.in-Ok.ensures.asked (search rules)
+
+pub returns-in_err-write_out-2-clause-sizes : goal.returns-in_err-write_out-2-clause-sizes
+returns-in_err-write_out-2-clause-sizes g c = one_turn_more _ _ _ _ c.loop.invariant.reads c.in-Ok.ensures.asked (search rules)

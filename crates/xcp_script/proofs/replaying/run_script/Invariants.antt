@@ -2,6 +2,8 @@ use Rattle.std.proofs.Common.{◌≡◌, ◌≤◌, ◌+◌, ◌*◌, []}
 use Rattle.std.specs.Io.KnownBytes.{Appends}
 use Rattle.xcp_slave.specs.Run.{requests_of}
 use Rattle.xcp_slave.specs.SlaveValue.{layout_of}
+use Rattle.xcp_framing.specs.CountedCalls.{EachRead}
+use Rattle.xcp_script.specs.Replay.{IsTurn}
 use Rattle.xcp_script.specs.AnswerText.{answers_text}
 use Rattle.xcp_script.proofs.ScriptProgressLemmas.{Midway}
 use Rattle.xcp_script.proofs.replaying.run_script.Given as goal
@@ -17,4 +19,5 @@ invariant-loop g l = record {
   calls : l.reader.calls ≡ l.fn.reader.calls + l.counter;
   read_unfailed : l.reader.failures ≡ l.fn.reader.failures;
   counted : l.pending.count ≤ 16384 * l.counter;
+  reads : EachRead IsTurn l.fn.reader l.reader;
 }

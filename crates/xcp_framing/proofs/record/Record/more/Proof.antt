@@ -2,7 +2,7 @@
 use mathlib.Core.Path.{refl}
 use mathlib.Core.List.{[], ◌∷◌}
 use seplogic.Ra.Ura.{Ura}
-use Rattle.std.specs.Prelude.{◌++◌}
+use Rattle.std.specs.Prelude.{◌++◌, length}
 use mir.Syntax.{named}
 use mir.Val.{Val, vptr, vstruct, vnil}
 use base.Logic.{SProp, ent, emp, via, fst∗}
@@ -49,7 +49,7 @@ module _ {M : Type 1} {𝓤 : Ura M} (𝓛 : Logic 𝓤) (mem : Memory → SProp
     given = vptr a.1.0.ref_ptr.0 a.1.0.ref_ptr.1
 
     abbrev grown : (noted.the_row).Denot
-    grown = record { bytes = a.0.now.bytes ++ a.1.0.now.bytes.now }
+    grown = record { bytes = a.0.now.bytes ++ a.1.0.now.bytes.now; sizes = a.0.now.sizes ++ length a.1.0.now.bytes.now ∷ [] }
 
     abbrev bound : (walk_of 𝓛 promise.ended unborrowed (promise.clauses 𝓛 mem run)).Ghost
     bound = ((κs, qs, bounds, a, (before ∷ [], (given ∷ [], tt))), tt)
@@ -64,7 +64,7 @@ module _ {M : Type 1} {𝓤 : Ura M} (𝓛 : Logic 𝓤) (mem : Memory → SProp
         alloc_all ! (λ l. pass_all ! refl ((tt, tt), ((tt, tt), tt)) $ sets ! (agg ! (no_more !)) refl (tt, tt) $
         returns ! (look_at ! 0 refl) $ free_all ! refl $
         suffices ! _ (ends_at 𝓛 promise.ended unborrowed (promise.clauses 𝓛 mem run) bound (vstruct vnil) grown (tt, (tt, tt)) (tt, (tt, tt))) $
-        says ! refl $ pure_i ! (noted.the_row.own_val grown (vstruct vnil ∷ [])) ((λ vss. (tt, tt)), tt) ((tt, (refl, tt)), tt) $
+        says ! (refl, refl) $ pure_i ! (noted.the_row.own_val grown (vstruct vnil ∷ [])) ((λ vss. (tt, tt)), tt) ((tt, (refl, tt)), tt) $
         move ! (1 ∷ 2 ∷ 0 ∷ []) $ done !)
 
   walks : Walks 𝓛 promise.ended unborrowed (WpFn 𝓤 H C Λ code.function) (promise.clauses 𝓛 mem run)
