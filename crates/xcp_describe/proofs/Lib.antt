@@ -1,3 +1,4 @@
 mod ArrayLemmas
 mod CleanLemmas
+mod EntryLemmas
 mod PlainLemmas

@@ -1,14 +1,16 @@
 -- What a check finds in a layout file.
-use Rattle.std.specs.Prelude.{◌≡◌, ◌⊎◌, ◌↔◌, ⊤, ℕ, List, length, Some, None, IfSome}
+use Rattle.std.specs.Prelude.{◌≡◌, ◌⊎◌, ◌↔◌, ⊤, ℕ, List, length, Option, Some, None, IfSome}
 use Rattle.std.specs.Str.{IsUtf8}
-use Rattle.toml.specs.Data.{Members, table}
+use Rattle.toml.specs.Data.{Data, Members, table}
 use Rattle.toml.specs.Parse.{parse_document}
+use Rattle.xcp_config.specs.declared.config_error.ConfigError.{ConfigError}
 use Rattle.xcp_config.specs.declared.config_error.ConfigError.TheVariants.{Text}
 use Rattle.xcp_config.specs.ConfigText.{IsNoDocument}
 use Rattle.xcp_config.specs.TableChecks.{first_fault}
 use Rattle.xcp_describe.specs.declared.findings.Findings.{Findings}
 use Rattle.xcp_describe.specs.declared.refusal.DescribeError.{DescribeError}
 use Rattle.xcp_describe.specs.declared.refusal.DescribeError.TheVariants.{Host, Program, Parameter, Measurement}
+use Rattle.xcp_describe.specs.EntryFaults.{first_refusal}
 use Rattle.xcp_describe.specs.FindingsText.{IsSyntaxLine, clean_text, findings_text, no_utf8_text}
 use Rattle.xcp_describe.specs.UnreadKeys.{unread_keys}
 
@@ -32,14 +34,21 @@ IsEntry (Program fault) = ⊥
 IsEntry (Parameter number why) = ⊤
 IsEntry (Measurement number why) = ⊤
 
+-- the first fault of the entries of a document, where its layout has none
+abbrev pub refused_in : Option ConfigError → Data → Option DescribeError
+refused_in None t = first_refusal t
+refused_in (Some fault) t = None
+
 -- What is found in a document: the first fault of its layout, exactly if that has one; as many unread keys as there are; an entry only
--- where the layout has no fault. The text has a line for each of them.
+-- where the layout has no fault, and then the first one that has a fault, with its first fault, exactly if there is one. The text has a
+-- line for each of them.
 pub record IsChecked (file : List ℕ) (f : Findings) (text : List ℕ) : Type 0 where
   pub members : Members
   pub document : parse_document file ≡ Some members
   pub fault : f.fault ≡ first_fault (table members)
   pub unread : f.unread ≡ length (unread_keys (table members))
   pub refused : IfSome f.refused (λ e. IsEntry e × (f.fault ≡ None))
+  pub first : f.refused ≡ refused_in f.fault (table members)
   pub told : text ≡ findings_text f.fault (unread_keys (table members)) f.refused
 
 -- what a check found and wrote: the line that says that nothing was found exactly where nothing was

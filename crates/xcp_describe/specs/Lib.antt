@@ -1,3 +1,5 @@
+pub mod EntryFaults
+pub mod EntryValues
 pub mod FaultWords
 pub mod Files
 pub mod FindingsText

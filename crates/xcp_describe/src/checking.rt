@@ -7,7 +7,9 @@ ghost use Rattle.xcp_framing.specs.Prefix.{AppendsFront};
 ghost use Rattle.xcp_memory.specs.Layout.{LayoutValue};
 ghost use Rattle.xcp_config.specs.ConfigText.{HasLayout};
 ghost use Rattle.xcp_config.specs.TableChecks.{first_fault};
-ghost use Rattle.xcp_describe.specs.Findings.{IsClean, IsEntry, IsFound, unreadable};
+ghost use Rattle.xcp_config.specs.TableLayout.{layout_in};
+ghost use Rattle.xcp_describe.specs.EntryFaults.{first_refusal};
+ghost use Rattle.xcp_describe.specs.Findings.{IsClean, IsEntry, IsFound, refused_in, unreadable};
 ghost use Rattle.xcp_describe.specs.FindingsText.{IsSyntaxLine, clean_text, fault_line, findings_text, line_if, no_utf8_text, refused_line, unread_line};
 ghost use Rattle.xcp_describe.specs.private.Document.{IsDocument};
 ghost use Rattle.xcp_describe.specs.private.TableKeys.{keys_of};
@@ -134,6 +136,7 @@ fn layout_findings(
     ensures fault { IfOk result (λ r. r.0 ≡ first_fault (view document.now)) }
     ensures layout { IfOk result (λ r. r.0 ≡ None → (l : LayoutValue) × HasLayout config.now l) }
     ensures entry { IfOk result (λ r. IfSome r.1 (λ e. IsEntry e × (r.0 ≡ None))) }
+    ensures first { IfOk result (λ r. r.1 ≡ refused_in r.0 (view document.now)) }
     ensures refused { IfErr result (λ e. e ≡ Fault.Memory) }
 {
     match read_layout(alloc, config) {
@@ -149,7 +152,9 @@ fn refused_in(
     document: &Value,
     layout: &Layout,
 ) -> Result<Option<DescribeError>, Fault>
+    requires { layout.now ≡ layout_in (view document.now) }
     ensures entry { IfOk result (λ r. IfSome r IsEntry) }
+    ensures first { IfOk result (λ r. r ≡ first_refusal (view document.now)) }
     ensures refused { IfErr result (λ e. e ≡ Fault.Memory) }
 {
     match Tables::read(alloc, document, layout) {

@@ -1,11 +1,13 @@
 //! The whole description.
-ghost use Rattle.std.specs.Prelude.{◌≡◌, ◌≢◌, ◌⊎◌, ◌↔◌, ◌+◌, ℕ, List, OnOk, OnErr, IfOk, IfErr, string_bytes};
+ghost use Rattle.std.specs.Prelude.{◌≡◌, ◌≢◌, ◌⊎◌, ◌↔◌, ◌+◌, ℕ, List, Some, None, OnOk, OnErr, IfOk, IfErr, string_bytes};
 ghost use Rattle.std.specs.Io.KnownBytes.{Appends};
 ghost use Rattle.xcp_framing.specs.Prefix.{AppendsFront};
 ghost use Rattle.xcp_memory.specs.Layout.{LayoutValue};
 ghost use Rattle.xcp_config.specs.ConfigText.{HasLayout};
 ghost use Rattle.xcp_program.specs.ReplayOutcome.{IsFault};
+ghost use Rattle.xcp_describe.specs.EntryFaults.{IsFirstRefusal};
 ghost use Rattle.xcp_describe.specs.Files.{IsFile};
+ghost use Rattle.xcp_describe.specs.Findings.{IsEntry};
 ghost use Rattle.xcp_describe.specs.Hosts.{IsHost};
 ghost use Rattle.xcp_describe.specs.private.Refusals.{IsEntryOrMemory};
 
@@ -52,6 +54,10 @@ pub fn describe<W: Write>(
     ensures layout { OnOk result ((l : LayoutValue) × HasLayout config.now l) }
     ensures host { (result ≡ Err DescribeError.Host) ↔ (¬ (IsHost host.now)) }
     ensures configuration { (f : Fault) → result ≡ Err (DescribeError.Program f) → (f ≡ Fault.Memory) ⊎ (f ≡ Fault.Stream 2) ⊎ IsFault config.now f }
+    // An entry is refused exactly if one has a fault, if memory doesn't run out first: the first that has one, with its first fault.
+    ensures entries { OnOk result (IsFirstRefusal config.now None) }
+    ensures entry { IfErr result (λ e. IsEntry e → IsFirstRefusal config.now (Some e)) }
+    ensures entries_first { result ≡ Err (DescribeError.Program (Fault.Stream 2)) → IsFirstRefusal config.now None }
     // A fault of the writer comes exactly where a write failed, and any other before anything is written.
     ensures write { result ≡ Err (DescribeError.Program (Fault.Stream 2)) → writer.new.failures ≡ writer.old.failures + 1 }
     ensures front { result ≡ Err (DescribeError.Program (Fault.Stream 2)) → (text : List ℕ) × AppendsFront (W.contents writer.old.inner) (W.contents writer.new.inner) text }
@@ -77,8 +83,11 @@ fn described(
     host: &str,
     port: u16,
 ) -> Result<String, DescribeError>
+    requires { HasLayout config.now layout }
     ensures written { IfOk result (λ text. IsFile (string_bytes text)) }
     ensures refused { IfErr result IsEntryOrMemory }
+    ensures entries { IfOk result (λ _. IsFirstRefusal config.now None) }
+    ensures entry { IfErr result (λ e. IsEntry e → IsFirstRefusal config.now (Some e)) }
 {
     let Ok(table) = toml::table_from_str(alloc, config) else {
         return Err(DescribeError::Program(Fault::Memory));

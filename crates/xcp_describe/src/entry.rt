@@ -1,11 +1,22 @@
 //! One parameter or measurement: what the layout file says of it.
-ghost use Rattle.std.specs.Prelude.{IfOk};
+ghost use Rattle.std.specs.Prelude.{◌≡◌, ◌*◌, codes, Some, None, true, false, IfOk, IfErr, is_some, unwrap_or, option_and_then};
+ghost use Rattle.std.specs.Float.{binary64};
+ghost use Rattle.std.specs.List.{list_all};
+ghost use lib.Ieee.{of_int};
+ghost use Rattle.toml.specs.Data.{as_integer, as_str, get};
+ghost use Rattle.toml.specs.View.{view};
+ghost use Rattle.xcp_packet.specs.Rows.{first_holding};
+ghost use Rattle.xcp_memory.specs.Limits.{is_within};
+ghost use Rattle.xcp_memory.specs.ComputedAccess.{lies_inside, segment_of};
+ghost use Rattle.xcp_describe.specs.EntryValues.{count_of, factor_in, first_of, in_order, in_unit, is_count, is_name, is_name_character, is_of_32_bits, is_text_or_none, name_of, number_or, offset_in, some_and, type_in};
+ghost use Rattle.xcp_describe.specs.EntryFaults.{entry_faults, limit_faults};
+ghost use Rattle.xcp_describe.specs.private.EntriesRead.{IsRead, type_named};
 ghost use Rattle.xcp_describe.specs.private.FiniteNumbers.{HasFiniteNumbers, IsFinite};
 
 use crate::kind::Kind;
 use crate::refusal::Why;
 use toml::Value;
-use xcp_memory::Layout;
+use xcp_memory::{Layout, is_text};
 
 /// The most characters of a name, and of a text.
 const MOST_CHARACTERS: usize = 128;
@@ -29,15 +40,19 @@ pub(crate) struct Entry<'a> {
 
 impl<'a> Entry<'a> {
     /// The entry that a table describes; only where `many` may it have several values.
+    #[tactic(auto, unfolding(crate::specs::EntryFaults::entry_faults))]
     pub(crate) fn read(table: &'a Value, many: bool) -> Result<Entry<'a>, Why>
-        ensures { IfOk result HasFiniteNumbers }
+        ensures finite { IfOk result HasFiniteNumbers }
+        ensures passes { IfOk result (λ _. first_holding (entry_faults many (view table.now)) ≡ None) }
+        ensures read { IfOk result (λ e. IsRead many (view table.now) e) }
+        ensures refused { IfErr result (λ e. first_holding (entry_faults many (view table.now)) ≡ Some e) }
     {
         let name = name_in(table)?;
         let address = address_in(table)?;
         let kind = kind_in(table)?;
-        let count = if many { count_in(table)? } else { None };
-        let factor = number_in(table, "factor", 1.0)?;
-        let offset = number_in(table, "offset", 0.0)?;
+        let count = count_in(table, many)?;
+        let factor = factor_in(table)?;
+        let offset = offset_in(table)?;
         let (low, high) = limits_in(table, scaled(kind.bounds(), factor, offset), factor)?;
         Ok(Entry {
             name,
@@ -54,24 +69,32 @@ impl<'a> Entry<'a> {
     }
 
     /// How many bytes all its values have.
-    fn length(&self) -> usize {
+    fn length(&self) -> usize
+        ensures { result ≡ (type_named self.now.kind).size * unwrap_or self.now.count 1 }
+    {
         usize::from(self.kind.size()) * usize::from(self.count.unwrap_or(1))
     }
 
     /// Whether all its bytes lie in one segment.
-    pub(crate) fn is_in_segments(&self, layout: &Layout) -> bool {
+    pub(crate) fn is_in_segments(&self, layout: &Layout) -> bool
+        ensures { result ≡ is_some (segment_of layout.now self.now.address ((type_named self.now.kind).size * unwrap_or self.now.count 1)) }
+    {
         layout.segment_of(self.address, self.length()).is_some()
     }
 
     /// Whether all its bytes lie in one segment, or in the signals.
-    pub(crate) fn is_in_memory(&self, layout: &Layout) -> bool {
+    pub(crate) fn is_in_memory(&self, layout: &Layout) -> bool
+        ensures { result ≡ lies_inside layout.now self.now.address ((type_named self.now.kind).size * unwrap_or self.now.count 1) }
+    {
         self.is_in_segments(layout) || layout.is_in_signals(self.address, self.length())
     }
 }
 
 /// The limits, those of the type where none are given. They are looked at once all four numbers are read, the factor first.
 fn limits_in(table: &Value, bounds: (f64, f64), factor: f64) -> Result<(f64, f64), Why>
-    ensures { IfOk result (λ r. IsFinite r.0 × IsFinite r.1) }
+    ensures finite { IfOk result (λ r. IsFinite r.0 × IsFinite r.1) }
+    ensures passes { IfOk result (λ _. first_holding (limit_faults bounds factor (view table.now)) ≡ None) }
+    ensures refused { IfErr result (λ e. first_holding (limit_faults bounds factor (view table.now)) ≡ Some e) }
 {
     let (least, most) = bounds;
     let low = number_in(table, "low", least)?;
@@ -91,7 +114,9 @@ fn limits_in(table: &Value, bounds: (f64, f64), factor: f64) -> Result<(f64, f64
 }
 
 /// The bounds of a type in the unit of a value.
-fn scaled(bounds: (f64, f64), factor: f64, offset: f64) -> (f64, f64) {
+fn scaled(bounds: (f64, f64), factor: f64, offset: f64) -> (f64, f64)
+    ensures { result ≡ in_order (in_unit factor offset bounds.0) (in_unit factor offset bounds.1) }
+{
     let (least, most) = bounds;
     let first = least * factor + offset;
     let last = most * factor + offset;
@@ -103,7 +128,11 @@ fn scaled(bounds: (f64, f64), factor: f64, offset: f64) -> (f64, f64) {
 }
 
 /// The name: an identifier of ASAP2.
-fn name_in(table: &Value) -> Result<&str, Why> {
+fn name_in(table: &Value) -> Result<&str, Why>
+    ensures passes { IfOk result (λ _. some_and is_name (option_and_then as_str (get (codes "name") (view table.now))) ≡ true) }
+    ensures value { IfOk result (λ s. s.now ≡ name_of (view table.now)) }
+    ensures refused { IfErr result (λ e. (e ≡ Why.Name) × (some_and is_name (option_and_then as_str (get (codes "name") (view table.now))) ≡ false)) }
+{
     let name = match table.get("name") {
         Some(value) => value.as_str().ok_or(Why::Name)?,
         None => return Err(Why::Name),
@@ -116,19 +145,30 @@ fn name_in(table: &Value) -> Result<&str, Why> {
 }
 
 /// Whether it begins with a letter or an underscore, and goes on with these and digits.
-fn is_name(bytes: &[u8]) -> bool {
+fn is_name(bytes: &[u8]) -> bool
+    ensures { result ≡ is_name bytes.now }
+{
     let Some(first) = bytes.first() else {
         return false;
     };
-    bytes.len() <= MOST_CHARACTERS
-        && !first.is_ascii_digit()
-        && bytes
-            .iter()
-            .all(|byte| byte.is_ascii_alphanumeric() || *byte == b'_')
+    !first.is_ascii_digit() && bytes.len() <= MOST_CHARACTERS && are_name_characters(bytes)
+}
+
+/// Whether all are letters, digits and underscores.
+fn are_name_characters(bytes: &[u8]) -> bool
+    ensures { result ≡ list_all is_name_character bytes.now }
+{
+    bytes
+        .iter()
+        .all(|byte| byte.is_ascii_alphanumeric() || *byte == b'_')
 }
 
 /// The first address.
-fn address_in(table: &Value) -> Result<u32, Why> {
+fn address_in(table: &Value) -> Result<u32, Why>
+    ensures passes { IfOk result (λ _. some_and (is_within 0 0xFFFF_FFFF) (option_and_then as_integer (get (codes "address") (view table.now))) ≡ true) }
+    ensures value { IfOk result (λ n. n ≡ first_of (view table.now)) }
+    ensures refused { IfErr result (λ e. (e ≡ Why.Address) × (some_and (is_within 0 0xFFFF_FFFF) (option_and_then as_integer (get (codes "address") (view table.now))) ≡ false)) }
+{
     let number = match table.get("address") {
         Some(value) => value.as_integer().ok_or(Why::Address)?,
         None => return Err(Why::Address),
@@ -137,7 +177,10 @@ fn address_in(table: &Value) -> Result<u32, Why> {
 }
 
 /// The type.
-fn kind_in(table: &Value) -> Result<Kind, Why> {
+fn kind_in(table: &Value) -> Result<Kind, Why>
+    ensures value { IfOk result (λ k. type_in (view table.now) ≡ Some (type_named k)) }
+    ensures refused { IfErr result (λ e. (e ≡ Why.Kind) × (type_in (view table.now) ≡ None)) }
+{
     let name = match table.get("type") {
         Some(value) => value.as_str().ok_or(Why::Kind)?,
         None => return Err(Why::Kind),
@@ -145,8 +188,15 @@ fn kind_in(table: &Value) -> Result<Kind, Why> {
     Kind::named(name).ok_or(Why::Kind)
 }
 
-/// How many values there are, 1 to 2,040, if it is said.
-fn count_in(table: &Value) -> Result<Option<u16>, Why> {
+/// How many values there are, 1 to 2,040, if it is said, and it may be.
+fn count_in(table: &Value, many: bool) -> Result<Option<u16>, Why>
+    ensures passes { IfOk result (λ _. is_count many (view table.now) ≡ true) }
+    ensures value { IfOk result (λ n. unwrap_or n 1 ≡ count_of many (view table.now)) }
+    ensures refused { IfErr result (λ e. (e ≡ Why.Count) × (is_count many (view table.now) ≡ false)) }
+{
+    if !many {
+        return Ok(None);
+    }
     let number = match table.get("count") {
         Some(value) => value.as_integer().ok_or(Why::Count)?,
         None => return Ok(None),
@@ -157,9 +207,29 @@ fn count_in(table: &Value) -> Result<Option<u16>, Why> {
     }
 }
 
+/// The factor.
+fn factor_in(table: &Value) -> Result<f64, Why>
+    ensures finite { IfOk result IsFinite }
+    ensures value { IfOk result (λ x. factor_in (view table.now) ≡ Some x) }
+    ensures refused { IfErr result (λ e. (e ≡ Why.Number) × (factor_in (view table.now) ≡ None)) }
+{
+    number_in(table, "factor", 1.0)
+}
+
+/// The offset.
+fn offset_in(table: &Value) -> Result<f64, Why>
+    ensures finite { IfOk result IsFinite }
+    ensures value { IfOk result (λ x. offset_in (view table.now) ≡ Some x) }
+    ensures refused { IfErr result (λ e. (e ≡ Why.Number) × (offset_in (view table.now) ≡ None)) }
+{
+    number_in(table, "offset", 0.0)
+}
+
 /// A number, an integer or not; the other where none is given.
 fn number_in(table: &Value, key: &str, other: f64) -> Result<f64, Why>
-    ensures { IsFinite other → IfOk result IsFinite }
+    ensures finite { IsFinite other → IfOk result IsFinite }
+    ensures value { IfOk result (λ x. number_or other (get key.now (view table.now)) ≡ Some x) }
+    ensures refused { IfErr result (λ e. (e ≡ Why.Number) × (number_or other (get key.now (view table.now)) ≡ None)) }
 {
     let Some(value) = table.get(key) else {
         return Ok(other);
@@ -177,7 +247,10 @@ fn number_in(table: &Value, key: &str, other: f64) -> Result<f64, Why>
 }
 
 /// An integer as a number, if one of 32 bits has its value.
-fn whole_number(number: i64) -> Result<f64, Why> {
+fn whole_number(number: i64) -> Result<f64, Why>
+    ensures value { IfOk result (λ x. (is_of_32_bits number ≡ true) × (x ≡ of_int binary64 number)) }
+    ensures refused { IfErr result (λ e. (e ≡ Why.Number) × (is_of_32_bits number ≡ false)) }
+{
     match (u32::try_from(number), i32::try_from(number)) {
         (Ok(number), _) => Ok(f64::from(number)),
         (Err(_), Ok(number)) => Ok(f64::from(number)),
@@ -186,16 +259,15 @@ fn whole_number(number: i64) -> Result<f64, Why> {
 }
 
 /// A text of printable ASCII, none where none is given.
-fn text_in<'a>(table: &'a Value, key: &str, why: Why) -> Result<&'a str, Why> {
+fn text_in<'a>(table: &'a Value, key: &str, why: Why) -> Result<&'a str, Why>
+    ensures passes { IfOk result (λ _. is_text_or_none (get key.now (view table.now)) ≡ true) }
+    ensures refused { IfErr result (λ e. (e ≡ why) × (is_text_or_none (get key.now (view table.now)) ≡ false)) }
+{
     let text = match table.get(key) {
         Some(value) => value.as_str().ok_or(why)?,
         None => return Ok(""),
     };
-    let is_plain = text
-        .as_bytes()
-        .iter()
-        .all(|byte| (0x20..=0x7E).contains(byte));
-    if is_plain && text.len() <= MOST_CHARACTERS {
+    if text.is_empty() || is_text(text.as_bytes(), MOST_CHARACTERS) {
         Ok(text)
     } else {
         Err(why)

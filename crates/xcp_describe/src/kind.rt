@@ -1,4 +1,8 @@
 //! The types of values.
+ghost use Rattle.std.specs.Prelude.{◌≡◌, option_map};
+ghost use Rattle.xcp_config.specs.TomlValues.{named};
+ghost use Rattle.xcp_describe.specs.EntryValues.{value_types};
+ghost use Rattle.xcp_describe.specs.private.EntriesRead.{type_named};
 
 /// The type of a value in memory, as ASAP2 names it.
 #[derive(Clone, Copy, Debug, PartialEq, Eq)]
@@ -27,13 +31,20 @@ pub(crate) static KINDS: [Kind; 8] = [
 
 impl Kind {
     /// The type with this name.
-    pub(crate) fn named(name: &str) -> Option<Kind> {
-        for kind in KINDS.iter() {
-            if kind.name() == name {
-                return Some(*kind);
-            }
+    pub(crate) fn named(name: &str) -> Option<Kind>
+        ensures { option_map type_named result ≡ named value_types name.now }
+    {
+        match name {
+            "UBYTE" => Some(Kind::UByte),
+            "SBYTE" => Some(Kind::SByte),
+            "UWORD" => Some(Kind::UWord),
+            "SWORD" => Some(Kind::SWord),
+            "ULONG" => Some(Kind::ULong),
+            "SLONG" => Some(Kind::SLong),
+            "FLOAT32_IEEE" => Some(Kind::Float32),
+            "FLOAT64_IEEE" => Some(Kind::Float64),
+            _ => None,
         }
-        None
     }
 
     pub(crate) fn name(self) -> &'static str {
@@ -50,7 +61,9 @@ impl Kind {
     }
 
     /// How many bytes a value has.
-    pub(crate) fn size(self) -> u8 {
+    pub(crate) fn size(self) -> u8
+        ensures { result ≡ (type_named self).size }
+    {
         match self {
             Kind::UByte | Kind::SByte => 1,
             Kind::UWord | Kind::SWord => 2,
@@ -60,7 +73,9 @@ impl Kind {
     }
 
     /// The least and the greatest value.
-    pub(crate) fn bounds(self) -> (f64, f64) {
+    pub(crate) fn bounds(self) -> (f64, f64)
+        ensures { result ≡ ((type_named self).least, (type_named self).greatest) }
+    {
         match self {
             Kind::UByte => (0.0, 255.0),
             Kind::SByte => (-128.0, 127.0),

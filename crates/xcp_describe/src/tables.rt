@@ -1,6 +1,16 @@
 //! The parameters and measurements of a layout file.
-ghost use Rattle.std.specs.Prelude.{IfErr};
-ghost use Rattle.xcp_describe.specs.private.Refusals.{IsEntryOrMemory};
+ghost use Rattle.std.specs.Prelude.{◌≡◌, ◌++◌, [], ◌∷◌, map, Some, None, true, false, IfOk, IfErr, MatchOption};
+ghost use Rattle.std.specs.List.{flat_map, enumerate_from};
+ghost use Rattle.toml.specs.Data.{get};
+ghost use Rattle.toml.specs.View.{view};
+ghost use Rattle.xcp_packet.specs.Rows.{first_holding};
+ghost use Rattle.xcp_config.specs.TableLayout.{layout_in};
+ghost use Rattle.xcp_config.specs.TomlValues.{members_of};
+ghost use Rattle.xcp_describe.specs.EntryFaults.{first_refusal, is_array_or_none, measurement_checks, measurement_faults, measurements_checks, parameter_checks, parameter_faults, parameters_checks, parameters_in};
+ghost use Rattle.xcp_describe.specs.EntryValues.{name_of};
+ghost use Rattle.xcp_describe.specs.UnreadKeys.{is_among};
+ghost use Rattle.xcp_describe.specs.private.EntriesRead.{names_of};
+ghost use Rattle.xcp_describe.specs.private.Refusals.{IsEntryOrMemory, Refuses};
 
 use crate::entry::Entry;
 use crate::refusal::{DescribeError, Why};
@@ -23,82 +33,151 @@ impl<'a> Tables<'a> {
         document: &'a Value,
         layout: &Layout,
     ) -> Result<Tables<'a>, DescribeError>
-        ensures { IfErr result IsEntryOrMemory }
+        requires { layout.now ≡ layout_in (view document.now) }
+        ensures passes { IfOk result (λ _. first_refusal (view document.now) ≡ None) }
+        ensures refused { IfErr result IsEntryOrMemory }
+        ensures first { IfErr result (λ e. Refuses (first_refusal (view document.now)) e) }
     {
-        let mut tables = Tables {
-            parameters: Vec::new(alloc),
-            measurements: Vec::new(alloc),
-        };
-        tables.read_parameters(document, layout)?;
-        tables.read_measurements(document, layout)?;
-        Ok(tables)
-    }
-
-    fn read_parameters(&mut self, document: &'a Value, layout: &Layout) -> Result<(), DescribeError>
-        ensures { IfErr result IsEntryOrMemory }
-    {
-        let Some(members) = members_in(document, "parameter") else {
-            return Err(DescribeError::Parameter(0, Why::Table));
-        };
-        for (number, member) in members.iter().enumerate() {
-            match self.parameter(member, layout) {
-                Ok(entry) => keep(&mut self.parameters, entry)?,
-                Err(why) => return Err(DescribeError::Parameter(number, why)),
-            }
-        }
-        Ok(())
-    }
-
-    fn read_measurements(
-        &mut self,
-        document: &'a Value,
-        layout: &Layout,
-    ) -> Result<(), DescribeError>
-        ensures { IfErr result IsEntryOrMemory }
-    {
-        let Some(members) = members_in(document, "measurement") else {
-            return Err(DescribeError::Measurement(0, Why::Table));
-        };
-        for (number, member) in members.iter().enumerate() {
-            match self.measurement(member, layout) {
-                Ok(entry) => keep(&mut self.measurements, entry)?,
-                Err(why) => return Err(DescribeError::Measurement(number, why)),
-            }
-        }
-        Ok(())
-    }
-
-    fn parameter(&self, member: &'a Value, layout: &Layout) -> Result<Entry<'a>, Why> {
-        let entry = Entry::read(member, true)?;
-        if self.has(entry.name) {
-            return Err(Why::Taken);
-        }
-        if !entry.is_in_segments(layout) {
-            return Err(Why::NoSegment);
-        }
-        Ok(entry)
-    }
-
-    fn measurement(&self, member: &'a Value, layout: &Layout) -> Result<Entry<'a>, Why> {
-        let entry = Entry::read(member, false)?;
-        if self.has(entry.name) {
-            return Err(Why::Taken);
-        }
-        if !entry.is_in_memory(layout) {
-            return Err(Why::NoMemory);
-        }
-        Ok(entry)
-    }
-
-    /// Whether one has this name already.
-    fn has(&self, name: &str) -> bool {
-        has_name(self.parameters.as_slice(), name) || has_name(self.measurements.as_slice(), name)
+        let parameters = read_parameters(alloc, document, layout)?;
+        let measurements = read_measurements(alloc, document, layout, parameters.as_slice())?;
+        Ok(Tables {
+            parameters,
+            measurements,
+        })
     }
 }
 
-fn has_name(entries: &[Entry<'_>], name: &str) -> bool {
+/// The parameters of a layout file.
+#[tactic(auto, unfolding(crate::specs::EntryFaults::parameters_checks))]
+fn read_parameters<'a>(
+    alloc: Global,
+    document: &'a Value,
+    layout: &Layout,
+) -> Result<Vec<Entry<'a>>, DescribeError>
+    ensures passes { IfOk result (λ _. first_holding (parameters_checks layout.now (view document.now)) ≡ None) }
+    ensures names { IfOk result (λ es. names_of es.items ≡ map name_of (parameters_in (view document.now))) }
+    ensures refused { IfErr result (λ e. Refuses (first_holding (parameters_checks layout.now (view document.now))) e) }
+{
+    match members_in(document, "parameter") {
+        Some(members) => each_parameter(alloc, members, layout),
+        None => Err(DescribeError::Parameter(0, Why::Table)),
+    }
+}
+
+/// The parameters that these tables describe.
+fn each_parameter<'a>(
+    alloc: Global,
+    members: &'a [Value],
+    layout: &Layout,
+) -> Result<Vec<Entry<'a>>, DescribeError>
+    ensures passes { IfOk result (λ _. first_holding (flat_map (parameter_checks layout.now (map view members.now)) (enumerate_from 0 (map view members.now))) ≡ None) }
+    ensures names { IfOk result (λ es. names_of es.items ≡ map name_of (map view members.now)) }
+    ensures refused { IfErr result (λ e. Refuses (first_holding (flat_map (parameter_checks layout.now (map view members.now)) (enumerate_from 0 (map view members.now)))) e) }
+{
+    let mut entries = Vec::new(alloc);
+    for (i, member) in members.iter().enumerate() {
+        match parameter(member, layout, entries.as_slice()) {
+            Ok(entry) => keep(&mut entries, entry)?,
+            Err(why) => return Err(DescribeError::Parameter(i, why)),
+        }
+    }
+    Ok(entries)
+}
+
+/// The measurements of a layout file that has these parameters.
+#[tactic(auto, unfolding(crate::specs::EntryFaults::measurements_checks))]
+fn read_measurements<'a>(
+    alloc: Global,
+    document: &'a Value,
+    layout: &Layout,
+    parameters: &[Entry<'_>],
+) -> Result<Vec<Entry<'a>>, DescribeError>
+    requires { names_of parameters.now ≡ map name_of (parameters_in (view document.now)) }
+    ensures passes { IfOk result (λ _. first_holding (measurements_checks layout.now (view document.now)) ≡ None) }
+    ensures refused { IfErr result (λ e. Refuses (first_holding (measurements_checks layout.now (view document.now))) e) }
+{
+    match members_in(document, "measurement") {
+        Some(members) => each_measurement(alloc, members, layout, parameters),
+        None => Err(DescribeError::Measurement(0, Why::Table)),
+    }
+}
+
+/// The measurements that these tables describe, behind these parameters.
+fn each_measurement<'a>(
+    alloc: Global,
+    members: &'a [Value],
+    layout: &Layout,
+    parameters: &[Entry<'_>],
+) -> Result<Vec<Entry<'a>>, DescribeError>
+    ensures passes { IfOk result (λ _. first_holding (flat_map (measurement_checks layout.now (names_of parameters.now) (map view members.now)) (enumerate_from 0 (map view members.now))) ≡ None) }
+    ensures refused { IfErr result (λ e. Refuses (first_holding (flat_map (measurement_checks layout.now (names_of parameters.now) (map view members.now)) (enumerate_from 0 (map view members.now)))) e) }
+{
+    let mut entries = Vec::new(alloc);
+    for (i, member) in members.iter().enumerate() {
+        match measurement(member, layout, parameters, entries.as_slice()) {
+            Ok(entry) => keep(&mut entries, entry)?,
+            Err(why) => return Err(DescribeError::Measurement(i, why)),
+        }
+    }
+    Ok(entries)
+}
+
+/// The parameter that a table describes, behind these.
+fn parameter<'a>(
+    member: &'a Value,
+    layout: &Layout,
+    earlier: &[Entry<'_>],
+) -> Result<Entry<'a>, Why>
+    ensures passes { IfOk result (λ _. first_holding (parameter_faults layout.now (names_of earlier.now) (view member.now)) ≡ None) }
+    ensures name { IfOk result (λ e. e.name.now ≡ name_of (view member.now)) }
+    ensures refused { IfErr result (λ e. first_holding (parameter_faults layout.now (names_of earlier.now) (view member.now)) ≡ Some e) }
+{
+    let entry = Entry::read(member, true)?;
+    if has_name(earlier, entry.name) {
+        return Err(Why::Taken);
+    }
+    if !entry.is_in_segments(layout) {
+        return Err(Why::NoSegment);
+    }
+    Ok(entry)
+}
+
+/// The measurement that a table describes, behind these parameters and measurements.
+fn measurement<'a>(
+    member: &'a Value,
+    layout: &Layout,
+    parameters: &[Entry<'_>],
+    earlier: &[Entry<'_>],
+) -> Result<Entry<'a>, Why>
+    ensures passes { IfOk result (λ _. first_holding (measurement_faults layout.now (names_of parameters.now ++ names_of earlier.now) (view member.now)) ≡ None) }
+    ensures name { IfOk result (λ e. e.name.now ≡ name_of (view member.now)) }
+    ensures refused { IfErr result (λ e. first_holding (measurement_faults layout.now (names_of parameters.now ++ names_of earlier.now) (view member.now)) ≡ Some e) }
+{
+    let entry = Entry::read(member, false)?;
+    if is_taken(parameters, earlier, entry.name) {
+        return Err(Why::Taken);
+    }
+    if !entry.is_in_memory(layout) {
+        return Err(Why::NoMemory);
+    }
+    Ok(entry)
+}
+
+/// Whether one of these has this name.
+fn is_taken(parameters: &[Entry<'_>], earlier: &[Entry<'_>], name: &str) -> bool
+    ensures { result ≡ is_among name.now (names_of parameters.now ++ names_of earlier.now) }
+{
+    if has_name(parameters, name) {
+        return true;
+    }
+    has_name(earlier, name)
+}
+
+fn has_name(entries: &[Entry<'_>], name: &str) -> bool
+    ensures { result ≡ is_among name.now (names_of entries.now) }
+{
     for entry in entries {
-        if entry.name == name {
+        if name == entry.name {
             return true;
         }
     }
@@ -106,7 +185,8 @@ fn has_name(entries: &[Entry<'_>], name: &str) -> bool {
 }
 
 fn keep<'a>(entries: &mut Vec<Entry<'a>>, entry: Entry<'a>) -> Result<(), DescribeError>
-    ensures { IfErr result IsEntryOrMemory }
+    ensures kept { IfOk result (λ _. names_of entries.new.items ≡ names_of entries.old.items ++ entry.entry.name.now ∷ []) }
+    ensures refused { IfErr result (λ e. e ≡ DescribeError.Program Fault.Memory) }
 {
     match entries.push(entry) {
         Ok(()) => Ok(()),
@@ -115,7 +195,9 @@ fn keep<'a>(entries: &mut Vec<Entry<'a>>, entry: Entry<'a>) -> Result<(), Descri
 }
 
 /// The members of an array, none where there is none; nothing where it is no array.
-fn members_in<'a>(document: &'a Value, key: &str) -> Option<&'a [Value]> {
+fn members_in<'a>(document: &'a Value, key: &str) -> Option<&'a [Value]>
+    ensures { MatchOption result (is_array_or_none (get key.now (view document.now)) ≡ false) (λ members. (is_array_or_none (get key.now (view document.now)) ≡ true) × (map view members.now ≡ members_of (get key.now (view document.now)))) }
+{
     match document.get(key) {
         Some(value) => Some(value.as_array()?),
         None => Some(&[]),

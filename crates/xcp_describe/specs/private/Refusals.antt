@@ -1,8 +1,9 @@
 -- Why the tables of a layout file aren't read.
-use Rattle.std.specs.Prelude.{◌≡◌, ⊤}
+use Rattle.std.specs.Prelude.{◌≡◌, ◌⊎◌, ⊤, Option, Some}
 use Rattle.xcp_program.specs.declared.fault.Fault.TheVariants.{Memory}
 use Rattle.xcp_describe.specs.declared.refusal.DescribeError.{DescribeError}
 use Rattle.xcp_describe.specs.declared.refusal.DescribeError.TheVariants.{Host, Program, Parameter, Measurement}
+use Rattle.xcp_describe.specs.Findings.{IsEntry}
 
 -- an entry is refused, or an allocation failed
 abbrev pub IsEntryOrMemory : DescribeError → Type 0
@@ -10,3 +11,7 @@ IsEntryOrMemory Host = ⊥
 IsEntryOrMemory (Program fault) = fault ≡ Memory
 IsEntryOrMemory (Parameter number why) = ⊤
 IsEntryOrMemory (Measurement number why) = ⊤
+
+-- memory ran out, or an entry is refused with the first fault that there is
+abbrev pub Refuses : Option DescribeError → DescribeError → Type 0
+Refuses first e = (e ≡ Program Memory) ⊎ (IsEntry e × (first ≡ Some e))

@@ -1,0 +1,161 @@
+-- What a layout file says of a parameter or a measurement, key by key (docs/LAYOUT.md, "Names for tools").
+use Rattle.std.specs.Prelude.{ℕ, ◌*◌, ℤ, pos, negsuc, Bool, true, false, not, ◌&&◌, List, [], ◌∷◌, length, codes, Option, Some, None, if◌then◌else◌, unwrap_or, option_and_then, slice_get, nat_le, nat_lt, ◌==◌, ◌||◌, ◌^◌}
+use Rattle.std.specs.List.{list_all}
+use Rattle.std.specs.Char.{is_ascii_alphanumeric, is_ascii_digit}
+use Rattle.std.specs.Float.{Float, fin, binary64, float_is_finite, float_zero, float_one}
+use lib.Ieee.{add, le, mul, of_int}
+use Rattle.toml.specs.Data.{Data, as_float, as_integer, as_str, get, integer}
+use Rattle.xcp_memory.specs.LayoutParts.{number}
+use Rattle.xcp_memory.specs.Limits.{is_text, is_within}
+use Rattle.xcp_config.specs.TableLayout.{address_of}
+use Rattle.xcp_config.specs.TomlValues.{integer_of, named, optional, text_of}
+
+-- a value that is there and passes a test
+abbrev pub some_and : {A : Type 0} → (A → Bool) → Option A → Bool
+some_and test None = false
+some_and test (Some x) = test x
+
+-- one that passes it, if it is there
+abbrev pub none_or : {A : Type 0} → (A → Bool) → Option A → Bool
+none_or test None = true
+none_or test (Some x) = test x
+
+-- an identifier: letters, digits and underscores, at most 128, and no digit first
+-- (ASAM MCD-2 MC: identifiers.)
+abbrev pub is_name_character : ℕ → Bool
+is_name_character c = is_ascii_alphanumeric c || c == 95
+
+abbrev pub is_name : List ℕ → Bool
+is_name s = some_and (λ c. not (is_ascii_digit c)) (slice_get s 0) && nat_le (length s) 128 && list_all is_name_character s
+
+abbrev pub name_of : Data → List ℕ
+name_of d = text_of (get (codes "name") d)
+
+-- a text of at most 128 printable characters, if it is there
+abbrev pub is_short_text : List ℕ → Bool
+is_short_text s = length s == 0 || is_text 128 s
+
+abbrev pub is_text_or_none : Option Data → Bool
+is_text_or_none v = none_or (λ x. some_and is_short_text (as_str x)) v
+
+-- The type of a value: how many bytes it has, and the least and the greatest number. `fin s m e` is m times two to the e, and negative
+-- where s is true.
+-- (ASAM MCD-2 MC: data types.)
+pub record ValueType : Type 0 where
+  pub size : ℕ
+  pub least : Float
+  pub greatest : Float
+
+abbrev pub ubyte : ValueType
+ubyte = record { size = 1; least = float_zero; greatest = fin false 255 (pos 0) }
+
+abbrev pub sbyte : ValueType
+sbyte = record { size = 1; least = fin true 1 (pos 7); greatest = fin false 127 (pos 0) }
+
+abbrev pub uword : ValueType
+uword = record { size = 2; least = float_zero; greatest = fin false 65535 (pos 0) }
+
+abbrev pub sword : ValueType
+sword = record { size = 2; least = fin true 1 (pos 15); greatest = fin false 32767 (pos 0) }
+
+abbrev pub ulong : ValueType
+ulong = record { size = 4; least = float_zero; greatest = fin false 4294967295 (pos 0) }
+
+abbrev pub slong : ValueType
+slong = record { size = 4; least = fin true 1 (pos 31); greatest = fin false 2147483647 (pos 0) }
+
+-- 24 and 53 binary digits, all of them 1, and the greatest exponent
+abbrev pub float32 : ValueType
+float32 = record { size = 4; least = fin true 0xFF_FFFF (pos 104); greatest = fin false 0xFF_FFFF (pos 104) }
+
+abbrev pub float64 : ValueType
+float64 = record { size = 8; least = fin true 0x1F_FFFF_FFFF_FFFF (pos 971); greatest = fin false 0x1F_FFFF_FFFF_FFFF (pos 971) }
+
+-- the types by their names
+abbrev pub value_types : List (List ℕ × ValueType)
+value_types =
+    (codes "UBYTE", ubyte)
+    ∷ (codes "SBYTE", sbyte)
+    ∷ (codes "UWORD", uword)
+    ∷ (codes "SWORD", sword)
+    ∷ (codes "ULONG", ulong)
+    ∷ (codes "SLONG", slong)
+    ∷ (codes "FLOAT32_IEEE", float32)
+    ∷ (codes "FLOAT64_IEEE", float64)
+    ∷ []
+
+abbrev pub type_in : Data → Option ValueType
+type_in d = option_and_then (named value_types) (option_and_then as_str (get (codes "type") d))
+
+abbrev pub type_of : Data → ValueType
+type_of d = unwrap_or (type_in d) ubyte
+
+-- how many values stand one behind the other: a parameter may say it, and else there is one
+abbrev pub is_count : Bool → Data → Bool
+is_count many d = not many || none_or (λ v. some_and (is_within 1 2040) (as_integer v)) (get (codes "count") d)
+
+abbrev pub count_of : Bool → Data → ℕ
+count_of many d = if many then number (integer_of (optional (integer (pos 1)) (get (codes "count") d))) else 1
+
+-- the first address, and how many bytes all values have
+abbrev pub first_of : Data → ℕ
+first_of d = number (address_of d)
+
+abbrev pub bytes_in : Bool → Data → ℕ
+bytes_in many d = (type_of d).size * count_of many d
+
+-- an integer of 32 bits, signed or not
+abbrev pub is_of_32_bits : ℤ → Bool
+is_of_32_bits (pos n) = nat_lt n (2 ^ 32)
+is_of_32_bits (negsuc n) = nat_lt n (2 ^ 31)
+
+-- the number of 64 bits that an integer is, or that a float is, if it is finite
+abbrev pub finite : Float → Option Float
+finite x = if float_is_finite x then Some x else None
+
+abbrev pub number_by : Option Float → Option ℤ → Option Float
+number_by (Some x) z = finite x
+number_by None (Some z) = if is_of_32_bits z then finite (of_int binary64 z) else None
+number_by None None = None
+
+-- what stands at a key as a number, another number where nothing does, and none where it is something else
+abbrev pub number_or : Float → Option Data → Option Float
+number_or other None = Some other
+number_or other (Some v) = number_by (as_float v) (as_integer v)
+
+abbrev pub factor_in : Data → Option Float
+factor_in d = number_or float_one (get (codes "factor") d)
+
+abbrev pub offset_in : Data → Option Float
+offset_in d = number_or float_zero (get (codes "offset") d)
+
+abbrev pub factor_of : Data → Float
+factor_of d = unwrap_or (factor_in d) float_one
+
+abbrev pub offset_of : Data → Float
+offset_of d = unwrap_or (offset_in d) float_zero
+
+-- a number in memory as a value in its unit
+abbrev pub in_unit : Float → Float → Float → Float
+in_unit factor offset x = add binary64 (mul binary64 x factor) offset
+
+-- the least and the greatest value of a type in the unit: a factor below 0 turns them round
+abbrev pub in_order : Float → Float → Float × Float
+in_order a b = if le a b then (a, b) else (b, a)
+
+abbrev pub bounds_in : ValueType → Float → Float → Float × Float
+bounds_in t factor offset = in_order (in_unit factor offset t.least) (in_unit factor offset t.greatest)
+
+abbrev pub bounds_of : Data → Float × Float
+bounds_of d = bounds_in (type_of d) (factor_of d) (offset_of d)
+
+-- the limits, those of the type where none are given
+abbrev pub low_in : Float × Float → Data → Option Float
+low_in bounds d = number_or bounds.0 (get (codes "low") d)
+
+abbrev pub high_in : Float × Float → Data → Option Float
+high_in bounds d = number_or bounds.1 (get (codes "high") d)
+
+-- limits are values of the type, finite, and not the wrong way round
+abbrev pub are_limits : Float × Float → Float → Float → Bool
+are_limits bounds low high = le bounds.0 low && le low high && le high bounds.1 && float_is_finite low && float_is_finite high
