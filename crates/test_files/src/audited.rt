@@ -107,11 +107,12 @@ fn journal(
     Ok(journal)
 }
 
-/// The file of two chapters.
+/// The file of two chapters and an end mark.
 fn written(alloc: Global, first: &Journal, second: &Journal) -> Option<Vec<u8>> {
     let digest = Sha256::digest(CONFIG.as_bytes());
     let mut recorder = Recorder::new(alloc, Vec::new(alloc), &digest).ok()?;
-    if append(&mut recorder, 0, first) && append(&mut recorder, 1, second) {
+    let both = append(&mut recorder, 0, first) && append(&mut recorder, 1, second);
+    if both && recorder.end().is_ok() {
         return Some(recorder.into_stream());
     }
     None
@@ -123,7 +124,7 @@ fn file_of(alloc: Global, slave: &mut Slave) -> Option<Vec<u8>> {
     written(alloc, &first, &second)
 }
 
-/// The file of a journal of two chapters, of 5 and 7 calls.
+/// The file of a journal of two chapters, of 5 and 7 calls, and an end mark.
 pub(crate) fn file(alloc: Global) -> Option<Vec<u8>> {
     match new_slave(alloc) {
         Some(mut slave) => file_of(alloc, &mut slave),

@@ -5,7 +5,7 @@ use crate::streams::{LAYOUT, Pieces, append, recorder};
 use std::alloc::{AllocError, Global};
 use xcp_framing::Watched;
 use xcp_packet::{Packet, Train};
-use xcp_record::{Silent, audit};
+use xcp_record::{Ending, Settled, Silent, audit};
 use xcp_slave::{Answer, Request};
 use xcp_trace::Journal;
 
@@ -23,6 +23,14 @@ static FILE: [u8; 173] = [
     0x00, 0x00, 0x00, 0x00, 0x00, 0x00, 0x00, 0x00, 0x00, 0x00, 0x00, 0x00, 0x00, 0xB3, 0x25, 0xD9,
     0xB9, 0x9F, 0xE7, 0xDE, 0xE3, 0x98, 0x94, 0x42, 0x97, 0x78, 0x39, 0x58, 0x8A, 0x80, 0x6F, 0x52,
     0xF9, 0x5B, 0xFE, 0x9A, 0xA5, 0x0A, 0x24, 0xC7, 0x4D, 0x0F, 0xF5, 0x48, 0xC3,
+];
+
+/// The end mark behind it: three calls.
+static MARK: [u8; 56] = [
+    0xFF, 0xFF, 0xFF, 0xFF, 0xFF, 0xFF, 0xFF, 0xFF, 0x00, 0x00, 0x00, 0x00, 0x08, 0x00, 0x00, 0x00,
+    0x03, 0x00, 0x00, 0x00, 0x00, 0x00, 0x00, 0x00, 0xB1, 0x6E, 0x74, 0x2D, 0x6F, 0xD4, 0x20, 0xCD,
+    0xAF, 0xE4, 0xAA, 0x6E, 0xDB, 0xCE, 0x25, 0x07, 0x47, 0x4A, 0xC1, 0x1A, 0x08, 0xBD, 0x76, 0xA2,
+    0xC7, 0x6A, 0x93, 0xFE, 0x12, 0x41, 0x47, 0xAA,
 ];
 
 /// These bytes, in place.
@@ -62,38 +70,52 @@ fn calls(alloc: Global) -> Result<Journal, AllocError> {
     Ok(journal)
 }
 
-/// What is written of a chapter of these calls and of one without.
-fn written_of(alloc: Global, calls: &Journal) -> Option<Vec<u8>> {
+/// What is written of a chapter of these calls and of one without, and of the end mark where it is wanted.
+fn written_of(alloc: Global, calls: &Journal, ending: Ending) -> Option<Vec<u8>> {
     let mut recorder = recorder(alloc, 10_000)?;
     let first = append(&mut recorder, 0, calls);
     let second = append(&mut recorder, 1, &Journal::new(alloc));
+    if ending == Ending::Ended {
+        recorder.end().ok()?;
+    }
     if first.is_ok() && second.is_ok() {
         return Some(recorder.into_stream().bytes);
     }
     None
 }
 
-fn written(alloc: Global) -> Option<Vec<u8>> {
+fn written(alloc: Global, ending: Ending) -> Option<Vec<u8>> {
     match calls(alloc) {
-        Ok(calls) => written_of(alloc, &calls),
+        Ok(calls) => written_of(alloc, &calls, ending),
         Err(_) => None,
     }
 }
 
-/// Whether an audit settles three calls.
-fn is_settled(alloc: Global, bytes: &[u8]) -> bool {
+/// Whether an audit settles three calls of a file that ends so.
+fn is_settled(alloc: Global, bytes: &[u8], ending: Ending) -> bool {
     let Some(slave) = slave(alloc) else {
         return false;
     };
     let mut reader = Watched::new(Pieces { text: bytes });
-    audit(alloc, slave, &LAYOUT, &mut reader, &mut Silent) == Ok(3)
+    let said = audit(alloc, slave, &LAYOUT, &mut reader, &mut Silent);
+    said == Ok(Settled { calls: 3, ending })
+}
+
+/// Whether the file of this ending is what stands by hand.
+fn is_as_by_hand(alloc: Global, ending: Ending, mark: &[u8]) -> bool {
+    let Some(bytes) = written(alloc, ending) else {
+        return false;
+    };
+    let (front, behind) = bytes.split_at(bytes.len().min(FILE.len()));
+    front == FILE.as_slice() && behind == mark && is_settled(alloc, &bytes, ending)
 }
 
 #[test]
 fn a_file_is_as_by_hand(rt: HostRuntime) {
-    let good = match written(rt.alloc()) {
-        Some(bytes) => bytes.as_slice() == FILE.as_slice() && is_settled(rt.alloc(), &bytes),
-        None => false,
-    };
-    assert!(rt; good);
+    assert!(rt; is_as_by_hand(rt.alloc(), Ending::Open, &[]));
+}
+
+#[test]
+fn an_ended_file_is_as_by_hand(rt: HostRuntime) {
+    assert!(rt; is_as_by_hand(rt.alloc(), Ending::Ended, &MARK));
 }

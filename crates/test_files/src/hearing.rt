@@ -1,6 +1,6 @@
 //! A witness that counts the calls of a journal's file.
 
-use xcp_record::{AuditFault, Witness};
+use xcp_record::{AuditFault, Settled, Witness};
 use xcp_trace::Entry;
 
 /// How many calls it was told, and whether their callers are 0, 1, 2, and again, as those of the files are.
@@ -28,9 +28,10 @@ impl Witness for Counting {
 }
 
 /// What a witness counts, by what the audit says.
-pub(crate) fn counted(said: &Result<u64, AuditFault>) -> Counting {
+pub(crate) fn counted(said: &Result<Settled, AuditFault>) -> Counting {
     let calls = match said {
-        Ok(calls) | Err(AuditFault::Cut(calls)) | Err(AuditFault::Altered(calls)) => *calls,
+        Ok(settled) => settled.calls,
+        Err(AuditFault::Cut(calls)) | Err(AuditFault::Altered(calls)) => *calls,
         Err(AuditFault::Mismatch(call)) => call.saturating_add(1),
         Err(_) => 0,
     };

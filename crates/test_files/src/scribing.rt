@@ -4,8 +4,8 @@ use crate::slaves::{chapters, slave};
 use crate::streams::{LAYOUT, Narrow, Pieces};
 use std::alloc::Global;
 use xcp_framing::Watched;
-use xcp_record::{AuditFault, RecordFault, Silent, audit};
-use xcp_scribe::{Recording, Scribe};
+use xcp_record::{AuditFault, Ending, RecordFault, Settled, Silent, audit};
+use xcp_scribe::{Recording, Scribe, end_recording};
 use xcp_slave::Slave;
 use xcp_trace::Journal;
 
@@ -40,7 +40,7 @@ fn give_three<S: Scribe>(alloc: Global, scribe: &mut S) -> bool {
 }
 
 /// How many calls stand in the file, why it is written no more, what an audit says of it, and its length.
-type Found = (u64, Option<RecordFault>, Result<u64, AuditFault>, usize);
+type Found = (u64, Option<RecordFault>, Result<Settled, AuditFault>, usize);
 
 fn found(alloc: Global, recording: Recording<Narrow>) -> Option<Found> {
     let slave = slave(alloc)?;
@@ -52,31 +52,66 @@ fn found(alloc: Global, recording: Recording<Narrow>) -> Option<Found> {
     Some((calls, fault, said, bytes.len()))
 }
 
-/// What is found of three chapters that a scribe is given which is a recording.
-fn found_of_some(alloc: Global) -> Option<Found> {
-    let mut scribe = recording(alloc, 10_000).ok();
-    if give_three(alloc, &mut scribe) {
-        return found(alloc, scribe?);
+/// What is found of three chapters that a scribe is given which is a recording, on a disk of so much room, and is ended where that is
+/// wanted: then as often as said.
+fn found_of(alloc: Global, room: usize, ends: usize) -> Option<Found> {
+    let mut scribe = recording(alloc, room).ok();
+    if !give_three(alloc, &mut scribe) {
+        return None;
     }
-    None
+    for _ in 0..ends {
+        end_recording(&mut scribe);
+    }
+    found(alloc, scribe?)
+}
+
+/// Whether three chapters are settled where the recording is ended so often.
+fn are_settled(alloc: Global, ends: usize, ending: Ending) -> bool {
+    match found_of(alloc, 10_000, ends) {
+        Some((calls, fault, said, _length)) => {
+            (calls, fault, said) == (16, None, Ok(Settled { calls: 16, ending }))
+        }
+        None => false,
+    }
 }
 
 #[test]
 fn a_recording_is_settled_by_an_audit(rt: HostRuntime) {
-    let settled = match found_of_some(rt.alloc()) {
-        Some((calls, fault, said, _length)) => (calls, fault, said) == (16, None, Ok(16)),
-        None => false,
-    };
-    assert!(rt; settled);
+    assert!(rt; are_settled(rt.alloc(), 0, Ending::Open));
 }
 
-/// What is found of three chapters on a disk of so much room.
-fn found_of(alloc: Global, room: usize) -> Option<Found> {
-    let mut scribe = recording(alloc, room).ok()?;
-    if give_three(alloc, &mut scribe) {
-        return found(alloc, scribe);
-    }
-    None
+#[test]
+fn a_recording_that_was_ended_says_so(rt: HostRuntime) {
+    assert!(rt; are_settled(rt.alloc(), 1, Ending::Ended));
+}
+
+#[test]
+fn the_second_end_changes_nothing(rt: HostRuntime) {
+    assert!(rt; are_settled(rt.alloc(), 2, Ending::Ended));
+}
+
+/// The length of the file of three chapters without an end mark.
+fn whole(alloc: Global) -> Option<usize> {
+    let (_calls, _fault, _said, length) = found_of(alloc, 10_000, 0)?;
+    Some(length)
+}
+
+/// What is found where the disk has room for three chapters and ten bytes of the end mark.
+fn cut_in_the_mark(alloc: Global) -> Option<Found> {
+    let whole = whole(alloc)?;
+    let (calls, fault, said, length) = found_of(alloc, whole.saturating_add(10), 1)?;
+    Some((calls, fault, said, length.saturating_sub(whole)))
+}
+
+#[test]
+fn a_full_disk_ends_a_recording_inside_the_end_mark(rt: HostRuntime) {
+    let wanted = (
+        16,
+        Some(RecordFault::Write),
+        Err(AuditFault::Cut(16)),
+        10usize,
+    );
+    assert!(rt; cut_in_the_mark(rt.alloc()) == Some(wanted));
 }
 
 #[test]
@@ -87,7 +122,7 @@ fn a_full_disk_ends_a_recording_inside_a_chapter(rt: HostRuntime) {
         Err(AuditFault::Cut(7)),
         300usize,
     );
-    assert!(rt; found_of(rt.alloc(), 300) == Some(wanted));
+    assert!(rt; found_of(rt.alloc(), 300, 1) == Some(wanted));
 }
 
 #[test]
@@ -99,5 +134,6 @@ fn a_disk_without_room_has_no_recording(rt: HostRuntime) {
 fn no_recording_is_a_scribe_too(rt: HostRuntime) {
     let mut scribe: Option<Recording<Narrow>> = None;
     let given = give_three(rt.alloc(), &mut scribe);
+    end_recording(&mut scribe);
     assert!(rt; given && scribe.is_none());
 }

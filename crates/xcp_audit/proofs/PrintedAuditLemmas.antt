@@ -7,6 +7,8 @@ use Rattle.xcp_memory.specs.Layout.{LayoutValue}
 use Rattle.xcp_slave.specs.SlaveValue.{SlaveValue, opening}
 use Rattle.xcp_trace.specs.declared.Entry.{Entry}
 use Rattle.xcp_record.specs.declared.AuditFault.{AuditFault}
+use Rattle.xcp_record.specs.declared.Ending.{Ending}
+use Rattle.xcp_record.specs.declared.Settled.{Settled}
 use Rattle.xcp_record.specs.Audit.{Audits, Hears, HoldsRun, SaysSettled}
 use Rattle.xcp_program.specs.declared.Fault.{Fault}
 use Rattle.xcp_audit.specs.CallLine.{lines_of}
@@ -14,18 +16,18 @@ use Rattle.xcp_audit.specs.Printing.{Prints, Stand}
 use Rattle.xcp_audit.specs.PrintedAudit.{PrintsAudit, Reading, ReadsTo, answer_after, end_of}
 use Rattle.xcp_audit.specs.private.PrintingLaws.{prints_more}
 
-pub prints_audit : (config digest : List ℕ) (layout : LayoutValue) (slave : SlaveValue) (before after : Reading) (lines : Bool) (old mid new : Stand) (said : Result ℕ AuditFault) (result : Result (Unit {0}) Fault)
+pub prints_audit : (config digest : List ℕ) (layout : LayoutValue) (slave : SlaveValue) (before after : Reading) (lines : Bool) (old mid new : Stand) (said : Result Settled AuditFault) (result : Result (Unit {0}) Fault)
     → digest ≡ sha256 config → slave ≡ opening layout
     → (read : List ℕ) × Consumes before.left after.left read × Audits digest slave (IsAtEnd after.left) read said × (calls : List Entry) × Prints old mid (if lines then lines_of calls else []) × Hears digest read said calls
-    → IfSome before.left (λ all. (n : ℕ) → HoldsRun digest slave all n → SaysSettled n said) → ReadsTo before after said → Prints mid new (end_of said) → result ≡ answer_after new.trouble said
+    → IfSome before.left (λ all. (n : ℕ) (ending : Ending) → HoldsRun digest slave all n ending → SaysSettled n ending said) → ReadsTo before after said → Prints mid new (end_of said) → result ≡ answer_after new.trouble said
     → PrintsAudit config layout before after lines old new result
 prints_audit config digest layout slave before after lines old mid new said result digested opened audited settles reads ended answered = record {
   said = said;
   read = audited.0;
   consumed = audited.1;
   audits = subst (λ d. Audits d (opening layout) (IsAtEnd after.left) audited.0 said) digested (subst (λ v. Audits digest v (IsAtEnd after.left) audited.0 said) opened audited.2);
-  settles = subst (λ d. IfSome before.left (λ all. (n : ℕ) → HoldsRun d (opening layout) all n → SaysSettled n said)) digested
-      (subst (λ v. IfSome before.left (λ all. (n : ℕ) → HoldsRun digest v all n → SaysSettled n said)) opened settles);
+  settles = subst (λ d. IfSome before.left (λ all. (n : ℕ) (ending : Ending) → HoldsRun d (opening layout) all n ending → SaysSettled n ending said)) digested
+      (subst (λ v. IfSome before.left (λ all. (n : ℕ) (ending : Ending) → HoldsRun digest v all n ending → SaysSettled n ending said)) opened settles);
   reads = reads;
   calls = audited.3;
   hears = subst (λ d. Hears d audited.0 said audited.3) digested audited.5;

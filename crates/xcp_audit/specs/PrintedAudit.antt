@@ -5,6 +5,9 @@ use Rattle.sha2.specs.Sha256.{sha256}
 use Rattle.xcp_memory.specs.Layout.{LayoutValue}
 use Rattle.xcp_slave.specs.SlaveValue.{opening}
 use Rattle.xcp_trace.specs.declared.Entry.{Entry}
+use Rattle.xcp_record.specs.declared.Ending.{Ending}
+use Rattle.xcp_record.specs.declared.Ending.TheVariants as endings
+use Rattle.xcp_record.specs.declared.Settled.{Settled}
 use Rattle.xcp_record.specs.declared.AuditFault.{AuditFault}
 use Rattle.xcp_record.specs.declared.AuditFault.TheVariants as found
 use Rattle.xcp_record.specs.Audit.{Audits, Hears, HoldsRun, SaysSettled}
@@ -15,17 +18,22 @@ use Rattle.xcp_audit.specs.declared.printer.Trouble.TheVariants as troubles
 use Rattle.xcp_audit.specs.CallLine.{lines_of}
 use Rattle.xcp_audit.specs.Printing.{Prints, Stand}
 
+-- that a whole file is settled, and how it ends
+abbrev pub settled_in : Ending → List ℕ
+settled_in endings.Ended = codes "\nsettled\nended\n"
+settled_in endings.Open = codes "\nsettled\nopen\n"
+
 -- the lines behind those of the calls, by what the audit says
-abbrev pub end_of : Result ℕ AuditFault → List ℕ
-end_of (Ok n) = codes "calls " ++ decimal n ++ codes "\nsettled\n"
+abbrev pub end_of : Result Settled AuditFault → List ℕ
+end_of (Ok s) = codes "calls " ++ decimal s.calls ++ settled_in s.ending
 end_of (Err (found.Cut n)) = codes "calls " ++ decimal n ++ codes "\n"
 end_of (Err (found.Altered n)) = codes "calls " ++ decimal n ++ codes "\n"
 end_of (Err (found.TooLong n)) = codes "calls " ++ decimal n ++ codes "\n"
 end_of (Err e) = []
 
 -- what is answered, likewise
-abbrev pub verdict_of : Result ℕ AuditFault → Result (Unit {0}) Fault
-verdict_of (Ok n) = Ok tt
+abbrev pub verdict_of : Result Settled AuditFault → Result (Unit {0}) Fault
+verdict_of (Ok s) = Ok tt
 verdict_of (Err found.Read) = Err (faults.Journal 1)
 verdict_of (Err found.Memory) = Err faults.Memory
 verdict_of (Err (found.Mismatch i)) = Err (faults.MismatchedCall i)
@@ -36,7 +44,7 @@ verdict_of (Err found.Foreign) = Err (faults.Journal 6)
 verdict_of (Err (found.TooLong n)) = Err (faults.Journal 6)
 
 -- the printer's trouble comes first
-abbrev pub answer_after : Option Trouble → Result ℕ AuditFault → Result (Unit {0}) Fault
+abbrev pub answer_after : Option Trouble → Result Settled AuditFault → Result (Unit {0}) Fault
 answer_after (Some troubles.Write) said = Err (faults.Stream 2)
 answer_after (Some troubles.Memory) said = Err faults.Memory
 answer_after None said = verdict_of said
@@ -47,18 +55,18 @@ pub record Reading : Type 0 where
   pub failures : ℕ
 
 -- a read failed exactly where the audit says so
-pub record ReadsTo (old new : Reading) (said : Result ℕ AuditFault) : Type 0 where
+pub record ReadsTo (old new : Reading) (said : Result Settled AuditFault) : Type 0 where
   pub failed : said ≡ Err found.Read → old.failures < new.failures
   pub unfailed : said ≢ Err found.Read → new.failures ≡ old.failures
 
 -- An audit of a file by a new slave of this layout, whose file has these bytes. What it says is printed, and where lines are wanted the
 -- lines of its calls before that; then it is answered.
 pub record PrintsAudit (config : List ℕ) (layout : LayoutValue) (before after : Reading) (lines : Bool) (old new : Stand) (result : Result (Unit {0}) Fault) : Type 0 where
-  pub said : Result ℕ AuditFault
+  pub said : Result Settled AuditFault
   pub read : List ℕ
   pub consumed : Consumes before.left after.left read
   pub audits : Audits (sha256 config) (opening layout) (IsAtEnd after.left) read said
-  pub settles : IfSome before.left (λ all. (n : ℕ) → HoldsRun (sha256 config) (opening layout) all n → SaysSettled n said)
+  pub settles : IfSome before.left (λ all. (n : ℕ) (ending : Ending) → HoldsRun (sha256 config) (opening layout) all n ending → SaysSettled n ending said)
   pub reads : ReadsTo before after said
   pub calls : List Entry
   pub hears : Hears (sha256 config) read said calls

@@ -5,9 +5,10 @@ ghost use Rattle.xcp_slave.specs.SlaveValue.{SlaveValue};
 ghost use Rattle.xcp_trace.specs.declared.Entry.{Entry};
 ghost use Rattle.xcp_program.specs.Beginning.{Begins};
 ghost use Rattle.xcp_record.specs.Audit.{Audits, Hears, HoldsRun, SaysSettled};
+ghost use Rattle.xcp_record.specs.declared.Ending.{Ending};
 ghost use Rattle.xcp_audit.specs.CallLine.{lines_of};
 ghost use Rattle.xcp_audit.specs.Printing.{Prints, stand_of};
-ghost use Rattle.xcp_audit.specs.PrintedAudit.{PrintsAudit, ReadsTo, answer_after, end_of, verdict_of};
+ghost use Rattle.xcp_audit.specs.PrintedAudit.{PrintsAudit, ReadsTo, answer_after, end_of, settled_in, verdict_of};
 
 use crate::printer::{Printer, Trouble};
 use sha2::{Digest, Sha256};
@@ -16,12 +17,12 @@ use std::io::{Read, Write};
 use xcp_framing::Watched;
 use xcp_memory::Layout;
 use xcp_program::Fault;
-use xcp_record::{AuditFault, Silent, audit};
+use xcp_record::{AuditFault, Ending, Settled, Silent, audit};
 use xcp_slave::Slave;
 
 /// Executes the calls of a journal's file again, on a new slave of this layout, which the text of the layout file describes,
-/// with the stored pages of a file or with its own, and prints what came of it: `calls N` and `settled`, or `calls N` where
-/// the file has an end behind so many good calls; before that each call as a line, where lines are wanted.
+/// with the stored pages of a file or with its own, and prints what came of it: `calls N`, `settled`, and `ended` or `open`, or `calls N`
+/// where the file isn't whole behind so many good calls; before that each call as a line, where lines are wanted.
 ///
 /// Faults: `Stream(2)` where a write failed; `Memory` at any place; `MismatchedCall`; `Journal`, 1 and 3 to 6.
 pub fn print_audit<R: Read, W: Write>(
@@ -61,7 +62,7 @@ fn audited<R: Read, W: Write>(
     reader: &mut Watched<R>,
     printer: &mut Printer<W>,
     lines: bool,
-) -> Result<u64, AuditFault>
+) -> Result<Settled, AuditFault>
     ensures audits { (read : List ℕ)
         × Consumes (R.remaining reader.old.inner) (R.remaining reader.new.inner) read
         × Audits layout.now slave (IsAtEnd (R.remaining reader.new.inner)) read result
@@ -71,8 +72,8 @@ fn audited<R: Read, W: Write>(
         × Hears layout.now read result calls }
     ensures unfailed { result ≢ Err AuditFault.Read → reader.new.failures ≡ reader.old.failures }
     ensures failed { result ≡ Err AuditFault.Read → reader.old.failures < reader.new.failures }
-    ensures settles { IfSome (R.remaining reader.old.inner) (λ all. (n : ℕ)
-        → HoldsRun layout.now slave all n → SaysSettled n result) }
+    ensures settles { IfSome (R.remaining reader.old.inner) (λ all. (n : ℕ) (ending : Ending)
+        → HoldsRun layout.now slave all n ending → SaysSettled n ending result) }
 {
     if lines {
         audit(alloc, slave, layout, reader, printer)
@@ -82,7 +83,7 @@ fn audited<R: Read, W: Write>(
 }
 
 /// Prints the lines at the end.
-fn print_end<W: Write>(alloc: Global, said: &Result<u64, AuditFault>, printer: &mut Printer<W>)
+fn print_end<W: Write>(alloc: Global, said: &Result<Settled, AuditFault>, printer: &mut Printer<W>)
     ensures { Prints (stand_of W.contents printer.old) (stand_of W.contents printer.new)
         (end_of said.now) }
 {
@@ -93,18 +94,25 @@ fn print_end<W: Write>(alloc: Global, said: &Result<u64, AuditFault>, printer: &
 }
 
 /// The lines at the end.
-fn end_of(alloc: Global, said: &Result<u64, AuditFault>) -> Result<String, AllocError>
+fn end_of(alloc: Global, said: &Result<Settled, AuditFault>) -> Result<String, AllocError>
     ensures { IfOk result (λ text. string_bytes text ≡ end_of said.now) }
 {
     match said {
-        Ok(calls) => {
-            let calls = *calls;
-            format!(in alloc; "calls {calls}\nsettled\n")
-        }
+        Ok(settled) => settled_of(alloc, settled.calls, settled.ending),
         Err(AuditFault::Cut(calls)) => count_of(alloc, *calls),
         Err(AuditFault::Altered(calls)) => count_of(alloc, *calls),
         Err(AuditFault::TooLong(calls)) => count_of(alloc, *calls),
         Err(_) => Ok(String::new(alloc)),
+    }
+}
+
+/// The lines that say how many calls are settled, and how the file ends.
+fn settled_of(alloc: Global, calls: u64, ending: Ending) -> Result<String, AllocError>
+    ensures { IfOk result (λ text. string_bytes text ≡ codes "calls " ++ decimal calls ++ settled_in ending) }
+{
+    match ending {
+        Ending::Ended => format!(in alloc; "calls {calls}\nsettled\nended\n"),
+        Ending::Open => format!(in alloc; "calls {calls}\nsettled\nopen\n"),
     }
 }
 
@@ -116,7 +124,7 @@ fn count_of(alloc: Global, calls: u64) -> Result<String, AllocError>
 }
 
 /// What is answered, by what the audit says.
-fn verdict_of(said: Result<u64, AuditFault>) -> Result<(), Fault>
+fn verdict_of(said: Result<Settled, AuditFault>) -> Result<(), Fault>
     ensures { result ≡ verdict_of said }
 {
     match said {

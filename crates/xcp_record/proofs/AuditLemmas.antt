@@ -1,6 +1,6 @@
 -- How an audit goes on from chapter to chapter, and how it ends.
-use Rattle.std.proofs.Common.{inl, inr, ◌≡◌, ◌<◌, ℕ, ◌+◌, List, [], ◌∷◌, ◌++◌, map, refl, sym, ap, ◌∙◌, subst, arith, append-nil, length-append}
-use Rattle.std.specs.Prelude.{◌⊎◌, Some, Ok, Err}
+use Rattle.std.proofs.Common.{inl, inr, ◌≡◌, ◌<◌, ℕ, ◌+◌, List, [], ◌∷◌, ◌++◌, map, refl, sym, ap, ◌∙◌, subst, arith, append_assoc, append-nil, length-append}
+use Rattle.std.specs.Prelude.{◌⊎◌, Ok, Err}
 use Rattle.sha2.specs.declared.Sha256.{Sha256}
 use Rattle.sha2.specs.Hashers.{Holds256}
 use Rattle.xcp_slave.specs.Run.{Run}
@@ -11,14 +11,16 @@ use Rattle.xcp_record.specs.declared.fault.AuditFault.{AuditFault}
 use Rattle.xcp_record.specs.declared.fault.AuditFault.TheVariants as audits
 use Rattle.xcp_record.specs.declared.chapter.ChapterFault.{ChapterFault}
 use Rattle.xcp_record.specs.declared.chapter.ChapterFault.TheVariants as faults
-use Rattle.xcp_record.specs.FileFormat.{head}
-use Rattle.xcp_record.specs.JournalFile.{IsFile, IsNoChapter, calls_of, exchanges}
-use Rattle.xcp_record.specs.Audit.{Audits, Differs, Mismatches, Settles}
-use Rattle.xcp_record.specs.private.ReadChapter.{Checks, IsRead, ReadsNext, ReadsParts, fault_after}
+use Rattle.xcp_record.specs.declared.ending.Ending.{Ending}
+use Rattle.xcp_record.specs.declared.auditing.Part.TheVariants as parts
+use Rattle.xcp_record.specs.FileFormat.{ending_in, head, mark_head}
+use Rattle.xcp_record.specs.JournalFile.{IsFile, IsNoChapter, IsNoEnd, IsNoPart, calls_of, exchanges}
+use Rattle.xcp_record.specs.Audit.{Audits, Differs, Mismatches}
+use Rattle.xcp_record.specs.private.ReadChapter.{Checks, IsRead, ReadsMark, ReadsNext, ReadsParts, fault_after}
 use Rattle.xcp_record.specs.private.ReadHead.{ReadsHead}
 use Rattle.xcp_record.specs.private.Stands.{Stands}
 use Rattle.xcp_record.proofs.FileLemmas.{calls_more, file_begins, mismatch_more, settles_more}
-use Rattle.xcp_record.proofs.FormatLemmas.{too_large}
+use Rattle.xcp_record.proofs.MarkLemmas.{large_no_part, mark_no_chapter}
 
 -- what stands in a head's place ends the audit
 pub no_head_said : (layout : List ℕ) (v : SlaveValue) (End : Type 0) (read : List ℕ) (hasher : Sha256) (fault : AuditFault) → ReadsHead layout End read hasher (Err fault) → Audits layout v End read (Err fault)
@@ -61,18 +63,18 @@ stands_more layout v w slave Read Next Told More hasher more number n count read
 
 -- how the next chapter's fault ends it
 pub ends : (layout : List ℕ) (v slave : SlaveValue) (Read : List ℕ → Type 0) (Told : List Entry → Type 0) (End : Type 0) (hasher more : Sha256) (number n : ℕ) (read calls : List ℕ) (fault : ChapterFault)
-    → (s : Stands layout v Read Told hasher slave number n) → ReadsNext number s.read End read calls more (Err fault) → Audits layout v End (s.read ++ read) (Err (fault_after n fault))
+    → (s : Stands layout v Read Told hasher slave number n) → ReadsNext number n s.read End read calls more (Err fault) → Audits layout v End (s.read ++ read) (Err (fault_after n fault))
 ends layout v slave Read Told End hasher more number n read calls faults.Cut s h = (h.0, record { before = s.read; rest = read; joined = refl; settled = s.settled; why = (h.1, h.2) })
 ends layout v slave Read Told End hasher more number n read calls faults.Altered s h =
-    record { before = s.read; rest = read; joined = refl; settled = s.settled; why = subst (λ k. IsNoChapter k s.read read) (sym s.numbered) h }
+    record { before = s.read; rest = read; joined = refl; settled = s.settled; why = subst (λ k. IsNoPart n k s.read read) (sym s.numbered) h }
 ends layout v slave Read Told End hasher more number n read calls faults.Read s h = tt
 ends layout v slave Read Told End hasher more number n read calls faults.Memory s h = tt
 
 -- the end of the file
-pub ends_settled : (layout : List ℕ) (v slave : SlaveValue) (Read : List ℕ → Type 0) (Told : List Entry → Type 0) (End : Type 0) (hasher : Sha256) (number n : ℕ) (read : List ℕ)
-    → (s : Stands layout v Read Told hasher slave number n) → End → read ≡ [] → Audits layout v End (s.read ++ read) (Ok n)
-ends_settled layout v slave Read Told End hasher number n read s end none =
-    (end, subst (λ b. Settles layout v b n) (sym (ap (λ b. s.read ++ b) none ∙ append-nil s.read)) s.settled)
+pub ends_settled : (layout : List ℕ) (v slave : SlaveValue) (Read : List ℕ → Type 0) (Told : List Entry → Type 0) (End : Type 0) (hasher : Sha256) (number n : ℕ) (read : List ℕ) (ending : Ending)
+    → (s : Stands layout v Read Told hasher slave number n) → End → read ≡ ending_in s.read n ending → Audits layout v End (s.read ++ read) (Ok (record { calls = n; ending = ending }))
+ends_settled layout v slave Read Told End hasher number n read ending s end is =
+    (end, record { before = s.read; settled = s.settled; whole = ap (λ b. s.read ++ b) is })
 
 -- a call that differs
 pub ends_mismatch : (layout : List ℕ) (v slave : SlaveValue) (Read : List ℕ → Type 0) (Told : List Entry → Type 0) (End : Type 0) (hasher : Sha256) (number n count i place : ℕ) (read calls : List ℕ)
@@ -88,22 +90,35 @@ ends_too_long layout v slave Read Told End hasher number n s many =
     record { before = s.read; rest = []; joined = sym (append-nil s.read); settled = s.settled; why = (let k = s.numbered in omega (arith, k, many)) }
 
 -- what the next chapter's parts say
-pub parts_fault : (End : Type 0) (first calls digest read left before : List ℕ) (number : ℕ) (hasher : Sha256) (fault : ChapterFault) → ReadsParts End first calls digest read (Err fault)
-    → ReadsNext number before End read left hasher (Err fault)
-parts_fault End first calls digest read left before number hasher faults.Cut h = h
-parts_fault End first calls digest read left before number hasher faults.Altered h = too_large before number read h.0 h.1
-parts_fault End first calls digest read left before number hasher faults.Read h = tt
-parts_fault End first calls digest read left before number hasher faults.Memory h = tt
+pub parts_fault : (End : Type 0) (first calls digest read left before : List ℕ) (number n : ℕ) (hasher : Sha256) (fault : ChapterFault) → ReadsParts End first calls digest read (Err fault)
+    → ReadsNext number n before End read left hasher (Err fault)
+parts_fault End first calls digest read left before number n hasher faults.Cut h = h
+parts_fault End first calls digest read left before number n hasher faults.Altered h = large_no_part before number n read h.0 h.1
+parts_fault End first calls digest read left before number n hasher faults.Read h = tt
+parts_fault End first calls digest read left before number n hasher faults.Memory h = tt
+
+-- and those of an end mark
+pub mark_fault : (End : Type 0) (first rest whole more left before : List ℕ) (number n : ℕ) (hasher : Sha256) (fault : ChapterFault) → first ≡ mark_head → whole ≡ first ++ rest → ReadsMark n before End (whole ++ more) (Err fault)
+    → ReadsNext number n before End (whole ++ more) left hasher (Err fault)
+mark_fault End first rest whole more left before number n hasher faults.Altered begins is said = (
+  subst (IsNoChapter number before) (sym (ap (λ b. b ++ more) is ∙ append_assoc first rest more)) (mark_no_chapter before number first (rest ++ more) begins),
+  said,
+)
+mark_fault End first rest whole more left before number n hasher faults.Memory begins is said = tt
+mark_fault End first rest whole more left before number n hasher faults.Read begins is said = tt
+mark_fault End first rest whole more left before number n hasher faults.Cut begins is said = absurd said
 
 -- and its check
-pub check_said : (End : Type 0) (read whole calls before : List ℕ) (number count : ℕ) (hasher : Sha256) → read ≡ whole → Checks number before whole calls hasher (Ok count) → ReadsNext number before End read calls hasher (Ok (Some count))
-check_said End read whole calls before number count hasher is said = subst (λ b. IsRead number before b calls count × Holds256 hasher (before ++ b)) (sym is) said
+pub check_said : (End : Type 0) (read whole calls before : List ℕ) (number n count : ℕ) (hasher : Sha256) → read ≡ whole → Checks number before whole calls hasher (Ok count)
+    → ReadsNext number n before End read calls hasher (Ok (parts.Chapter count))
+check_said End read whole calls before number n count hasher is said = subst (λ b. IsRead number before b calls count × Holds256 hasher (before ++ b)) (sym is) said
 
-pub check_fault : (End : Type 0) (read whole calls before : List ℕ) (number : ℕ) (hasher : Sha256) (fault : ChapterFault) → read ≡ whole → Checks number before whole calls hasher (Err fault) → ReadsNext number before End read calls hasher (Err fault)
-check_fault End read whole calls before number hasher faults.Altered is said = subst (λ b. IsNoChapter number before b) (sym is) said
-check_fault End read whole calls before number hasher faults.Memory is said = tt
-check_fault End read whole calls before number hasher faults.Cut is said = absurd said
-check_fault End read whole calls before number hasher faults.Read is said = absurd said
+pub check_fault : (End : Type 0) (read whole calls before : List ℕ) (number n : ℕ) (hasher : Sha256) (fault : ChapterFault) → read ≡ whole → IsNoEnd n before whole → Checks number before whole calls hasher (Err fault)
+    → ReadsNext number n before End read calls hasher (Err fault)
+check_fault End read whole calls before number n hasher faults.Altered is other said = subst (λ b. IsNoPart n number before b) (sym is) (said, other)
+check_fault End read whole calls before number n hasher faults.Memory is other said = tt
+check_fault End read whole calls before number n hasher faults.Cut is other said = absurd said
+check_fault End read whole calls before number n hasher faults.Read is other said = absurd said
 
 -- a failed read, or no memory
 pub parts_lost : (End : Type 0) (first calls digest read : List ℕ) (fault : ChapterFault) → (fault ≡ faults.Read) ⊎ (fault ≡ faults.Memory) → ReadsParts End first calls digest read (Err fault)

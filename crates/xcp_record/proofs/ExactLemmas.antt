@@ -19,12 +19,16 @@ use Rattle.xcp_trace.specs.Tape.{spelt}
 use mathlib.Core.List.{IsPrefix}
 use Rattle.xcp_record.specs.declared.fault.AuditFault.{AuditFault}
 use Rattle.xcp_record.specs.declared.fault.AuditFault.TheVariants as faults
-use Rattle.xcp_record.specs.FileFormat.{chapter_bytes, chapter_head, chapter_in, head, size_in}
-use Rattle.xcp_record.specs.JournalFile.{EndsInside, IsChapter, IsFile, IsNoChapter, calls_of, exchanges}
+use Rattle.xcp_record.specs.declared.ending.Ending.{Ending}
+use Rattle.xcp_record.specs.declared.ending.Ending.TheVariants as endings
+use Rattle.xcp_record.specs.declared.ending.Settled.{Settled}
+use Rattle.xcp_record.specs.FileFormat.{chapter_bytes, chapter_head, chapter_in, ending_in, head, mark_in, size_in}
+use Rattle.xcp_record.specs.JournalFile.{EndsInside, IsChapter, IsNoPart, IsWhole, calls_of, exchanges}
 use Rattle.xcp_record.specs.Audit.{Audits, Differs, HoldsRun, IsForeign, SaysSettled, SettlesUpTo}
-use Rattle.xcp_record.proofs.TapeLemmas.{nothing}
+use Rattle.xcp_record.proofs.TapeLemmas.{append_same, nothing}
 use Rattle.xcp_record.proofs.FormatLemmas.{chapter_short, file_head_length, head_length, sha256_length, size_front}
-use Rattle.xcp_record.proofs.ReadBackLemmas.{GoesOn, behind, file_goes_on, grows, one_layout, read_back}
+use Rattle.xcp_record.proofs.MarkLemmas.{no_ending_inside}
+use Rattle.xcp_record.proofs.ReadBackLemmas.{GoesOn, behind, file_goes_on, one_layout, read_back_whole, whole_begins}
 
 abbrev Single : Type 0
 Single = (v : SlaveValue) (q : Request) (a b : Answer) (w u : SlaveValue) → Answers v q a w → Answers v q b u → (a ≡ b) × (w ≡ u)
@@ -60,14 +64,16 @@ head_front layout read left more is h (inr long) =
     (drop 38 read, ap (λ b. b ++ drop 38 read) (sym front) ∙ take-append-drop 38 read)
 
 -- nor is the file of a run cut
-not_cut : (before rest : List ℕ) (n : ℕ) (tail : List (List (List ℕ))) → AllByRecursion IsChapter tail → rest ≡ behind before n tail → 0 < length rest → EndsInside rest → ⊥
-not_cut before rest n [] each h some ends = let e = ap length h in absurd (omega (arith, e, some))
-not_cut before rest n (t ∷ tail) each h some ends =
+not_cut : (other : List ℕ) (m : ℕ) (ending : Ending) (before rest : List ℕ) (n : ℕ) (tail : List (List (List ℕ))) → AllByRecursion IsChapter tail → rest ≡ behind before n tail ++ ending_in other m ending
+    → 0 < length rest → EndsInside rest → ⊥
+not_cut other m ending before rest n [] each h some ends = no_ending_inside other rest m ending h some ends
+not_cut other m ending before rest n (t ∷ tail) each h some ends =
     let first = chapter_head n (length t) (length (spelt t)) in
     let sum = sha256 (before ++ chapter_bytes n t) in
-    let more = behind (before ++ chapter_in before n t) (suc n) tail in
+    let others = behind (before ++ chapter_in before n t) (suc n) tail in
+    let more = others ++ ending_in other m ending in
     let short = chapter_short t each.0 in
-    let split : rest ≡ first ++ (spelt t ++ (sum ++ more)) = h ∙ append_assoc (first ++ spelt t) sum more ∙ append_assoc first (spelt t) (sum ++ more) in
+    let split : rest ≡ first ++ (spelt t ++ (sum ++ more)) = h ∙ append_assoc (chapter_in before n t) others (ending_in other m ending) ∙ append_assoc (first ++ spelt t) sum more ∙ append_assoc first (spelt t) (sum ++ more) in
     let size : size_in rest ≡ length (spelt t) = ap size_in split ∙ size_front n (length t) (length (spelt t)) (spelt t ++ (sum ++ more)) (omega (arith, short)) in
     let a = ap length split in
     let b = length-append first (spelt t ++ (sum ++ more)) in
@@ -78,63 +84,96 @@ not_cut before rest n (t ∷ tail) each h some ends =
     ends_not rest (length (spelt t)) size (omega (arith, a, b, c, d, e, f)) ends
 
 -- nor altered
-not_altered : (before rest left : List ℕ) (n : ℕ) (tail : List (List (List ℕ))) → AllByRecursion IsChapter tail → rest ++ left ≡ behind before n tail → IsNoChapter n before rest → ⊥
-not_altered before rest left n [] each h none =
+not_altered : (other : List ℕ) (m k : ℕ) (ending : Ending) (before rest left : List ℕ) (n : ℕ) (tail : List (List (List ℕ))) → AllByRecursion IsChapter tail
+    → rest ++ left ≡ behind before n tail ++ ending_in other m ending → (tail ≡ [] → (other ≡ before) × (m ≡ k)) → IsNoPart k n before rest → ⊥
+not_altered other m k endings.Open before rest left n [] each h same none =
     let e = ap length h ∙ refl in
     let l = length-append rest left in
     let no : rest ≡ [] = nothing rest (omega (arith, e, l)) in
-    none [] (chapter_in before n []) (record { each = tt; few = omega arith }) ([], append-nil (chapter_in before n []) ∙ ap (λ b. b ++ chapter_in before n []) (sym no))
-not_altered before rest left n (t ∷ tail) each h none =
-    none t left each.0 (behind (before ++ chapter_in before n t) (suc n) tail, sym h)
+    none.0 [] (chapter_in before n []) (record { each = tt; few = omega arith }) ([], append-nil (chapter_in before n []) ∙ ap (λ b. b ++ chapter_in before n []) (sym no))
+not_altered other m k endings.Ended before rest left n [] each h same none =
+    none.1 left (h ∙ ap (λ b. mark_in b m) (same refl).0 ∙ ap (mark_in before) (same refl).1)
+not_altered other m k ending before rest left n (t ∷ tail) each h same none =
+    let others = behind (before ++ chapter_in before n t) (suc n) tail in
+    none.0 t left each.0 (others ++ ending_in other m ending, sym (h ∙ append_assoc (chapter_in before n t) others (ending_in other m ending)))
+
+-- behind the last chapter stands the ending alone
+nothing_more : (before rest other end : List ℕ) (n : ℕ) (tail : List (List (List ℕ))) → before ++ rest ≡ other ++ end → rest ≡ behind before n tail ++ end → tail ≡ [] → other ≡ before
+nothing_more before rest other end n tail whole h none =
+    let is : rest ≡ end = h ∙ ap (λ t. behind before n t ++ end) none in
+    let same : before ++ end ≡ other ++ end = ap (λ r. before ++ r) (sym is) ∙ whole in
+    let e = ap length same in
+    let a = length-append before end in
+    let b = length-append other end in
+    sym (append_same before other end end (omega (arith, e, a, b)) same).0
 
 -- nor foreign
 not_foreign : (layout read left more : List ℕ) → length layout ≡ 32 → read ++ left ≡ head layout ++ more → IsForeign (left ≡ []) read → ⊥
 not_foreign layout read left more is h foreign = foreign.1 layout is (head_front layout read left more (file_head_length layout is) h foreign.0)
 
-from_front : (layout all read left : List ℕ) (v : SlaveValue) (n m : ℕ) (why : ℕ → List ℕ → List ℕ → Type 0) (holds : HoldsRun layout v all n) → all ≡ read ++ left → (up : SettlesUpTo layout v read m why)
-    → GoesOn up.before (up.rest ++ left) up.settled.chapters holds.settled.chapters
-from_front layout all read left v n m why holds h up =
-    let whole : all ≡ up.before ++ (up.rest ++ left) = h ∙ ap (λ b. b ++ left) up.joined ∙ append_assoc up.before up.rest left in
-    file_goes_on layout up.before (up.rest ++ left) up.settled.chapters holds.settled.chapters up.settled.file (subst (λ b. IsFile layout b holds.settled.chapters) whole holds.settled.file)
+-- the file that holds a run
+abbrev whole_of : (layout all bytes : List ℕ) (v : SlaveValue) (n : ℕ) (ending : Ending) (holds : HoldsRun layout v all n ending) → bytes ≡ all → IsWhole layout bytes holds.holds.settled.chapters ending
+whole_of layout all bytes v n ending holds same =
+    let before = holds.holds.before in
+    record { before = before; file = holds.holds.settled.file; whole = same ∙ holds.holds.whole ∙ ap (λ k. before ++ ending_in before k ending) (sym holds.holds.settled.count) }
 
--- of a file that holds a run an audit says that it is settled, unless a read failed or no memory was left
-pub exact : Single → (layout all read left : List ℕ) (v : SlaveValue) (n : ℕ) (result : Result ℕ AuditFault) → length layout ≡ 32 → all ≡ read ++ left → HoldsRun layout v all n
-    → Audits layout v (left ≡ []) read result → SaysSettled n result
-exact single layout all read left v n (Ok m) is h holds said =
+up_to : (layout all read left : List ℕ) (v : SlaveValue) (m : ℕ) (why : ℕ → List ℕ → List ℕ → Type 0) → all ≡ read ++ left → (up : SettlesUpTo layout v read m why) → up.before ++ (up.rest ++ left) ≡ all
+up_to layout all read left v m why h up = sym (h ∙ ap (λ b. b ++ left) up.joined ∙ append_assoc up.before up.rest left)
+
+from_front : (layout all read left : List ℕ) (v : SlaveValue) (n m : ℕ) (ending : Ending) (why : ℕ → List ℕ → List ℕ → Type 0) (holds : HoldsRun layout v all n ending) → all ≡ read ++ left → (up : SettlesUpTo layout v read m why)
+    → GoesOn up.before (up.rest ++ left) up.settled.chapters holds.holds.settled.chapters holds.holds.before ending
+from_front layout all read left v n m ending why holds h up =
+    file_goes_on layout up.before (up.rest ++ left) up.settled.chapters holds.holds.settled.chapters ending up.settled.file
+    (whole_of layout all (up.before ++ (up.rest ++ left)) v n ending holds (up_to layout all read left v m why h up))
+
+-- of a file that holds a run an audit says that it is settled, and how it ends, unless a read failed or no memory was left
+pub exact : Single → (layout all read left : List ℕ) (v : SlaveValue) (n : ℕ) (ending : Ending) (result : Result Settled AuditFault) → length layout ≡ 32 → all ≡ read ++ left → HoldsRun layout v all n ending
+    → Audits layout v (left ≡ []) read result → SaysSettled n ending result
+exact single layout all read left v n ending (Ok s) is h holds said =
     let whole : all ≡ read = h ∙ ap (λ b. read ++ b) said.0 ∙ append-nil read in
-    let same = read_back layout read said.1.chapters holds.settled.chapters said.1.file (subst (λ b. IsFile layout b holds.settled.chapters) whole holds.settled.file) in
-    sym said.1.count ∙ ap (λ cs. length (calls_of cs)) same ∙ holds.settled.count
-exact single layout all read left v n (Err (faults.Mismatch i)) is h holds said =
-    let on = file_goes_on layout read left said.chapters holds.settled.chapters said.file (subst (λ b. IsFile layout b holds.settled.chapters) h holds.settled.file) in
+    let to = said.1 in
+    let first : IsWhole layout read to.settled.chapters s.ending =
+    record { before = to.before; file = to.settled.file; whole = to.whole ∙ ap (λ k. to.before ++ ending_in to.before k s.ending) (sym to.settled.count) } in
+    let same = read_back_whole layout read to.settled.chapters holds.holds.settled.chapters s.ending ending first (whole_of layout all read v n ending holds (sym whole)) in
+    (sym to.settled.count ∙ ap (λ cs. length (calls_of cs)) same.0 ∙ holds.holds.settled.count, sym same.1)
+exact single layout all read left v n ending (Err (faults.Mismatch i)) is h holds said =
+    let chapters = holds.holds.settled.chapters in
+    let on = file_goes_on layout read left said.chapters chapters ending said.file (whole_of layout all (read ++ left) v n ending holds (sym h)) in
     let tail = map (λ chapter. map entry_in chapter) on.tail in
-    let calls : calls_of holds.settled.chapters ≡ calls_of said.chapters ++ calls_of tail = ap calls_of on.joined ∙ flat_map-append (λ c. c) said.chapters tail in
-    runs_agree single v holds.settled.last (calls_of said.chapters) (calls_of tail) i said.differs (subst (λ cs. Run v (exchanges cs) holds.settled.last) calls holds.settled.run)
-exact single layout all read left v n (Err (faults.Cut m)) is h holds said =
+    let calls : calls_of chapters ≡ calls_of said.chapters ++ calls_of tail = ap calls_of on.joined ∙ flat_map-append (λ c. c) said.chapters tail in
+    runs_agree single v holds.holds.settled.last (calls_of said.chapters) (calls_of tail) i said.differs (subst (λ cs. Run v (exchanges cs) holds.holds.settled.last) calls holds.holds.settled.run)
+exact single layout all read left v n ending (Err (faults.Cut m)) is h holds said =
     let up = said.1 in
-    let on = from_front layout all read left v n m _ holds h up in
+    let on = from_front layout all read left v n m ending _ holds h up in
     let rest : up.rest ++ left ≡ up.rest = ap (λ b. up.rest ++ b) said.0 ∙ append-nil up.rest in
-    not_cut up.before up.rest (length up.settled.chapters) on.tail on.each (sym rest ∙ on.bytes) up.why.0 up.why.1
-exact single layout all read left v n (Err (faults.Altered m)) is h holds said =
-    let on = from_front layout all read left v n m _ holds h said in
-    not_altered said.before said.rest left (length said.settled.chapters) on.tail on.each on.bytes said.why
-exact single layout all read left v n (Err (faults.TooLong m)) is h holds said =
-    let on = from_front layout all read left v n m _ holds h said in
+    not_cut holds.holds.before (length (calls_of holds.holds.settled.chapters)) ending up.before up.rest (length up.settled.chapters) on.tail on.each (sym rest ∙ on.bytes) up.why.0 up.why.1
+exact single layout all read left v n ending (Err (faults.Altered m)) is h holds said =
+    let on = from_front layout all read left v n m ending _ holds h said in
+    let other = holds.holds.before in
+    let calls = length (calls_of holds.holds.settled.chapters) in
+    let whole = whole_of layout all (said.before ++ (said.rest ++ left)) v n ending holds (up_to layout all read left v m _ h said) in
+    not_altered other calls m ending said.before said.rest left (length said.settled.chapters) on.tail on.each on.bytes
+    (λ none. (
+      nothing_more said.before (said.rest ++ left) other (ending_in other calls ending) (length said.settled.chapters) on.tail whole.whole on.bytes none,
+      ap (λ cs. length (calls_of cs)) (on.joined ∙ ap (λ t. said.settled.chapters ++ map (λ chapter. map entry_in chapter) t) none ∙ append-nil said.settled.chapters) ∙ said.settled.count,
+    )) said.why
+exact single layout all read left v n ending (Err (faults.TooLong m)) is h holds said =
+    let on = from_front layout all read left v n m ending _ holds h said in
     let a = ap length on.joined in
     let b = length-append said.settled.chapters (map (λ chapter. map entry_in chapter) on.tail) in
     let few = holds.few in
     let many = said.why in
     absurd (omega (arith, a, b, few, many))
-exact single layout all read left v n (Err faults.OtherLayout) is h holds said =
-    absurd (said.2 (sym (one_layout layout said.0 read left holds.settled.chapters is said.1 (subst (λ b. IsFile layout b holds.settled.chapters) h holds.settled.file) said.3)))
-exact single layout all read left v n (Err faults.Foreign) is h holds said =
-    let file = holds.settled.file in
-    absurd (not_foreign layout read left (behind (head layout) 0 file.strings) is (sym h ∙ file.whole ∙ grows (head layout) 0 file.strings) said)
-exact single layout all read left v n (Err faults.Read) is h holds said = tt
-exact single layout all read left v n (Err faults.Memory) is h holds said = tt
+exact single layout all read left v n ending (Err faults.OtherLayout) is h holds said =
+    absurd (said.2 (sym (one_layout layout said.0 read left holds.holds.settled.chapters ending is said.1 (whole_of layout all (read ++ left) v n ending holds (sym h)) said.3)))
+exact single layout all read left v n ending (Err faults.Foreign) is h holds said =
+    absurd (not_foreign layout read left _ is (sym h ∙ whole_begins layout all holds.holds.settled.chapters ending (whole_of layout all all v n ending holds refl)) said)
+exact single layout all read left v n ending (Err faults.Read) is h holds said = tt
+exact single layout all read left v n ending (Err faults.Memory) is h holds said = tt
 
 -- the same of a reader whose bytes are known
-pub settles_known : Single → (old new : Option (List ℕ)) (layout read : List ℕ) (v : SlaveValue) (result : Result ℕ AuditFault) → length layout ≡ 32 → Consumes old new read
-    → Audits layout v (IsAtEnd new) read result → IfSome old (λ all. (n : ℕ) → HoldsRun layout v all n → SaysSettled n result)
+pub settles_known : Single → (old new : Option (List ℕ)) (layout read : List ℕ) (v : SlaveValue) (result : Result Settled AuditFault) → length layout ≡ 32 → Consumes old new read
+    → Audits layout v (IsAtEnd new) read result → IfSome old (λ all. (n : ℕ) (ending : Ending) → HoldsRun layout v all n ending → SaysSettled n ending result)
 settles_known single None new layout read v result is consumed said = tt
 settles_known single (Some all) None layout read v result is consumed said = absurd consumed
-settles_known single (Some all) (Some left) layout read v result is consumed said = λ n holds. exact single layout all read left v n result is consumed holds said
+settles_known single (Some all) (Some left) layout read v result is consumed said = λ n ending holds. exact single layout all read left v n ending result is consumed holds said

@@ -1,5 +1,5 @@
 -- Which calls a witness has heard when an audit ends.
-use Rattle.std.proofs.Common.{◌≡◌, ℕ, suc, ◌+◌, List, [], ◌∷◌, ◌++◌, length, map, take, refl, sym, ap, ◌∙◌, subst, arith, append-nil, inl, inr}
+use Rattle.std.proofs.Common.{◌≡◌, ℕ, suc, ◌+◌, List, [], ◌∷◌, ◌++◌, length, map, take, refl, sym, ap, ◌∙◌, arith, append-nil, inl, inr}
 use Rattle.std.specs.Prelude.{Err, Ok}
 use Rattle.std.proofs.Math.Seq.{take-append-add}
 use Rattle.sha2.specs.declared.Sha256.{Sha256}
@@ -10,7 +10,8 @@ use Rattle.xcp_record.specs.declared.fault.AuditFault.{AuditFault}
 use Rattle.xcp_record.specs.declared.fault.AuditFault.TheVariants as audits
 use Rattle.xcp_record.specs.declared.chapter.ChapterFault.{ChapterFault}
 use Rattle.xcp_record.specs.declared.chapter.ChapterFault.TheVariants as faults
-use Rattle.xcp_record.specs.FileFormat.{chapter_in}
+use Rattle.xcp_record.specs.declared.ending.Ending.{Ending}
+use Rattle.xcp_record.specs.FileFormat.{chapter_in, ending_in}
 use Rattle.xcp_record.specs.JournalFile.{calls_of}
 use Rattle.xcp_record.specs.Audit.{HasCalls, HasCallsUpTo, Hears}
 use Rattle.xcp_record.specs.private.ReadChapter.{IsRead, fault_after}
@@ -44,8 +45,8 @@ module _ (layout : List ℕ) (v slave : SlaveValue) (Read : List ℕ → Type 0)
   up_to read all is = record { before = s.read; rest = read; joined = is; has = whole; count = s.settled.count }
 
   -- of the whole file
-  pub hears_all : (read : List ℕ) → read ≡ [] → Hears layout (s.read ++ read) (Ok n) (calls_of s.settled.chapters)
-  hears_all read none = subst (λ b. HasCalls layout b (calls_of s.settled.chapters)) (sym (ap (λ b. s.read ++ b) none ∙ append-nil s.read)) whole
+  pub hears_all : (read : List ℕ) (ending : Ending) → read ≡ ending_in s.read n ending → Hears layout (s.read ++ read) (Ok (record { calls = n; ending = ending })) (calls_of s.settled.chapters)
+  hears_all read ending is = record { before = s.read; has = whole; count = s.settled.count; whole = ap (λ b. s.read ++ b) is }
 
   -- up to the next chapter
   pub hears_before : (read : List ℕ) (fault : ChapterFault) → Hears layout (s.read ++ read) (Err (fault_after n fault)) (calls_of s.settled.chapters)

@@ -1,5 +1,6 @@
 mod TapeLemmas
 mod FormatLemmas
+mod MarkLemmas
 mod FileLemmas
 mod CallLemmas
 mod ReadBackLemmas

@@ -4,15 +4,16 @@ use Rattle.std.specs.Prelude.{Option, Result, Ok, Err, OnErr}
 use Rattle.std.specs.Io.KnownBytes.{Appends}
 use Rattle.std.proofs.KnownBytes.{Appends-nil, Appends-trans}
 use Rattle.std.proofs.lemmas.List.{length-map}
+use Rattle.std.specs.Int.{w64, to_le_bytes}
 use Rattle.sha2.specs.declared.Sha256.{Sha256}
 use Rattle.sha2.specs.Sha256.{sha256}
 use Rattle.xcp_trace.specs.declared.Entry.{Entry}
 use Rattle.xcp_trace.specs.EntryBytes.{SpellEntries}
 use Rattle.xcp_trace.specs.EntrySpelling.{entry_in}
 use Rattle.xcp_framing.specs.Prefix.{AppendsFront}
-use Rattle.xcp_record.specs.FileFormat.{chapter_head, chapter_in, most_call, most_calls}
+use Rattle.xcp_record.specs.FileFormat.{chapter_head, chapter_in, mark_in, most_call, most_calls, no_chapter}
 use Rattle.xcp_record.specs.JournalFile.{IsFile, calls_of}
-use Rattle.xcp_record.specs.Recording.{Records, StopsInside}
+use Rattle.xcp_record.specs.Recording.{EndsInOrder, Records, StopsInMark, StopsInside}
 use Rattle.xcp_record.specs.private.Calls.{IsSealed}
 use Rattle.xcp_record.proofs.FileLemmas.{calls_more, file_more}
 use Rattle.xcp_record.proofs.FormatLemmas.{spelt_short}
@@ -74,6 +75,33 @@ module _ (layout : List ℕ) (start old now : Option (List ℕ)) (hasher next : 
     held = sealed.held;
     counted = (let a = r.counted in let b = length-append chapters (entries ∷ []) in omega (arith, a, b));
     called = (let a = r.called in let b = ap length (calls_more chapters entries) in let c = length-append (calls_of chapters) entries in omega (arith, a, b, c, counted));
+  }
+
+-- nothing of the end mark is written
+pub stops_unmarked : (layout : List ℕ) (start now : Option (List ℕ)) (hasher : Sha256) (count calls : ℕ) (chapters : List (List Entry)) → Records layout start now hasher count calls chapters → StopsInMark layout start now chapters
+stops_unmarked layout start now hasher count calls chapters r = record {
+  bytes = r.bytes;
+  file = r.file;
+  between = now;
+  grown = r.grown;
+  front = record { written = []; grown = Appends-nil now; front = (mark_in r.bytes (length (calls_of chapters)), refl) };
+}
+
+module _ (layout : List ℕ) (start old now : Option (List ℕ)) (hasher next : Sha256) (number calls : ℕ) (mark : List ℕ) (chapters : List (List Entry))
+    (r : Records layout start old hasher number calls chapters) (sealed : IsSealed no_chapter 0 r.bytes (to_le_bytes w64 calls) mark next) where
+  mark_is : mark ≡ mark_in r.bytes (length (calls_of chapters))
+  mark_is = sealed.bytes ∙ ap (mark_in r.bytes) r.called
+
+  -- a front of it is
+  pub stops_in_mark : AppendsFront old now mark → StopsInMark layout start now chapters
+  stops_in_mark front = record { bytes = r.bytes; file = r.file; between = old; grown = r.grown; front = subst (AppendsFront old now) mark_is front }
+
+  -- all of it is
+  pub ends_in_order : Appends old now mark → EndsInOrder layout start now chapters
+  ends_in_order grown = record {
+    bytes = r.bytes ++ mark_in r.bytes (length (calls_of chapters));
+    file = record { before = r.bytes; file = r.file; whole = refl };
+    grown = Appends-trans start old now r.bytes (mark_in r.bytes (length (calls_of chapters))) r.grown (subst (Appends old now) mark_is grown);
   }
 
 -- of an error

@@ -1,8 +1,11 @@
--- The bytes of a journal's file: a head, and then chapter after chapter, each with a digest of all that stands before it.
+-- The bytes of a journal's file: a head, then chapter after chapter, each with a digest of all that stands before it, and an end mark, if
+-- the file has one.
 use Rattle.std.specs.Prelude.{ℕ, suc, List, [], ◌∷◌, ◌++◌, length, slice_index}
 use Rattle.std.specs.Int.{w32, w64, to_le_bytes, from_le_bytes}
 use Rattle.sha2.specs.Sha256.{sha256}
 use Rattle.xcp_trace.specs.Tape.{spelt}
+use Rattle.xcp_record.specs.declared.ending.Ending.{Ending}
+use Rattle.xcp_record.specs.declared.ending.Ending.TheVariants as endings
 
 -- XCPJ, and the version, 1, its low byte first
 abbrev pub magic : List ℕ
@@ -32,6 +35,27 @@ with_chapters before number (calls ∷ chapters) = with_chapters (before ++ chap
 -- the file of chapters that are numbered from 0
 abbrev pub file_of : List ℕ → List (List (List ℕ)) → List ℕ
 file_of layout chapters = with_chapters (head layout) 0 chapters
+
+-- what stands at the beginning of an end mark where a chapter's number would: no chapter has it
+abbrev pub no_chapter : ℕ
+no_chapter = 18446744073709551615
+
+-- An end mark is formed as a chapter without calls is, but that 8 bytes stand where its calls' bytes would: the number of all calls of
+-- the file, with its low byte first.
+abbrev pub mark_head : List ℕ
+mark_head = chapter_head no_chapter 0 8
+
+abbrev pub mark_bytes : ℕ → List ℕ
+mark_bytes calls = mark_head ++ to_le_bytes w64 calls
+
+-- what an end mark adds to a file of these bytes and so many calls: its own, and the SHA-256 of all before it in the file
+abbrev pub mark_in : List ℕ → ℕ → List ℕ
+mark_in before calls = mark_bytes calls ++ sha256 (before ++ mark_bytes calls)
+
+-- what an ending adds
+abbrev pub ending_in : List ℕ → ℕ → Ending → List ℕ
+ending_in before calls endings.Ended = mark_in before calls
+ending_in before calls endings.Open = []
 
 -- the length of the calls' bytes, as a chapter's head says it
 unfoldable pub size_in : List ℕ → ℕ

@@ -9,6 +9,7 @@ ghost use Rattle.xcp_record.specs.Audit.{Audits, Differs, Hears, HoldsRun, SaysS
 ghost use Rattle.xcp_trace.specs.declared.journal.Entry.{Entry};
 ghost use Rattle.xcp_trace.specs.EntrySpelling.{entry_in};
 ghost use Rattle.xcp_record.specs.FileFormat.{head, most_calls};
+ghost use Rattle.xcp_record.specs.declared.ending.Ending.{Ending};
 ghost use mathlib.Core.List.{IsPrefix};
 ghost use Rattle.xcp_record.specs.private.Calls.{Spells};
 ghost use Rattle.xcp_record.specs.private.ReadChapter.{ReadsNext, fault_after};
@@ -16,6 +17,7 @@ ghost use Rattle.xcp_record.specs.private.ReadHead.{ReadsHead};
 ghost use Rattle.xcp_record.specs.JournalFile.{exchanges};
 
 use crate::chapter::{ChapterFault, Parts};
+use crate::ending::{Ending, Settled};
 use crate::fault::AuditFault;
 use crate::filling::fill;
 use crate::head::{HEAD_BYTES, MAGIC, same};
@@ -27,6 +29,15 @@ use xcp_framing::Watched;
 use xcp_slave::{Slave, each_request_has_one_answer};
 use xcp_trace::{Entry, LentEntry};
 
+/// What stands behind the chapters that were read.
+#[derive(Clone, Copy, Debug, PartialEq, Eq)]
+enum Part {
+    /// A chapter of so many calls.
+    Chapter(u64),
+    /// The end of the file.
+    End(Ending),
+}
+
 /// The most chapters of a journal.
 const MOST_CHAPTERS: u64 = 4_294_967_296;
 
@@ -34,15 +45,15 @@ const MOST_CHAPTERS: u64 = 4_294_967_296;
 /// to be at its opening. The file is of the layout whose file has this SHA-256. The witness is told each
 /// call before it is executed.
 ///
-/// `Ok` is the number of calls, where the file is whole and each call has the slave's answer. A chapter's
-/// digest is looked at before its calls. There is room for one chapter: at most 34,013,184 bytes.
+/// `Ok` is the number of calls, where the file is whole and each call has the slave's answer, and whether the end mark ends it. A
+/// chapter's digest is looked at before its calls. There is room for one chapter: at most 34,013,184 bytes.
 pub fn audit<R: Read, T: Witness>(
     alloc: Global,
     slave: Slave,
     layout: &[u8; 32],
     reader: &mut Watched<R>,
     witness: &mut T,
-) -> Result<u64, AuditFault>
+) -> Result<Settled, AuditFault>
     ensures audits { (read : List ℕ)
         × Consumes (R.remaining reader.old.inner) (R.remaining reader.new.inner) read
         × Audits layout.now slave (IsAtEnd (R.remaining reader.new.inner)) read result
@@ -51,8 +62,8 @@ pub fn audit<R: Read, T: Witness>(
     ensures unfailed { result ≢ Err AuditFault.Read → reader.new.failures ≡ reader.old.failures }
     ensures failed { result ≡ Err AuditFault.Read → reader.old.failures < reader.new.failures }
     // Of a file that holds a run of the slave it says nothing else.
-    ensures settles { IfSome (R.remaining reader.old.inner) (λ all. (n : ℕ)
-        → HoldsRun layout.now slave all n → SaysSettled n result) }
+    ensures settles { IfSome (R.remaining reader.old.inner) (λ all. (n : ℕ) (ending : Ending)
+        → HoldsRun layout.now slave all n ending → SaysSettled n ending result) }
 {
     each_request_has_one_answer();
     let mut slave = slave;
@@ -67,7 +78,7 @@ fn audit_chapters<R: Read, T: Witness>(
     layout: &[u8; 32],
     reader: &mut Watched<R>,
     witness: &mut T,
-) -> Result<u64, AuditFault>
+) -> Result<Settled, AuditFault>
     ensures audits { (read : List ℕ)
         × Consumes (R.remaining reader.old.inner) (R.remaining reader.new.inner) read
         × Audits layout.now slave.old (IsAtEnd (R.remaining reader.new.inner)) read result
@@ -82,9 +93,9 @@ fn audit_chapters<R: Read, T: Witness>(
     }
     let mut calls = 0;
     for number in 0..MOST_CHAPTERS + 1 {
-        match next_chapter(number, reader, &mut hasher, parts) {
-            Ok(None) => return Ok(calls),
-            Ok(Some(count)) => {
+        match next_part(number, calls, reader, &mut hasher, parts) {
+            Ok(Part::End(ending)) => return Ok(Settled { calls, ending }),
+            Ok(Part::Chapter(count)) => {
                 if let Err(place) = check_calls(slave, &parts.calls, calls, witness) {
                     return Err(AuditFault::Mismatch(place));
                 }
@@ -154,16 +165,17 @@ fn names(bytes: &[u8; HEAD_BYTES], layout: &[u8; 32]) -> bool
     same(named, layout)
 }
 
-/// The next chapter's number of calls, if the reader isn't at its end.
-fn next_chapter<R: Read>(
+/// The next part behind so many chapters and calls, which are all that the hasher holds.
+fn next_part<R: Read>(
     number: u64,
+    calls: u64,
     reader: &mut Watched<R>,
     hasher: &mut Sha256,
     parts: &mut Parts,
-) -> Result<Option<u64>, ChapterFault>
+) -> Result<Part, ChapterFault>
     ensures reads { (before : List ℕ) → Holds256 hasher.old before → (read : List ℕ)
         × Consumes (R.remaining reader.old.inner) (R.remaining reader.new.inner) read
-        × ReadsNext number before (IsAtEnd (R.remaining reader.new.inner)) read parts.new.calls.items hasher.new result }
+        × ReadsNext number calls before (IsAtEnd (R.remaining reader.new.inner)) read parts.new.calls.items hasher.new result }
     ensures unfailed { result ≢ Err ChapterFault.Read → reader.new.failures ≡ reader.old.failures }
     ensures failed { result ≡ Err ChapterFault.Read → reader.old.failures < reader.new.failures }
 {
@@ -172,10 +184,16 @@ fn next_chapter<R: Read>(
         Err(fault) => return Err(fault),
     };
     if !there {
-        return Ok(None);
+        return Ok(Part::End(Ending::Open));
+    }
+    if parts.begin_a_mark() {
+        return match parts.end_a_file(calls, reader, hasher) {
+            Ok(()) => Ok(Part::End(Ending::Ended)),
+            Err(fault) => Err(fault),
+        };
     }
     match parts.check(number, hasher) {
-        Ok(count) => Ok(Some(count)),
+        Ok(count) => Ok(Part::Chapter(count)),
         Err(fault) => Err(fault),
     }
 }

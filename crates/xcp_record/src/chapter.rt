@@ -39,12 +39,12 @@ impl From<AllocError> for ChapterFault {
     }
 }
 
-/// The parts of a chapter, as they were read.
+/// The parts of a chapter, as they were read, or of an end mark, which has the same.
 #[derive(Drop)]
 pub(crate) struct Parts {
-    head: [u8; CHAPTER_HEAD_BYTES],
+    pub(crate) head: [u8; CHAPTER_HEAD_BYTES],
     pub(crate) calls: Vec<u8>,
-    digest: [u8; 32],
+    pub(crate) digest: [u8; 32],
 }
 
 impl Parts {
@@ -57,7 +57,7 @@ impl Parts {
         }
     }
 
-    /// Reads the parts of the next chapter, if the reader isn't at its end.
+    /// Reads the parts of the next chapter or of the end mark, if the reader isn't at its end.
     pub(crate) fn read<R: Read>(&mut self, reader: &mut Watched<R>) -> Result<bool, ChapterFault>
         ensures read { (read : List ℕ)
             × Consumes (R.remaining reader.old.inner) (R.remaining reader.new.inner) read

@@ -6,7 +6,7 @@ use std::fmt::{self, Debug};
 use thiserror::Error;
 use xcp_framing::{Watched, WriteFailed};
 
-/// Why a chapter isn't in the file.
+/// Why a chapter isn't in the file, or the end mark.
 #[derive(Clone, Copy, Debug, Error, PartialEq, Eq)]
 pub enum RecordFault {
     /// A write failed, or took no byte.
@@ -18,8 +18,8 @@ pub enum RecordFault {
     /// The chapter's number isn't that of the next one.
     #[error("the chapter's number isn't the next one's")]
     Number,
-    /// An earlier chapter isn't in the file.
-    #[error("an earlier chapter could not be written")]
+    /// An earlier chapter isn't in the file, or the recorder was ended.
+    #[error("an earlier chapter could not be written, or the file has ended")]
     Stopped,
 }
 
@@ -70,11 +70,12 @@ pub enum AuditFault {
     /// The call of this index, from 0, is the first that has another answer than the slave's.
     #[error("call {0} has another answer")]
     Mismatch(u64),
-    /// The file ends inside a chapter.
-    #[error("the file ends inside a chapter, after {0} calls")]
+    /// The file ends inside a chapter, or inside the end mark.
+    #[error("the file ends inside a chapter or its end mark, after {0} calls")]
     Cut(u64),
-    /// No chapter stands where the next one should: its digest differs, or its number, or its bytes are no calls.
-    #[error("the chapter after {0} calls isn't as it was written")]
+    /// No chapter stands where the next one should: its digest differs, or its number, or its bytes are no calls. Nor does an end mark
+    /// end the file there: its digest differs, or its number of calls, or something stands behind it.
+    #[error("what stands after {0} calls isn't as it was written")]
     Altered(u64),
     /// The journal is another layout's.
     #[error("the journal is another layout's")]

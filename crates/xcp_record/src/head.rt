@@ -16,6 +16,9 @@ pub(crate) const HEAD_BYTES: usize = 38;
 /// The bytes before a chapter's calls.
 pub(crate) const CHAPTER_HEAD_BYTES: usize = 16;
 
+/// What stands where a chapter's number would, at the beginning of an end mark: no chapter has it.
+pub(crate) const END_MARK: u64 = u64::MAX;
+
 /// A chapter's first bytes: its number, how many calls it has, and how many bytes they take.
 #[tactic(auto, unfolding(crate::specs::FileFormat::chapter_head))]
 pub(crate) fn chapter_head(number: u64, count: usize, size: usize) -> [u8; CHAPTER_HEAD_BYTES]

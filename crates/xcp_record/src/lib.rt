@@ -1,21 +1,24 @@
 //! The file of a journal: chapters are written to it one by one, and it is audited.
 //!
-//! A [`Recorder`] writes: a head that names the layout, and then each chapter with the digest of all
-//! that stands before. [`audit`] reads such a file and executes each request on a fresh slave; a [`Witness`] is told the calls.
+//! A [`Recorder`] writes: a head that names the layout, then each chapter with the digest of all
+//! that stands before, and an end mark once it is ended. [`audit`] reads such a file and executes each request on a fresh slave; a [`Witness`] is told the calls.
 //! `specs/FileFormat.antt` has the bytes, `specs/JournalFile.antt` what chapters a file has, and
 //! `specs/Audit.antt` what an audit promises.
 #![tactic(auto)]
 
 mod auditing;
 mod chapter;
+mod ending;
 mod fault;
 mod filling;
 mod head;
 mod law;
+mod mark;
 mod recorder;
 mod witness;
 
 pub use auditing::audit;
+pub use ending::{Ending, Settled};
 pub use fault::{AuditFault, NotBegun, RecordFault};
 pub use law::a_file_has_one_journal;
 pub use recorder::Recorder;

@@ -5,11 +5,11 @@ ghost use Rattle.sha2.specs.Hashers.{Holds256};
 ghost use Rattle.xcp_framing.specs.Prefix.{AppendsFront};
 ghost use Rattle.xcp_trace.specs.declared.journal.Entry.{Entry};
 ghost use Rattle.xcp_record.specs.FileFormat.{head, last_chapter, most_call, most_calls};
-ghost use Rattle.xcp_record.specs.Recording.{Records, StopsInside};
+ghost use Rattle.xcp_record.specs.Recording.{EndsInOrder, Records, StopsInMark, StopsInside};
 ghost use Rattle.xcp_record.specs.private.Calls.{IsSealed};
 
 use crate::fault::{NotBegun, RecordFault};
-use crate::head::{MAGIC, chapter_head, digest_of};
+use crate::head::{END_MARK, MAGIC, chapter_head, digest_of};
 use sha2::{Digest, Sha256};
 use std::alloc::{AllocError, Global};
 use std::io::Write;
@@ -19,7 +19,8 @@ use xcp_trace::Entries;
 /// The number of the last chapter that there can be.
 const LAST_CHAPTER: u64 = 4_294_967_295;
 
-/// Writes the file of a journal, chapter by chapter. Once a chapter could not be written, nothing more is.
+/// Writes the file of a journal, chapter by chapter, and an end mark behind them. Once something could not be written, or the end mark
+/// was, nothing more is.
 #[derive(Drop)]
 pub struct Recorder<W> {
     writer: Watched<W>,
@@ -141,6 +142,41 @@ impl<W: Write> Recorder<W> {
         self.stopped = false;
         Ok(())
     }
+
+    /// Writes the end mark behind the last chapter, in one piece. Nothing more is written then, whether it was or not: each further call
+    /// is `Stopped`.
+    pub fn end(&mut self) -> Result<(), RecordFault>
+        // A file with these chapters has the end mark behind them.
+        ensures ends { (layout : List ℕ) (start : Option (List ℕ)) (chapters : List (List Entry))
+            → Records layout start (W.contents self.old.writer.inner) self.old.hasher
+            self.old.chapters self.old.calls chapters
+            → OnOk result (EndsInOrder layout start (W.contents self.new.writer.inner) chapters) }
+        // Otherwise it has a front of it, or nothing.
+        ensures front { (layout : List ℕ) (start : Option (List ℕ)) (chapters : List (List Entry))
+            → Records layout start (W.contents self.old.writer.inner) self.old.hasher
+            self.old.chapters self.old.calls chapters
+            → OnErr result (StopsInMark layout start (W.contents self.new.writer.inner) chapters) }
+        ensures ok { OnOk result (self.old.stopped ≡ false) }
+        ensures kept { (self.new.stopped ≡ true) × (self.new.calls ≡ self.old.calls)
+            × (self.new.chapters ≡ self.old.chapters) }
+        ensures stopped { self.old.stopped ≡ true
+            → (result ≡ Err RecordFault.Stopped) × (self.new ≡ self.old) }
+        ensures write { result ≡ Err RecordFault.Write
+            → self.new.writer.failures ≡ self.old.writer.failures + 1 }
+        ensures unfailed { result ≢ Err RecordFault.Write
+            → self.new.writer.failures ≡ self.old.writer.failures }
+        ensures unwritten { result ≡ Err RecordFault.Memory → self.new.writer ≡ self.old.writer }
+        ensures unnumbered { result ≢ Err RecordFault.Number }
+        ensures since { result ≡ Err RecordFault.Stopped → self.old.stopped ≡ true }
+    {
+        if !self.stopped {
+            self.stopped = true;
+            let calls = self.calls.to_le_bytes();
+            seal(&mut self.hasher, &mut self.chapter, END_MARK, 0, &calls)?;
+            return Ok(self.writer.write_all(&self.chapter)?);
+        }
+        Err(RecordFault::Stopped)
+    }
 }
 
 /// Writes the head of a file of this layout. The hasher holds it then.
@@ -167,7 +203,7 @@ fn begin<W: Write>(
     Ok(())
 }
 
-/// Puts a chapter together behind what the hasher holds: its head, its calls and its digest. The hasher
+/// Puts a chapter, or the end mark, together behind what the hasher holds: its head, its calls and its digest. The hasher
 /// holds it too then.
 fn seal(
     hasher: &mut Sha256,

@@ -18,7 +18,7 @@ mod synced;
 mod watched_shelf;
 
 pub use both::Both;
-pub use recording::Recording;
+pub use recording::{Recording, end_recording};
 pub use scribe::Scribe;
 pub use shelf::Shelf;
 pub use standing::{Flashing, Standing};

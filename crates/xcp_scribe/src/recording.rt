@@ -1,9 +1,9 @@
 //! A scribe that writes the file of a journal.
-ghost use Rattle.std.specs.Prelude.{◌≡◌, ◌≤◌, ◌++◌, [], ◌∷◌, List, IfOk, IfErr, ◌⊎◌, length};
+ghost use Rattle.std.specs.Prelude.{◌≡◌, ◌≤◌, ◌++◌, [], ◌∷◌, List, IfOk, IfErr, ◌⊎◌, length, true};
 ghost use Rattle.xcp_framing.specs.Prefix.{AppendsFront};
 ghost use Rattle.xcp_record.specs.FileFormat.{head, most_calls};
 ghost use Rattle.xcp_trace.specs.declared.journal.Entry.{Entry};
-ghost use Rattle.xcp_scribe.specs.Scribing.{HasWritten};
+ghost use Rattle.xcp_scribe.specs.Scribing.{AreEnded, HasEnded, HasWritten};
 
 use crate::scribe::Scribe;
 use std::alloc::Global;
@@ -13,8 +13,8 @@ use xcp_record::{NotBegun, RecordFault, Recorder};
 use xcp_slave::Slave;
 use xcp_trace::Entries;
 
-/// Writes each chapter to the file of a journal. Its first fault ends the writing: what is whole in the file then stays so, and nothing
-/// more is written.
+/// Writes each chapter to the file of a journal, and an end mark behind them once it is ended. Its first fault ends the writing: what is
+/// whole in the file then stays so, and nothing more is written.
 #[derive(Drop)]
 pub struct Recording<W> {
     recorder: Recorder<W>,
@@ -77,11 +77,38 @@ impl<W: Write> Recording<W> {
         }
     }
 
+    /// Writes the end mark behind all chapters, if nothing has failed. It is called once, when no more chapters will come: what is
+    /// given afterwards isn't written, and has the fault `Stopped`.
+    pub fn end(&mut self)
+        ensures ends { (chapters : List (List Entry)) → HasWritten W.contents self.old chapters
+            → HasEnded W.contents self.new chapters }
+        ensures kept { (self.new.layout ≡ self.old.layout) × (self.new.start ≡ self.old.start)
+            × (self.new.recorder.calls ≡ self.old.recorder.calls) }
+        // Where a chapter failed, or it was ended before, nothing changes.
+        ensures again { self.old.recorder.stopped ≡ true → self.new ≡ self.old }
+    {
+        let ended = self.recorder.end();
+        if let Err(failed) = ended {
+            if failed != RecordFault::Stopped {
+                self.fault = Some(failed);
+            }
+        }
+    }
+
     /// The stream.
     pub fn into_stream(self) -> W
         ensures { result ≡ self.recorder.writer.inner }
     {
         self.recorder.into_stream()
+    }
+}
+
+/// Ends a recording, if there is one.
+pub fn end_recording<W: Write>(written: &mut Option<Recording<W>>)
+    ensures { AreEnded W.contents written.old written.new }
+{
+    if let Some(recording) = written {
+        recording.end();
     }
 }
 

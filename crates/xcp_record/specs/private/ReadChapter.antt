@@ -1,14 +1,16 @@
--- What is read of a chapter.
-use Rattle.std.specs.Prelude.{◌≡◌, ◌<◌, ◌≤◌, ◌*◌, ℕ, Bool, true, false, List, [], ◌++◌, length, Option, Some, None, Result, Ok, Err}
+-- What is read of a chapter, or of an end mark.
+use Rattle.std.specs.Prelude.{◌≡◌, ◌<◌, ◌≤◌, ◌*◌, ℕ, Bool, true, false, List, [], ◌++◌, length, Result, Ok, Err}
 use Rattle.sha2.specs.declared.Sha256.{Sha256}
 use Rattle.sha2.specs.Hashers.{Holds256}
 use Rattle.xcp_record.specs.declared.chapter.ChapterFault.{ChapterFault}
 use Rattle.xcp_record.specs.declared.chapter.ChapterFault.TheVariants as faults
 use Rattle.xcp_record.specs.declared.fault.AuditFault.{AuditFault}
 use Rattle.xcp_record.specs.declared.fault.AuditFault.TheVariants as audits
+use Rattle.xcp_record.specs.declared.auditing.Part.{Part}
+use Rattle.xcp_record.specs.declared.auditing.Part.TheVariants as parts
 use Rattle.xcp_trace.specs.Tape.{spelt}
-use Rattle.xcp_record.specs.FileFormat.{chapter_in, most_call, most_calls, size_in}
-use Rattle.xcp_record.specs.JournalFile.{EndsInside, IsChapter, IsNoChapter}
+use Rattle.xcp_record.specs.FileFormat.{chapter_in, ending_in, mark_in, most_call, most_calls, size_in}
+use Rattle.xcp_record.specs.JournalFile.{EndsInside, IsChapter, IsNoChapter, IsNoEnd, IsNoPart}
 
 -- what was read of a chapter's parts: its head, its calls' bytes and its digest
 abbrev pub ReadsParts : Type 0 → List ℕ → List ℕ → List ℕ → List ℕ → Result (Bool) ChapterFault → Type 0
@@ -33,13 +35,28 @@ Checks number before read calls hasher (Err faults.Altered) = IsNoChapter number
 Checks number before read calls hasher (Err faults.Memory) = Unit {0}
 Checks number before read calls hasher (Err e) = ⊥
 
--- What comes of the next chapter: the reader is at its end, or the chapter stands there, or what stands there in its place.
-abbrev pub ReadsNext : ℕ → List ℕ → Type 0 → List ℕ → List ℕ → Sha256 → Result (Option ℕ) ChapterFault → Type 0
-ReadsNext number before End read calls hasher (Ok None) = End × (read ≡ []) × Holds256 hasher before
-ReadsNext number before End read calls hasher (Ok (Some count)) = IsRead number before read calls count × Holds256 hasher (before ++ read)
-ReadsNext number before End read calls hasher (Err faults.Cut) = End × (0 < length read) × EndsInside read
-ReadsNext number before End read calls hasher (Err faults.Altered) = IsNoChapter number before read
-ReadsNext number before End read calls hasher (Err e) = Unit {0}
+-- What comes of an end mark's check behind these bytes, which have n calls.
+abbrev pub ChecksMark : ℕ → List ℕ → List ℕ → Result (Unit {0}) ChapterFault → Type 0
+ChecksMark n before read (Ok done) = read ≡ mark_in before n
+ChecksMark n before read (Err faults.Altered) = IsNoEnd n before read
+ChecksMark n before read (Err faults.Memory) = Unit {0}
+ChecksMark n before read (Err e) = ⊥
+
+-- What comes of an end mark: it ends the file, or what stands there in its place.
+abbrev pub ReadsMark : ℕ → List ℕ → Type 0 → List ℕ → Result (Unit {0}) ChapterFault → Type 0
+ReadsMark n before End read (Ok done) = End × (read ≡ mark_in before n)
+ReadsMark n before End read (Err faults.Altered) = IsNoEnd n before read
+ReadsMark n before End read (Err faults.Cut) = ⊥
+ReadsMark n before End read (Err e) = Unit {0}
+
+-- What comes of the next part behind so many chapters and n calls: a chapter stands there, or the file ends there, or what stands there
+-- in their place.
+abbrev pub ReadsNext : ℕ → ℕ → List ℕ → Type 0 → List ℕ → List ℕ → Sha256 → Result Part ChapterFault → Type 0
+ReadsNext number n before End read calls hasher (Ok (parts.Chapter count)) = IsRead number before read calls count × Holds256 hasher (before ++ read)
+ReadsNext number n before End read calls hasher (Ok (parts.End ending)) = End × (read ≡ ending_in before n ending)
+ReadsNext number n before End read calls hasher (Err faults.Cut) = End × (0 < length read) × EndsInside read
+ReadsNext number n before End read calls hasher (Err faults.Altered) = IsNoPart n number before read
+ReadsNext number n before End read calls hasher (Err e) = Unit {0}
 
 -- why an audit ends after so many calls
 abbrev pub fault_after : ℕ → ChapterFault → AuditFault

@@ -31,24 +31,24 @@ loop-number-init g c =
       failures = search rules;
     }
 
-pub returns-in-Ok-None-clause-audits : goal.returns-in-Ok-None-clause-audits
-returns-in-Ok-None-clause-audits g c =
+pub returns-in-Ok-End-clause-audits : goal.returns-in-Ok-End-clause-audits
+returns-in-Ok-End-clause-audits g c =
     let s = c.loop-number.invariant.stands in
-    let next = c.in-Ok-None.ensures.reads s.read s.held in
-    let end = subst (λ o. ReadsNext c.loop-number.number s.read (IsAtEnd (g.R.Read.remaining c.next_chapter.new.reader.inner)) next.0 c.next_chapter.new.parts.calls.items c.next_chapter.new.hasher (Ok o)) c.in-Ok-None.field-0-is next.2 in (
+    let next = c.in-Ok-End.ensures.reads s.read s.held in
+    let end = subst (λ o. ReadsNext c.loop-number.number c.loop-number.calls s.read (IsAtEnd (g.R.Read.remaining c.next_part.new.reader.inner)) next.0 c.next_part.new.parts.calls.items c.next_part.new.hasher (Ok o)) c.in-Ok-End.field-0-is next.2 in (
       s.read ++ next.0,
       Consumes-trans _ _ _ _ _ s.was next.1,
-      ends_settled c.args.layout.now c.args.slave.now _ _ _ (IsAtEnd (g.R.Read.remaining c.next_chapter.new.reader.inner)) _ _ c.loop-number.calls next.0 s end.0 end.1,
+      ends_settled c.args.layout.now c.args.slave.now _ _ _ (IsAtEnd (g.R.Read.remaining c.next_part.new.reader.inner)) _ _ c.loop-number.calls next.0 c.in-Ok-End.ending s end.0 end.1,
       calls_of s.settled.chapters,
       s.told,
-      hears_all c.args.layout.now c.args.slave.now _ _ _ _ _ c.loop-number.calls s next.0 end.1,
+      hears_all c.args.layout.now c.args.slave.now _ _ _ _ _ c.loop-number.calls s next.0 c.in-Ok-End.ending end.1,
     )
 
 pub check_calls-requires-clause-calls : goal.check_calls-requires-clause-calls
 check_calls-requires-clause-calls g c =
     let s = c.loop-number.invariant.stands in
-    let next = c.in-Ok-Some.ensures.reads s.read s.held in
-    let said = subst (λ o. ReadsNext c.loop-number.number s.read (IsAtEnd (g.R.Read.remaining c.next_chapter.new.reader.inner)) next.0 c.next_chapter.new.parts.calls.items c.next_chapter.new.hasher (Ok o)) c.in-Ok-Some.field-0-is next.2 in
+    let next = c.in-Ok-Chapter.ensures.reads s.read s.held in
+    let said = subst (λ o. ReadsNext c.loop-number.number c.loop-number.calls s.read (IsAtEnd (g.R.Read.remaining c.next_part.new.reader.inner)) next.0 c.next_part.new.parts.calls.items c.next_part.new.hasher (Ok o)) c.in-Ok-Chapter.field-0-is next.2 in
     let there = said.0 in
     (there.strings, subst (λ b. Spells b there.strings) (sym c.deref.ensures.value) (record { whole = there.spells; each = there.chapter.each }), there.chapter.few)
 
@@ -61,25 +61,25 @@ check_calls-requires-clause-before g c =
 pub returns-in-Err-check_calls-clause-audits : goal.returns-in-Err-check_calls-clause-audits
 returns-in-Err-check_calls-clause-audits g c =
     let s = c.loop-number.invariant.stands in
-    let next = c.in-Ok-Some.ensures.reads s.read s.held in
-    let said = subst (λ o. ReadsNext c.loop-number.number s.read (IsAtEnd (g.R.Read.remaining c.next_chapter.new.reader.inner)) next.0 c.next_chapter.new.parts.calls.items c.next_chapter.new.hasher (Ok o)) c.in-Ok-Some.field-0-is next.2 in
+    let next = c.in-Ok-Chapter.ensures.reads s.read s.held in
+    let said = subst (λ o. ReadsNext c.loop-number.number c.loop-number.calls s.read (IsAtEnd (g.R.Read.remaining c.next_part.new.reader.inner)) next.0 c.next_part.new.parts.calls.items c.next_part.new.hasher (Ok o)) c.in-Ok-Chapter.field-0-is next.2 in
     let there = said.0 in
     let spells = subst (λ b. Spells b there.strings) (sym c.deref.ensures.value) (record { whole = there.spells; each = there.chapter.each }) in
     let differs = c.in-Err-check_calls.ensures.err there.strings spells in
     let told = c.in-Err-check_calls.ensures.told_some there.strings spells in (
       s.read ++ next.0,
       Consumes-trans _ _ _ _ _ s.was next.1,
-      ends_mismatch c.args.layout.now c.args.slave.now _ _ _ (IsAtEnd (g.R.Read.remaining c.next_chapter.new.reader.inner)) _ _ c.loop-number.calls c.in-Ok-Some.count differs.0 c.in-Err-check_calls.place next.0 c.next_chapter.new.parts.calls.items s there differs.2 differs.1,
+      ends_mismatch c.args.layout.now c.args.slave.now _ _ _ (IsAtEnd (g.R.Read.remaining c.next_part.new.reader.inner)) _ _ c.loop-number.calls c.in-Ok-Chapter.count differs.0 c.in-Err-check_calls.place next.0 c.next_part.new.parts.calls.items s there differs.2 differs.1,
       calls_of s.settled.chapters ++ take (suc told.0) (map entry_in there.strings),
       g.met.T.Witness.hears_more _ _ _ _ _ s.told told.2,
-      hears_differing c.args.layout.now c.args.slave.now _ _ _ _ _ c.loop-number.calls s next.0 c.next_chapter.new.parts.calls.items c.in-Ok-Some.count told.0 c.in-Err-check_calls.place there told.1,
+      hears_differing c.args.layout.now c.args.slave.now _ _ _ _ _ c.loop-number.calls s next.0 c.next_part.new.parts.calls.items c.in-Ok-Chapter.count told.0 c.in-Err-check_calls.place there told.1,
     )
 
 pub overflow_add-calls : goal.overflow_add-calls
 overflow_add-calls g c =
     let s = c.loop-number.invariant.stands in
-    let next = c.in-Ok-Some.ensures.reads s.read s.held in
-    let said = subst (λ o. ReadsNext c.loop-number.number s.read (IsAtEnd (g.R.Read.remaining c.next_chapter.new.reader.inner)) next.0 c.next_chapter.new.parts.calls.items c.next_chapter.new.hasher (Ok o)) c.in-Ok-Some.field-0-is next.2 in
+    let next = c.in-Ok-Chapter.ensures.reads s.read s.held in
+    let said = subst (λ o. ReadsNext c.loop-number.number c.loop-number.calls s.read (IsAtEnd (g.R.Read.remaining c.next_part.new.reader.inner)) next.0 c.next_part.new.parts.calls.items c.next_part.new.hasher (Ok o)) c.in-Ok-Chapter.field-0-is next.2 in
     let few = s.few in
     let more = said.0.chapter.few in
     let size = said.0.size in
@@ -89,29 +89,29 @@ overflow_add-calls g c =
 pub loop-number-preserved : goal.loop-number-preserved
 loop-number-preserved g c =
     let s = c.loop-number.invariant.stands in
-    let next = c.in-Ok-Some.ensures.reads s.read s.held in
-    let said = subst (λ o. ReadsNext c.loop-number.number s.read (IsAtEnd (g.R.Read.remaining c.next_chapter.new.reader.inner)) next.0 c.next_chapter.new.parts.calls.items c.next_chapter.new.hasher (Ok o)) c.in-Ok-Some.field-0-is next.2 in
+    let next = c.in-Ok-Chapter.ensures.reads s.read s.held in
+    let said = subst (λ o. ReadsNext c.loop-number.number c.loop-number.calls s.read (IsAtEnd (g.R.Read.remaining c.next_part.new.reader.inner)) next.0 c.next_part.new.parts.calls.items c.next_part.new.hasher (Ok o)) c.in-Ok-Chapter.field-0-is next.2 in
     let there = said.0 in
     let spells = subst (λ b. Spells b there.strings) (sym c.deref.ensures.value) (record { whole = there.spells; each = there.chapter.each }) in
     record {
-      stands = stands_more c.args.layout.now c.args.slave.now c.check_calls.new.slave c.loop-number.slave _ (Consumes (g.R.Read.remaining c.args.reader.now.inner) (g.R.Read.remaining c.next_chapter.new.reader.inner)) _
-          (λ calls. g.T.Witness.hears c.args.witness.now calls c.check_calls.new.witness) _ c.next_chapter.new.hasher c.loop-number.number c.loop-number.calls c.in-Ok-Some.count next.0 c.next_chapter.new.parts.calls.items s there (Consumes-trans _ _ _ _ _ s.was next.1)
+      stands = stands_more c.args.layout.now c.args.slave.now c.check_calls.new.slave c.loop-number.slave _ (Consumes (g.R.Read.remaining c.args.reader.now.inner) (g.R.Read.remaining c.next_part.new.reader.inner)) _
+          (λ calls. g.T.Witness.hears c.args.witness.now calls c.check_calls.new.witness) _ c.next_part.new.hasher c.loop-number.number c.loop-number.calls c.in-Ok-Chapter.count next.0 c.next_part.new.parts.calls.items s there (Consumes-trans _ _ _ _ _ s.was next.1)
           (g.met.T.Witness.hears_more _ _ _ _ _ s.told ((c.in_default-check_calls.ensures {u = tt}).told there.strings spells)) said.1 ((c.in_default-check_calls.ensures {u = tt}).ok there.strings spells);
       failures = search rules;
     }
 
-pub returns-in-Err-next_chapter-clause-audits : goal.returns-in-Err-next_chapter-clause-audits
-returns-in-Err-next_chapter-clause-audits g c =
+pub returns-in-Err-next_part-clause-audits : goal.returns-in-Err-next_part-clause-audits
+returns-in-Err-next_part-clause-audits g c =
     let s = c.loop-number.invariant.stands in
-    let next = c.in-Err-next_chapter.ensures.reads s.read s.held in (
+    let next = c.in-Err-next_part.ensures.reads s.read s.held in (
       s.read ++ next.0,
       Consumes-trans _ _ _ _ _ s.was next.1,
-      subst (λ e. Audits c.args.layout.now c.args.slave.now (IsAtEnd (g.R.Read.remaining c.next_chapter.new.reader.inner)) (s.read ++ next.0) (Err e)) (sym c.fault_after.ensures)
-          (ends c.args.layout.now c.args.slave.now _ _ _ (IsAtEnd (g.R.Read.remaining c.next_chapter.new.reader.inner)) _ c.next_chapter.new.hasher c.loop-number.number c.loop-number.calls next.0 c.next_chapter.new.parts.calls.items c.in-Err-next_chapter.fault s next.2),
+      subst (λ e. Audits c.args.layout.now c.args.slave.now (IsAtEnd (g.R.Read.remaining c.next_part.new.reader.inner)) (s.read ++ next.0) (Err e)) (sym c.fault_after.ensures)
+          (ends c.args.layout.now c.args.slave.now _ _ _ (IsAtEnd (g.R.Read.remaining c.next_part.new.reader.inner)) _ c.next_part.new.hasher c.loop-number.number c.loop-number.calls next.0 c.next_part.new.parts.calls.items c.in-Err-next_part.fault s next.2),
       calls_of s.settled.chapters,
       s.told,
       subst (λ e. Hears c.args.layout.now (s.read ++ next.0) (Err e) (calls_of s.settled.chapters)) (sym c.fault_after.ensures)
-          (hears_before c.args.layout.now c.args.slave.now _ _ _ _ _ c.loop-number.calls s next.0 c.in-Err-next_chapter.fault),
+          (hears_before c.args.layout.now c.args.slave.now _ _ _ _ _ c.loop-number.calls s next.0 c.in-Err-next_part.fault),
     )
 
 pub returns-clause-audits : goal.returns-clause-audits
