@@ -33,10 +33,16 @@ fn server(alloc: Global, options: &Options) -> Result<String, AllocError> {
             tasks,
             period,
             patience,
+            queue,
+            idle,
+            cut_every,
             ..
         } => {
             let (config, host) = (word(config.as_str()), word(host.as_str()));
-            format!(in alloc; "stay {config} {host} {port} {tools} {tasks} {period} {patience}")
+            format!(
+                in alloc;
+                "stay {config} {host} {port} {tools} {tasks} {period} {patience} {queue} {idle} {cut_every}"
+            )
         }
         _ => Ok(String::new(alloc)),
     }
@@ -78,9 +84,15 @@ fn push_file(text: &mut String, before: &str, file: &Option<String>) -> Result<(
     Ok(())
 }
 
+/// Whether a server is asked for that stays and doesn't read standard input.
+fn is_unread(options: &Options) -> bool {
+    matches!(options, Options::Stay { no_stdin: true, .. })
+}
+
 /// What is asked for, with a blank between its parts, and a line feed. Of a replay it is its file; of a server its file, host, port,
-/// tools, tasks, cycles, chapter and period; of one that stays `stay` before its file, host, port, tools, tasks, period and patience; of
-/// either then the file of its journal, if it is named, and `paced`, if it is; of a description `describe`, or `check` if the file is
+/// tools, tasks, cycles, chapter and period; of one that stays `stay` before its file, host, port, tools, tasks, period, patience, queue,
+/// idle and cut_every, and `unread` if standard input isn't read; of either then the file of its journal, if it is named, and `paced`, if
+/// it is; of a description `describe`, or `check` if the file is
 /// only checked, before its file, host and port; of an audit its file, its journal, and whether lines are wanted. Behind all of these
 /// stand `flash` and the file of the stored pages, if it is named.
 pub fn shown(alloc: Global, options: &Options) -> Result<String, AllocError> {
@@ -98,6 +110,7 @@ pub fn shown(alloc: Global, options: &Options) -> Result<String, AllocError> {
             flash,
             ..
         } => {
+            text.push_str(if is_unread(options) { " unread" } else { "" })?;
             push_file(&mut text, " ", journal)?;
             text.push_str(if *pace { " paced" } else { "" })?;
             push_file(&mut text, " flash ", flash)?;

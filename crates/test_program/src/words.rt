@@ -29,7 +29,7 @@ fn number_of(alloc: Global, others: &str) -> Result<u8, AllocError> {
 }
 
 /// The last words, and the number of the fault.
-static WORDS: [(&str, u8); 8] = [
+static WORDS: [(&str, u8); 16] = [
     ("--tools 2", 0),
     ("--tools 3", 3),
     ("--tools 4", 3),
@@ -38,6 +38,14 @@ static WORDS: [(&str, u8); 8] = [
     ("--stay --cycles 100", 4),
     ("--stay --chapter 65536", 4),
     ("--patience 60", 5),
+    ("--queue 0", 5),
+    ("--idle 0", 5),
+    ("--no-stdin", 5),
+    ("--cut-every 1 --journal J", 5),
+    ("--stay --cut-every 1", 6),
+    ("--stay --cut-every 1 --journal J", 0),
+    ("--journal P --flash P", 7),
+    ("--stay --journal P.lock --flash P", 7),
 ];
 
 fn first_other_number(alloc: Global) -> Result<Option<usize>, AllocError> {

@@ -1,5 +1,5 @@
 -- What clap's matches say of the options of a subcommand.
-use Rattle.std.proofs.Common.{◌≡◌, ◌≤◌, ◌<◌, arith, ℕ, Bool, true, false, cond, codes, List, [], ◌∷◌, map, Option, Some, None, slice_index, IfSome, Bor, Box, refl, sym, ◌∙◌, ap, subst}
+use Rattle.std.proofs.Common.{◌≡◌, ◌≤◌, ◌<◌, inl, inr, arith, ℕ, Bool, true, false, cond, codes, List, [], ◌∷◌, map, Option, Some, None, slice_index, IfSome, Bor, Box, string_bytes, refl, sym, ◌∙◌, ap, subst}
 use Rattle.std.specs.List.{find}
 use Rattle.std.specs.Str.{bytes_eq}
 use Rattle.std.specs.Prelude.{is_some}
@@ -15,7 +15,8 @@ use Rattle.clap.specs.Words.{Row, Text, first_of, matched_of, rows_of, subcomman
 use Rattle.clap.specs.declared.parser.matches.SubCommand.{SubCommand}
 use Rattle.clap.specs.declared.parser.matches.ArgMatches.TheViews.{out-SubCommand}
 use Rattle.std.specs.Str.Parse.{digits_value, without_leading_plus}
-use Rattle.xcp_program.specs.CommandLine.{Asks, AsksTooMany, HasNumber, HasNumberIn, HasText, Numeric, Spells, SpellsIn, gives, tools}
+use Rattle.xcp_program.specs.CommandLine.{Asks, AsksTooMany, GivesOneFile, HasFlash, HasGiven, HasJournal, HasNumber, HasNumberIn, HasText, HasTwoFiles, IsOneFile, Numeric, Spells, SpellsIn, gives, tools}
+use Rattle.xcp_program.specs.private.AppArguments.{IsChosen}
 use Rattle.xcp_program.specs.declared.purpose.Options.{Options}
 use Rattle.xcp_program.specs.declared.purpose.Options.TheVariants.{Audit, Describe, Replay, Serve, Stay}
 
@@ -84,9 +85,34 @@ not_too_many found (Serve config host p t k n m ms journal flash pace) h many =
     let least : t ≤ 2 = h.few in
     let above : 2 < many.number = many.many in
     omega arith
-not_too_many found (Stay config host p t k ms s journal flash pace) h many = many.ends h.stays
+not_too_many found (Stay config host p t k ms s q i c unread journal flash pace) h many = many.ends h.stays
 not_too_many found (Describe config host p check) h many = named_apart (codes "describe") (codes "serve") found h.config.text.name many.tools.spelt.value.name no_description
 not_too_many found (Audit config file flash lines) h many = named_apart (codes "audit") (codes "serve") found h.config.text.name many.tools.spelt.value.name no_audit
+
+-- an option that needn't be given has its text because the words give it
+pub chosen : {found : Option (Text × List Row)} {command option text : Text} → IsChosen found command option → HasText found command option text → HasGiven found command option text
+chosen {found} {command} {option} (inl given) h = subst (HasGiven found command option) (same_text given.1.text h) given.1
+chosen (inr none) h = absurd (none.1 _ h)
+
+-- the texts of the files of which one is named twice are those that the words give
+pub one_file : {found : Option (Text × List Row)} {journal flash : Text} → GivesOneFile found → HasGiven found (codes "serve") (codes "journal") journal → HasGiven found (codes "serve") (codes "flash") flash → IsOneFile journal flash
+one_file {found} {journal} {flash} one h k = subst (λ (a : Text). IsOneFile a flash) (same_text one.journal.text h.text) (subst (λ (b : Text). IsOneFile one.written b) (same_text one.flash.text k.text) one.same)
+
+-- where no file is named twice, the names are of two files
+apart : (found : Option (Text × List Row)) (journal flash : Text) → HasJournal found (Some journal) → HasFlash found (codes "serve") (Some flash) → ¬ (GivesOneFile found) → ¬ (IsOneFile journal flash)
+apart found journal flash h k none same = none (record { written = journal; stored = flash; journal = h; flash = k; same = same })
+
+-- what is asked for has two files, if any, and the words name none twice
+pub files_apart : (found : Option (Text × List Row)) (o : Options) → Asks found o → HasTwoFiles o × (¬ (GivesOneFile found))
+files_apart found (Replay config flash) h = (tt, λ one. named_apart (codes "replay") (codes "serve") found h.config.text.name one.journal.text.name no_replay)
+files_apart found (Serve config host p t k n m ms (Some journal) (Some flash) pace) h = (apart found (string_bytes journal) (string_bytes flash) h.journal h.flash h.apart, h.apart)
+files_apart found (Serve config host p t k n m ms (Some journal) None pace) h = (tt, h.apart)
+files_apart found (Serve config host p t k n m ms None flash pace) h = (tt, h.apart)
+files_apart found (Stay config host p t k ms s q i c unread (Some journal) (Some flash) pace) h = (apart found (string_bytes journal) (string_bytes flash) h.journal h.flash h.apart, h.apart)
+files_apart found (Stay config host p t k ms s q i c unread (Some journal) None pace) h = (tt, h.apart)
+files_apart found (Stay config host p t k ms s q i c unread None flash pace) h = (tt, h.apart)
+files_apart found (Describe config host p check) h = (tt, λ one. named_apart (codes "describe") (codes "serve") found h.config.text.name one.journal.text.name no_description)
+files_apart found (Audit config file flash lines) h = (tt, λ one. named_apart (codes "audit") (codes "serve") found h.config.text.name one.journal.text.name no_audit)
 
 -- whether the words give an option, by the entry that was found for it
 given_in : (id : Text) (es : List Entry) → option_map_or (λ r. explicit_source r.source) (find (λ r. bytes_eq r.id id) (map row_of es)) false ≡ option_map_or (λ a. explicit_source a.source) (option_map (λ e. e.1) (find (λ e. bytes_eq e.0.now id) es)) false

@@ -3,3 +3,4 @@ pub mod CommandLineLemmas
 pub mod ClapRowLemmas
 pub mod ClapWalkLemmas
 pub mod NoFaultLemmas
+pub mod RefusalLemmas

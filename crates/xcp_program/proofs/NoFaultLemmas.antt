@@ -14,7 +14,7 @@ use Rattle.clap.specs.Values.{IsUnsignedIn}
 use Rattle.clap.proofs.ValueTestLemmas.{accepts-Accepts}
 use Rattle.clap.specs.declared.builder.value_parser.ValueParser.TheVariants.{Unsigned}
 use Rattle.clap.specs.declared.error.kind.ErrorKind.TheVariants as kind
-use Rattle.xcp_program.specs.CommandLine.{HasNumber, HasNumberIn, Numeric, chapter, cycles, host_default, named_port, patience, period, port, program, tasks, tools}
+use Rattle.xcp_program.specs.CommandLine.{HasNumber, HasNumberIn, Numeric, chapter, cut_every, cycles, host_default, idle, named_port, patience, period, port, program, queue, tasks, tools}
 use Rattle.xcp_program.specs.private.AppArguments.{AsksAudit, AsksDescription, AsksReplay, AsksRun, AsksSomething, HasFlag, IsChosen}
 use Rattle.xcp_program.proofs.ClapRowLemmas.{Good, IsGiven, Keeps, default_row, defaults_leave, found_row, found_rule, keeps_flag, keeps_set, leaves_row, no_kinds, default_among, parts, row_for}
 use Rattle.xcp_program.proofs.ClapWalkLemmas.{NoHelp, settles, walk_kept, walk_stops}
@@ -93,7 +93,19 @@ keeps_serve = (
                         keeps_set serve_shape.rules (nth 11 serve_shape) refl refl refl (λ again rows e. no_kinds _ _ e),
                         (
                           keeps_flag serve_shape.rules (nth 12 serve_shape) (codes "true") refl refl refl refl (λ again y ys rows e. no_values (length ys) (parts _ _ e).0),
-                          (λ again values rows e v. v, tt),
+                          (
+                            keeps_set serve_shape.rules (nth 13 serve_shape) refl refl refl (λ again rows e. no_kinds _ _ e),
+                            (
+                              keeps_set serve_shape.rules (nth 14 serve_shape) refl refl refl (λ again rows e. no_kinds _ _ e),
+                              (
+                                keeps_set serve_shape.rules (nth 15 serve_shape) refl refl refl (λ again rows e. no_kinds _ _ e),
+                                (
+                                  keeps_flag serve_shape.rules (nth 16 serve_shape) (codes "true") refl refl refl refl (λ again y ys rows e. no_values (length ys) (parts _ _ e).0),
+                                  (λ again values rows e v. v, tt),
+                                ),
+                              ),
+                            ),
+                          ),
                         ),
                       ),
                     ),
@@ -378,6 +390,18 @@ module _ (words : List Text) (e : level_fault serve_shape [] nothing_held words 
   pace_stands : Stands (nth 12 serve_shape) (all_rows serve_shape words) (Some (codes "false"))
   pace_stands = by_default serve_shape words keeps_serve e (take 12 serve_shape.rules) (drop 13 serve_shape.rules) (nth 12 serve_shape) (codes "false") refl refl refl refl refl refl
 
+  queue_stands : Stands (nth 13 serve_shape) (all_rows serve_shape words) queue.default
+  queue_stands = by_default serve_shape words keeps_serve e (take 13 serve_shape.rules) (drop 14 serve_shape.rules) (nth 13 serve_shape) (codes "0") refl refl refl refl refl refl
+
+  idle_stands : Stands (nth 14 serve_shape) (all_rows serve_shape words) idle.default
+  idle_stands = by_default serve_shape words keeps_serve e (take 14 serve_shape.rules) (drop 15 serve_shape.rules) (nth 14 serve_shape) (codes "0") refl refl refl refl refl refl
+
+  cut_every_stands : Stands (nth 15 serve_shape) (all_rows serve_shape words) cut_every.default
+  cut_every_stands = by_default serve_shape words keeps_serve e (take 15 serve_shape.rules) (drop 16 serve_shape.rules) (nth 15 serve_shape) (codes "1") refl refl refl refl refl refl
+
+  no_stdin_stands : Stands (nth 16 serve_shape) (all_rows serve_shape words) (Some (codes "false"))
+  no_stdin_stands = by_default serve_shape words keeps_serve e (take 16 serve_shape.rules) (drop 17 serve_shape.rules) (nth 16 serve_shape) (codes "false") refl refl refl refl refl refl
+
   serve_asked : AsksRun (Some (rows_at serve_shape words))
   serve_asked =
       let p = number_stands words (nth 1 serve_shape) port refl (λ text h. accepts-Accepts false (Unsigned 1024 65535) text h) port_stands in
@@ -387,6 +411,9 @@ module _ (words : List Text) (e : level_fault serve_shape [] nothing_held words 
       let m = number_stands words (nth 7 serve_shape) chapter refl (λ text h. accepts-Accepts false (Unsigned 1 65536) text h) chapter_stands in
       let ms = number_stands words (nth 8 serve_shape) period refl (λ text h. accepts-Accepts false (Unsigned 0 1000) text h) period_stands in
       let s = number_stands words (nth 9 serve_shape) patience refl (λ text h. accepts-Accepts false (Unsigned 1 3600) text h) patience_stands in
+      let q = number_stands words (nth 13 serve_shape) queue refl (λ text h. accepts-Accepts false (Unsigned 0 64) text h) queue_stands in
+      let i = number_stands words (nth 14 serve_shape) idle refl (λ text h. accepts-Accepts false (Unsigned 0 86400) text h) idle_stands in
+      let c = number_stands words (nth 15 serve_shape) cut_every refl (λ text h. accepts-Accepts false (Unsigned 1 3600) text h) cut_every_stands in
       inr (record {
         file = config_stands.text;
         address = address_stands.text;
@@ -397,6 +424,9 @@ module _ (words : List Text) (e : level_fault serve_shape [] nothing_held words 
         m = m.0;
         ms = ms.0;
         s = s.0;
+        q = q.0;
+        i = i.0;
+        c = c.0;
         config = record { text = record { name = refl; value = config_stands.value }; given = wants.0 };
         host = record { text = record { name = refl; value = address_stands.value }; otherwise = λ none. some_text _ _ (address_stands.otherwise none) };
         stay = flag_among serve_shape (codes "serve") words refl refl (nth 3 serve_shape) refl refl stay_stands;
@@ -407,9 +437,13 @@ module _ (words : List Text) (e : level_fault serve_shape [] nothing_held words 
         chapter = m.1;
         period = ms.1;
         patience = s.1;
+        queue = q.1;
+        idle = i.1;
+        cut_every = c.1;
         journal = choice_among serve_shape (codes "serve") words refl refl (nth 10 serve_shape) written_stands;
         flash = choice_among serve_shape (codes "serve") words refl refl (nth 11 serve_shape) kept_stands;
         pace = flag_among serve_shape (codes "serve") words refl refl (nth 12 serve_shape) refl refl pace_stands;
+        no_stdin = flag_among serve_shape (codes "serve") words refl refl (nth 16 serve_shape) refl refl no_stdin_stands;
       })
 
 -- ---- `describe`

@@ -1,5 +1,5 @@
 -- The words of the command line, as clap reads them.
-use Rattle.std.specs.Prelude.{◌≡◌, ◌⊎◌, ◌≤◌, ◌<◌, ⊤, ℕ, Bool, List, [], ◌∷◌, true, false, codes, not, is_some, Option, Some, None, string_bytes}
+use Rattle.std.specs.Prelude.{◌≡◌, ◌⊎◌, ◌≤◌, ◌<◌, ◌||◌, ⊤, ℕ, Bool, List, [], ◌∷◌, ◌++◌, true, false, codes, not, is_some, Option, Some, None, string_bytes}
 use Rattle.std.specs.Option.{option_map, option_and_then, option_map_or}
 use Rattle.std.specs.Str.Parse.{IsNumeral, digits_value, without_leading_plus}
 use Rattle.clap.specs.Takes.{is_given}
@@ -7,7 +7,7 @@ use Rattle.clap.specs.Words.{App, IsAmong, Kinds, Row, Rule, Text, first_of, kin
 use Rattle.xcp_program.specs.declared.purpose.Options.{Options}
 use Rattle.xcp_program.specs.declared.purpose.Options.TheVariants.{Audit, Describe, Replay, Serve, Stay}
 use Rattle.xcp_program.specs.declared.purpose.OptionsFault.{OptionsFault}
-use Rattle.xcp_program.specs.declared.purpose.OptionsFault.TheVariants.{Memory, NotForStay, OnlyForStay, TooManyTools, Words}
+use Rattle.xcp_program.specs.declared.purpose.OptionsFault.TheVariants.{Memory, NotForStay, OneFile, OnlyForJournal, OnlyForStay, TooManyTools, Words}
 use Rattle.xcp_program.specs.declared.words.Unasked.{Unasked}
 use Rattle.xcp_program.specs.declared.words.Unasked.TheVariants as unasked
 use Rattle.clap.specs.declared.error.kind.ErrorKind.TheVariants.{DisplayHelp, DisplayVersion}
@@ -51,6 +51,15 @@ period = record { name = codes "period"; least = 0; most = 1000; default = Some 
 abbrev pub patience : Numeric
 patience = record { name = codes "patience"; least = 1; most = 3600; default = Some (codes "60") }
 
+abbrev pub queue : Numeric
+queue = record { name = codes "queue"; least = 0; most = 64; default = Some (codes "0") }
+
+abbrev pub idle : Numeric
+idle = record { name = codes "idle"; least = 0; most = 86400; default = Some (codes "0") }
+
+abbrev pub cut_every : Numeric
+cut_every = record { name = codes "cut-every"; least = 1; most = 3600; default = Some (codes "1") }
+
 -- `--NAME NUMBER`, which has to be there where it has no default
 abbrev pub numeric_rule : Numeric → Rule
 numeric_rule o = record (new_rule o.name) {
@@ -82,11 +91,11 @@ abbrev pub replay_app : App
 replay_app = with_rule (with_rule (new_app (codes "replay")) config_rule) (choice_rule (codes "flash"))
 
 -- `serve --config FILE --port PORT [--host HOST] [--stay] [--tools T] [--tasks K] [--cycles N] [--chapter M] [--period MS] [--patience S]
--- [--journal FILE] [--flash FILE] [--pace]`
+-- [--journal FILE] [--flash FILE] [--pace] [--queue N] [--idle S] [--cut-every S] [--no-stdin]`
 abbrev pub serve_app : App
-serve_app = with_rule (with_rule (with_rule (with_rule (with_rule (with_rule (with_rule (with_rule (with_rule (with_rule (with_rule (with_rule (with_rule (new_app (codes "serve"))
+serve_app = with_rule (with_rule (with_rule (with_rule (with_rule (with_rule (with_rule (with_rule (with_rule (with_rule (with_rule (with_rule (with_rule (with_rule (with_rule (with_rule (with_rule (new_app (codes "serve"))
     config_rule) (numeric_rule port)) host_rule) (flag_rule (codes "stay"))) (numeric_rule tools)) (numeric_rule tasks)) (numeric_rule cycles)) (numeric_rule chapter)) (numeric_rule period)) (numeric_rule patience))
-    (choice_rule (codes "journal"))) (choice_rule (codes "flash"))) (flag_rule (codes "pace"))
+    (choice_rule (codes "journal"))) (choice_rule (codes "flash"))) (flag_rule (codes "pace"))) (numeric_rule queue)) (numeric_rule idle)) (numeric_rule cut_every)) (flag_rule (codes "no-stdin"))
 
 -- the port that a description names
 abbrev pub named_port : Numeric
@@ -180,6 +189,27 @@ Stays found = gives (codes "stay") found ≡ true
 abbrev pub HasJournal : Option (Text × List Row) → Option Text → Type 0
 HasJournal found journal = HasChoice found (codes "serve") (codes "journal") journal
 
+-- the words give an option that only a server that stays has
+abbrev pub gives_to_stay : Option (Text × List Row) → Bool
+gives_to_stay found = gives patience.name found || (gives queue.name found || (gives idle.name found || (gives cut_every.name found || gives (codes "no-stdin") found)))
+
+-- they don't ask that a journal is cut that is written to no file
+abbrev pub CutsAJournal : Option (Text × List Row) → Type 0
+CutsAJournal found = (gives cut_every.name found ≡ false) ⊎ (gives (codes "journal") found ≡ true)
+
+-- The journal's file is that of the stored pages, or one that is written beside it: the new pages before they take the place of the old
+-- ones, or what says that a server keeps them.
+abbrev pub IsOneFile : Text → Text → Type 0
+IsOneFile journal flash = (journal ≡ flash) ⊎ (journal ≡ flash ++ codes ".new") ⊎ (journal ≡ flash ++ codes ".lock")
+
+-- the words give a server's two files, and name one file twice
+pub record GivesOneFile (found : Option (Text × List Row)) : Type 0 where
+  pub written : Text
+  pub stored : Text
+  pub journal : HasJournal found (Some written)
+  pub flash : HasFlash found (codes "serve") (Some stored)
+  pub same : IsOneFile written stored
+
 -- a subcommand with its rows is a server that ends, with this configuration file, this host, these numbers, this file for its journal, this
 -- one for the stored pages, and with or without the flag `--pace`
 pub record IsServe (found : Option (Text × List Row)) (file address : Text) (p t k n m ms : ℕ) (written stored : Option Text) (paced : Bool) : Type 0 where
@@ -197,10 +227,11 @@ pub record IsServe (found : Option (Text × List Row)) (file address : Text) (p 
   pub pace : gives (codes "pace") found ≡ paced
   pub ends : ¬ (Stays found)
   -- the words give no option that only a server that stays has
-  pub others : gives patience.name found ≡ false
+  pub others : gives_to_stay found ≡ false
+  pub apart : ¬ (GivesOneFile found)
 
--- a subcommand with its rows is a server that stays, likewise
-pub record IsStay (found : Option (Text × List Row)) (file address : Text) (p t k ms s : ℕ) (written stored : Option Text) (paced : Bool) : Type 0 where
+-- a subcommand with its rows is a server that stays, likewise, with or without the flag `--no-stdin`
+pub record IsStay (found : Option (Text × List Row)) (file address : Text) (p t k ms s q i c : ℕ) (unread : Bool) (written stored : Option Text) (paced : Bool) : Type 0 where
   pub config : HasFile found (codes "serve") file
   pub host : HasHost found (codes "serve") address
   pub port : HasNumber found port p
@@ -208,12 +239,20 @@ pub record IsStay (found : Option (Text × List Row)) (file address : Text) (p t
   pub tasks : HasNumber found tasks k
   pub period : HasNumber found period ms
   pub patience : HasNumber found patience s
+  pub queue : HasNumber found queue q
+  pub idle : HasNumber found idle i
+  pub cut_every : HasNumber found cut_every c
+  pub no_stdin : gives (codes "no-stdin") found ≡ unread
   pub journal : HasJournal found written
   pub flash : HasFlash found (codes "serve") stored
   pub pace : gives (codes "pace") found ≡ paced
   pub stays : Stays found
   -- the words give no option that only a server that ends has
   pub others : (gives cycles.name found ≡ false) × (gives chapter.name found ≡ false)
+  pub cuts : CutsAJournal found
+  pub apart : ¬ (GivesOneFile found)
+
+-- Why words in which clap finds no fault are refused: five records, of which no two hold, in the order in which the program looks.
 
 -- a subcommand with its rows is a server that ends, with more tools than such a one may have
 pub record AsksTooMany (found : Option (Text × List Row)) : Type 0 where
@@ -222,15 +261,57 @@ pub record AsksTooMany (found : Option (Text × List Row)) : Type 0 where
   pub many : few < number
   pub ends : ¬ (Stays found)
 
+-- a subcommand with its rows is a server that ends, with no more tools than such a one may have
+pub record AsksFew (found : Option (Text × List Row)) : Type 0 where
+  pub number : ℕ
+  pub tools : HasNumber found tools number
+  pub few : number ≤ few
+  pub ends : ¬ (Stays found)
+
+-- a subcommand with its rows is a server that ends, with few tools and an option that only a server that stays has
+pub record AsksToStay (found : Option (Text × List Row)) : Type 0 where
+  pub few : AsksFew found
+  pub given : gives_to_stay found ≡ true
+
 -- a subcommand with its rows is a server that stays, with an option that only a server that ends has
 pub record AsksToEnd (found : Option (Text × List Row)) : Type 0 where
+  pub name : option_map (λ p. p.0) found ≡ Some (codes "serve")
   pub stays : Stays found
   pub given : (gives cycles.name found ≡ true) ⊎ (gives chapter.name found ≡ true)
 
--- a subcommand with its rows is a server that ends, with an option that only a server that stays has
-pub record AsksToStay (found : Option (Text × List Row)) : Type 0 where
-  pub ends : ¬ (Stays found)
-  pub given : gives patience.name found ≡ true
+-- a subcommand with its rows is a server that stays, with no such option, but with `--cut-every` and no file for its journal
+pub record AsksToCut (found : Option (Text × List Row)) : Type 0 where
+  pub name : option_map (λ p. p.0) found ≡ Some (codes "serve")
+  pub stays : Stays found
+  pub others : (gives cycles.name found ≡ false) × (gives chapter.name found ≡ false)
+  pub given : gives cut_every.name found ≡ true
+  pub journal : gives (codes "journal") found ≡ false
+
+-- a subcommand with its rows is a server that ends, and is refused for none of these
+pub record EndsWell (found : Option (Text × List Row)) : Type 0 where
+  pub few : AsksFew found
+  pub others : gives_to_stay found ≡ false
+
+-- a subcommand with its rows is a server that stays, likewise
+pub record StaysWell (found : Option (Text × List Row)) : Type 0 where
+  pub stays : Stays found
+  pub others : (gives cycles.name found ≡ false) × (gives chapter.name found ≡ false)
+  pub cuts : CutsAJournal found
+
+-- a subcommand with its rows is a server that is refused for none of these, but for one file that is named twice
+pub record AsksForOneFile (found : Option (Text × List Row)) : Type 0 where
+  pub fits : EndsWell found ⊎ StaysWell found
+  pub one : GivesOneFile found
+
+-- words in which clap finds no fault are refused for this
+abbrev pub IsRefusedFor : Option (Text × List Row) → OptionsFault → Type 0
+IsRefusedFor found Memory = ⊥
+IsRefusedFor found (Words e) = ⊥
+IsRefusedFor found TooManyTools = AsksTooMany found
+IsRefusedFor found NotForStay = AsksToEnd found
+IsRefusedFor found OnlyForStay = AsksToStay found
+IsRefusedFor found OnlyForJournal = AsksToCut found
+IsRefusedFor found OneFile = AsksForOneFile found
 
 -- a subcommand with its rows is a description by this configuration file, for this host and port, with or without the flag `--check`
 pub record IsDescription (found : Option (Text × List Row)) (file address : Text) (p : ℕ) (checked : Bool) : Type 0 where
@@ -251,7 +332,7 @@ pub record IsAudit (found : Option (Text × List Row)) (file word : Text) (store
 abbrev pub Asks : Option (Text × List Row) → Options → Type 0
 Asks found (Replay config flash) = IsReplay found (string_bytes config) (option_map string_bytes flash)
 Asks found (Serve config host p t k n m ms journal flash pace) = IsServe found (string_bytes config) (string_bytes host) p t k n m ms (option_map string_bytes journal) (option_map string_bytes flash) pace
-Asks found (Stay config host p t k ms s journal flash pace) = IsStay found (string_bytes config) (string_bytes host) p t k ms s (option_map string_bytes journal) (option_map string_bytes flash) pace
+Asks found (Stay config host p t k ms s q i c unread journal flash pace) = IsStay found (string_bytes config) (string_bytes host) p t k ms s q i c unread (option_map string_bytes journal) (option_map string_bytes flash) pace
 Asks found (Describe config host p check) = IsDescription found (string_bytes config) (string_bytes host) p check
 Asks found (Audit config file flash lines) = IsAudit found (string_bytes config) (string_bytes file) (option_map string_bytes flash) lines
 
@@ -260,20 +341,28 @@ abbrev pub InRange : Options → Type 0
 InRange (Replay config flash) = ⊤
 InRange (Serve config host p t k n m ms journal flash pace) = (port.least ≤ p) × (p ≤ port.most) × (tools.least ≤ t) × (t ≤ few) × (tasks.least ≤ k) × (k ≤ tasks.most) × (cycles.least ≤ n) × (n ≤ cycles.most)
     × (chapter.least ≤ m) × (m ≤ chapter.most) × (period.least ≤ ms) × (ms ≤ period.most)
-InRange (Stay config host p t k ms s journal flash pace) = (port.least ≤ p) × (p ≤ port.most) × (tools.least ≤ t) × (t ≤ tools.most) × (tasks.least ≤ k) × (k ≤ tasks.most) × (period.least ≤ ms) × (ms ≤ period.most)
-    × (patience.least ≤ s) × (s ≤ patience.most)
+InRange (Stay config host p t k ms s q i c unread journal flash pace) = (port.least ≤ p) × (p ≤ port.most) × (tools.least ≤ t) × (t ≤ tools.most) × (tasks.least ≤ k) × (k ≤ tasks.most) × (period.least ≤ ms) × (ms ≤ period.most)
+    × (patience.least ≤ s) × (s ≤ patience.most) × (queue.least ≤ q) × (q ≤ queue.most) × (idle.least ≤ i) × (i ≤ idle.most) × (cut_every.least ≤ c) × (c ≤ cut_every.most)
 InRange (Describe config host p check) = (named_port.least ≤ p) × (p ≤ named_port.most)
 InRange (Audit config file flash lines) = ⊤
 
+-- the files of the journal and of the stored pages that are asked for are two, and the journal's is none that is written beside the other
+abbrev pub HasTwoFiles : Options → Type 0
+HasTwoFiles (Serve config host p t k n m ms (Some journal) (Some flash) pace) = ¬ (IsOneFile (string_bytes journal) (string_bytes flash))
+HasTwoFiles (Stay config host p t k ms s q i c unread (Some journal) (Some flash) pace) = ¬ (IsOneFile (string_bytes journal) (string_bytes flash))
+HasTwoFiles _ = ⊤
+
 -- Why the words ask for nothing, by the kinds of error of the first fault that clap finds in them (a wish for help is one), and by the
--- subcommand that they name, with its rows: the error has one of these kinds; or clap finds no fault, and the tools are too many, or an
--- option doesn't apply. Memory: an allocation may fail at any place.
+-- subcommand that they name, with its rows: the error has one of these kinds; or clap finds no fault, and the tools are too many, an option
+-- doesn't apply, or one file is named twice. Memory: an allocation may fail at any place.
 abbrev pub IsMistake : Kinds → Option (Text × List Row) → OptionsFault → Type 0
 IsMistake kinds found Memory = Unit {0}
 IsMistake kinds found (Words e) = IsAmong (kind_of e) kinds
 IsMistake kinds found TooManyTools = (kinds ≡ []) × AsksTooMany found
 IsMistake kinds found NotForStay = (kinds ≡ []) × AsksToEnd found
 IsMistake kinds found OnlyForStay = (kinds ≡ []) × AsksToStay found
+IsMistake kinds found OnlyForJournal = (kinds ≡ []) × AsksToCut found
+IsMistake kinds found OneFile = (kinds ≡ []) × AsksForOneFile found
 
 -- the number of a fault of the words
 abbrev pub number_of : OptionsFault → ℕ
@@ -282,6 +371,8 @@ number_of (Words e) = 2
 number_of TooManyTools = 3
 number_of NotForStay = 4
 number_of OnlyForStay = 5
+number_of OnlyForJournal = 6
+number_of OneFile = 7
 
 -- what `options` answers, as the program tells it
 abbrev pub unasked_of : OptionsFault → Unasked
@@ -290,6 +381,8 @@ unasked_of (Words e) = unasked.Words e
 unasked_of TooManyTools = unasked.TooManyTools
 unasked_of NotForStay = unasked.NotForStay
 unasked_of OnlyForStay = unasked.OnlyForStay
+unasked_of OnlyForJournal = unasked.OnlyForJournal
+unasked_of OneFile = unasked.OneFile
 
 -- Why words that the system gave ask for nothing, as the program tells it, by the same kinds and rows: NoText is no fault of such words.
 abbrev pub IsUnaskedFor : Kinds → Option (Text × List Row) → Unasked → Type 0
@@ -299,6 +392,8 @@ IsUnaskedFor kinds found (unasked.Words e) = IsMistake kinds found (Words e)
 IsUnaskedFor kinds found unasked.TooManyTools = IsMistake kinds found TooManyTools
 IsUnaskedFor kinds found unasked.NotForStay = IsMistake kinds found NotForStay
 IsUnaskedFor kinds found unasked.OnlyForStay = IsMistake kinds found OnlyForStay
+IsUnaskedFor kinds found unasked.OnlyForJournal = IsMistake kinds found OnlyForJournal
+IsUnaskedFor kinds found unasked.OneFile = IsMistake kinds found OneFile
 
 -- clap's error is a wish, for help or for the version, and no mistake
 abbrev pub IsWish : Error → Type 0
@@ -311,4 +406,6 @@ EndsWith unasked.NoText n = n ≡ 1
 EndsWith unasked.TooManyTools n = n ≡ 1
 EndsWith unasked.NotForStay n = n ≡ 1
 EndsWith unasked.OnlyForStay n = n ≡ 1
+EndsWith unasked.OnlyForJournal n = n ≡ 1
+EndsWith unasked.OneFile n = n ≡ 1
 EndsWith (unasked.Words e) n = (IsWish e × (n ≡ 0)) ⊎ ((¬ (IsWish e)) × (n ≡ 1))

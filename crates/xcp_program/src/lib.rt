@@ -6,13 +6,16 @@
 //! `specs/ReplayOutcome.antt` what a replay promises, `specs/ExitStatus.antt` the statuses.
 #![tactic(auto)]
 
+mod arguments;
 mod command_line;
 mod fault;
 mod fault_words;
 mod layout;
+mod matched;
 mod periods;
 mod purpose;
 mod replaying;
+mod server_words;
 mod source;
 mod words;
 

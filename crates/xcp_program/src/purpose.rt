@@ -55,6 +55,15 @@ pub enum Options {
         period: u32,
         /// The seconds that a tool may stop inside a frame, or read nothing of what is sent to it, 1 to 3,600.
         patience: u32,
+        /// How many tools may wait for a seat while all are taken, 0 to 64.
+        queue: u8,
+        /// The seconds after which a connection is closed that has sent nothing for so long, up to 86,400; 0 where none is for that.
+        idle: u32,
+        /// The seconds within which the journal's open chapter is cut off where it isn't empty, 1 to 3,600, if the journal is written to
+        /// a file.
+        cut_every: u32,
+        /// Whether standard input isn't read.
+        no_stdin: bool,
         /// The name of the file that the journal is written to, if it is.
         journal: Option<String>,
         /// The name of the file that keeps the stored pages, if one does.
@@ -97,14 +106,20 @@ pub enum OptionsFault {
     TooManyTools,
     /// The words ask that the server stays, and give an option that only a server that ends has: `--cycles` or `--chapter`.
     NotForStay,
-    /// The words don't ask that the server stays, and give an option that only such a server has: `--patience`.
+    /// The words don't ask that the server stays, and give an option that only such a server has: `--patience`, `--queue`, `--idle`,
+    /// `--cut-every` or `--no-stdin`.
     OnlyForStay,
+    /// The words ask that the server stays, and give `--cut-every`, but no file for the journal.
+    OnlyForJournal,
+    /// The words name one file twice: the journal's file is that of the stored pages, or one that is written beside it, whose name has
+    /// `.new` or `.lock` behind it.
+    OneFile,
 }
 
 impl OptionsFault {
     ghost use Rattle.xcp_program.specs.CommandLine.{number_of};
 
-    /// The fault's number: 1 Memory, 2 Words, 3 TooManyTools, 4 NotForStay, 5 OnlyForStay.
+    /// The fault's number: 1 Memory, 2 Words, 3 TooManyTools, 4 NotForStay, 5 OnlyForStay, 6 OnlyForJournal, 7 OneFile.
     pub fn number(&self) -> u8
         ensures { result ≡ number_of self.now }
     {
@@ -114,6 +129,8 @@ impl OptionsFault {
             OptionsFault::TooManyTools => 3,
             OptionsFault::NotForStay => 4,
             OptionsFault::OnlyForStay => 5,
+            OptionsFault::OnlyForJournal => 6,
+            OptionsFault::OneFile => 7,
         }
     }
 }

@@ -3,7 +3,7 @@ ghost use Rattle.std.specs.Prelude.{◌≡◌, ◌⊎◌, [], map, true, Err, If
 ghost use Rattle.std.specs.IoError.{error_kind};
 ghost use Rattle.clap.specs.Words.{subcommand_of, takes};
 ghost use Rattle.clap.specs.Words.{fault_of as faults_in};
-ghost use Rattle.xcp_program.specs.CommandLine.{Asks, AsksTooMany, EndsWith, InRange, IsUnaskedFor, program};
+ghost use Rattle.xcp_program.specs.CommandLine.{Asks, AsksTooMany, EndsWith, GivesOneFile, HasTwoFiles, InRange, IsRefusedFor, IsUnaskedFor, program, unasked_of};
 
 use crate::command_line::options;
 use crate::fault::Fault;
@@ -34,8 +34,14 @@ pub enum Unasked {
     #[error("xcpd: --cycles and --chapter aren't for --stay\n")]
     NotForStay,
     /// The words don't ask that the server stays, and give an option that only such a server has.
-    #[error("xcpd: --patience wants --stay\n")]
+    #[error("xcpd: --patience, --queue, --idle, --cut-every and --no-stdin want --stay\n")]
     OnlyForStay,
+    /// The words ask that the server stays, and give `--cut-every`, but no file for the journal.
+    #[error("xcpd: --cut-every wants --journal\n")]
+    OnlyForJournal,
+    /// The words name one file twice, as the journal's and as that of the stored pages or one beside it.
+    #[error("xcpd: --journal and --flash name one file\n")]
+    OneFile,
 }
 
 impl Unasked {
@@ -46,8 +52,12 @@ impl Unasked {
     {
         match self {
             Unasked::Memory => Fault::Memory.status(),
-            Unasked::NoText | Unasked::TooManyTools | Unasked::NotForStay | Unasked::OnlyForStay =>
-                1,
+            Unasked::NoText
+            | Unasked::TooManyTools
+            | Unasked::NotForStay
+            | Unasked::OnlyForStay
+            | Unasked::OnlyForJournal
+            | Unasked::OneFile => 1,
             Unasked::Words(e) if e.use_stderr() => 1,
             Unasked::Words(_) => 0,
         }
@@ -76,6 +86,8 @@ impl From<OptionsFault> for Unasked {
             OptionsFault::TooManyTools => Unasked::TooManyTools,
             OptionsFault::NotForStay => Unasked::NotForStay,
             OptionsFault::OnlyForStay => Unasked::OnlyForStay,
+            OptionsFault::OnlyForJournal => Unasked::OnlyForJournal,
+            OptionsFault::OneFile => Unasked::OneFile,
         }
     }
 }
@@ -106,12 +118,18 @@ pub fn asked(alloc: Global, words: io::Result<Vec<String>>) -> Result<Options, U
         faults_in program (map string_bytes given.items) ≡ [])) }
     ensures few { IfOk result (λ o. IfOk words (λ given.
         ¬ (AsksTooMany (subcommand_of program (map string_bytes given.items))))) }
+    ensures apart { IfOk result (λ o. HasTwoFiles o × IfOk words (λ given.
+        ¬ (GivesOneFile (subcommand_of program (map string_bytes given.items))))) }
     ensures mistake { IfErr result (λ e. IfOk words (λ given.
         IsUnaskedFor (faults_in program (map string_bytes given.items))
         (subcommand_of program (map string_bytes given.items)) e)) }
     ensures refused { IfErr result (λ e. IfOk words (λ given.
         takes program (map string_bytes given.items) ≡ true
-        → (e ≡ Unasked.Memory) ⊎ (e ≡ Unasked.TooManyTools) ⊎ (e ≡ Unasked.NotForStay) ⊎ (e ≡ Unasked.OnlyForStay))) }
+        → (e ≡ Unasked.Memory) ⊎ (e ≡ Unasked.TooManyTools) ⊎ (e ≡ Unasked.NotForStay) ⊎ (e ≡ Unasked.OnlyForStay)
+        ⊎ (e ≡ Unasked.OnlyForJournal) ⊎ (e ≡ Unasked.OneFile))) }
+    ensures told { IfOk words (λ given. takes program (map string_bytes given.items) ≡ true → (f : OptionsFault)
+        → IsRefusedFor (subcommand_of program (map string_bytes given.items)) f
+        → (result ≡ Err (unasked_of f)) ⊎ (result ≡ Err Unasked.Memory)) }
     ensures text { IfErr words (λ e. error_kind e ≡ ErrorKind.InvalidData
         → result ≡ Err Unasked.NoText) }
     ensures memory { IfErr words (λ e. ¬ (error_kind e ≡ ErrorKind.InvalidData)

@@ -2,9 +2,9 @@
 use Rattle.std.specs.Prelude.{◌≡◌, ◌⊎◌, ℕ, List, Option, codes, true, false}
 use Rattle.clap.specs.Words.{App, Row, Text, new_app, with_rule, with_subcommand}
 use Rattle.xcp_program.specs.declared.purpose.OptionsFault.{OptionsFault}
-use Rattle.xcp_program.specs.declared.purpose.OptionsFault.TheVariants.{Memory, NotForStay, OnlyForStay, TooManyTools, Words}
-use Rattle.xcp_program.specs.CommandLine.{AsksToEnd, AsksToStay, AsksTooMany, HasFile, HasGiven, HasHost, HasNumber, HasNumberIn, HasText, gives}
-use Rattle.xcp_program.specs.CommandLine.{chapter, config_rule, cycles, flag_rule, host_rule, named_port, numeric_rule, patience, period, port, replay_app, serve_app, tasks, tools, with_a_subcommand_wanted, with_a_version}
+use Rattle.xcp_program.specs.declared.purpose.OptionsFault.TheVariants.{Memory, NotForStay, OneFile, OnlyForJournal, OnlyForStay, TooManyTools, Words}
+use Rattle.xcp_program.specs.CommandLine.{AsksForOneFile, AsksToCut, AsksToEnd, AsksToStay, AsksTooMany, HasFile, HasGiven, HasHost, HasNumber, HasNumberIn, HasText, gives}
+use Rattle.xcp_program.specs.CommandLine.{chapter, choice_rule, config_rule, cut_every, cycles, flag_rule, host_rule, idle, named_port, numeric_rule, patience, period, port, queue, replay_app, serve_app, tasks, tools, with_a_subcommand_wanted, with_a_version}
 
 -- `serve` with the first four of its options
 abbrev pub placed_app : App
@@ -13,6 +13,10 @@ placed_app = with_rule (with_rule (with_rule (with_rule (new_app (codes "serve")
 -- `serve` with the four after these
 abbrev pub counted_app : App
 counted_app = with_rule (with_rule (with_rule (with_rule placed_app (numeric_rule tools)) (numeric_rule tasks)) (numeric_rule cycles)) (numeric_rule chapter)
+
+-- `serve` with the five after these: what only a server that stays has stands behind them, but for its patience
+abbrev pub kept_app : App
+kept_app = with_rule (with_rule (with_rule (with_rule (with_rule counted_app (numeric_rule period)) (numeric_rule patience)) (choice_rule (codes "journal"))) (choice_rule (codes "flash"))) (flag_rule (codes "pace"))
 
 -- the program with its first two subcommands
 abbrev pub front_app : App
@@ -43,6 +47,9 @@ pub record AsksServe (found : Option (Text × List Row)) : Type 0 where
   pub m : ℕ
   pub ms : ℕ
   pub s : ℕ
+  pub q : ℕ
+  pub i : ℕ
+  pub c : ℕ
   pub config : HasFile found (codes "serve") file
   pub host : HasHost found (codes "serve") address
   pub stay : HasFlag found (codes "serve") (codes "stay")
@@ -53,9 +60,13 @@ pub record AsksServe (found : Option (Text × List Row)) : Type 0 where
   pub chapter : HasNumber found chapter m
   pub period : HasNumber found period ms
   pub patience : HasNumber found patience s
+  pub queue : HasNumber found queue q
+  pub idle : HasNumber found idle i
+  pub cut_every : HasNumber found cut_every c
   pub journal : IsChosen found (codes "serve") (codes "journal")
   pub flash : IsChosen found (codes "serve") (codes "flash")
   pub pace : HasFlag found (codes "serve") (codes "pace")
+  pub no_stdin : HasFlag found (codes "serve") (codes "no-stdin")
 
 -- it is an audit: its options, its file and its flag, each with its text
 pub record AsksAudit (found : Option (Text × List Row)) : Type 0 where
@@ -90,3 +101,5 @@ IsRefusal found (Words e) = ⊥
 IsRefusal found TooManyTools = AsksTooMany found
 IsRefusal found NotForStay = AsksToEnd found
 IsRefusal found OnlyForStay = AsksToStay found
+IsRefusal found OnlyForJournal = AsksToCut found
+IsRefusal found OneFile = AsksForOneFile found

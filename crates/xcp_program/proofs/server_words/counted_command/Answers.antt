@@ -2,7 +2,7 @@ use Rattle.std.proofs.Common.{◌≡◌, Bool, ◌∙◌, ap, ap₂}
 use Rattle.clap.specs.declared.builder.Arg.{Arg}
 use Rattle.clap.specs.Words.{rule_of, with_rule}
 use Rattle.xcp_program.specs.CommandLine.{chapter, cycles, numeric_rule, tasks, tools}
-use Rattle.xcp_program.proofs.command_line.counted_command.Goals as goal
+use Rattle.xcp_program.proofs.server_words.counted_command.Goals as goal
 
 abbrev is_global : Arg → Bool
 is_global a = a.global

@@ -1,7 +1,7 @@
 use Rattle.std.proofs.Common.{◌∙◌, sym}
 use Rattle.clap.specs.Words.{found_of, matched_of, subcommand_rows_of}
 use Rattle.xcp_program.proofs.CommandLineLemmas.{gives_as, is_there, not_there}
-use Rattle.xcp_program.proofs.command_line.gives.Goals as goal
+use Rattle.xcp_program.proofs.server_words.gives.Goals as goal
 
 pub returns-then-contains_id : goal.returns-then-contains_id
 returns-then-contains_id c =

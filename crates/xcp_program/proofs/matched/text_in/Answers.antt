@@ -3,7 +3,7 @@ use Rattle.clap.specs.Words.{subcommand_rows_of, found_of, rows_of}
 use Rattle.clap.specs.declared.parser.matches.ArgMatches.TheViews.{out-ArgMatches}
 use Rattle.clap.proofs.WalkLemmas.{first_value-rows}
 use Rattle.xcp_program.proofs.CommandLineLemmas.{name_beside_rows, text_found, no_text_found}
-use Rattle.xcp_program.proofs.command_line.text_in.Goals as goal
+use Rattle.xcp_program.proofs.matched.text_in.Goals as goal
 
 pub returns-in-Some-clause-some : goal.returns-in-Some-clause-some
 returns-in-Some-clause-some c =

@@ -3,7 +3,7 @@ use Rattle.clap.specs.declared.builder.Arg.{Arg}
 use Rattle.clap.specs.Simple.{app_of_fields}
 use Rattle.clap.specs.Words.{app_of, new_app, rule_of, with_rule}
 use Rattle.xcp_program.specs.CommandLine.{numeric_rule, port}
-use Rattle.xcp_program.proofs.command_line.placed_command.Goals as goal
+use Rattle.xcp_program.proofs.server_words.placed_command.Goals as goal
 
 abbrev is_global : Arg → Bool
 is_global a = a.global
