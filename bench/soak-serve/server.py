@@ -16,6 +16,7 @@ Usage = namedtuple("Usage", "seconds highest resident processor threads descript
 class Log:
     """What the server says on standard error: which tool has which seat, and how each connection ended."""
 
+    LOST = re.compile(r"xcpd: lost \d+")
     LINE = re.compile(r"xcpd: seat (\d): (127\.0\.0\.1:\d+) (?:(connected)|disconnected(?:: (.+))?)")
 
     def __init__(self, stream):
@@ -36,7 +37,7 @@ class Log:
             self.present[seat] = address
         elif found and not came and self.present.pop(seat, None) == address:
             self.ended[address] = end or "none"
-        else:
+        elif not self.LOST.fullmatch(line):
             self.strange.append(line)
 
     def has_ended(self, address):
@@ -55,7 +56,7 @@ class Server:
     """The program, with its standard streams."""
 
     def __init__(self, program, layout, port):
-        words = ["--stay", "--port", port, "--tools", SEATS, "--tasks", TASKS, "--period", PERIOD, "--patience", PATIENCE]
+        words = ["--stay", "--port", port, "--tools", SEATS, "--queue", SEATS, "--tasks", TASKS, "--period", PERIOD, "--patience", PATIENCE]
         words = [program, "serve", "--config", layout, *map(str, words)]
         pipe = subprocess.PIPE
         environment = {"MALLOC_ARENA_MAX": "1", **os.environ}  # as in the unit of SERVICE
@@ -99,7 +100,7 @@ class Server:
         while (line := self.line(30)) is not None:
             lines.append(line)
         status = self.process.wait(30)
-        told = re.fullmatch(r"chapters (\d+)\ncalls (\d+)(?:\nlost \d+)?\nsettled", "\n".join(lines))
+        told = re.fullmatch(r"chapters (\d+)\ncalls (\d+)(?:\nlost \d+)?(?:\nlate \d+)?\nsettled", "\n".join(lines))
         if not told or status != 0 or self.log.strange:
             raise Fault(f"after `stop` it prints {lines} and says {self.log.strange}, status {status}")
         return int(told[1]), int(told[2])

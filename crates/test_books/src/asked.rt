@@ -39,8 +39,7 @@ fn server(alloc: Global, options: &Options) -> Result<String, AllocError> {
             ..
         } => {
             let (config, host) = (word(config.as_str()), word(host.as_str()));
-            format!(
-                in alloc;
+            format!(in alloc;
                 "stay {config} {host} {port} {tools} {tasks} {period} {patience} {queue} {idle} {cut_every}"
             )
         }

@@ -1,20 +1,20 @@
 // Two tools and two tasks at the same time, while chapters are cut.
 ghost use Rattle.std.specs.Prelude.{◌≡◌};
 
-use crate::silent::Silent;
+use crate::silent::{Silent, plan_of};
 use std::alloc::Global;
 use std::io::{Read, Write};
 use std::net::{TcpListener, TcpStream};
 use std::sync::Wait;
 use std::test::Fail;
 use std::thread::{Threads, join};
-use std::time::{Clock, Duration};
+use std::time::Clock;
 use test_ground::unnamed;
 use xcp_locked::Unnamed;
 use xcp_scribe::Scribe;
 use xcp_seats::Halt;
 use xcp_slave::{Request, Slave};
-use xcp_stay::{Plan, Report, stay};
+use xcp_stay::{Report, stay};
 use xcp_trace::Entries;
 
 // What came of the calls that a scribe was given: how many there were of each kind, and whether each was its caller's.
@@ -104,23 +104,15 @@ fn ask_both<R: Wait>(rt: &HostRuntime, handle: &R, port: u16, times: u16, halt: 
 
 // Two seats and two tasks, whose cycles have no period.
 fn serve<R: Threads + Wait + Clock + Sync>(
-    rt: &HostRuntime,
     handle: &R,
     alloc: Global,
     unnamed: Unnamed,
     listener: &TcpListener,
-    port: u16,
     halt: &Halt,
 ) -> Option<(Report, Sorted)>
     requires { unnamed.callers ≡ 6 }
 {
-    let plan = Plan {
-        tools: 2,
-        tasks: 2,
-        periods: [0; 6],
-        patience: Duration::from_secs(5),
-    };
-    let silent = Silent { rt, port };
+    let plan = plan_of(2, 2, 5);
     let scribe = Sorting(Sorted {
         chapters: 0,
         commands: 0,
@@ -129,7 +121,7 @@ fn serve<R: Threads + Wait + Clock + Sync>(
         strangers: 0,
     });
     let (report, scribe) = stay(
-        handle, alloc, unnamed, listener, plan, scribe, halt, &silent,
+        handle, alloc, unnamed, listener, plan, scribe, halt, &Silent,
     )
     .ok()?;
     Some((report, scribe.0))
@@ -151,7 +143,7 @@ fn crowded<R: Threads + Wait + Clock + Sync>(
         move || -> bool { ask_both(rt, handle, port, times, asked) },
         move || -> Option<(Report, Sorted)>
             requires { unnamed.callers ≡ 6 }
-        { serve(rt, handle, alloc, unnamed, slave, port, asked) },
+        { serve(handle, alloc, unnamed, slave, asked) },
     ))
 }
 

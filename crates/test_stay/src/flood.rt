@@ -63,7 +63,7 @@ fn flooded<R: Threads + Wait + Clock + Sync>(
         move || -> bool { flood_once(rt, handle, port, asked) },
         move || -> Option<Report>
             requires { unnamed.callers ≡ 2 }
-        { serve(rt, handle, alloc, unnamed, slave, port, 1, asked) },
+        { serve(handle, alloc, unnamed, slave, 1, asked) },
     ))
 }
 

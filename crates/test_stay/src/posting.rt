@@ -112,7 +112,7 @@ fn opened<N: Name, M: Route>(
         callers,
         ..
     } = opening;
-    Ok(unrouted.open::<M, Written>(alloc, locked, callers, written)?)
+    Ok(unrouted.open::<M, Written>(alloc, locked, callers, written, true)?)
 }
 
 fn post_routed<N: Name, M: Route>(

@@ -1,20 +1,20 @@
 // Tools that come and go.
 ghost use Rattle.std.specs.Prelude.{◌≡◌};
 
-use crate::silent::Silent;
+use crate::silent::{Silent, plan_of};
 use std::alloc::Global;
 use std::io::{Read, Write};
 use std::net::{TcpListener, TcpStream};
 use std::sync::Wait;
 use std::test::Fail;
 use std::thread::{Threads, join};
-use std::time::{Clock, Duration};
+use std::time::Clock;
 use test_ground::unnamed;
 use xcp_locked::Unnamed;
 use xcp_scribe::Scribe;
 use xcp_seats::Halt;
 use xcp_slave::Slave;
-use xcp_stay::{Plan, Report, stay};
+use xcp_stay::{Report, stay};
 use xcp_trace::Entries;
 
 // Counts the chapters that it is given.
@@ -73,27 +73,19 @@ fn visit_all<R: Wait>(
 
 // Serves one tool at a time, and no task. It is so many seconds patient. Nothing is told where a scribe wasn't given as many chapters.
 pub fn serve<R: Threads + Wait + Clock + Sync>(
-    rt: &HostRuntime,
     handle: &R,
     alloc: Global,
     unnamed: Unnamed,
     listener: &TcpListener,
-    port: u16,
     patience: u64,
     halt: &Halt,
 ) -> Option<Report>
     requires { unnamed.callers ≡ 2 }
 {
-    let plan = Plan {
-        tools: 1,
-        tasks: 0,
-        periods: [0; 6],
-        patience: Duration::from_secs(patience),
-    };
-    let silent = Silent { rt, port };
+    let plan = plan_of(1, 0, patience);
     let scribe = Counting(0);
     let (report, scribe) = stay(
-        handle, alloc, unnamed, listener, plan, scribe, halt, &silent,
+        handle, alloc, unnamed, listener, plan, scribe, halt, &Silent,
     )
     .ok()?;
     if scribe.0 == report.chapters {
@@ -121,7 +113,7 @@ fn came<R: Threads + Wait + Clock + Sync>(
         move || -> u32 { visit_all(rt, handle, port, visits, times, asked) },
         move || -> Option<Report>
             requires { unnamed.callers ≡ 2 }
-        { serve(rt, handle, alloc, unnamed, slave, port, 5, asked) },
+        { serve(handle, alloc, unnamed, slave, 5, asked) },
     ))
 }
 
@@ -132,6 +124,7 @@ fn tools_come_and_go(rt: HostRuntime) -> Result<(), Fail> {
         chapters: 1,
         calls: 6,
         lost: 0,
+        late: 0,
     };
     assert_eq!(rt; came(&rt, &rt, rt.alloc(), 3, 1)?, (3, Some(wanted)));
     Ok(())
@@ -143,6 +136,7 @@ fn a_chapter_is_cut_by_the_call_that_fills_it(rt: HostRuntime) -> Result<(), Fai
         chapters: 2,
         calls: 16_386,
         lost: 0,
+        late: 0,
     };
     assert_eq!(rt; came(&rt, &rt, rt.alloc(), 1, 16_385)?, (1, Some(wanted)));
     Ok(())

@@ -44,7 +44,8 @@ pub enum Fault {
     /// written.
     #[error("journal {0}")]
     Journal(u8),
-    /// The file of the stored pages: 1 if it can't be read, is of another layout, cut short or altered, 2 if not all could be written.
+    /// The file of the stored pages: 1 if it can't be read, is of another layout, cut short or altered, 2 if not all could be written, or
+    /// no file can be made beside it, 3 if another program keeps it.
     #[error("flash {0}")]
     Flash(u8),
 }

@@ -87,8 +87,8 @@ with one line there, and this status:" $($rest)*)
     };
     ($before:tt kept_flash $($rest:tt)*) => {
         help!($before "
-  6  flash N: " unfit_pages " (1), or not all
-     could be written (2)" $($rest)*)
+  6  flash N: " unfit_pages " (1), not all could
+     be written (2), or another program keeps it (3)" $($rest)*)
     };
 }
 

@@ -1,13 +1,18 @@
 //! What is done beside seats and tasks.
 
 use crate::door::Door;
+use crate::entrance::Gate;
 use crate::halt::Halt;
+use crate::lobby::Lobby;
+use crate::losses::Losses;
 use crate::watcher::Watcher;
+use std::alloc::Global;
 use std::sync::Wait;
+use std::time::{Clock, Duration};
 use together::Meanwhile;
-use xcp_locked::Name;
+use xcp_locked::{HasSlave, Name};
 use xcp_scribe::Scribe;
-use xcp_service::{Collector, Post, Route, Unkept};
+use xcp_service::{Collector, Post, Route, Shared, Unkept};
 
 /// What the thread that made all others does: it keeps chapters, until the post is closed.
 #[derive(Drop)]
@@ -34,24 +39,81 @@ impl<'a, N: Name, M: Route, S: Scribe> Meanwhile<Result<Collector<N, M, S>, Unke
     }
 }
 
-/// Who waits until the server is asked to end, and makes everybody end.
+/// Who waits until the server is asked to end, and makes everybody end. Meanwhile it tells of lost events once a second, and cuts the
+/// journal's open chapter off as often as it is asked to.
 #[derive(Drop)]
 pub struct Ward<'a, N: Name, M: Route, W> {
+    pub alloc: Global,
+    pub shared: &'a Shared<N, M>,
+    pub gate: Gate,
+    pub lobby: &'a Lobby,
     pub doors: &'a [Door],
-    pub post: &'a Post<N, M>,
     pub halt: &'a Halt,
+    pub losses: &'a Losses,
     pub watcher: &'a W,
+    /// How many seconds there are from one cut to the next, if there are cuts.
+    pub cut_every: Option<u32>,
+    /// Whether there is a task, whose events may be lost.
+    pub has_tasks: bool,
 }
 
 impl<'a, N: Name, M: Route, W: Watcher> Ward<'a, N, M, W> {
-    /// Waits for the end, closes the connections, wakes the seats that wait for a tool, and closes the post.
-    pub fn watch<R: Wait>(&self, rt: &R) {
-        self.halt.wait(rt);
+    /// Waits for the end. Closes the post then, so that nobody waits for the keeper any more, lets no more tools in, and closes the
+    /// connections.
+    pub fn watch<R: Wait + Clock>(&self, rt: &R) {
+        if self.has_tasks || self.cut_every.is_some() {
+            self.look_each_second(rt);
+        } else {
+            self.halt.wait(rt);
+        }
+        self.shared.post.close(rt);
+        self.gate.shut();
+        self.lobby.close(rt);
         for door in self.doors {
             door.shut(rt);
         }
-        self.watcher
-            .wake(u8::try_from(self.doors.len()).unwrap_or(u8::MAX));
-        self.post.close(rt);
+    }
+
+    /// Looks what is to be done, once a second, until the server is asked to end.
+    fn look_each_second<R: Wait + Clock>(&self, rt: &R) {
+        let mut seconds: u32 = 0;
+        let mut told: u64 = 0;
+        for _second in rt.forever() {
+            self.halt.wait_for(rt, Duration::from_secs(1));
+            if self.halt.is_asked() {
+                return;
+            }
+            told = self.tell_lost(told);
+            seconds = self.cut_in_time(rt, seconds.saturating_add(1));
+        }
+    }
+
+    /// Tells of the events that were lost since so many were told, and answers how many were told now.
+    fn tell_lost(&self, told: u64) -> u64 {
+        let lost = self.losses.count();
+        if lost != told {
+            self.watcher.lost(lost.wrapping_sub(told));
+        }
+        lost
+    }
+
+    /// Cuts the journal's open chapter off, if so many seconds have passed since that was looked at last and it is time. Answers how many
+    /// have passed then.
+    fn cut_in_time(&self, rt: &impl Wait, seconds: u32) -> u32 {
+        match self.cut_every {
+            Some(every) if every <= seconds => {
+                cut(rt, self.alloc, self.shared);
+                0
+            }
+            _ => seconds,
+        }
+    }
+}
+
+/// Cuts the journal's open chapter off, if it has a call. Where there is no memory, the next look does.
+fn cut<N: Name, M: Route>(rt: &impl Wait, alloc: Global, shared: &Shared<N, M>) {
+    let mut resident = shared.lock.lock(rt);
+    if resident.locked().len() > 0 {
+        resident.cut(rt, alloc, &shared.post);
     }
 }

@@ -1,7 +1,8 @@
 //! When a server ends.
 
 use std::sync::atomic::{AtomicBool, Ordering};
-use std::sync::{Condvar, Mutex, Wait};
+use std::sync::{Condvar, CondvarTimeouts, Mutex, Wait};
+use std::time::{Clock, Duration};
 
 /// Whether a server was asked to end, by anybody.
 #[derive(Drop)]
@@ -38,5 +39,12 @@ impl Halt {
         let _asked = self
             .told
             .wait_while(rt, self.asked.lock(rt), |asked| !*asked);
+    }
+
+    /// Waits until somebody asks, but no longer than this.
+    pub fn wait_for<R: Wait + Clock>(&self, rt: &R, time: Duration) {
+        let _asked = self
+            .told
+            .wait_timeout_while(rt, self.asked.lock(rt), time, |asked| !*asked);
     }
 }

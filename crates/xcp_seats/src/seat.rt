@@ -6,14 +6,15 @@ use crate::closing::Closing;
 use crate::door::Door;
 use crate::hall::{Departure, Hall};
 use crate::halt::Halt;
-use crate::patient::{Patient, Patiently};
+use crate::lobby::Lobby;
+use crate::patient::{Patient, Patiently, Times};
 use crate::watcher::Watcher;
 use std::alloc::Global;
 use std::marker::Model;
-use std::net::{SocketAddr, TcpListener, TcpStream};
+use std::net::{SocketAddr, TcpStream};
 use std::sync::Wait;
+use std::sync::atomic::{AtomicBool, Ordering};
 use std::thread::Threads;
-use std::time::Duration;
 use xcp_connection::{Attended, Limits, attend};
 use xcp_framing::{Noting, ServeError, Served, Watched};
 use xcp_locked::Name;
@@ -30,21 +31,21 @@ const PUMP_TURNS: u32 = 1_000_000_000;
 pub struct Place<'a, W> {
     pub number: u8,
     pub max_cto: u8,
-    pub patience: Duration,
+    pub times: Times,
+    pub lobby: &'a Lobby,
     pub door: &'a Door,
     pub halt: &'a Halt,
     pub hall: &'a Hall,
     pub watcher: &'a W,
 }
 
-/// A seat: a member for its tools, and one for their pumps. It accepts one tool after another, and serves each by three parts, of which it is
+/// A seat: a member for its tools, and one for their pumps. It takes one tool after another out of the lobby, and serves each by three parts, of which it is
 /// the first; the others have threads of their own as long as the tool is there.
 #[derive(Drop)]
 pub struct Seat<'a, N: Name, M: Route, W, T> {
     pub rt: &'a T,
     pub shared: &'a Shared<N, M>,
     pub alloc: Global,
-    pub listener: TcpListener,
     pub tool: Member<N, M>,
     pub pump: Member<N, M>,
     pub place: Place<'a, W>,
@@ -66,7 +67,7 @@ pub struct Left<N: Name, M: Route> {
     pub pump: Member<N, M>,
 }
 
-/// What a seat does: it accepts one tool after another, and serves each, until the server is asked to end.
+/// What a seat does: it takes one tool after another, and serves each, until the server is asked to end.
 pub fn sit<
     'a,
     N: Name + Send + Sync,
@@ -80,22 +81,17 @@ pub fn sit<
         rt,
         shared,
         alloc,
-        listener,
         tool,
         pump,
         place,
     } = seat;
     let mut left = Left { tool, pump };
     for _visit in rt.forever() {
-        let accepted = listener.accept();
-        if place.halt.is_asked() {
+        let Some((stream, address)) = place.lobby.next(rt) else {
             break;
-        }
-        let Ok((stream, address)) = accepted else {
-            place.watcher.refused(place.number);
-            continue;
         };
         left = visit(rt, alloc, shared, &place, stream, address, left);
+        place.lobby.free(rt);
     }
     left
 }
@@ -132,8 +128,12 @@ fn visit<
     let Left { tool, pump } = left;
     let tool = Seated::new(rt, alloc, shared, tool);
     let pump = Seated::new(rt, alloc, shared, pump);
-    let (mut tool, pump, end) = serve_tool(rt, alloc, shared, place, stream, tool, pump);
+    let was_idle = AtomicBool::new(false);
+    let (mut tool, pump, end) = serve_tool(rt, alloc, shared, place, stream, &was_idle, tool, pump);
     let departure = place.hall.leave(rt, &mut tool);
+    if was_idle.load(Ordering::SeqCst) {
+        place.watcher.idle(place.number, address);
+    }
     place
         .watcher
         .gone(place.number, address, told_end(end, departure));
@@ -169,16 +169,15 @@ fn serve_tool<'r, N: Name + Send + Sync, M: Route + Send + Sync, W, T: Threads +
     shared: &'r Shared<N, M>,
     place: &Place<'_, W>,
     stream: TcpStream,
+    was_idle: &AtomicBool,
     tool: Seated<'r, N, M, T>,
     pump: Seated<'r, N, M, T>,
 ) -> Seats<'r, N, M, T>
     ensures { (pair result.0.member result.1.member ≡ pair tool.entry.member pump.entry.member)
         ⊎ Attends place.now.max_cto result.2 (pair tool.entry.member pump.entry.member) (pair result.0.member result.1.member) }
 {
-    // Where these can't be set, as with a tool that has gone again, answers are late at most.
+    // Where it can't be set, as with a tool that has gone again, answers are late at most.
     let _ = stream.set_nodelay(true);
-    let _ = stream.set_write_timeout(Some(place.patience));
-    let _ = stream.set_read_timeout(Some(place.patience));
     let (Ok(writer), Ok(handle)) = (stream.try_clone(), stream.try_clone()) else {
         return (tool, pump, Err(ServeError::Memory));
     };
@@ -187,7 +186,7 @@ fn serve_tool<'r, N: Name + Send + Sync, M: Route + Send + Sync, W, T: Threads +
         place.door.shut(rt);
     }
     let stream = (
-        Watched::new(Patient::new(stream)),
+        Watched::new(Patient::new(stream, place.times, was_idle)),
         Watched::new(Noting::new(Closing::new(writer))),
     );
     let attended = attend::<N, Resident<N, M>, _, _, _, _, _>(

@@ -1,13 +1,15 @@
-//! Threads for seats, and for who makes them end.
+//! Threads for seats, for who lets tools in, and for who makes them end.
 ghost use Rattle.std.specs.Prelude.{◌≡◌, IfSome};
 ghost use Rattle.xcp_seats.specs.Seating.{Sat, pair};
 
 use crate::duty::Ward;
+use crate::entrance::Entrance;
 use crate::seat::{Left, Seat, sit};
 use crate::watcher::Watcher;
 use std::snapshot::Snapshot;
 use std::sync::{Mutex, Wait};
 use std::thread::{Promise, PromisedHandle, Scope, Threads};
+use std::time::Clock;
 use xcp_locked::Name;
 use xcp_service::Route;
 
@@ -64,12 +66,28 @@ pub fn start_ward<
     N: Name + Send + Sync + 's,
     M: Route + Send + Sync + 's,
     W: Watcher + Sync + 's,
-    T: Threads + Wait + Sync + 's,
+    T: Threads + Wait + Clock + Sync + 's,
 >(scope: &'s Scope<'s, E>, rt: &'s T, start: &'s Mutex<bool>, ward: Ward<'s, N, M, W>) -> bool {
     scope
         .spawn(move || {
             if *start.lock(rt) {
                 ward.watch(rt);
+            }
+        })
+        .is_ok()
+}
+
+/// Makes the thread of an entrance, which waits for the start signal, and tells whether it stands. It ends with the scope.
+pub fn start_entrance<'s, E, W: Watcher + Sync + 's, T: Threads + Wait + Clock + Sync + 's>(
+    scope: &'s Scope<'s, E>,
+    rt: &'s T,
+    start: &'s Mutex<bool>,
+    entrance: Entrance<'s, W>,
+) -> bool {
+    scope
+        .spawn(move || {
+            if *start.lock(rt) {
+                entrance.attend(rt);
             }
         })
         .is_ok()

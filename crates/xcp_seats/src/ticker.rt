@@ -6,6 +6,7 @@ ghost use Rattle.xcp_locked.specs.Tasks.{Same, closing_of, duty, event_of, reque
 ghost use Rattle.xcp_seats.specs.Ticking.{Ticked, Ticks, task_at};
 
 use crate::halt::Halt;
+use crate::losses::Losses;
 use crate::pace::Pace;
 use std::alloc::Global;
 use std::marker::Model;
@@ -26,6 +27,7 @@ pub struct Ticker<'a, N: Name, M: Route, C> {
     pub member: Member<N, M>,
     pub reader: Reader<N>,
     pub pace: &'a Pace<'a, C>,
+    pub losses: &'a Losses,
     pub halt: &'a Halt,
 }
 
@@ -43,13 +45,15 @@ impl<'a, N: Name, M: Route, C> Model for Ticker<'a, N, M, C> {
 pub struct Rested<N: Name, M: Route> {
     pub member: Member<N, M>,
     pub reader: Reader<N>,
+    /// How many cycles it didn't have, since it was late by a period or more. At 2^64 this begins again at 0.
+    pub late: u64,
 }
 
-impl<'a, N: Name, M: Route, C: Clock> Ticker<'a, N, M, C> {
+impl<'a, N: Name, M: Route, C: Clock + Wait> Ticker<'a, N, M, C> {
     /// Cycle after cycle, until the server ends: an event is submitted, and the reader told under the same
     /// hold; then the image is taken and read, without a lock; and task 0 finishes a store. Where cycles have no period, each
-    /// waits first until the keeper is not far behind. Where there is no memory for an event or a store it is lost, and isn't in the
-    /// journal.
+    /// waits first until the keeper is not far behind. A cycle that is late by a period or more is left out, and counted. Where there is no
+    /// memory for an event or a store it is lost, and isn't in the journal.
     fn tick<R: Wait>(self, rt: &R) -> Rested<N, M>
         ensures { Ticks N.layout self.entry.task self.entry.caller result.member self.entry.reader result.reader }
     {
@@ -60,12 +64,17 @@ impl<'a, N: Name, M: Route, C: Clock> Ticker<'a, N, M, C> {
             mut member,
             mut reader,
             pace,
+            losses,
             halt,
         } = self;
         let mut image = [0; 2040];
         let mut number: u64 = 0;
+        let mut step = 0;
+        let mut late: u64 = 0;
         for _cycle in rt.forever() {
-            pace.wait(task, number);
+            let due = pace.wait(task, step, halt);
+            late = late.wrapping_add(due - step);
+            step = due.saturating_add(1);
             if pace.is_free(task) {
                 shared.post.wait_for_keeper(rt);
             }
@@ -76,6 +85,7 @@ impl<'a, N: Name, M: Route, C: Clock> Ticker<'a, N, M, C> {
                 rt,
                 alloc,
                 shared,
+                losses,
                 task,
                 number,
                 &mut member,
@@ -84,11 +94,15 @@ impl<'a, N: Name, M: Route, C: Clock> Ticker<'a, N, M, C> {
             );
             number = number.wrapping_add(1);
         }
-        Rested { member, reader }
+        Rested {
+            member,
+            reader,
+            late,
+        }
     }
 }
 
-impl<'a, N: Name + Send + Sync, M: Route + Send + Sync, C: Clock + Sync> Work<Rested<N, M>>
+impl<'a, N: Name + Send + Sync, M: Route + Send + Sync, C: Clock + Wait + Sync> Work<Rested<N, M>>
     for Ticker<'a, N, M, C> {
     ghost use Rattle.xcp_seats.specs.Ticking.{Ticks};
 
@@ -100,7 +114,11 @@ impl<'a, N: Name + Send + Sync, M: Route + Send + Sync, C: Clock + Sync> Work<Re
 
     fn leave(self) -> Rested<N, M> {
         let Ticker { member, reader, .. } = self;
-        Rested { member, reader }
+        Rested {
+            member,
+            reader,
+            late: 0,
+        }
     }
 }
 
@@ -109,6 +127,7 @@ fn cycle<N: Name, M: Route>(
     rt: &impl Wait,
     alloc: Global,
     shared: &Shared<N, M>,
+    losses: &Losses,
     task: u8,
     number: u64,
     member: &mut Member<N, M>,
@@ -118,7 +137,7 @@ fn cycle<N: Name, M: Route>(
     ensures { Ticked N.layout task (task_at number member.old reader.old image.old)
         (task_at ((number + 1) % 2 ^ 64) member.new reader.new image.new) }
 {
-    raise(rt, alloc, shared, task, number, member, reader);
+    raise(rt, alloc, shared, losses, task, number, member, reader);
     take_image(reader, image);
     if task == 0 {
         store(rt, alloc, shared, member);
@@ -130,6 +149,7 @@ fn raise<N: Name, M: Route>(
     rt: &impl Wait,
     alloc: Global,
     shared: &Shared<N, M>,
+    losses: &Losses,
     task: u8,
     number: u64,
     member: &mut Member<N, M>,
@@ -148,6 +168,7 @@ fn raise<N: Name, M: Route>(
         alloc,
         &mut shared.lock.lock(rt),
         &shared.post,
+        losses,
         member,
         reader,
         request.asked(),
@@ -160,6 +181,7 @@ fn submit_and_tell<N: Name, M: Route>(
     alloc: Global,
     resident: &mut Resident<N, M>,
     post: &Post<N, M>,
+    losses: &Losses,
     member: &mut Member<N, M>,
     reader: &mut Reader<N>,
     asked: Asked<'_>,
@@ -173,7 +195,8 @@ fn submit_and_tell<N: Name, M: Route>(
 {
     let mut packet = Packet::new();
     match call(rt, alloc, resident, post, member, asked, &mut packet) {
-        Ok(_) => {
+        Ok(told) => {
+            losses.note(&told);
             resident.tell(reader);
             true
         }

@@ -21,8 +21,8 @@ use xcp_slave::{Asked, Outcome, Told};
 pub const CHAPTER: u64 = 16_384;
 
 /// Submits a request whose bytes are lent, under the lock that the slave is lent from. Where this fills the open chapter, or stores a
-/// segment's pages, cuts the chapter off under the same hold, so that the keeper has what was stored at once; where there was no
-/// memory for a full one, the next call does. What the member has at hand of chapters that were
+/// segment's pages and each store ends its chapter, cuts the chapter off under the same hold, so that the keeper has what was stored at once;
+/// where there was no memory for a full one, the next call does. What the member has at hand of chapters that were
 /// cut off it hands over. `JournalFull` comes only where the open chapter had 65,536 calls before, since there was never memory to
 /// cut it off; after an error nothing was executed.
 pub fn call<N: Name, M: Route>(
@@ -48,20 +48,22 @@ pub fn call<N: Name, M: Route>(
     member.hand_over(rt, alloc, resident, post);
     let told = member.submit(resident, asked, packet)?;
     resident.audit();
-    if ends_chapter(resident.locked().len(), &told) {
+    if ends_chapter(resident.locked().len(), &told, resident.each_store()) {
         resident.cut(rt, alloc, post);
     }
     Ok(told)
 }
 
-/// Whether a chapter ends that has so many calls, of which the last one was told this: it is full, or pages were stored.
-fn ends_chapter(calls: u64, told: &Told) -> bool
+/// Whether a chapter ends that has so many calls, of which the last one was told this: it is full, or pages were stored, where each store
+/// ends its chapter.
+fn ends_chapter(calls: u64, told: &Told, each_store: bool) -> bool
     ensures full { 16384 ≤ calls → result ≡ true }
-    ensures stored { (segments : ℕ) → told.now ≡ Outcome.Stored segments → 0 < segments → result ≡ true }
+    ensures stored { (segments : ℕ) → told.now ≡ Outcome.Stored segments → 0 < segments → each_store ≡ true → result ≡ true }
+    ensures unasked { calls < 16384 → each_store ≡ false → result ≡ false }
     ensures neither { calls < 16384 → ((segments : ℕ) → 0 < segments → told.now ≢ Outcome.Stored segments) → result ≡ false }
 {
     match told {
-        Told::Stored(segments) => *segments > 0 || calls >= CHAPTER,
+        Told::Stored(segments) => *segments > 0 && each_store || calls >= CHAPTER,
         _ => calls >= CHAPTER,
     }
 }

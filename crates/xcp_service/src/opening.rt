@@ -51,13 +51,15 @@ impl<N: Name> Unrouted<N> {
         Ok(Unrouted { relay, taker })
     }
 
-    /// Opens it for a slave that was just opened, and all its callers, with a scribe that was given nothing yet.
+    /// Opens it for a slave that was just opened, and all its callers, with a scribe that was given nothing yet. It says whether each store
+    /// ends its chapter.
     pub fn open<M: Route, S: Scribe>(
         self,
         alloc: Global,
         locked: Locked<N>,
         callers: Vec<Caller<N>>,
         scribe: S,
+        each_store: bool,
     ) -> Result<Posting<N, M, S>, AllocError>
         requires relay { self ≡ M.relay }
         requires first { IsUncut N.layout locked }
@@ -71,7 +73,7 @@ impl<N: Name> Unrouted<N> {
         let desk = chapters.tag();
         Ok(Posting {
             post: Post::new(relay),
-            resident: Resident::new(locked, chapters),
+            resident: Resident::new(locked, chapters, each_store),
             members,
             collector: Collector::new(alloc, taker, desk, scribe),
         })

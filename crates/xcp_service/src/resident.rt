@@ -35,6 +35,8 @@ pub struct Resident<N: Name, M: Route> {
     /// By which its chapters go to the keeper. What lies here is handed in before the next one is cut off, and before anybody hands
     /// receipts over.
     tray: Tray<Parcel<N>>,
+    /// Whether a store that stores ends its chapter, so that who keeps stored pages has them at once.
+    each_store: bool,
     of: PhantomData<M>,
 }
 
@@ -60,7 +62,11 @@ impl<N: Name, M: Route> HasSlave<N> for Resident<N, M> {
 
 impl<N: Name, M: Route> Resident<N, M> {
     /// A slave of which no chapter was cut off yet, with the giver of its chapters, whose tag is the one behind those of all callers.
-    pub(crate) fn new(locked: Locked<N>, chapters: Giver<Parcel<N>>) -> Resident<N, M>
+    pub(crate) fn new(
+        locked: Locked<N>,
+        chapters: Giver<Parcel<N>>,
+        each_store: bool,
+    ) -> Resident<N, M>
         requires first { IsUncut N.layout locked }
         requires chapters { chapters ≡ record { relay = M.relay; tag = N.parts; given = [] } }
         ensures { result ≡ record { locked = locked; past = [] } }
@@ -69,8 +75,14 @@ impl<N: Name, M: Route> Resident<N, M> {
         Resident {
             locked,
             tray: Tray::new(chapters),
+            each_store,
             of: PhantomData,
         }
+    }
+
+    /// Whether a store that stores ends its chapter.
+    pub(crate) fn each_store(&self) -> bool {
+        self.each_store
     }
 
     /// Hands in the chapter that could not be handed in when it was cut off, if there is one, and tells whether there is none now.

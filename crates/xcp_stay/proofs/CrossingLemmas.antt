@@ -13,6 +13,7 @@ use Rattle.xcp_locked.proofs.chapter.Chapter.TheSendSync as chapter
 use Rattle.xcp_locked.proofs.reader.Reader.TheSendSync as reader
 use Rattle.xcp_locked.proofs.sheaf.Sheaf.TheSendSync as sheaf
 use Rattle.xcp_seats.proofs.halt.Halt.TheSendSync as halt
+use Rattle.xcp_seats.proofs.losses.Losses.TheSendSync as losses
 use Rattle.xcp_seats.specs.contracts.ticker.Rested as Rested
 use Rattle.xcp_seats.specs.contracts.ticker.Ticker.TheInside as TickerInside
 use Rattle.xcp_seats.specs.contracts.ticker.Ticker as Ticker
@@ -42,8 +43,8 @@ pub ticker_crosses : (κ : NamedLft) (N M C : RattleType) (g : Name.Ghosts N.Den
 ticker_crosses κ N M C g l h c =
     view_send (TickerInside.the_row κ N M C g l h) _ _ _ _
     (struct_crosses (TickerInside.the_type κ N M C g l h)
-    (search (sendable, crosses, shared.the_sync) depth 20, (search (sendable, crosses) depth 20, (search sendable, (member_crosses N M g l h, (reader.the_send N g l, (search (sendable, crosses) depth 20, (search (sendable, crosses, halt.the_sync) depth 20, tt))))))))
+    (search (sendable, crosses, shared.the_sync) depth 20, (search (sendable, crosses) depth 20, (search sendable, (member_crosses N M g l h, (reader.the_send N g l, (search (sendable, crosses) depth 20, (search (sendable, crosses, losses.the_sync) depth 20, (search (sendable, crosses, halt.the_sync) depth 20, tt)))))))))
 
 -- and what comes of it
 pub rested_crosses : (N M : RattleType) (g : Name.Ghosts N.Denot) (l : Ledger.Ghosts N.Denot) (h : Route.Ghosts M.Denot) → IsSend (Rested.the_row N M g l h)
-rested_crosses N M g l h = struct_crosses (Rested.the_type N M g l h) (member_crosses N M g l h, (reader.the_send N g l, tt))
+rested_crosses N M g l h = struct_crosses (Rested.the_type N M g l h) (member_crosses N M g l h, (reader.the_send N g l, (search sendable, tt)))

@@ -3,14 +3,12 @@ ghost use Rattle.std.specs.Prelude.{◌≡◌, ◌≤◌, ◌+◌, ◌++◌, All
 ghost use Rattle.std.specs.Vec.Iter.{into_iter_items};
 ghost use Rattle.xcp_stay.specs.Team.{TasksFrom};
 
-use crate::ending::StayError;
 use crate::staying::Plan;
 use std::alloc::{AllocError, Global};
-use std::net::TcpListener;
 use std::vec::IntoIter;
 use xcp_locked::{Name, Reader};
 use xcp_scribe::Scribe;
-use xcp_seats::{Door, Hall, Halt, Pace, Place, Seat, Ticker};
+use xcp_seats::{Door, Hall, Halt, Lobby, Losses, Pace, Place, Seat, Ticker};
 use xcp_service::{Collector, Member, Route, Shared};
 
 /// What the seats of a server share.
@@ -18,6 +16,7 @@ use xcp_service::{Collector, Member, Route, Shared};
 pub(crate) struct Common<'a, N: Name, M: Route, W, R> {
     pub rt: &'a R,
     pub shared: &'a Shared<N, M>,
+    pub lobby: &'a Lobby,
     pub doors: &'a [Door],
     pub hall: &'a Hall,
     pub halt: &'a Halt,
@@ -102,12 +101,11 @@ fn next_members<N: Name, M: Route>(
 pub(crate) fn make_seats<'a, N: Name, M: Route, W, R>(
     alloc: Global,
     common: &Common<'a, N, M, W, R>,
-    listener: &TcpListener,
     tools: Vec<Member<N, M>>,
     pumps: Vec<Member<N, M>>,
     max_cto: u8,
     plan: Plan,
-) -> Result<Vec<Seat<'a, N, M, W, R>>, StayError>
+) -> Result<Vec<Seat<'a, N, M, W, R>>, AllocError>
     requires doors { length common.now.doors.now ≡ plan.tools }
     requires tools { vec_len tools ≡ plan.tools }
     requires pumps { vec_len pumps ≡ plan.tools }
@@ -119,9 +117,6 @@ pub(crate) fn make_seats<'a, N: Name, M: Route, W, R>(
     let mut tools = tools.into_iter();
     let mut pumps = pumps.into_iter();
     for number in 0..plan.tools {
-        let Ok(listener) = listener.try_clone() else {
-            return Err(StayError::Listener);
-        };
         let Some(tool) = tools.next() else {
             unreachable!()
         };
@@ -131,7 +126,8 @@ pub(crate) fn make_seats<'a, N: Name, M: Route, W, R>(
         let place = Place {
             number,
             max_cto,
-            patience: plan.patience,
+            times: plan.times,
+            lobby: common.lobby,
             door: &common.doors[number as usize],
             halt: common.halt,
             hall: common.hall,
@@ -141,7 +137,6 @@ pub(crate) fn make_seats<'a, N: Name, M: Route, W, R>(
             rt: common.rt,
             shared: common.shared,
             alloc,
-            listener,
             tool,
             pump,
             place,
@@ -154,6 +149,7 @@ pub(crate) fn make_seats<'a, N: Name, M: Route, W, R>(
 pub(crate) fn make_tickers<'a, N: Name, M: Route, R>(
     alloc: Global,
     shared: &'a Shared<N, M>,
+    losses: &'a Losses,
     halt: &'a Halt,
     pace: &'a Pace<'a, R>,
     members: Vec<Member<N, M>>,
@@ -183,6 +179,7 @@ pub(crate) fn make_tickers<'a, N: Name, M: Route, R>(
             member,
             reader,
             pace,
+            losses,
             halt,
         });
     }

@@ -21,7 +21,7 @@ use xcp_service::{
 pub enum StayError {
     /// There was no memory, or no thread.
     Memory,
-    /// The listener can't be shared among the seats.
+    /// The listener can't be shared with who shuts it.
     Listener,
     /// A chapter doesn't follow the one before it, or receipts aren't a chapter's calls.
     Discord(Discord),
@@ -60,6 +60,17 @@ pub struct Stayed<N: Name, S: Scribe> {
     /// The callers of seats and tasks, in the order of their numbers: those of the seats' tools, then those of the tasks, then those of
     /// the seats' pumps.
     pub members: Vec<Former<N>>,
+    /// How many cycles tasks didn't have, since they were late by a period or more.
+    pub late: u64,
+}
+
+/// How many cycles these tasks didn't have.
+fn late_among<N: Name, M: Route>(rested: &[Rested<N, M>]) -> u64 {
+    let mut late: u64 = 0;
+    for task in rested {
+        late = late.saturating_add(task.late);
+    }
+    late
 }
 
 /// The members of a team: those of the seats' tools, then those of the tasks, then those of the seats' pumps.
@@ -141,9 +152,10 @@ pub(crate) fn conclude<N: Name, M: Route, S: Scribe, R: Wait>(
 {
     let Ended { left, rested, kept } = ended;
     let collector = kept?;
+    let late = late_among(&rested);
     let mut members = gather(alloc, left, rested)?;
     let (locked, collector) = take_rest(rt, alloc, resident, post, collector, &mut members)?;
-    settle(alloc, locked, post, collector, members, count)
+    settle(alloc, locked, post, collector, members, count, late)
 }
 
 /// The open chapter is cut off, all members hand over what they have at hand, and the keeper takes what is left. The slave makes no more
@@ -211,6 +223,7 @@ fn settle<N: Name, M: Route, S: Scribe>(
     collector: Collector<N, M, S>,
     members: Vec<Member<N, M>>,
     count: usize,
+    late: u64,
 ) -> Result<Stayed<N, S>, StayError>
     requires closed { (locked.journal ≡ []) × (locked.base ≡ locked.slave) }
     requires images { AreImages (opening N.layout) (exchanges (entries_of collector.chapters)) locked.writer.publications }
@@ -231,5 +244,6 @@ fn settle<N: Name, M: Route, S: Scribe>(
         scribe,
         locked,
         members,
+        late,
     })
 }

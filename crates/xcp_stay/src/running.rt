@@ -17,8 +17,8 @@ use together::{Work, run_crews_and};
 use xcp_locked::{Name, Reader};
 use xcp_scribe::Scribe;
 use xcp_seats::{
-    Door, Hall, Halt, Keeping, Left, Pace, Rested, Seat, Sits, Ward, Watcher, start_seat,
-    start_ward,
+    Door, Entrance, Gate, Hall, Halt, Keeping, Left, Lobby, Losses, Pace, Rested, Seat, Sits, Ward,
+    Watcher, start_entrance, start_seat, start_ward,
 };
 use xcp_service::{Collector, Member, Route, Shared, Unkept};
 
@@ -33,7 +33,8 @@ pub(crate) struct Ended<N: Name, M: Route, S: Scribe> {
 /// The threads of seats.
 type Handles<'s, N, M, W, R> = Vec<PromisedHandle<Left<N, M>, Sits<'s, N, M, W, R>>>;
 
-/// Runs a seat behind each door and so many tasks, each in a thread of its own, and a ward in one; the keeper has the thread that calls.
+/// Runs a seat behind each door and so many tasks, each in a thread of its own, an entrance in one, and a ward in one; the keeper has the
+/// thread that calls.
 /// No seat begins before the threads of all stand. Where memory or a thread is refused, nobody stays.
 pub(crate) fn run<
     N: Name + Send + Sync,
@@ -45,6 +46,8 @@ pub(crate) fn run<
     rt: &R,
     alloc: Global,
     listener: &TcpListener,
+    lobby: &Lobby,
+    losses: &Losses,
     shared: &Shared<N, M>,
     doors: &[Door],
     hall: &Hall,
@@ -77,14 +80,14 @@ pub(crate) fn run<
                 × TasksServed N.layout crew.hired.items (map (λ d. d.member) e.rested.items)) }
         {
             in_scope(
-                scope, rt, signal, alloc, listener, shared, doors, hall, halt, watcher, crew,
-                max_cto, plan,
+                scope, rt, signal, alloc, listener, lobby, losses, shared, doors, hall, halt,
+                watcher, crew, max_cto, plan,
             )
         },
     )
 }
 
-/// Makes the threads of the seats and of the ward while it holds the start signal, lets them go, makes those of the tasks, and joins all.
+/// Makes the threads of the seats, of the entrance and of the ward while it holds the start signal, lets them go, makes those of the tasks, and joins all.
 fn in_scope<
     's,
     E,
@@ -98,7 +101,9 @@ fn in_scope<
     rt: &'s R,
     start: &'s Mutex<bool>,
     alloc: Global,
-    listener: &TcpListener,
+    listener: &'s TcpListener,
+    lobby: &'s Lobby,
+    losses: &'s Losses,
     shared: &'s Shared<N, M>,
     doors: &'s [Door],
     hall: &'s Hall,
@@ -127,27 +132,45 @@ fn in_scope<
     let common = Common {
         rt,
         shared,
+        lobby,
         doors,
         hall,
         halt,
         watcher,
     };
-    let seats = make_seats(alloc, &common, listener, tools, pumps, max_cto, plan)?;
+    let Ok(gate) = Gate::new(listener) else {
+        return Err(StayError::Listener);
+    };
+    let seats = make_seats(alloc, &common, tools, pumps, max_cto, plan)?;
     let room = Vec::with_capacity(alloc, seats.len())?;
     let handles = Vec::with_capacity(alloc, seats.len())?;
     let ward = Ward {
+        alloc,
+        shared,
+        gate,
+        lobby,
         doors,
-        post: &shared.post,
+        halt,
+        losses,
+        watcher,
+        cut_every: plan.cut_every,
+        has_tasks: plan.tasks > 0,
+    };
+    let entrance = Entrance {
+        listener,
+        lobby,
         halt,
         watcher,
     };
     let mut go = start.lock(rt);
     let (handles, seated) = start_seats(scope, rt, start, seats, handles);
-    let all = seated && start_ward(scope, rt, start, ward);
+    let all = seated && start_ends(scope, rt, start, entrance, ward);
     *go = all;
     drop(go);
     let performed = if all {
-        run_tasks(rt, alloc, shared, halt, hired, readers, collector, plan)
+        run_tasks(
+            rt, alloc, shared, losses, halt, hired, readers, collector, plan,
+        )
     } else {
         Err(AllocError)
     };
@@ -157,6 +180,24 @@ fn in_scope<
     let left = join_all(rt, handles, room);
     let (rested, kept) = performed?;
     Ok(Ended { left, rested, kept })
+}
+
+/// Makes the threads of an entrance and of a ward, and tells whether both stand.
+fn start_ends<
+    's,
+    E,
+    N: Name + Send + Sync + 's,
+    M: Route + Send + Sync + 's,
+    W: Watcher + Sync + 's,
+    R: Threads + Wait + Clock + Sync + 's,
+>(
+    scope: &'s Scope<'s, E>,
+    rt: &'s R,
+    start: &'s Mutex<bool>,
+    entrance: Entrance<'s, W>,
+    ward: Ward<'s, N, M, W>,
+) -> bool {
+    start_entrance(scope, rt, start, entrance) && start_ward(scope, rt, start, ward)
 }
 
 /// What comes of tasks, and of their keeper.
@@ -172,6 +213,7 @@ fn run_tasks<
     rt: &R,
     alloc: Global,
     shared: &Shared<N, M>,
+    losses: &Losses,
     halt: &Halt,
     members: Vec<Member<N, M>>,
     readers: Vec<Reader<N>>,
@@ -183,7 +225,9 @@ fn run_tasks<
     ensures served { IfOk result (λ r. TasksServed N.layout members.items (map (λ d. d.member) r.0.items)) }
 {
     let pace = Pace::new(rt, plan.periods);
-    let tickers = make_tickers(alloc, shared, halt, &pace, members, readers, plan.tasks)?;
+    let tickers = make_tickers(
+        alloc, shared, losses, halt, &pace, members, readers, plan.tasks,
+    )?;
     let keeping = Keeping {
         collector,
         post: &shared.post,

@@ -16,10 +16,10 @@ use std::marker::Brand;
 use std::net::TcpListener;
 use std::sync::{Mutex, Wait};
 use std::thread::Threads;
-use std::time::{Clock, Duration};
+use std::time::Clock;
 use xcp_locked::{Locked, Name, Opening, Unnamed};
 use xcp_scribe::Scribe;
-use xcp_seats::{Hall, Halt, Watcher};
+use xcp_seats::{Hall, Halt, Lobby, Losses, Times, Watcher};
 use xcp_service::{Posting, Route, Shared, Unrouted};
 
 /// How a server stays.
@@ -31,8 +31,14 @@ pub struct Plan {
     pub tasks: u8,
     /// The nanoseconds from one cycle of each task to its next. With 0 the next one begins at once.
     pub periods: [u64; 6],
-    /// How long a write may be held up, and a frame that has begun may be cut short, before the connection is closed.
-    pub patience: Duration,
+    /// How long a connection waits for its tool before it is closed.
+    pub times: Times,
+    /// How many tools may wait while no seat is free.
+    pub queue: u8,
+    /// After how many seconds the journal's open chapter is cut off, where it has a call, if it is for the time alone.
+    pub cut_every: Option<u32>,
+    /// Whether a store that stores ends its chapter, so that the scribe has its pages at once.
+    pub each_store: bool,
 }
 
 /// What is told of a server that stayed.
@@ -44,6 +50,8 @@ pub struct Report {
     pub calls: u64,
     /// How many of them were events of tasks that found no room for their packets, 2^64 - 1 at most.
     pub lost: u64,
+    /// How many cycles tasks didn't have, since they were late by a period or more.
+    pub late: u64,
 }
 
 /// A slave and a post that are open, and MAX_CTO of the slave.
@@ -56,7 +64,7 @@ struct Ready<N: Name> {
 
 /// Opens a slave, and serves tools that come to the listener, so many at a time, one behind another, and runs so many tasks meanwhile,
 /// until somebody asks it to end; each chapter of its journal is settled and dropped when its callers have handed their receipts
-/// over. It closes the connections then, lets the tasks end their cycle, settles what is left, and tells how many chapters and calls
+/// over. A tool that finds no seat and no place in the queue is turned away. It closes the connections then, lets the tasks end their cycle, settles what is left, and tells how many chapters and calls
 /// there were. The first callers are those of the seats' tools, the next those of the tasks, which also have the first readers, and the
 /// next those of the seats' pumps.
 ///
@@ -122,6 +130,7 @@ fn tell<N: Name, S: Scribe>(stayed: &Stayed<N, S>) -> Report
         chapters: stayed.locked.chapter(),
         calls: stayed.locked.before(),
         lost: stayed.keeper.lost(),
+        late: stayed.late,
     }
 }
 
@@ -191,12 +200,14 @@ fn unboxed<N: Name, S: Scribe>(stayed: Stayed<N, Boxed<S>>) -> Stayed<N, S>
         scribe,
         locked,
         members,
+        late,
     } = stayed;
     Stayed {
         keeper,
         scribe: Box::into_inner(scribe.scribe),
         locked,
         members,
+        late,
     }
 }
 
@@ -244,17 +255,21 @@ fn stay_by_post<
         resident,
         members,
         collector,
-    } = unrouted.open::<M, Boxed<S>>(alloc, locked, callers, scribe)?;
+    } = unrouted.open::<M, Boxed<S>>(alloc, locked, callers, scribe, plan.each_store)?;
     let shared = Shared {
         lock: Mutex::new(resident),
         post,
     };
     let hall = Hall::new();
+    let lobby = Lobby::new(alloc, plan.tools, plan.queue);
+    let losses = Losses::new();
     let crew = deal(alloc, members, readers, collector, plan)?;
     let ended = run(
         rt,
         alloc,
         listener,
+        &lobby,
+        &losses,
         &shared,
         doors.as_slice(),
         &hall,

@@ -1,6 +1,7 @@
 -- What writes a server's journal and its stored pages down may cross to another thread.
 use denote.RattleType.{RattleType}
-use denote.Param.Send.{AllSend, IsSend, recorded_send, sendable, struct_send, view_send}
+use denote.Ref.{NamedLft}
+use denote.Param.Send.{AllSend, IsSend, IsSync, recorded_send, sendable, struct_send, view_send}
 use denote.Struct.Declared as declared
 use denote.Struct.Struct.{Struct}
 use Rattle.std.proofs.Crossing.{crosses}
@@ -17,7 +18,11 @@ use Rattle.xcp_scribe.specs.contracts.standing.Flashing as Flashing
 use Rattle.xcp_scribe.specs.contracts.recording.Recording as Recording
 use Rattle.xcp_scribe.specs.contracts.watched_shelf.WatchedShelf as WatchedShelf
 use Rattle.xcp_scribe.specs.contracts.watched_shelf.WatchedShelf.TheInside as WatchedShelfInside
+use Rattle.xcp_scribe.proofs.synced.Synced.TheSendSync as synced
+use Rattle.xcpd.proofs.lines.Lines.TheSendSync as lines
 use Rattle.xcpd.specs.contracts.flash.Place as Place
+use Rattle.xcpd.specs.contracts.journal.Telling as Telling
+use Rattle.xcpd.specs.contracts.teller.Teller as Teller
 
 -- a struct, as all its fields may
 struct_crosses : (T : declared.Declared) → AllSend (declared.fields T) → IsSend (declared.row T)
@@ -32,7 +37,7 @@ record_crosses : IsSend Record.the_field.row
 record_crosses = search (sendable, crosses) depth 20
 
 watched_crosses : (T : RattleType) → IsSend T → IsSend (Watched.the_row T)
-watched_crosses T s = view_send (WatchedInside.the_row T) _ _ _ _ (struct_crosses (WatchedInside.the_type T) (s, (tally_crosses, (tally_crosses, (record_crosses, tt)))))
+watched_crosses T s = view_send (WatchedInside.the_row T) _ _ _ _ (struct_crosses (WatchedInside.the_type T) (s, (tally_crosses, (tally_crosses, (record_crosses, (record_crosses, tt))))))
 
 recorder_crosses : (W : RattleType) → IsSend W → IsSend (Recorder.the_field W).row
 recorder_crosses W w =
@@ -62,6 +67,18 @@ flashing_crosses F f =
 pub both_crosses : (A B : RattleType) → IsSend A → IsSend B → IsSend (Both.the_row A B)
 both_crosses A B x y = struct_crosses (Both.the_type A B) (x, (y, tt))
 
+-- who tells faults, where its handle may be shared
+teller_crosses : (κ : NamedLft) (R : RattleType) → IsSync R → IsSend (Teller.the_field κ R).row
+teller_crosses κ R r =
+    struct_send (declared.shape (Teller.the_type κ R))
+    (search (sendable, crosses) depth 20, (search (sendable, crosses) depth 20, (search (sendable, crosses, lines.the_sync) depth 20, (search sendable, tt))))
+
 -- a file's place
-pub place_crosses : IsSend Place.the_row
-place_crosses = struct_crosses Place.the_type (search (sendable, crosses) depth 20, (search (sendable, crosses) depth 20, (search (sendable, crosses) depth 20, (search (sendable, crosses) depth 20, tt))))
+pub place_crosses : (κ : NamedLft) (R : RattleType) → IsSync R → IsSend (Place.the_row κ R)
+place_crosses κ R r =
+    struct_crosses (Place.the_type κ R)
+    (search (sendable, crosses) depth 20, (search (sendable, crosses) depth 20, (search (sendable, crosses) depth 20, (teller_crosses κ R r, (search (sendable, crosses) depth 20, tt)))))
+
+-- a journal's file
+pub telling_crosses : (κ : NamedLft) (R : RattleType) → IsSync R → IsSend (Telling.the_row κ R)
+telling_crosses κ R r = struct_crosses (Telling.the_type κ R) (synced.the_field_send, (teller_crosses κ R r, tt))

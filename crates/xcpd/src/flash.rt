@@ -2,40 +2,41 @@
 ghost use Rattle.std.specs.Prelude.{[], ⊤, IfOk};
 ghost use Rattle.xcp_scribe.specs.Flashing.{HasKept, KeepsNone};
 
+use crate::teller::Teller;
 use sha2::{Digest, Sha256};
 use std::alloc::AllocError;
-use std::fs::{self, File};
+use std::fs::{self, File, TryLockError};
 use std::io::{self, ErrorKind, Write};
+use std::sync::Wait;
 use xcp_memory::Layout;
 use xcp_program::{Fault, layout_stored, read_flash};
 use xcp_scribe::{Flashing, Shelf};
 
 /// What keeps the pages that tools store, if the words name a file.
-pub type Kept = Option<Flashing<Place>>;
+pub type Kept<'a, R> = Option<Flashing<Place<'a, R>>>;
 
-/// A file that is replaced whole, and the name of the file beside it that is written first.
+/// A file that is replaced whole, and the name of the file beside it that is written first. Another file beside it is locked meanwhile, so
+/// that no other program keeps the same pages.
 #[derive(Drop)]
-pub struct Place {
-    rt: HostRuntime,
+pub struct Place<'a, R> {
+    rt: &'a HostRuntime,
     path: String,
     fresh: String,
-    is_told: bool,
+    teller: Teller<'a, R>,
+    _lock: File,
 }
 
-impl Shelf for Place {
+impl<R: Wait> Shelf for Place<'_, R> {
     ghost use Rattle.std.specs.Prelude.{⊤};
 
     ghost holds = { λ _ _. ⊤ };
 
     /// The first failure is told on standard error.
     fn replace(&mut self, file: &[u8]) -> bool {
-        if put_whole(&self.rt, &self.path, &self.fresh, file).is_ok() {
+        if put_whole(self.rt, &self.path, &self.fresh, file).is_ok() {
             return true;
         }
-        if !self.is_told {
-            self.is_told = true;
-            let _ = eprintln!(self.rt; "xcpd: {}", Fault::Flash(2));
-        }
+        self.teller.tell(Fault::Flash(2));
         false
     }
 }
@@ -81,46 +82,68 @@ pub fn stored_in(rt: &HostRuntime, path: &Option<String>) -> Result<Option<Vec<u
 
 /// The layout that this text describes, with the pages that are stored in the file, if it is named and there; and what keeps the file,
 /// if it is named.
-pub fn begin_with(
-    rt: &HostRuntime,
+pub fn begin_with<'a, R: Wait>(
+    rt: &'a HostRuntime,
     text: &str,
     path: &Option<String>,
-) -> Result<(Layout, Kept), Fault>
+    teller: Teller<'a, R>,
+) -> Result<(Layout, Kept<'a, R>), Fault>
     ensures { IfOk result (λ r. KeepsNone r.1) }
 {
     let alloc = rt.alloc();
     let Some(path) = path else {
         return Ok((layout_stored(alloc, text, None)?, None));
     };
+    let place = place_at(rt, path, teller)?;
     let stored = stored_at(rt, path)?;
     let layout = layout_stored(alloc, text, stored.as_deref())?;
-    match keep(rt, text, path, &layout) {
+    match Flashing::new(alloc, place, &layout, Sha256::digest(text.as_bytes())) {
         Ok(kept) => Ok((layout, Some(kept))),
         Err(AllocError) => Err(Fault::Memory),
     }
 }
 
-/// What keeps the stored pages of a slave of this layout in this file.
-fn keep(
-    rt: &HostRuntime,
-    text: &str,
+/// The place of the file of this name, once it is seen that a file can be made beside it, and no other program keeps it.
+fn place_at<'a, R: Wait>(
+    rt: &'a HostRuntime,
     path: &str,
-    layout: &Layout,
-) -> Result<Flashing<Place>, AllocError>
-    ensures { IfOk result (λ f. HasKept (λ _ _. ⊤) f []) }
-{
+    teller: Teller<'a, R>,
+) -> Result<Place<'a, R>, Fault> {
     let alloc = rt.alloc();
-    let place = Place {
-        rt: *rt,
-        path: String::from_str(alloc, path)?,
-        fresh: format!(in alloc; "{path}.new")?,
-        is_told: false,
+    let (Ok(name), Ok(fresh), Ok(lock)) = (
+        String::from_str(alloc, path),
+        format!(in alloc; "{path}.new"),
+        format!(in alloc; "{path}.lock"),
+    ) else {
+        return Err(Fault::Memory);
     };
-    Flashing::new(alloc, place, layout, Sha256::digest(text.as_bytes()))
+    let lock = locked(rt, lock.as_str())?;
+    if File::create(rt, fresh.as_str()).is_err() {
+        return Err(Fault::Flash(2));
+    }
+    let _ = fs::remove_file(rt, fresh.as_str());
+    Ok(Place {
+        rt,
+        path: name,
+        fresh,
+        teller,
+        _lock: lock,
+    })
+}
+
+/// The file of this name, locked for as long as it is open. Where the system knows no locks it is open alone.
+fn locked(rt: &HostRuntime, path: &str) -> Result<File, Fault> {
+    let Ok(file) = File::create(rt, path) else {
+        return Err(Fault::Flash(2));
+    };
+    match file.try_lock() {
+        Err(TryLockError::WouldBlock) => Err(Fault::Flash(3)),
+        _ => Ok(file),
+    }
 }
 
 /// The fault of the file, if something that was stored could not be written.
-pub fn fault_of(kept: &Kept) -> Option<Fault> {
+pub fn fault_of<R: Wait>(kept: &Kept<'_, R>) -> Option<Fault> {
     match kept {
         Some(keeping) if keeping.has_failed() => Some(Fault::Flash(2)),
         _ => None,

@@ -2,30 +2,60 @@
 ghost use Rattle.std.specs.Prelude.{IfOk};
 ghost use Rattle.xcp_scribe.specs.Scribing.{HasBegun};
 
+use crate::teller::Teller;
 use sha2::{Digest, Sha256};
-use std::fs::File;
+use std::fs::{self, File};
+use std::io::{self, Write};
+use std::os::unix::fs::MetadataExt;
+use std::sync::Wait;
 use xcp_program::Fault;
 use xcp_record::{NotBegun, RecordFault};
-use xcp_scribe::{Recording, Synced};
+use xcp_scribe::{Recording, Synced, end_recording};
 
 /// What writes a server's journal down, if the words name a file.
-pub type Written = Option<Recording<Synced>>;
+pub type Written<'a, R> = Option<Recording<Telling<'a, R>>>;
 
-/// Makes the file of a journal, if it is named, of the layout file that has this text: it must not be there yet.
-pub fn journal_at(rt: &HostRuntime, text: &str, path: &Option<String>) -> Result<Written, Fault>
+/// A file, of which each write is on the disk once it returns. The first write that fails is told.
+#[derive(Drop)]
+pub struct Telling<'a, R> {
+    file: Synced,
+    teller: Teller<'a, R>,
+}
+
+impl<R: Wait> Write for Telling<'_, R> {
+    fn write(&mut self, buf: &[u8]) -> io::Result<usize> {
+        let written = self.file.write(buf);
+        if written.is_err() {
+            self.teller.tell(Fault::Journal(2));
+        }
+        written
+    }
+
+    fn flush(&mut self) -> io::Result<()> {
+        self.file.flush()
+    }
+}
+
+/// Makes the file of a journal, if it is named, of the layout file that has this text: it must not be there yet, and be none of those of
+/// the stored pages.
+pub fn journal_at<'a, R: Wait>(
+    rt: &HostRuntime,
+    text: &str,
+    path: &Option<String>,
+    flash: &Option<String>,
+    teller: Teller<'a, R>,
+) -> Result<Written<'a, R>, Fault>
     ensures { IfOk result HasBegun }
 {
     let Some(path) = path else {
         return Ok(None);
     };
-    let Ok(file) = File::create_new(rt, path.as_str()) else {
-        return Err(Fault::Journal(1));
+    let file = new_file(rt, path, flash)?;
+    let stream = Telling {
+        file: Synced::new(file),
+        teller,
     };
-    match Recording::new(
-        rt.alloc(),
-        Synced::new(file),
-        Sha256::digest(text.as_bytes()),
-    ) {
+    match Recording::new(rt.alloc(), stream, Sha256::digest(text.as_bytes())) {
         Ok(recording) => Ok(Some(recording)),
         Err(
             NotBegun {
@@ -37,8 +67,55 @@ pub fn journal_at(rt: &HostRuntime, text: &str, path: &Option<String>) -> Result
     }
 }
 
-/// Prints how many calls stand in the file of a journal, if there is one. The fault is that of calls that don't.
-pub fn print_recorded(rt: &HostRuntime, written: &Written) -> Option<Fault> {
+/// A new file of this name, locked for as long as it is open.
+fn new_file(rt: &HostRuntime, path: &str, flash: &Option<String>) -> Result<File, Fault> {
+    let Ok(file) = File::create_new(rt, path) else {
+        return Err(Fault::Journal(1));
+    };
+    if is_of_pages(rt, &file, flash) {
+        let _ = fs::remove_file(rt, path);
+        return Err(Fault::Journal(1));
+    }
+    // Where the system knows no locks, it is open alone.
+    let _ = file.try_lock();
+    Ok(file)
+}
+
+/// Whether this file is that of the stored pages, or the one that is written before it, by whatever name.
+fn is_of_pages(rt: &HostRuntime, file: &File, flash: &Option<String>) -> bool {
+    let Some(flash) = flash else {
+        return false;
+    };
+    if is_file_at(rt, file, flash) {
+        return true;
+    }
+    match format!(in rt.alloc(); "{flash}.new") {
+        Ok(fresh) => is_file_at(rt, file, fresh.as_str()),
+        Err(_) => false,
+    }
+}
+
+/// Whether this file has that name, too.
+fn is_file_at(rt: &HostRuntime, file: &File, path: &str) -> bool {
+    let Ok(other) = File::open(rt, path) else {
+        return false;
+    };
+    match (file.metadata(), other.metadata()) {
+        (Ok(one), Ok(two)) => one.dev() == two.dev() && one.ino() == two.ino(),
+        _ => false,
+    }
+}
+
+/// Prints how many calls stand in the file of a journal, if there is one, which is ended before if all callers are settled. The fault is that
+/// of calls, or of an end mark, that don't stand there.
+pub fn print_recorded<R: Wait>(
+    rt: &HostRuntime,
+    written: &mut Written<'_, R>,
+    settled: bool,
+) -> Option<Fault> {
+    if settled {
+        end_recording(written);
+    }
     let recording = written.as_ref()?;
     let printed = println!(rt; "recorded {}", recording.calls());
     if recording.fault().is_some() {

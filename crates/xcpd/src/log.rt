@@ -1,47 +1,69 @@
 //! What a server that stays tells on standard error: a line for each tool that comes and goes.
 
-use std::net::{SocketAddr, TcpStream};
+use crate::lines::Lines;
+use std::alloc::AllocError;
+use std::net::SocketAddr;
+use std::sync::Wait;
 use std::thread;
 use std::time::Duration;
 use xcp_framing::{ServeError, Served};
 use xcp_program::Fault;
 use xcp_seats::Watcher;
 
-/// How long a seat waits that couldn't accept a tool, in milliseconds.
+/// How long it waits where no tool could be accepted, in milliseconds.
 const PAUSE: u64 = 100;
 
-/// Tells of the server that listens there.
+/// Tells of a server by lines that nobody waits for.
 #[derive(Drop)]
-pub struct Log<'a> {
+pub struct Log<'a, R> {
     pub rt: &'a HostRuntime,
-    pub host: &'a str,
-    pub port: u16,
+    pub handle: &'a R,
+    pub lines: &'a Lines,
+    /// After how many seconds a silent tool's connection is closed.
+    pub idle: u32,
 }
 
-impl Watcher for Log<'_> {
+impl<R: Wait> Log<'_, R> {
+    /// One line, where there is memory for it.
+    fn tell(&self, line: Result<String, AllocError>) {
+        if let Ok(line) = line {
+            self.lines.tell(self.handle, line);
+        }
+    }
+}
+
+impl<R: Wait> Watcher for Log<'_, R> {
     fn came(&self, seat: u8, tool: SocketAddr) {
-        let _ = eprintln!(self.rt; "xcpd: seat {seat}: {tool} connected");
+        self.tell(format!(in self.rt.alloc(); "seat {seat}: {tool} connected"));
+    }
+
+    fn idle(&self, seat: u8, tool: SocketAddr) {
+        let seconds = self.idle;
+        self.tell(format!(in self.rt.alloc(); "seat {seat}: {tool} sent nothing for {seconds} s"));
     }
 
     fn gone(&self, seat: u8, tool: SocketAddr, end: Result<Served, ServeError>) {
-        let _ = match end {
-            Ok(_) => eprintln!(self.rt; "xcpd: seat {seat}: {tool} disconnected"),
+        let alloc = self.rt.alloc();
+        self.tell(match end {
+            Ok(_) => format!(in alloc; "seat {seat}: {tool} disconnected"),
             Err(error) => {
                 let fault = fault_of(&error);
-                eprintln!(self.rt; "xcpd: seat {seat}: {tool} disconnected: {fault}")
+                format!(in alloc; "seat {seat}: {tool} disconnected: {fault}")
             }
-        };
+        });
     }
 
-    fn refused(&self, seat: u8) {
-        let _ = eprintln!(self.rt; "xcpd: seat {seat}: no tool could be accepted");
+    fn turned_away(&self, tool: SocketAddr) {
+        self.tell(format!(in self.rt.alloc(); "{tool} was turned away: no seat is free"));
+    }
+
+    fn lost(&self, events: u64) {
+        self.tell(format!(in self.rt.alloc(); "lost {events}"));
+    }
+
+    fn refused(&self) {
+        self.tell(format!(in self.rt.alloc(); "no tool could be accepted"));
         thread::sleep(self.rt, Duration::from_millis(PAUSE));
-    }
-
-    fn wake(&self, seats: u8) {
-        for _seat in 0..seats {
-            let _ = TcpStream::connect(self.rt, (self.host, self.port));
-        }
     }
 }
 

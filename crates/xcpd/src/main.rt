@@ -3,11 +3,14 @@
 #![tactic(auto)]
 
 mod audit;
+mod background;
 mod flash;
 mod journal;
+mod lines;
 mod log;
 mod stack;
 mod stay;
+mod teller;
 
 ghost use Rattle.std.specs.Prelude.{◌≡◌, ◌<◌, ◌≤◌, ◌+◌, IfOk, vec_len};
 ghost use Rattle.xcp_program.specs.CommandLine.{InRange};
@@ -18,10 +21,11 @@ use crate::audit::audit_by;
 use crate::flash::{Kept, begin_with, fault_of, stored_in};
 use crate::journal::{Written, journal_at, print_recorded};
 use crate::stack::{deepen, has_room};
-use crate::stay::{Staying, patience, stay_by};
+use crate::stay::{Staying, stay_by};
+use crate::teller::Teller;
 use std::fs::File;
 use std::io;
-use std::net::TcpListener;
+use std::net::{IpAddr, TcpListener};
 use std::process::ExitCode;
 use std::sync::Wait;
 use std::thread::Threads;
@@ -103,16 +107,36 @@ fn check_or_tell(rt: &HostRuntime, path: &str) -> ExitCode {
     }
 }
 
+/// Listens at this port of this address, which has to be one at which a tool can be.
+pub fn listen(rt: &HostRuntime, host: &str, port: u16) -> Result<TcpListener, Fault> {
+    let Ok(listener) = TcpListener::bind(rt, (host, port)) else {
+        return Err(Fault::Stream(0));
+    };
+    match listener.local_addr() {
+        Ok(address) if !is_for_many(address.ip()) => Ok(listener),
+        _ => Err(Fault::Stream(0)),
+    }
+}
+
+/// Whether this is an address of many machines, to which none can connect: the system listens there all the same.
+fn is_for_many(address: IpAddr) -> bool {
+    match address {
+        IpAddr::V4(address) => address.is_broadcast() || address.is_multicast(),
+        IpAddr::V6(address) => address.is_multicast(),
+    }
+}
+
 /// What a server begins with: a slave, the periods of its tasks, what writes its journal and its stored pages down, and the tools that
 /// have connected.
-type Admitted = (Unnamed, [u64; 6], Both<Written, Kept>, Tools);
+type Admitted<'a, R> = (Unnamed, [u64; 6], Both<Written<'a, R>, Kept<'a, R>>, Tools);
 
 /// A slave of the configuration file's layout with a caller for each tool, task and pump, the periods of its tasks, what writes its
 /// journal and its stored pages down, and the tools that have connected. It isn't inlined, so that its stack is free again while these are
 /// served.
 #[inline(never)]
-fn admit(
-    rt: &HostRuntime,
+fn admit<'a, R: Wait>(
+    rt: &'a HostRuntime,
+    handle: &'a R,
     path: &str,
     host: &str,
     port: u16,
@@ -122,20 +146,24 @@ fn admit(
     period: u32,
     journal: &Option<String>,
     flash: &Option<String>,
-) -> Result<Admitted, Fault>
+) -> Result<Admitted<'a, R>, Fault>
     requires { (1 ≤ tools) × (tools ≤ 2) × (tasks ≤ 6) }
     ensures { IfOk result (λ r. (vec_len r.3 ≡ tools) × (r.0.callers ≡ tools + tasks + tools) × HasBegun r.2.first × KeepsNone r.2.second) }
 {
     let text = text_of(rt, path)?;
-    let (layout, kept) = begin_with(rt, text.as_str(), flash)?;
+    let (layout, kept) = begin_with(rt, text.as_str(), flash, Teller::new(rt, handle, None))?;
     let periods = periods_of(&layout, pace, period);
     let Ok(unnamed) = Unnamed::new(rt.alloc(), layout, tools + tasks + tools) else {
         return Err(Fault::Memory);
     };
-    let Ok(listener) = TcpListener::bind(rt, (host, port)) else {
-        return Err(Fault::Stream(0));
-    };
-    let written = journal_at(rt, text.as_str(), journal)?;
+    let listener = listen(rt, host, port)?;
+    let written = journal_at(
+        rt,
+        text.as_str(),
+        journal,
+        flash,
+        Teller::new(rt, handle, None),
+    )?;
     let _ = println!(rt; "listening {port}");
     let ends = accept_tools(rt.alloc(), &listener, tools)?;
     let scribe = Both {
@@ -145,11 +173,21 @@ fn admit(
     Ok((unnamed, periods, scribe, ends))
 }
 
-/// Prints the last lines of a server whose callers are settled. Lost events have a line if there are any.
-pub fn print_counts(rt: &HostRuntime, chapters: u64, calls: u64, lost: u64) -> io::Result<()> {
+/// Prints the last lines of a server whose callers are settled. Lost events have a line if there are any, and so have cycles that tasks were
+/// too late for.
+pub fn print_counts(
+    rt: &HostRuntime,
+    chapters: u64,
+    calls: u64,
+    lost: u64,
+    late: u64,
+) -> io::Result<()> {
     println!(rt; "chapters {chapters}\ncalls {calls}")?;
     if lost > 0 {
         println!(rt; "lost {lost}")?;
+    }
+    if late > 0 {
+        println!(rt; "late {late}")?;
     }
     println!(rt; "settled")
 }
@@ -158,7 +196,7 @@ pub fn print_counts(rt: &HostRuntime, chapters: u64, calls: u64, lost: u64) -> i
 fn print_end(rt: &HostRuntime, told: Result<Report, Fault>) -> Option<Fault> {
     match told {
         Ok(report) => {
-            let written = print_counts(rt, report.chapters, report.calls, report.lost);
+            let written = print_counts(rt, report.chapters, report.calls, report.lost, 0);
             match report.fault {
                 None if written.is_err() => Some(Fault::Stream(2)),
                 fault => fault,
@@ -168,10 +206,14 @@ fn print_end(rt: &HostRuntime, told: Result<Report, Fault>) -> Option<Fault> {
     }
 }
 
-/// Prints how many calls stand in the journal's file, if there is one. The fault is that of the journal's file, else that of the stored
-/// pages'.
-pub fn print_written(rt: &HostRuntime, scribe: &Both<Written, Kept>) -> Option<Fault> {
-    print_recorded(rt, &scribe.first).or(fault_of(&scribe.second))
+/// Prints how many calls stand in the journal's file, if there is one, which is ended before if all callers are settled. The fault is that of
+/// the journal's file, else that of the stored pages'.
+pub fn print_written<R: Wait>(
+    rt: &HostRuntime,
+    scribe: &mut Both<Written<'_, R>, Kept<'_, R>>,
+    settled: bool,
+) -> Option<Fault> {
+    print_recorded(rt, &mut scribe.first, settled).or(fault_of(&scribe.second))
 }
 
 /// Tells why the program is asked nothing.
@@ -185,7 +227,7 @@ fn tell(rt: &HostRuntime, unasked: &Unasked) -> ExitCode {
 }
 
 /// Tells the fault, if there is one, and ends with its status.
-fn end(rt: &HostRuntime, fault: Option<Fault>) -> ExitCode {
+pub fn end(rt: &HostRuntime, fault: Option<Fault>) -> ExitCode {
     match fault {
         None => ExitCode::from(0),
         Some(fault) => {
@@ -215,7 +257,7 @@ fn serve_by<R: Threads + Wait + Clock + Sync>(
 {
     deepen(rt.alloc(), path)?;
     let admitted = admit(
-        rt, path, host, port, tools, tasks, pace, period, journal, flash,
+        rt, handle, path, host, port, tools, tasks, pace, period, journal, flash,
     )?;
     serve_admitted(
         rt,
@@ -233,7 +275,7 @@ fn serve_by<R: Threads + Wait + Clock + Sync>(
 fn serve_admitted<R: Threads + Wait + Clock + Sync>(
     rt: &HostRuntime,
     handle: &R,
-    admitted: Admitted,
+    admitted: Admitted<'_, R>,
     tasks: u8,
     cycles: u32,
     chapter: u32,
@@ -245,7 +287,7 @@ fn serve_admitted<R: Threads + Wait + Clock + Sync>(
     requires scribe { HasBegun admitted.2.first × KeepsNone admitted.2.second }
 {
     let (unnamed, periods, scribe, ends) = admitted;
-    let ending = serve_ends(
+    let mut ending = serve_ends(
         handle,
         rt.alloc(),
         unnamed,
@@ -257,8 +299,9 @@ fn serve_admitted<R: Threads + Wait + Clock + Sync>(
         periods,
         scribe,
     )?;
+    let settled = ending.told.is_ok();
     let told = print_end(rt, ending.told);
-    match told.or(print_written(rt, &ending.scribe)) {
+    match told.or(print_written(rt, &mut ending.scribe, settled)) {
         None => Ok(()),
         Some(fault) => Err(fault),
     }
@@ -296,9 +339,8 @@ fn obey<R: Threads + Wait + Clock + Copy + Send + Sync + 'static>(
             flash,
             pace,
         } => {
-            let (path, host) = (config.as_str(), host.as_str());
             serve_by(
-                rt, handle, path, host, port, tools, tasks, cycles, chapter, period, pace,
+                rt, handle, &config, &host, port, tools, tasks, cycles, chapter, period, pace,
                 &journal, &flash,
             )
             .err()
@@ -310,7 +352,11 @@ fn obey<R: Threads + Wait + Clock + Copy + Send + Sync + 'static>(
             tools,
             tasks,
             period,
-            patience: seconds,
+            patience,
+            queue,
+            idle,
+            cut_every,
+            no_stdin,
             journal,
             flash,
             pace,
@@ -320,10 +366,14 @@ fn obey<R: Threads + Wait + Clock + Copy + Send + Sync + 'static>(
                 tasks,
                 period,
                 pace,
-                patience: patience(seconds),
+                patience,
+                queue,
+                idle,
+                cut_every: journal.is_some().then_some(cut_every),
+                each_store: flash.is_some(),
+                reads_input: !no_stdin,
             };
-            let (path, host) = (config.as_str(), host.as_str());
-            stay_by(rt, handle, path, host, port, staying, &journal, &flash).err()
+            return stay_by(rt, handle, &config, &host, port, staying, &journal, &flash);
         }
         Options::Describe {
             config,

@@ -1,12 +1,15 @@
 //! A server that stays, by the program's words.
 ghost use Rattle.std.specs.Prelude.{◌≡◌, ◌≤◌};
 
+use crate::background::is_in_background;
 use crate::flash::{Kept, begin_with};
 use crate::journal::{Written, journal_at};
+use crate::lines::{Lines, begin_lines};
 use crate::log::Log;
 use crate::stack::deepen;
-use crate::{print_counts, print_written, text_of};
-use std::net::TcpListener;
+use crate::teller::Teller;
+use crate::{end, listen, print_counts, print_written, text_of};
+use std::process::ExitCode;
 use std::sync::{Arc, Wait};
 use std::thread::Threads;
 use std::time::{Clock, Duration};
@@ -15,7 +18,7 @@ use xcp_locked::{Discord, Unnamed};
 use xcp_memory::Layout;
 use xcp_program::{Fault, periods_of};
 use xcp_scribe::Both;
-use xcp_seats::Halt;
+use xcp_seats::{Halt, Times};
 use xcp_stay::{Plan, Report, StayError, stay, wait_for_stop};
 
 /// How a server is asked to stay: as a plan of one, but that a pace says whether tasks have the periods of their channels.
@@ -26,7 +29,15 @@ pub struct Staying {
     /// Milliseconds.
     pub period: u32,
     pub pace: bool,
-    pub patience: Duration,
+    /// Seconds.
+    pub patience: u32,
+    pub queue: u8,
+    /// Seconds, or 0.
+    pub idle: u32,
+    /// Seconds, if there is a journal's file.
+    pub cut_every: Option<u32>,
+    pub each_store: bool,
+    pub reads_input: bool,
 }
 
 impl Staying {
@@ -38,13 +49,19 @@ impl Staying {
             tools: self.tools,
             tasks: self.tasks,
             periods: periods_of(layout, self.pace, self.period),
-            patience: self.patience,
+            times: Times {
+                patience: seconds(self.patience),
+                idle: (self.idle > 0).then_some(seconds(self.idle)),
+            },
+            queue: self.queue,
+            cut_every: self.cut_every,
+            each_store: self.each_store,
         }
     }
 }
 
-/// Serves tools at this port until a line of standard input says `stop`, on a slave of this configuration file's layout, and prints
-/// how many chapters and calls there were. Where serving ends by itself, nobody waits for standard input.
+/// Serves tools at this port, on a slave of this configuration file's layout, until a line of standard input says `stop`, and answers the
+/// status. What it tells on standard error, its fault too, is written by a thread of its own, for which nobody waits.
 pub fn stay_by<R: Threads + Wait + Clock + Copy + Send + Sync + 'static>(
     rt: &HostRuntime,
     handle: &R,
@@ -54,28 +71,75 @@ pub fn stay_by<R: Threads + Wait + Clock + Copy + Send + Sync + 'static>(
     staying: Staying,
     journal: &Option<String>,
     flash: &Option<String>,
+) -> ExitCode
+    requires { (1 ≤ staying.tools) × (staying.tools ≤ 4) × (staying.tasks ≤ 6) }
+{
+    let Ok(lines) = begin_lines(rt, handle) else {
+        return end(rt, Some(Fault::Memory));
+    };
+    let ended = stay_with(
+        rt, handle, path, host, port, staying, journal, flash, &lines,
+    );
+    let status = match ended {
+        Ok(()) => 0,
+        Err(fault) => {
+            if let Ok(line) = format!(in rt.alloc(); "{fault}") {
+                lines.tell(handle, line);
+            }
+            fault.status()
+        }
+    };
+    lines.end(handle);
+    ExitCode::from(status)
+}
+
+/// Serves tools, and prints how many chapters and calls there were. Where serving ends by itself, nobody waits for standard input.
+fn stay_with<R: Threads + Wait + Clock + Copy + Send + Sync + 'static>(
+    rt: &HostRuntime,
+    handle: &R,
+    path: &str,
+    host: &str,
+    port: u16,
+    staying: Staying,
+    journal: &Option<String>,
+    flash: &Option<String>,
+    lines: &Lines,
 ) -> Result<(), Fault>
     requires { (1 ≤ staying.tools) × (staying.tools ≤ 4) × (staying.tasks ≤ 6) }
 {
     deepen(rt.alloc(), path)?;
     let text = text_of(rt, path)?;
-    let (layout, kept) = begin_with(rt, text.as_str(), flash)?;
+    let (layout, kept) = begin_with(
+        rt,
+        text.as_str(),
+        flash,
+        Teller::new(rt, handle, Some(lines)),
+    )?;
     let plan = staying.plan(&layout);
     let Ok(unnamed) = Unnamed::new(rt.alloc(), layout, plan.tools + plan.tools + plan.tasks) else {
         return Err(Fault::Memory);
     };
-    let Ok(listener) = TcpListener::bind(rt, (host, port)) else {
-        return Err(Fault::Stream(0));
-    };
-    let Ok(halt) = halt_by_input(rt, handle) else {
+    let listener = listen(rt, host, port)?;
+    let Ok(halt) = halt_by_input(rt, handle, staying.reads_input) else {
         return Err(Fault::Memory);
     };
     let scribe = Both {
-        first: journal_at(rt, text.as_str(), journal)?,
+        first: journal_at(
+            rt,
+            text.as_str(),
+            journal,
+            flash,
+            Teller::new(rt, handle, Some(lines)),
+        )?,
         second: kept,
     };
     let _ = println!(rt; "listening {port}");
-    let log = Log { rt, host, port };
+    let log = Log {
+        rt,
+        handle,
+        lines,
+        idle: staying.idle,
+    };
     match stay(
         handle,
         rt.alloc(),
@@ -86,26 +150,35 @@ pub fn stay_by<R: Threads + Wait + Clock + Copy + Send + Sync + 'static>(
         &halt,
         &log,
     ) {
-        Ok((told, scribe)) => tell(rt, &told, &scribe),
+        Ok((told, mut scribe)) => tell(rt, &told, &mut scribe),
         Err(error) => Err(fault_of(error)),
     }
 }
 
 /// Prints what is told of a server that stayed, and how many of its calls were written down.
-fn tell(rt: &HostRuntime, told: &Report, scribe: &Both<Written, Kept>) -> Result<(), Fault> {
-    let printed = print_counts(rt, told.chapters, told.calls, told.lost);
-    match print_written(rt, scribe) {
+fn tell<R: Wait>(
+    rt: &HostRuntime,
+    told: &Report,
+    scribe: &mut Both<Written<'_, R>, Kept<'_, R>>,
+) -> Result<(), Fault> {
+    let printed = print_counts(rt, told.chapters, told.calls, told.lost, told.late);
+    match print_written(rt, scribe, true) {
         Some(fault) => Err(fault),
         None => printed.map_err(|_| Fault::Stream(2)),
     }
 }
 
-/// A halt that a line of standard input asks for. Its thread reads on for as long as the program runs, and ends with it.
+/// A halt that a line of standard input asks for, if that is read. Its thread reads on for as long as the program runs, and ends with it.
+/// In the background of a terminal nothing is read: the system would stop the program, while its port stays open.
 fn halt_by_input<R: Threads + Wait + Copy + Send + 'static>(
     rt: &HostRuntime,
     handle: &R,
+    reads_input: bool,
 ) -> io::Result<Arc<Halt>> {
     let halt = Arc::new(rt.alloc(), Halt::new())?;
+    if !reads_input || is_in_background(rt) {
+        return Ok(halt);
+    }
     let asked = halt.clone()?;
     let (host, waits) = (*rt, *handle);
     thread::spawn(
@@ -115,9 +188,9 @@ fn halt_by_input<R: Threads + Wait + Copy + Send + 'static>(
     Ok(halt)
 }
 
-/// How long a tool may stop inside a frame, or read nothing.
-pub fn patience(seconds: u32) -> Duration {
-    Duration::from_secs(u64::from(seconds))
+/// So many seconds.
+fn seconds(count: u32) -> Duration {
+    Duration::from_secs(u64::from(count))
 }
 
 /// The fault that is told where a server that stays ended so.

@@ -12,7 +12,7 @@ pub returns-in-Ok-clause-told : goal.returns-in-Ok-clause-told
 returns-in-Ok-clause-told g c =
     let said = (c.in-Ok.ensures {u = tt}).member in
     let published = said.3 in
-    let call = receipt said.0 said.1 (request_asked c.args.asked) (answer_in c.in-Ok.field-0 c.call.new.packet) in
+    let call = receipt said.0 said.1 (request_asked c.args.asked) (answer_in c.in-Ok.told c.call.new.packet) in
     let look = looked_at c.args.reader.now.index c.call.new.resident.locked.writer.current in
     record {
       call = call;

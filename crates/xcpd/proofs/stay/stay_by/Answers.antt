@@ -1,8 +1,0 @@
-use denote.Param.Send.{sendable}
-use Rattle.std.proofs.Crossing.{crosses}
-use Rattle.xcp_scribe.proofs.synced.Synced.TheSendSync as synced
-use Rattle.xcpd.proofs.CrossingLemmas.{both_crosses, flashing_crosses, place_crosses, recording_crosses}
-use Rattle.xcpd.proofs.stay.stay_by.Goals as goal
-
-pub stay-requires-send-S : goal.stay-requires-send-S
-stay-requires-send-S g c κs within = search (sendable, crosses, both_crosses, flashing_crosses, place_crosses, recording_crosses, synced.the_send) depth 24
