@@ -3,4 +3,5 @@ pub mod CommandLine
 pub mod ExitStatus
 pub mod Periods
 pub mod ReplayOutcome
+pub mod Stays
 pub mod private

@@ -38,8 +38,8 @@ pub enum Fault {
     /// The call of this index in a journal's file, from 0, is the first that has another answer than the slave's.
     #[error("mismatch call {0}")]
     MismatchedCall(u64),
-    /// A journal's file. Of one that is audited: 0 if it can't be opened, 1 if reading failed, 3 if it ends inside a chapter, 4 if a
-    /// chapter isn't as it was written, 5 if it is of another layout, 6 if it is not such a file, is of another version, or has more
+    /// A journal's file. Of one that is audited: 0 if it can't be opened, 1 if reading failed, 3 if it ends inside a chapter or its end mark,
+    /// 4 if one of these isn't as it was written, 5 if it is of another layout, 6 if it is not such a file, is of another version, or has more
     /// chapters than a journal can have. Of one that a server writes: 1 if it can't be made, or is there already, 2 if not all could be
     /// written.
     #[error("journal {0}")]

@@ -75,8 +75,8 @@ with one line there, and this status:" $($rest)*)
     };
     ($before:tt audited_journal $($rest:tt)*) => {
         help!($before "
-  6  journal N: the journal's file can't be opened (0) or read (1), ends inside a chapter (3), has a chapter that isn't
-     as it was written (4), is of another layout (5), is no such file, is of another version or too long (6)" $($rest)*)
+  6  journal N: the journal's file can't be opened (0) or read (1), ends inside a chapter or its end mark (3), has a part
+     that isn't as it was written (4), is of another layout (5), is no such file, is of another version or too long (6)" $($rest)*)
     };
     ($before:tt unfit_pages $($rest:tt)*) => {
         help!($before "the file of the stored pages can't be read, is of another layout, cut short or altered" $($rest)*)

@@ -17,6 +17,7 @@ mod purpose;
 mod replaying;
 mod server_words;
 mod source;
+mod staying;
 mod words;
 
 pub use command_line::options;
@@ -26,4 +27,5 @@ pub use periods::periods_of;
 pub use purpose::{Options, OptionsFault};
 pub use replaying::replay;
 pub use source::{read_flash, read_text, read_whole};
+pub use staying::Staying;
 pub use words::{Unasked, asked, read_words};

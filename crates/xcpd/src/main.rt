@@ -21,7 +21,7 @@ use crate::audit::audit_by;
 use crate::flash::{Kept, begin_with, fault_of, stored_in};
 use crate::journal::{Written, journal_at, print_recorded};
 use crate::stack::{deepen, has_room};
-use crate::stay::{Staying, stay_by};
+use crate::stay::stay_by;
 use crate::teller::Teller;
 use std::fs::File;
 use std::io;
@@ -324,6 +324,7 @@ fn obey<R: Threads + Wait + Clock + Copy + Send + Sync + 'static>(
 ) -> ExitCode
     requires { InRange options }
 {
+    let staying = options.staying();
     let fault = match options {
         Options::Replay { config, flash } => run(rt, config.as_str(), &flash).err(),
         Options::Serve {
@@ -349,29 +350,12 @@ fn obey<R: Threads + Wait + Clock + Copy + Send + Sync + 'static>(
             config,
             host,
             port,
-            tools,
-            tasks,
-            period,
-            patience,
-            queue,
-            idle,
-            cut_every,
-            no_stdin,
             journal,
             flash,
-            pace,
+            ..
         } => {
-            let staying = Staying {
-                tools,
-                tasks,
-                period,
-                pace,
-                patience,
-                queue,
-                idle,
-                cut_every: journal.is_some().then_some(cut_every),
-                each_store: flash.is_some(),
-                reads_input: !no_stdin,
+            let Some(staying) = staying else {
+                unreachable!()
             };
             return stay_by(rt, handle, &config, &host, port, staying, &journal, &flash);
         }

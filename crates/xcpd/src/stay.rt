@@ -16,47 +16,26 @@ use std::time::{Clock, Duration};
 use std::{io, thread};
 use xcp_locked::{Discord, Unnamed};
 use xcp_memory::Layout;
-use xcp_program::{Fault, periods_of};
+use xcp_program::{Fault, Staying, periods_of};
 use xcp_scribe::Both;
 use xcp_seats::{Halt, Times};
 use xcp_stay::{Plan, Report, StayError, stay, wait_for_stop};
 
-/// How a server is asked to stay: as a plan of one, but that a pace says whether tasks have the periods of their channels.
-#[derive(Clone, Copy)]
-pub struct Staying {
-    pub tools: u8,
-    pub tasks: u8,
-    /// Milliseconds.
-    pub period: u32,
-    pub pace: bool,
-    /// Seconds.
-    pub patience: u32,
-    pub queue: u8,
-    /// Seconds, or 0.
-    pub idle: u32,
-    /// Seconds, if there is a journal's file.
-    pub cut_every: Option<u32>,
-    pub each_store: bool,
-    pub reads_input: bool,
-}
-
-impl Staying {
-    /// The plan of a server on a slave of this layout.
-    fn plan(&self, layout: &Layout) -> Plan
-        ensures { (result.tools ≡ self.now.tools) × (result.tasks ≡ self.now.tasks) }
-    {
-        Plan {
-            tools: self.tools,
-            tasks: self.tasks,
-            periods: periods_of(layout, self.pace, self.period),
-            times: Times {
-                patience: seconds(self.patience),
-                idle: (self.idle > 0).then_some(seconds(self.idle)),
-            },
-            queue: self.queue,
-            cut_every: self.cut_every,
-            each_store: self.each_store,
-        }
+/// The plan of a server that is asked to stay so, on a slave of this layout.
+fn plan_of(staying: Staying, layout: &Layout) -> Plan
+    ensures { (result.tools ≡ staying.tools) × (result.tasks ≡ staying.tasks) }
+{
+    Plan {
+        tools: staying.tools,
+        tasks: staying.tasks,
+        periods: periods_of(layout, staying.pace, staying.period),
+        times: Times {
+            patience: seconds(staying.patience),
+            idle: staying.idle.map(|idle| seconds(idle)),
+        },
+        queue: staying.queue,
+        cut_every: staying.cut_every,
+        each_store: staying.each_store,
     }
 }
 
@@ -115,7 +94,7 @@ fn stay_with<R: Threads + Wait + Clock + Copy + Send + Sync + 'static>(
         flash,
         Teller::new(rt, handle, Some(lines)),
     )?;
-    let plan = staying.plan(&layout);
+    let plan = plan_of(staying, &layout);
     let Ok(unnamed) = Unnamed::new(rt.alloc(), layout, plan.tools + plan.tools + plan.tasks) else {
         return Err(Fault::Memory);
     };
@@ -138,7 +117,7 @@ fn stay_with<R: Threads + Wait + Clock + Copy + Send + Sync + 'static>(
         rt,
         handle,
         lines,
-        idle: staying.idle,
+        idle: staying.idle.unwrap_or(0),
     };
     match stay(
         handle,
