@@ -1,11 +1,12 @@
 //! Two cores of pins that are asked the same: one event by event, the other by runs of all events from one question to the next.
 ghost use Rattle.std.specs.Prelude.{◌<◌, ◌≤◌, length};
 
-use crate::answer::{Answer, cut, put};
 use crate::events::{event, said};
-use crate::trouble::Trouble;
+use crate::playing::{Subject, each_told};
+use crate::texts::Said;
 use pin_core::{Core, Event, MAX_WORDS, RunError, Seen, StepError, run};
 use std::alloc::{AllocError, Global};
+use test_playing::{Row, Section, Trouble};
 
 /// Two cores, and what the first did since the second did the same.
 #[derive(Drop)]
@@ -91,8 +92,18 @@ impl Cores {
         }
     }
 
-    /// What the answer to this question is; none where it is no question.
-    fn told(&mut self, question: &str) -> Result<Option<String>, AllocError> {
+    /// Asks the other core what is left, and adds what it answers otherwise.
+    pub fn end(&mut self, told: &mut Vec<String>) -> Result<(), AllocError> {
+        if !self.runs_alike() {
+            let other = "the last events otherwise in one run";
+            told.push(String::from_str(self.alloc, other)?)?;
+        }
+        Ok(())
+    }
+}
+
+impl Subject for Cores {
+    fn told(&mut self, _alloc: Global, question: &str) -> Said {
         if question == "idle" {
             return Ok(Some(self.idle()?));
         }
@@ -101,45 +112,30 @@ impl Cores {
             None => Ok(None),
         }
     }
+}
 
-    /// Asks what stands in a line: questions with commas between.
-    pub fn ask<'a>(
-        &mut self,
-        line: usize,
-        row: &'a str,
-        answers: &mut Vec<Answer<'a>>,
-    ) -> Result<(), Trouble> {
-        let mut place = 0usize;
-        for text in row.split(',') {
-            let (question, stands) = cut(text);
-            let Some(came) = self.told(question)? else {
-                return Err(Trouble::NoBook(line, "no such event"));
-            };
-            let answer = Answer {
-                line,
-                place,
-                question,
-                stands,
-                came,
-            };
-            put(answers, answer)?;
-            place = place.wrapping_add(1);
-        }
-        Ok(())
+/// The words of an image, with blanks between.
+fn image(alloc: Global, section: &Section<'_>) -> Result<Vec<u64>, Trouble> {
+    let mut image = Vec::new(alloc);
+    for word in section.words.split(' ') {
+        image.push(section.wanted(word.parse::<u64>().ok(), "no image")?)?;
     }
+    Ok(image)
+}
 
-    /// Asks the other core what is left, and tells where it answers otherwise.
-    pub fn end<'a>(&mut self, line: usize, answers: &mut Vec<Answer<'a>>) -> Result<(), Trouble> {
-        if !self.runs_alike() {
-            let answer = Answer {
-                line,
-                place: 0,
-                question: "the last events, in one run",
-                stands: "the same",
-                came: String::from_str(self.alloc, "something else")?,
-            };
-            put(answers, answer)?;
-        }
-        Ok(())
+/// Plays events over the core of pins, whose first image stands in the section's line.
+pub fn play_events(
+    alloc: Global,
+    section: &Section<'_>,
+    rows: &[Row<'_>],
+) -> Result<Vec<String>, Trouble> {
+    let image = image(alloc, section)?;
+    let words = image.as_slice();
+    if words.is_empty() || words.len() > MAX_WORDS {
+        return Err(Trouble::at(section.line, "no image"));
     }
+    let mut cores = Cores::new(alloc, words)?;
+    let mut told = each_told(alloc, &mut cores, rows)?;
+    cores.end(&mut told)?;
+    Ok(told)
 }

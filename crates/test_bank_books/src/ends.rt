@@ -1,8 +1,9 @@
 //! A bank of images and its readers, and what their calls answer.
 ghost use Rattle.std.specs.Prelude.{◌≡◌, All, IfSome, None};
 
-use crate::answer::{Answer, cut, put, words};
-use crate::trouble::Trouble;
+use crate::cores::Cores;
+use crate::playing::{Subject, words};
+use crate::texts::{Said, taken_text};
 use pin_core::READERS;
 use std::alloc::{AllocError, Global};
 use std::marker::Model;
@@ -23,12 +24,11 @@ pub enum Told {
 }
 
 impl Told {
-    fn said(&self, alloc: Global) -> Result<String, AllocError> {
+    pub fn said(&self, alloc: Global) -> Result<String, AllocError> {
         match self {
-            Told::Took(Taken::Newer) => String::from_str(alloc, "newer"),
-            Told::Took(Taken::Same) => String::from_str(alloc, "same"),
+            Told::Took(taken) => String::from_str(alloc, taken_text(*taken)),
             Told::Number(number) => format!(in alloc; "{number}"),
-            Told::Done => Ok(String::new(alloc)),
+            Told::Done => String::from_str(alloc, "-"),
             Told::Mixed => String::from_str(alloc, "mixed"),
             Told::Nothing => String::from_str(alloc, "nothing"),
             Told::Gone => String::from_str(alloc, "gone"),
@@ -63,27 +63,36 @@ fn number(reader: &mut Reader) -> Told
     }
 }
 
-/// What a call of a reader that stays is answered.
+/// What a call of a reader that stays is answered, whoever has it.
+pub fn held_told(verb: &str, reader: &mut Reader) -> Option<Told>
+    ensures { reader.new.bank ≡ reader.old.bank }
+{
+    match verb {
+        "acquire" => Some(Told::Took(reader.acquire())),
+        "holds" => Some(Told::Number(u64::from(reader.holds()))),
+        "number" => Some(number(reader)),
+        _ => None,
+    }
+}
+
+/// What a call of a bank's reader that stays is answered.
 fn reads(writer: &mut Writer, verb: &str, reader: &mut Reader) -> Option<Told>
     requires { reader.old.bank ≡ writer.old.bank }
     ensures writer { writer.new.bank ≡ writer.old.bank }
     ensures reader { reader.new.bank ≡ reader.old.bank }
 {
     match verb {
-        "acquire" => Some(Told::Took(reader.acquire())),
-        "holds" => Some(Told::Number(u64::from(reader.holds()))),
         "read" => Some(byte(reader)),
-        "number" => Some(number(reader)),
         "tell" => {
             reader.tell(writer);
             Some(Told::Done)
         }
-        _ => None,
+        _ => held_told(verb, reader),
     }
 }
 
 /// Lets a reader go that leaves, or is dropped as it is.
-fn lets_go(verb: &str, slot: &mut Option<Reader>) -> Told
+pub fn lets_go(verb: &str, slot: &mut Option<Reader>) -> Told
     ensures { slot.new ≡ None }
 {
     match slot.take() {
@@ -208,27 +217,23 @@ impl Ends {
             _ => self.reads(verb, rest.parse().ok()?),
         }
     }
+}
 
-    /// Makes the call that stands in a line.
-    pub fn ask<'a>(
-        &mut self,
-        alloc: Global,
-        line: usize,
-        row: &'a str,
-        answers: &mut Vec<Answer<'a>>,
-    ) -> Result<(), Trouble> {
-        let (question, stands) = cut(row);
-        let Some(told) = self.told(question) else {
-            return Err(Trouble::NoBook(line, "no such call"));
-        };
-        let came = told.said(alloc)?;
-        let answer = Answer {
-            line,
-            place: 0,
-            question,
-            stands,
-            came,
-        };
-        Ok(put(answers, answer)?)
+/// A bank's ends, and cores that do what their calls are made of.
+#[derive(Drop)]
+pub struct Banked {
+    pub ends: Ends,
+    pub cores: Cores,
+}
+
+impl Subject for Banked {
+    fn told(&mut self, alloc: Global, question: &str) -> Said {
+        if question.starts_with(' ') {
+            return self.cores.told(alloc, question.trim_start());
+        }
+        match self.ends.told(question) {
+            Some(told) => Ok(Some(told.said(alloc)?)),
+            None => Ok(None),
+        }
     }
 }

@@ -1,5 +1,5 @@
 //! Events of the core of pins, as texts.
-use crate::answer::words;
+use crate::playing::words;
 use pin_core::Event::{Look, Pin, Publish, Read, Reset, Scan, Unpin, Write};
 use pin_core::{Event, Seen};
 use std::alloc::{AllocError, Global};
@@ -29,13 +29,13 @@ pub fn event(question: &str) -> Option<Event> {
     }
 }
 
-/// The answer to an event, as a text: nothing where it tells nothing. Where it is an answer to another event, it is told whole.
+/// The answer to an event, as a text: `-` where it tells nothing. Where it is an answer to another event, it is told whole.
 pub fn said(alloc: Global, event: Event, seen: Seen) -> Result<String, AllocError> {
     match (event, seen) {
         (Look(_) | Pin(_), Seen::Index(buffer)) => format!(in alloc; "{buffer}"),
         (Read(..), Seen::Word(word)) => format!(in alloc; "{word}"),
         (Scan(_), Seen::Leavings(count)) => format!(in alloc; "{count}"),
-        (Reset(_) | Write(..) | Publish | Unpin(..), Seen::Done) => Ok(String::new(alloc)),
+        (Reset(_) | Write(..) | Publish | Unpin(..), Seen::Done) => { String::from_str(alloc, "-") }
         (_, seen) => format!(in alloc; "{seen:?}"),
     }
 }

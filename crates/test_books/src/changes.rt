@@ -1,10 +1,8 @@
 //! Rows of kind `changes`: what a check says of a layout file that is changed.
 //!
 //! The question is `OLD => NEW`: the text OLD, which stands in the file once, is replaced by NEW; both may have escapes.
-use crate::escapes::unescaped;
-use crate::rows::Row;
-use crate::trouble::Trouble;
 use std::alloc::Global;
+use test_playing::{Row, Trouble, unescaped};
 
 /// A file in which the text OLD, which stands there once, is replaced; or why it isn't.
 fn replaced(

@@ -6,13 +6,11 @@
 //! the file is restored, or why it isn't: what isn't restored changes nothing. `of another layout` asks of the whole file where the
 //! layout's file has other bytes.
 use crate::output::text_of;
-use crate::rows::Row;
-use crate::section::Section;
-use crate::trouble::Trouble;
 use hex::encode_upper;
 use sha2::{Digest, Sha256};
 use std::alloc::{AllocError, Global};
 use std::fmt::Write;
+use test_playing::{Row, Section, Trouble};
 use xcp_audit::{Printer, print_audit};
 use xcp_flash::restore;
 use xcp_framing::Watched;
@@ -65,17 +63,11 @@ fn audited(
     file: &[u8],
     lines: bool,
 ) -> Result<String, Trouble> {
-    let layout = layout_stored(alloc, section.layout, section.pages)?;
+    let text = section.layout()?;
+    let layout = layout_stored(alloc, text, section.pages)?;
     let mut reader = Watched::new(file);
     let mut printer = Printer::new(alloc, Vec::new(alloc));
-    let said = print_audit(
-        alloc,
-        section.layout,
-        layout,
-        &mut reader,
-        &mut printer,
-        lines,
-    );
+    let said = print_audit(alloc, text, layout, &mut reader, &mut printer, lines);
     Ok(text_of(alloc, printer.into_stream().as_slice(), said)?)
 }
 
@@ -113,12 +105,9 @@ fn restored(
     file: &[u8],
     other: bool,
 ) -> Result<String, Trouble> {
-    let mut layout = layout_of(alloc, section.layout)?;
-    let digest = Sha256::digest(if other {
-        b""
-    } else {
-        section.layout.as_bytes()
-    });
+    let text = section.layout()?;
+    let mut layout = layout_of(alloc, text)?;
+    let digest = Sha256::digest(if other { b"" } else { text.as_bytes() });
     Ok(restored_into(alloc, &mut layout, &digest, file)?)
 }
 
@@ -131,6 +120,15 @@ fn question_of<'a>(section: &Section<'_>, row: &Row<'a>) -> (&'a str, bool) {
     match row.question.strip_suffix(", lines") {
         Some(question) => (question, true),
         None => (row.question, false),
+    }
+}
+
+/// The file that the rows of a section are about.
+fn file_of<'a>(section: &Section<'a>) -> Result<&'a [u8], Trouble> {
+    if section.kind == "audit" {
+        section.wanted(section.journal, "no journal stands before these rows")
+    } else {
+        section.wanted(section.pages, "no stored pages stand before these rows")
     }
 }
 
@@ -158,7 +156,7 @@ fn said_of(
     number: usize,
     besides: bool,
 ) -> Result<String, Trouble> {
-    let file = changed(alloc, section.file, change, number)?;
+    let file = changed(alloc, file_of(section)?, change, number)?;
     if section.kind == "audit" {
         audited(alloc, section, file.as_slice(), besides)
     } else {

@@ -1,14 +1,13 @@
-//! What the program says of a layout file: by a check, and where it reads the file for a slave or for a description.
+//! What the program says of a layout file: by a check, and where it reads the file for a slave, for a description, or for tasks.
 use crate::output::text_of;
 use crate::pieces::Pieces;
 use crate::script::replayed;
-use crate::section::Section;
-use crate::trouble::{Trouble, or_refusal};
 use std::alloc::{AllocError, Global};
 use std::fmt::Write;
-use xcp_describe::{check, describe};
+use test_playing::{Row, Section, Trouble, or_refusal};
+use xcp_describe::{Findings, check, describe};
 use xcp_framing::Watched;
-use xcp_program::{Fault, layout_of, read_text};
+use xcp_program::{Fault, layout_of, periods_of, read_text};
 
 /// What has to refuse a file, by a check's lines: the number of its first fault, or the line of an entry.
 fn refused_by(lines: &str) -> &str {
@@ -37,7 +36,7 @@ fn described(alloc: Global, file: &str, host: &str, port: u16) -> Result<String,
 pub fn description(alloc: Global, section: &Section<'_>) -> Result<String, Trouble> {
     let (host, port) = section.words.split_once(' ').unwrap_or(("", ""));
     match port.parse::<u16>() {
-        Ok(port) => Ok(described(alloc, section.layout, host, port)?),
+        Ok(port) => Ok(described(alloc, section.layout()?, host, port)?),
         Err(_) => Err(Trouble::at(section.line, "a host and a port are wanted")),
     }
 }
@@ -88,16 +87,50 @@ fn others_than(alloc: Global, file: &[u8], lines: &str) -> Result<String, Troubl
     Ok(others)
 }
 
+/// Whether a check counts otherwise than its lines tell: the keys that nothing reads, a fault, an entry, and that it found something.
+fn is_otherwise(findings: &Findings, lines: &str) -> bool {
+    let unread = lines
+        .split('\n')
+        .filter(|line| line.starts_with("unread: "));
+    let refused = refused_by(lines);
+    let has_fault = refused.starts_with("configuration ");
+    let has_entry = !refused.is_empty() && !has_fault;
+    findings.unread != unread.count()
+        || findings.fault.is_some() != has_fault
+        || findings.refused.is_some() != has_entry
+        || findings.is_empty() != (findings.status() == 0)
+}
+
 /// What a check says of a file of these bytes: its status, a blank or a line feed, and its lines; and where a slave or a description
 /// refuses the file otherwise than it says, how that does, in lines behind its own.
 pub fn check_of(alloc: Global, file: &[u8], between: char) -> Result<String, Trouble> {
     let mut writer = Watched::new(Vec::new(alloc));
-    let status = match check(alloc, file, &mut writer) {
-        Ok(findings) => findings.status(),
-        Err(fault) => fault.status(),
-    };
+    let findings = check(alloc, file, &mut writer)?;
+    let status = findings.status();
     let ended = Ok::<(), Fault>(());
     let lines = text_of(alloc, writer.into_inner().as_slice(), ended)?;
-    let others = others_than(alloc, file, lines.as_str())?;
+    let mut others = others_than(alloc, file, lines.as_str())?;
+    if is_otherwise(&findings, lines.as_str()) {
+        others.push_str("\nit counts otherwise")?;
+    }
     Ok(format!(in alloc; "{status}{between}{lines}{others}")?)
+}
+
+/// What a section of kind `periods P` is answered to `paced`, with a pace, or `unpaced`: the periods of tasks 0 to 5 in nanoseconds,
+/// where it is P milliseconds of a task whose channel says none.
+pub fn periods_told(
+    alloc: Global,
+    section: &Section<'_>,
+    row: &Row<'_>,
+) -> Result<String, Trouble> {
+    if row.question != "paced" && row.question != "unpaced" {
+        return Err(Trouble::at(row.line, "periods are paced or unpaced"));
+    }
+    let layout = layout_of(alloc, section.layout()?)?;
+    let pace = row.question == "paced";
+    let mut text = String::new(alloc);
+    for period in periods_of(&layout, pace, u32::from(section.number()?)) {
+        write!(text, "{period} ")?;
+    }
+    Ok(String::from_str(alloc, text.as_str().trim_end())?)
 }

@@ -4,15 +4,12 @@
 //! The answer is the packets in order, in hex, with blanks between. Behind them stands, where more came than whole frames, `bad LEN` or
 //! `inside`, and `from` which place of the stream on. Where there is no packet either, it is `nothing`. Each stream is fed to a
 //! framer in pieces; to one that is lent its packets too; and it is found by the definition of a stream's frames.
-use crate::escapes::bytes_of;
 use crate::pieces::Pieces;
-use crate::rows::Row;
-use crate::section::Section;
 use crate::serves::push_frame;
-use crate::trouble::Trouble;
 use hex::encode_upper;
 use std::alloc::{AllocError, Global};
 use std::fmt::Write;
+use test_playing::{Row, Section, Trouble, bytes_of};
 use xcp_framing::{
     Cut, Framer, Got, any_cutting_gives_the_same_frames, each_stream_has_its_frames, frame,
     plain_frames, the_wire_gives_its_packets_back,
@@ -122,7 +119,7 @@ pub fn found(alloc: Global, section: &Section<'_>, stream: Pieces<'_>) -> Result
     any_cutting_gives_the_same_frames();
     each_stream_has_its_frames();
     the_wire_gives_its_packets_back();
-    let max_cto = section.max_cto()?;
+    let max_cto = section.number()?;
     let finder = find(alloc, max_cto, stream)?;
     let (packets, rest) = plain_frames(alloc, max_cto, stream.left)?;
     let mut told = finder.tell(alloc, rest, stream.left.len())?;

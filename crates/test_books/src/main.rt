@@ -1,15 +1,12 @@
-//! Plays books: texts of parts, each of which has rows of questions with their answers. It prints for each book how many parts and
-//! answers it has, and each part's first answer that is wrong. Each line of an answer of the books behind the word `--self-test` is
-//! altered too, and has to be noticed.
+//! Plays books of what the program answers: scripts, layout files, words, streams, and the files of journals and of stored pages. It
+//! prints for each book how many parts and answers it has, and each part's first answer that is wrong. Each line of an answer of the
+//! books behind the word `--self-test` is altered too, and has to be noticed.
 //!
 //! `README.md` beside this folder says what a book is, and where its answers come from.
 #![tactic(auto)]
 
-mod answer;
 mod asked;
-mod book;
 mod changes;
-mod escapes;
 mod files;
 mod findings;
 mod frames;
@@ -17,101 +14,16 @@ mod left_out;
 mod output;
 mod pieces;
 mod playing;
-mod report;
-mod rows;
 mod script;
 mod script_lines;
-mod section;
-mod self_test;
 mod serves;
-mod trouble;
 mod words;
 
-use report::Report;
+use playing::Program;
+use std::io;
 use std::process::ExitCode;
-use std::{fs, io};
-use trouble::Trouble;
-use xcp_program::read_words;
-
-/// The word that asks for altered answers of the books behind it.
-const SELF_TEST: &str = "--self-test";
-
-/// A line feed and the text of the book that a word names; nothing where the word is none of a book.
-fn read_book(rt: &HostRuntime, word: &str) -> io::Result<String> {
-    let mut book = String::new(rt.alloc());
-    if word != SELF_TEST {
-        book.push('\n')?;
-        book.push_str(fs::read_to_string(rt, word)?.as_str())?;
-    }
-    Ok(book)
-}
-
-/// The books of the words behind the first, in order.
-fn read_books(rt: &HostRuntime, words: &[String]) -> io::Result<Vec<String>> {
-    let mut books = Vec::new(rt.alloc());
-    for word in words.iter().skip(1) {
-        books.push(read_book(rt, word.as_str())?)?;
-    }
-    Ok(books)
-}
-
-/// Prints what was told of a book, and why it is none, and tells whether it is one.
-fn print_book(
-    rt: &HostRuntime,
-    name: &str,
-    text: &str,
-    played: &Result<(), Trouble>,
-) -> io::Result<bool> {
-    print!(rt; "{text}")?;
-    match played {
-        Ok(()) => return Ok(true),
-        Err(Trouble::Memory) => println!(rt; "{name}: memory")?,
-        Err(Trouble::NoBook { line, why }) => println!(rt; "{name}:{line}: {why}")?,
-        Err(Trouble::Refused(fault)) => println!(rt; "{name}: {fault}")?,
-    }
-    Ok(false)
-}
-
-/// Plays the books of the words behind the first, in order, up to the first that is none, and tells whether there is no such. From
-/// the word that asks for it on, answers are altered too.
-fn play_books<'a>(
-    rt: &HostRuntime,
-    words: &[String],
-    books: &'a [String],
-    report: &mut Report<'a>,
-) -> io::Result<bool> {
-    for (word, book) in words.iter().skip(1).zip(books.iter()) {
-        if book.is_empty() {
-            report.alters = true;
-        } else {
-            report.text.clear();
-            let played = report.play_book(word.as_str(), book.as_str());
-            if !print_book(rt, word.as_str(), report.text.as_str(), &played)? {
-                return Ok(false);
-            }
-        }
-    }
-    Ok(true)
-}
-
-/// Prints what came of altered answers, and gives the status: 1 where an answer is wrong.
-fn print_end(rt: &HostRuntime, report: &Report<'_>) -> io::Result<u8> {
-    if report.wrong > 0 {
-        return Ok(1);
-    }
-    if report.alters {
-        let altered = report.altered;
-        println!(rt; "self-test: {altered} altered answers, each was noticed")?;
-    }
-    Ok(0)
-}
+use test_playing::play_books;
 
 fn main(rt: HostRuntime) -> io::Result<ExitCode> {
-    let words = read_words(&rt)?;
-    let books = read_books(&rt, words.as_slice())?;
-    let mut report = Report::new(rt.alloc());
-    if !play_books(&rt, words.as_slice(), books.as_slice(), &mut report)? {
-        return Ok(ExitCode::from(2));
-    }
-    Ok(ExitCode::from(print_end(&rt, &report)?))
+    play_books(&rt, &Program)
 }

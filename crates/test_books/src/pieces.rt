@@ -1,11 +1,10 @@
 //! Streams that come in pieces: what they are answered may not hang on where they are cut.
 use crate::frames::found;
 use crate::script::replayed;
-use crate::section::Section;
 use crate::serves::served;
-use crate::trouble::Trouble;
 use std::alloc::Global;
 use std::io::{self, Read};
+use test_playing::{Section, Trouble};
 
 /// So many bytes or fewer are cut at each place.
 const EACH: usize = 2_000;
@@ -39,7 +38,7 @@ fn told(alloc: Global, section: &Section<'_>, stream: Pieces<'_>) -> Result<Stri
     match section.kind {
         "frames" => found(alloc, section, stream),
         "serves" => served(alloc, section, stream),
-        _ => replayed(alloc, section.layout, section.pages, stream),
+        _ => replayed(alloc, section.layout()?, section.pages, stream),
     }
 }
 

@@ -3,13 +3,11 @@
 //! A question is a line of the script, which may have escapes; its answer is the line that the replay writes for it, or the line of
 //! the fault that ends it. An answer alone is that of a layout that is refused. `image` is no line of the script: its answer is the
 //! ECU image behind the lines above it.
-use crate::escapes::unescaped;
 use crate::output::text_of;
 use crate::pieces::Pieces;
-use crate::rows::Row;
-use crate::section::Section;
-use crate::trouble::Trouble;
 use std::alloc::Global;
+use std::fmt::Write;
+use test_playing::{Row, Section, Trouble, unescaped};
 use xcp_framing::Watched;
 use xcp_program::{layout_stored, replay};
 use xcp_script::{Line, parse_line};
@@ -40,7 +38,8 @@ pub fn script_of(alloc: Global, rows: &[Row<'_>]) -> Result<Vec<u8>, Trouble> {
     Ok(script)
 }
 
-/// What a replay of a script writes, and the line of the fault that ends it.
+/// What a replay of a script writes, and the line of the fault that ends it; and where it counts other requests than lines that it
+/// writes, how many.
 pub fn replayed(
     alloc: Global,
     layout: &str,
@@ -50,7 +49,14 @@ pub fn replayed(
     let mut reader = Watched::new(script);
     let mut writer = Watched::new(Vec::new(alloc));
     let ended = replay(alloc, layout, pages, &mut reader, &mut writer, TURNS);
-    Ok(text_of(alloc, writer.into_inner().as_slice(), ended)?)
+    let mut text = text_of(alloc, writer.into_inner().as_slice(), ended)?;
+    match ended {
+        Ok(requests) if requests != text.as_str().lines().count() as u64 => {
+            write!(text, "\n{requests} requests")?;
+        }
+        _ => {}
+    }
+    Ok(text)
 }
 
 /// The ECU image of a slave in hex. Its last zeros are left out, but for those that so many digits would write.
@@ -78,7 +84,7 @@ fn submit(slave: &mut Slave, line: &[u8]) -> bool {
 
 /// A slave that was just made.
 fn slave_of(alloc: Global, section: &Section<'_>) -> Result<Slave, Trouble> {
-    let layout = layout_stored(alloc, section.layout, section.pages)?;
+    let layout = layout_stored(alloc, section.layout()?, section.pages)?;
     Ok(Slave::new(alloc, layout)?)
 }
 

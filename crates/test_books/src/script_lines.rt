@@ -2,37 +2,14 @@
 //!
 //! Of a line the answer is `skipped`, `faulty`, `drain`, `store`, `hangup`, `command` with the packet in hex, or `event` with the
 //! channel and the signals in hex. Of a text it is the lines, each with `|` behind it, or `nothing`.
-use crate::escapes::unescaped;
-use crate::rows::Row;
-use crate::section::Section;
-use crate::trouble::Trouble;
-use hex::encode_upper;
 use std::alloc::{AllocError, Global};
-use std::fmt::Write;
+use test_playing::{Row, Section, Trouble, request_text, unescaped};
 use xcp_script::{Line, parse_line, plain_lines};
-use xcp_slave::Request;
-
-/// What is asked, as a text.
-fn request_text(alloc: Global, request: &Request) -> Result<String, AllocError> {
-    let (verb, bytes) = match request {
-        Request::Command(packet) => ("command ", packet.as_slice()),
-        Request::Event(_, signals) => ("event ", signals.as_slice()),
-        Request::Drain => return String::from_str(alloc, "drain"),
-        Request::FinishStore => return String::from_str(alloc, "store"),
-        Request::Hangup => return String::from_str(alloc, "hangup"),
-    };
-    let mut text = String::from_str(alloc, verb)?;
-    if let Request::Event(channel, _) = request {
-        write!(text, "{channel} ")?;
-    }
-    text.push_str(encode_upper(alloc, bytes)?.as_str())?;
-    Ok(text)
-}
 
 /// What a line asks, where packets have at most so many bytes.
 pub fn line_asks(alloc: Global, section: &Section<'_>, row: &Row<'_>) -> Result<String, Trouble> {
     let line = unescaped(alloc, row.line, row.question)?;
-    match parse_line(section.max_cto()?, line.as_slice()) {
+    match parse_line(section.number()?, line.as_slice()) {
         Line::Skip => Ok(String::from_str(alloc, "skipped")?),
         Line::Faulty => Ok(String::from_str(alloc, "faulty")?),
         Line::Ask(request) => Ok(request_text(alloc, &request)?),

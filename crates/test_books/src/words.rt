@@ -1,16 +1,15 @@
-//! Rows of kind `words`: what the program is asked by the words that it is started with.
+//! Rows of kind `words`: what the program is asked by the words that it is started with; and of kind `numbers`: the number of their
+//! fault, or 0.
 //!
 //! A question is these words, with a blank between them: `''` is a word without a character, and each word may have escapes. The
 //! answer is what they ask for (`asked.rt`), or the status and what the program tells.
 use crate::asked::shown;
-use crate::escapes::unescaped;
 use crate::output::text_of;
-use crate::rows::Row;
-use crate::trouble::Trouble;
 use std::alloc::{AllocError, Global};
 use std::env::FillError;
 use std::rt::Env;
-use xcp_program::{Fault, asked, read_words};
+use test_playing::{Row, Trouble, unescaped};
+use xcp_program::{Fault, asked, options, read_words};
 
 /// The words that a program was started with.
 #[derive(Drop)]
@@ -56,6 +55,18 @@ fn told(alloc: Global, words: Started) -> Result<String, AllocError> {
         Ok(options) => shown(alloc, &options),
         Err(e) => format!(in alloc; "{} {e}", e.status()),
     }
+}
+
+/// The number of the fault of a row's words, or 0 where they have none.
+pub fn answer_number(alloc: Global, row: &Row<'_>) -> Result<String, Trouble> {
+    let Ok(words) = read_words(&(words_of(alloc, row)?, alloc)) else {
+        return Err(Trouble::at(row.line, "a word is no UTF-8"));
+    };
+    let number = match options(alloc, &words) {
+        Ok(_) => 0,
+        Err(fault) => fault.number(),
+    };
+    Ok(format!(in alloc; "{number}")?)
 }
 
 /// What a program that is started with a row's words is asked, or the status and what it tells.

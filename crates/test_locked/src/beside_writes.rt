@@ -1,6 +1,5 @@
 //! A controller in one thread, readers in others.
-use crate::closings::{image, write};
-use crate::controllers::take;
+use crate::controllers::{image, take, write};
 use crate::openings::in_use;
 use std::thread::{Threads, join};
 use xcp_bank::{Reader, Taken};

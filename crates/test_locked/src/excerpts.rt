@@ -1,24 +1,32 @@
 // Excerpts of the chapters that a task cuts, taken once it has ended.
 ghost use Rattle.std.specs.Prelude.{◌≡◌, ◌≤◌, IfOk, vec_len};
 
-use crate::calls::{Asked, Call, submit_all};
 use crate::tasks::lengths;
 use std::alloc::Global;
 use std::marker::Brand;
 use std::sync::{Mutex, Wait};
 use std::test::Fail;
 use std::thread::Threads;
-use test_ground::{Open, unnamed};
+use test_ground::{Open, asks, so, unnamed};
 use xcp_locked::{
     Caller, Excerpts, Locked, Name, Opening, Ran, Reader, TaskError, Unnamed, Worker, run_tasks,
 };
 
 // CONNECT, FREEZE for the segment, and the request to store it.
-const WANTED: [Call; 3] = [
-    (1, Asked::Command(&[0xFF, 0])),
-    (1, Asked::Command(&[0xE6, 1, 0])),
-    (1, Asked::Command(&[0xF9, 1, 0, 0])),
-];
+const WANTED: [&[u8]; 3] = [&[0xFF, 0], &[0xE6, 1, 0], &[0xF9, 1, 0, 0]];
+
+// Whether the last of these callers gets all that.
+fn wants_a_store<N: Name>(locked: &mut Locked<N>, callers: &mut [Caller<N>]) -> bool {
+    let Some(caller) = callers.last_mut() else {
+        return false;
+    };
+    for command in WANTED {
+        if !asks(locked, caller, command) {
+            return false;
+        }
+    }
+    true
+}
 
 // How a task runs: how many cycles, from how many calls on it cuts, and whether it cuts with each store.
 #[derive(Clone, Copy)]
@@ -84,11 +92,11 @@ type Handed<N> = (Worker<N>, Excerpts);
 
 fn handed<N: Name>(
     alloc: Global,
-    asked: Option<()>,
+    asked: bool,
     pair: Option<(Caller<N>, Reader<N>)>,
     each_store: bool,
 ) -> Result<Handed<N>, Fail> {
-    asked.ok_or("a call is refused")?;
+    so(asked, "a call is refused")?;
     let (caller, reader) = pair.ok_or("a caller and a reader")?;
     let (handing, excerpts) = Excerpts::new(alloc, each_store)?;
     Ok((
@@ -109,7 +117,7 @@ fn run_opening<N: Name + Send + Sync, R: Threads + Wait + Sync>(
         mut callers,
         readers,
     } = opening;
-    let asked = submit_all(&mut locked, &mut callers, &WANTED);
+    let asked = wants_a_store(&mut locked, &mut callers);
     let pair = callers.into_iter().zip(readers).next();
     let handed = handed(alloc, asked, pair, plan.each_store);
     run_handed(rt, alloc, locked, handed, plan)

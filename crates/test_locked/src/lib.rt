@@ -1,21 +1,16 @@
-//! Tests of a slave under its lock, by public calls alone: works and tasks that meet in threads, journals that are filled, receipts that are
-//! altered, chapters that are cut, readers off the lock; and a controller with a lock of its own.
+//! Tests of a slave under its lock, by public calls alone: works, tasks and readers that meet in threads, excerpts of chapters that tasks
+//! cut; and of a controller with a lock of its own: readers in threads, want of memory. What one caller after another is answered, what
+//! chapters have, what settles and what readers hold stands in locked.book and controller.book, beside `test_bank_books`.
 #![tactic(auto)]
 
 #[cfg(test)]
 mod beside_writes;
 #[cfg(test)]
-mod blocks;
-#[cfg(test)]
-mod calls;
-#[cfg(test)]
-mod closings;
+mod codes;
 #[cfg(test)]
 mod controllers;
 #[cfg(test)]
 mod crowds;
-#[cfg(test)]
-mod cuts;
 #[cfg(test)]
 mod excerpts;
 #[cfg(test)]
@@ -23,24 +18,10 @@ mod gates;
 #[cfg(test)]
 mod images;
 #[cfg(test)]
-mod joins;
-#[cfg(test)]
-mod journals;
-#[cfg(test)]
-mod keeping;
-#[cfg(test)]
 mod meetings;
 #[cfg(test)]
 mod numbers;
 #[cfg(test)]
 mod openings;
-#[cfg(test)]
-mod publishing;
-#[cfg(test)]
-mod readers;
-#[cfg(test)]
-mod receipts;
-#[cfg(test)]
-mod rows;
 #[cfg(test)]
 mod tasks;

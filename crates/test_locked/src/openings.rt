@@ -1,7 +1,8 @@
 //! The controller that the tests are about, and what a tool asks of it first.
-use crate::controllers::asks;
+use crate::controllers::{asks, image, take};
 use std::alloc::{AllocError, Global};
 use test_ground::{COUNTED, Small, USUAL, parts};
+use xcp_bank::Taken;
 use xcp_controller::Controller;
 use xcp_memory::Layout;
 
@@ -16,18 +17,10 @@ const NARROW: Small = Small {
 };
 
 /// A controller with this layout, if it is one.
-pub(crate) fn opened(alloc: Global) -> Result<Option<Controller>, AllocError> {
+fn opened(alloc: Global) -> Result<Option<Controller>, AllocError> {
     match Layout::new(parts(alloc, NARROW)?) {
         Ok(layout) => Ok(Some(Controller::open(alloc, layout)?)),
         Err(_) => Ok(None),
-    }
-}
-
-/// A controller with that layout, at its opening; none where memory is lacking.
-pub(crate) fn controller(alloc: Global) -> Option<Controller> {
-    match opened(alloc) {
-        Ok(controller) => controller,
-        Err(_) => None,
     }
 }
 
@@ -41,11 +34,39 @@ fn is_begun(controller: &mut Controller) -> bool {
     true
 }
 
-/// The same, where a tool is connected and writes to the page that the controller has.
+/// A controller with that layout, where a tool is connected and writes to the page that the controller has.
 pub(crate) fn in_use(alloc: Global) -> Option<Controller> {
-    let mut controller = controller(alloc)?;
+    let Ok(Some(mut controller)) = opened(alloc) else {
+        return None;
+    };
     if is_begun(&mut controller) {
         return Some(controller);
     }
     None
+}
+
+// Whether a reader takes the opening's image.
+fn takes_first(controller: &mut Controller) -> bool {
+    match controller.take_reader() {
+        Some(mut reader) => take(&mut reader) == (Taken::Newer, image(0, 0)),
+        None => false,
+    }
+}
+
+fn is_opened(came: Option<Controller>) -> bool {
+    match came {
+        Some(mut controller) => takes_first(&mut controller),
+        None => false,
+    }
+}
+
+// Passes whichever allocation is refused (`rt try --test --fail-alloc N`): what was refused is asked for again.
+#[test]
+fn refused_memory_is_asked_for_again(rt: HostRuntime) -> Result<(), AllocError> {
+    let came = match opened(rt.alloc()) {
+        Ok(came) => came,
+        Err(_) => opened(rt.alloc())?,
+    };
+    assert!(rt; is_opened(came));
+    Ok(())
 }

@@ -1,5 +1,5 @@
-//! Tests of the program but for its `main`, by public calls alone: files of many sizes, the periods of tasks, faults of streams, want of
-//! memory, writers that take no more, and what a check counts.
+//! Tests of the program but for its `main`, by public calls alone: files of many sizes, faults and their texts, turns, want of memory,
+//! and writers that take no more.
 #![tactic(auto)]
 
 #[cfg(test)]
@@ -8,8 +8,6 @@ mod checks;
 mod faults;
 #[cfg(test)]
 mod layouts;
-#[cfg(test)]
-mod periods;
 #[cfg(test)]
 mod replays;
 #[cfg(test)]

@@ -1,4 +1,4 @@
-//! Replays of scripts, in few turns and with other ends of lines.
+//! Replays of scripts in few turns, and the texts of faults.
 use std::alloc::{AllocError, Global};
 use std::test::Fail;
 use test_ground::{WHOLE, changed, none_is_wrong};
@@ -39,21 +39,8 @@ fn first_other(alloc: Global, rows: &[Row]) -> Result<Option<usize>, AllocError>
     Ok(None)
 }
 
-static ENDS: [Row; 2] = [
-    (
-        "# a comment\r\n\r\nff 00\r\ndrain\nstore\nhangup\nevent 0 00\nevent 1 00\nFD",
-        100,
-        "7 requests, FF05C02040000101\nnothing\nno store\n-\nbad signals\nno channel\n-\n",
-    ),
+static TURNS: [Row; 4] = [
     ("", 100, "0 requests, "),
-];
-
-#[test]
-fn lines_may_end_otherwise(rt: HostRuntime) -> Result<(), Fail> {
-    none_is_wrong(first_other(rt.alloc(), &ENDS)?)
-}
-
-static TURNS: [Row; 3] = [
     ("FF00\n", 0, "stream 1, "),
     ("FF00\n", 1, "stream 1, FF05C02040000101\n"),
     ("FF00\n", 2, "1 requests, FF05C02040000101\n"),

@@ -1,5 +1,5 @@
-//! Tests of a server that stays, by public calls alone: tools over TCP that come and go, chapters that are cut, settled and dropped meanwhile,
-//! and the line that ends it.
+//! Tests of a server that stays, by public calls alone: tools over TCP that come and go, and whose the session is; chapters that are cut, settled
+//! and dropped meanwhile, and the line that ends it.
 #![tactic(auto)]
 
 #[cfg(test)]
@@ -13,6 +13,10 @@ mod lines;
 #[cfg(test)]
 mod posting;
 #[cfg(test)]
+mod sessions;
+#[cfg(test)]
 mod silent;
+#[cfg(test)]
+mod turns;
 #[cfg(test)]
 mod visits;

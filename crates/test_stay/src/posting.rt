@@ -92,12 +92,15 @@ fn collect<N: Name, M: Route>(
     if way == Way::OnTheWay {
         Ok(collector)
     } else {
-        collector.collect(rt, post)
+        match collector.collect(rt, post) {
+            Ok(collector) => Ok(collector),
+            Err(halted) => Err(halted.into_refusal().why()),
+        }
     }
 }
 
 // A post, a slave and two members, with a scribe that writes to memory.
-fn opened<N: Name, M: Route>(
+pub fn opened<N: Name, M: Route>(
     alloc: Global,
     opening: Opening<N>,
     unrouted: Unrouted<N>,

@@ -19,7 +19,7 @@ use xcp_trace::Entries;
 
 // Counts the chapters that it is given.
 #[derive(Drop)]
-struct Counting(u64);
+pub struct Counting(pub u64);
 
 impl Scribe for Counting {
     ghost use Rattle.std.specs.Prelude.{⊤};

@@ -22,8 +22,9 @@ pub record Pair : Type 0 where
 abbrev pub pair : CallerValue → CallerValue → Pair
 pair tool pump = record { tool = tool; pump = pump }
 
--- a seat, with MAX_CTO of its slave
+-- a seat, with its number, and MAX_CTO of its slave
 pub record SeatValue : Type 0 where
+  pub number : ℕ
   pub tool : CallerValue
   pub pump : CallerValue
   pub max_cto : ℕ

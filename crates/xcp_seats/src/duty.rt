@@ -12,7 +12,7 @@ use std::time::{Clock, Duration};
 use together::Meanwhile;
 use xcp_locked::{HasSlave, Name};
 use xcp_scribe::Scribe;
-use xcp_service::{Collector, Post, Route, Shared, Unkept};
+use xcp_service::{Collector, Halted, Post, Route, Shared};
 
 /// What the thread that made all others does: it keeps chapters, until the post is closed.
 #[derive(Drop)]
@@ -22,15 +22,15 @@ pub struct Keeping<'a, N: Name, M: Route, S: Scribe> {
     pub halt: &'a Halt,
 }
 
-impl<'a, N: Name, M: Route, S: Scribe> Meanwhile<Result<Collector<N, M, S>, Unkept>>
+impl<'a, N: Name, M: Route, S: Scribe> Meanwhile<Result<Collector<N, M, S>, Halted<N, M>>>
     for Keeping<'a, N, M, S> {
     ghost use Rattle.std.specs.Prelude.{⊤};
 
-    // What a collector keeps is what its type says.
+    // What a collector keeps is what its type says, and so is what it refuses.
     ghost gives = { λ k d. ⊤ };
 
     /// Takes what comes. Where something isn't as it must be, it asks the server to end.
-    fn run<R: Wait>(self, rt: &R) -> Result<Collector<N, M, S>, Unkept> {
+    fn run<R: Wait>(self, rt: &R) -> Result<Collector<N, M, S>, Halted<N, M>> {
         let kept = self.collector.collect(rt, self.post);
         if kept.is_err() {
             self.halt.ask(rt);

@@ -38,8 +38,8 @@ impl Hall {
         *present = present.saturating_add(1);
     }
 
-    /// One tool is gone. Where it was the last one, a `Hangup` is submitted before another can be here. Where it is refused, for want of
-    /// memory, the session stands until the next tool goes.
+    /// One tool is gone: the session isn't its seat's any more. Where it was the last one, a `Hangup` is submitted before another can be
+    /// here. Where it is refused, for want of memory, the slave's session stands until the next tool goes.
     pub fn leave<N: Name, M: Route, R: Wait>(
         &self,
         rt: &R,
@@ -49,6 +49,7 @@ impl Hall {
     {
         let mut present = self.present.lock(rt);
         *present = present.saturating_sub(1);
+        station.leave_session();
         match *present {
             0 => Departure::Last(hang_up(station)),
             others => Departure::Others(others),

@@ -51,13 +51,13 @@ pub struct Seat<'a, N: Name, M: Route, W, T> {
     pub place: Place<'a, W>,
 }
 
-// Clauses see the members alone, which keeps proofs about its thread small.
+// Clauses see its number, its members and MAX_CTO alone, which keeps proofs about its thread small.
 impl<'a, N: Name, M: Route, W, T> Model for Seat<'a, N, M, W, T> {
     ghost use Rattle.xcp_seats.specs.Seating.{SeatValue};
 
     ghost Value = { SeatValue };
 
-    ghost view = { λ s. record { tool = s.tool; pump = s.pump; max_cto = s.place.max_cto } };
+    ghost view = { λ s. record { number = s.place.number; tool = s.tool; pump = s.pump; max_cto = s.place.max_cto } };
 }
 
 /// The members of a seat, once nobody is served any more.
@@ -126,8 +126,8 @@ fn visit<
     place.watcher.came(place.number, address);
     place.hall.enter(rt);
     let Left { tool, pump } = left;
-    let tool = Seated::new(rt, alloc, shared, tool);
-    let pump = Seated::new(rt, alloc, shared, pump);
+    let tool = Seated::new(rt, alloc, shared, tool, place.number);
+    let pump = Seated::new(rt, alloc, shared, pump, place.number);
     let was_idle = AtomicBool::new(false);
     let (mut tool, pump, end) = serve_tool(rt, alloc, shared, place, stream, &was_idle, tool, pump);
     let departure = place.hall.leave(rt, &mut tool);

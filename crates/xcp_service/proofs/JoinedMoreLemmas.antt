@@ -58,3 +58,11 @@ count_from k n v (e ∷ cs) k2 n2 v2 h = let is = count_from (k + 1) (n + length
 -- the next one's number is how many there are
 pub count_of : (l : LayoutValue) (cs : List ChapterValue) (k n : ℕ) (v : SlaveValue) → AreJoined l cs k n v → k ≡ length cs
 count_of l cs k n v h = let is = count_from 0 0 (opening l) cs k n v h.lead in omega (arith, is)
+
+-- chapters lead on to one place alone
+lead_same : (k n : ℕ) (v : SlaveValue) (cs : List ChapterValue) (k2 n2 k3 n3 : ℕ) (v2 v3 : SlaveValue) → LeadTo k n v cs k2 n2 v2 → LeadTo k n v cs k3 n3 v3 → (k2 ≡ k3) × (n2 ≡ n3) × (v2 ≡ v3)
+lead_same k n v [] k2 n2 k3 n3 v2 v3 h g = (h.0 ∙ sym g.0, h.1 ∙ sym g.1, h.2 ∙ sym g.2)
+lead_same k n v (e ∷ cs) k2 n2 k3 n3 v2 v3 h g = lead_same (k + 1) (n + length e.entries) e.last cs k2 n2 k3 n3 v2 v3 h.3 g.3
+
+pub joined_same : (l : LayoutValue) (cs : List ChapterValue) (k n k2 n2 : ℕ) (v v2 : SlaveValue) → AreJoined l cs k n v → AreJoined l cs k2 n2 v2 → (k ≡ k2) × (n ≡ n2) × (v ≡ v2)
+joined_same l cs k n k2 n2 v v2 h g = lead_same 0 0 (opening l) cs k n k2 n2 v v2 h.lead g.lead

@@ -2,9 +2,12 @@ pub mod AmongLemmas
 pub mod KeepingLemmas
 pub mod JoinedMoreLemmas
 pub mod SheafLemmas
+pub mod RefusalLemmas
 pub mod OnceLemmas
 pub mod CountLemmas
 pub mod HandedLemmas
 pub mod ParcelLemmas
 pub mod ResidentLemmas
 pub mod LosingLemmas
+pub mod SessionLemmas
+pub mod CallLemmas

@@ -100,6 +100,11 @@ pub numbered_more : (k : ℕ) (cs : List CallerValue) (c : CallerValue) → AreN
 numbered_more k [] c h e = (omega (arith, e), tt)
 numbered_more k (d ∷ cs) c h e = (h.0, numbered_more (k + 1) cs c h.1 (omega (arith, e)))
 
+-- each has the number of its place
+pub numbered_at : (k : ℕ) (cs : List CallerValue) (c : CallerValue) (ds : List CallerValue) → AreNumbered k (cs ++ c ∷ ds) → c.number ≡ k + length cs
+numbered_at k [] c ds h = let is = h.0 in omega (arith, is)
+numbered_at k (b ∷ cs) c ds h = let is = numbered_at (k + 1) cs c ds h.1 in omega (arith, is)
+
 pub length-callers_of : (l : LayoutValue) (n : ℕ) → length (callers_of l n) ≡ n
 length-callers_of l zero = refl
 length-callers_of l (suc n) = let e = length-callers_of l n in let m = length-append (callers_of l n) (fresh_caller l n ∷ []) in omega (arith, e, m)

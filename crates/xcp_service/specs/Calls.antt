@@ -9,21 +9,38 @@ use Rattle.xcp_trace.specs.declared.Entry.{Entry}
 use Rattle.xcp_locked.specs.Journal.{entry, exchanges}
 use Rattle.xcp_locked.specs.LockedSlave.{IsReached, SameChapter}
 use Rattle.xcp_locked.specs.PublishingCalls.{AreAllImages, AreImagesFrom, Publishes}
+use Rattle.xcp_locked.specs.Receipts.{receipt}
 use Rattle.xcp_locked.specs.declared.receipt.Receipt.{Receipt}
 use Rattle.xcp_service.specs.Residents.{ResidentValue, with_a_cut}
+use Rattle.xcp_service.specs.Sessions.{noted}
+
+-- a call begins with the slave as it was, or behind a cut of the open chapter
+abbrev pub IsBegun : ResidentValue → ResidentValue → Type 0
+IsBegun old begun = (begun ≡ old) ⊎ (begun ≡ with_a_cut old)
+
+-- its receipt: with the chapter that is open then, and the next place there
+abbrev pub receipt_at : ResidentValue → Request → Answer → Receipt
+receipt_at begun request answer = receipt begun.locked.chapter (length begun.locked.journal) request answer
 
 -- The caller of this number was answered so: one call more stands in the journal, and the image is published where it changed. The
 -- open chapter may have been cut off before it, and behind it, so that the call is the last of its chapter.
 pub record Calls (number : ℕ) (request : Request) (answer : Answer) (old new : ResidentValue) : Type 0 where
   pub begun : ResidentValue
   pub done : ResidentValue
-  pub begins : (begun ≡ old) ⊎ (begun ≡ with_a_cut old)
+  pub begins : IsBegun old begun
   pub answers : Answers begun.locked.slave request answer done.locked.slave
   pub journal : done.locked.journal ≡ begun.locked.journal ++ entry number request answer ∷ []
   pub chapter : SameChapter begun.locked done.locked
   pub published : Publishes begun.locked done.locked
   pub past : done.past ≡ begun.past
+  pub sessions : done.sessions ≡ begun.sessions
   pub ends : (new ≡ done) ⊎ (new ≡ with_a_cut done)
+
+-- The same of a caller of a seat. Behind the call, under the same hold, it is noted whose the session is then.
+pub record CallsFor (seat number : ℕ) (request : Request) (answer : Answer) (old new : ResidentValue) : Type 0 where
+  pub called : ResidentValue
+  pub calls : Calls number request answer old called
+  pub notes : new ≡ record called { sessions = noted seat request answer old.sessions }
 
 -- Nothing was executed: at most, the open chapter was cut off.
 abbrev pub ExecutesNothing : ResidentValue → ResidentValue → Type 0

@@ -1,8 +1,11 @@
 pub mod Calls
+pub mod Happenings
 pub mod Keeping
 pub mod Losing
 pub mod Noted
 pub mod Parcels
+pub mod Refusals
 pub mod Residents
+pub mod Sessions
 pub mod Sheaves
 pub mod private

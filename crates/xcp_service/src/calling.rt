@@ -4,8 +4,7 @@ ghost use Rattle.xcp_slave.specs.AnswerInBytes.{answer_in};
 ghost use Rattle.xcp_slave.specs.AskedRequest.{IsShort, request_asked};
 ghost use Rattle.xcp_locked.specs.Caller.{accepting};
 ghost use Rattle.xcp_locked.specs.Journal.{journal_limit};
-ghost use Rattle.xcp_locked.specs.Receipts.{receipt};
-ghost use Rattle.xcp_service.specs.Calls.{Calls, ExecutesNothing, IsPublished};
+ghost use Rattle.xcp_service.specs.Calls.{Calls, CallsFor, ExecutesNothing, IsBegun, IsPublished, receipt_at};
 
 use crate::member::Member;
 use crate::post::Post;
@@ -13,7 +12,7 @@ use crate::resident::Resident;
 use crate::route::Route;
 use std::alloc::Global;
 use std::sync::Wait;
-use xcp_locked::{HasSlave, JOURNAL, LockedError, Name};
+use xcp_locked::{JOURNAL, LockedError, Name};
 use xcp_packet::Packet;
 use xcp_slave::{Asked, Outcome, Told};
 
@@ -36,21 +35,46 @@ pub fn call<N: Name, M: Route>(
 ) -> Result<Told, LockedError>
     requires { IsShort asked }
     ensures calls { IfOk result (λ told. Calls member.old.number (request_asked asked.entry) (answer_in told packet.new) resident.old resident.new) }
-    ensures member { IfOk result (λ told. (chapter at : ℕ)
-        × (member.new ≡ accepting member.old (receipt chapter at (request_asked asked.entry) (answer_in told packet.new)))
-        × IsPublished N.layout member.old.number (receipt chapter at (request_asked asked.entry) (answer_in told packet.new)) resident.new) }
+    ensures member { IfOk result (λ told. (begun : _) × IsBegun resident.old begun
+        × (member.new ≡ accepting member.old (receipt_at begun (request_asked asked.entry) (answer_in told packet.new)))
+        × IsPublished N.layout member.old.number (receipt_at begun (request_asked asked.entry) (answer_in told packet.new)) resident.new) }
     ensures full { result ≡ Err LockedError.JournalFull → journal_limit ≤ length resident.old.locked.journal }
     ensures err { OnErr result ((member.new ≡ member.old) × ExecutesNothing resident.old resident.new) }
 {
-    if resident.locked().len() >= JOURNAL as u64 {
+    if resident.as_locked().len() >= JOURNAL as u64 {
         resident.cut(rt, alloc, post);
     }
     member.hand_over(rt, alloc, resident, post);
     let told = member.submit(resident, asked, packet)?;
     resident.audit();
-    if ends_chapter(resident.locked().len(), &told, resident.each_store()) {
+    if ends_chapter(resident.as_locked().len(), &told, resident.each_store()) {
         resident.cut(rt, alloc, post);
     }
+    Ok(told)
+}
+
+/// The same for a caller of a seat. Under the same hold it is noted whose the session is then: the seat's, where its CONNECT was accepted,
+/// and nobody's, where the call ended the session.
+pub fn call_for<N: Name, M: Route>(
+    rt: &impl Wait,
+    alloc: Global,
+    resident: &mut Resident<N, M>,
+    post: &Post<N, M>,
+    member: &mut Member<N, M>,
+    seat: u8,
+    asked: Asked<'_>,
+    packet: &mut Packet,
+) -> Result<Told, LockedError>
+    requires { IsShort asked }
+    ensures calls { IfOk result (λ told. CallsFor seat member.old.number (request_asked asked.entry) (answer_in told packet.new) resident.old resident.new) }
+    ensures member { IfOk result (λ told. (begun : _) × IsBegun resident.old begun
+        × (member.new ≡ accepting member.old (receipt_at begun (request_asked asked.entry) (answer_in told packet.new)))
+        × IsPublished N.layout member.old.number (receipt_at begun (request_asked asked.entry) (answer_in told packet.new)) resident.new) }
+    ensures full { result ≡ Err LockedError.JournalFull → journal_limit ≤ length resident.old.locked.journal }
+    ensures err { OnErr result ((member.new ≡ member.old) × ExecutesNothing resident.old resident.new) }
+{
+    let told = call(rt, alloc, resident, post, member, asked, packet)?;
+    resident.note(seat, asked, &told, packet);
     Ok(told)
 }
 

@@ -4,13 +4,15 @@ ghost use Rattle.xcp_service.specs.Keeping.{receipts_by};
 ghost use Rattle.xcp_service.specs.Parcels.{chapters_put, given_in, receipts_put};
 ghost use Rattle.xcp_scribe.specs.Given.{Given};
 
-use crate::keeper::{Keeper, Unkept};
+use crate::keeper::Keeper;
 use crate::parcel::Parcel;
 use crate::post::Post;
+use crate::refusal::Refusal;
 use crate::route::Route;
 use relay::{Giver, Taker};
 use std::alloc::Global;
 use std::marker::{Model, PhantomData};
+use std::snapshot::Snapshot;
 use std::sync::Wait;
 use xcp_locked::Name;
 use xcp_scribe::Scribe;
@@ -40,6 +42,35 @@ impl<N: Name, M: Route, S: Scribe> Model for Collector<N, M, S> {
     ghost invariant = { λ c. (c.taker.relay ≡ M.relay) × IsCollected N.parts c.keeper c.taker.taken × S.wrote c.scribe (given_in c.keeper.chapters) × (c.desk ≡ N.parts) };
 }
 
+/// A keeper that goes no further: what it refused is what was taken last, behind all that it has.
+#[derive(Drop)]
+pub struct Halted<N: Name, M: Route> {
+    refusal: Refusal<N>,
+    taker: Taker<Parcel<N>>,
+    of: PhantomData<M>,
+}
+
+impl<N: Name, M: Route> Model for Halted<N, M> {
+    ghost use Rattle.std.specs.Prelude.{◌≡◌};
+    ghost use Rattle.xcp_service.specs.Refusals.{RefusalValue};
+    ghost use Rattle.xcp_service.specs.private.Collected.{CameLast};
+
+    ghost Value = { RefusalValue };
+
+    ghost view = { λ h. h.refusal };
+
+    ghost invariant = { λ h. (h.taker.relay ≡ M.relay) × CameLast N.parts h.refusal h.taker.taken };
+}
+
+impl<N: Name, M: Route> Halted<N, M> {
+    /// What was refused.
+    pub fn into_refusal(self) -> Refusal<N>
+        ensures { result ≡ self }
+    {
+        self.refusal
+    }
+}
+
 impl<N: Name, M: Route, S: Scribe> Collector<N, M, S> {
     /// A keeper that has taken nothing yet, and a scribe that was given nothing yet.
     pub(crate) fn new(
@@ -63,7 +94,11 @@ impl<N: Name, M: Route, S: Scribe> Collector<N, M, S> {
 
     /// Has the keeper take what comes, until the post is closed and nothing lies there; each chapter is written down before. Where
     /// something isn't as it must be it goes no further.
-    pub fn collect(self, rt: &impl Wait, post: &Post<N, M>) -> Result<Collector<N, M, S>, Unkept> {
+    pub fn collect(
+        self,
+        rt: &impl Wait,
+        post: &Post<N, M>,
+    ) -> Result<Collector<N, M, S>, Halted<N, M>> {
         let Collector {
             mut keeper,
             mut taker,
@@ -82,7 +117,11 @@ impl<N: Name, M: Route, S: Scribe> Collector<N, M, S> {
                 });
             };
             write_down(&mut scribe, &parcel);
-            keeper.take(desk, tag, parcel)?;
+            let (stood, came) = (Snapshot::of(&keeper), Snapshot::of(&parcel));
+            if let Err(why) = keeper.take(desk, tag, parcel) {
+                let refusal = Refusal::new(why, tag, stood, came);
+                return Err(Halted { refusal, taker, of });
+            }
         }
         unreachable!()
     }

@@ -1,8 +1,9 @@
 //! Callers that call no more.
 ghost use Rattle.std.specs.List.{AllByRecursion};
-ghost use Rattle.std.specs.Prelude.{◌≡◌, ◌<◌, IfOk};
+ghost use Rattle.std.specs.Prelude.{◌≡◌, ◌<◌, IfErr, IfOk};
 ghost use Rattle.xcp_service.specs.Keeping.{caller_limit};
 ghost use Rattle.xcp_service.specs.Parcels.{AreNumbered, HasAllReceipts, IsHandedOver, given_in};
+ghost use Rattle.xcp_service.specs.Refusals.{GoesNoFurther};
 
 use crate::collector::Collector;
 use crate::keeper::{Keeper, Unkept};
@@ -55,7 +56,8 @@ pub struct Resigned<N: Name, S: Scribe> {
 }
 
 /// All members resign, which must come in the order of their numbers. The keeper then has all receipts that each of them ever had, in
-/// order, one for each of its calls that was accepted. `Memory` comes also where some are still at hand or on their way.
+/// order, one for each of its calls that was accepted. `Memory` comes also where some are still at hand or on their way, and `Discord`
+/// where they don't come in that order.
 pub fn resign_all<N: Name, M: Route, S: Scribe>(
     alloc: Global,
     post: &Post<N, M>,
@@ -69,6 +71,7 @@ pub fn resign_all<N: Name, M: Route, S: Scribe>(
     ensures handed { IfOk result (λ r. AllByRecursion (IsHandedOver r.keeper) r.members.items) }
     ensures counted { IfOk result (λ r. AllByRecursion HasAllReceipts r.members.items) }
     ensures wrote { IfOk result (λ r. S.wrote r.scribe (given_in r.keeper.chapters)) }
+    ensures refused { IfErr result (GoesNoFurther (λ _. ¬ (AreNumbered 0 members.items))) }
 {
     let mut collector = collector;
     let mut all = Vec::new(alloc);

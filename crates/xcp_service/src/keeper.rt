@@ -4,6 +4,7 @@ ghost use Rattle.std.specs.Prelude.{◌≡◌, ◌≢◌, ◌++◌, ◌-◌, ◌
 ghost use Rattle.xcp_locked.specs.Chapters.{AreJoined, Follows};
 ghost use Rattle.xcp_service.specs.Keeping.{AreDroppedSettled, AreKeptSettled, AreOnce, HasNoneAhead};
 ghost use Rattle.xcp_service.specs.Losing.{lost_in};
+ghost use Rattle.xcp_service.specs.Refusals.{GoesNoFurther, HasItsDue, IsMet, RefusesChapter, RefusesParcel, RefusesSheaf};
 
 use crate::losing::count_lost;
 use crate::noted::Noted;
@@ -148,11 +149,14 @@ impl<N: Name> Keeper<N> {
     }
 
     /// Takes a sheaf, and settles it: it must have the receipts of its caller for all chapters that wait for them, up to the one that
-    /// was open when it was handed over, and no others. After an error nothing changed.
+    /// was open when it was handed over, and no others. The error `Discord::Receipts` says that it hasn't, and where. After an error nothing
+    /// changed.
     pub fn settle(&mut self, sheaf: &Sheaf<N>) -> Result<(), Unkept>
         ensures sheaves { OnOk result (self.new.sheaves ≡ self.old.sheaves ++ sheaf.now ∷ []) }
         ensures chapters { self.new.chapters ≡ self.old.chapters }
         ensures waiting { self.new.waiting ≡ self.old.waiting }
+        ensures due { OnOk result (HasItsDue self.old sheaf.now) }
+        ensures refused { IfErr result (GoesNoFurther (RefusesSheaf self.old sheaf.now)) }
         ensures err { OnErr result (self.new ≡ self.old) }
     {
         if self.sheaves.reserve().is_err() {
@@ -181,29 +185,54 @@ impl<N: Name> Keeper<N> {
     }
 
     /// Takes what came under this number: joins a chapter, which must come under the number of the desk, or settles a sheaf, which must be
-    /// of the caller with this number; and drops what is settled then.
+    /// of the caller with this number; and drops what is settled then. After an error nothing changed.
     pub(crate) fn take(&mut self, desk: u16, number: u16, parcel: Parcel<N>) -> Result<(), Unkept>
         ensures chapters { OnOk result (self.new.chapters ≡ self.old.chapters ++ parcel.chapters) }
         ensures sheaves { OnOk result (self.new.sheaves ≡ self.old.sheaves ++ parcel.sheaves) }
         ensures own { OnOk result (AllByRecursion (λ s. s.caller ≡ number) parcel.sheaves) }
         ensures desk { OnOk result (number ≢ desk → parcel.chapters ≡ []) }
+        ensures refused { IfErr result (GoesNoFurther (RefusesParcel desk number self.old parcel)) }
     {
         let Parcel { chapter, sheaf } = parcel;
-        if let Some(chapter) = chapter {
-            if number != desk {
-                return Err(Unkept::Discord(Discord::Chapter(self.number)));
-            }
-            self.join(chapter)?;
-        }
-        if let Some(sheaf) = sheaf {
-            let caller = sheaf.caller();
-            if u16::from(caller) != number {
-                return Err(Unkept::Discord(discord(sheaf.until(), caller as usize, 0)));
-            }
-            self.settle(&sheaf)?;
+        match (chapter, sheaf) {
+            (Some(chapter), _) => self.take_chapter(desk, number, chapter)?,
+            (None, Some(sheaf)) => self.take_sheaf(number, &sheaf)?,
+            (None, None) => {}
         }
         self.drop_settled();
         Ok(())
+    }
+
+    /// Joins a chapter that came under this number.
+    fn take_chapter(&mut self, desk: u16, number: u16, chapter: Chapter<N>) -> Result<(), Unkept>
+        ensures chapters { OnOk result (self.new.chapters ≡ self.old.chapters ++ chapter ∷ []) }
+        ensures sheaves { self.new.sheaves ≡ self.old.sheaves }
+        ensures desk { OnOk result (number ≡ desk) }
+        ensures refused { IfErr result (GoesNoFurther (λ d. ((number ≢ desk) × (d ≡ Discord.Chapter self.old.number))
+            ⊎ RefusesChapter self.old chapter d)) }
+        ensures err { OnErr result (self.new ≡ self.old) }
+    {
+        if number != desk {
+            return Err(Unkept::Discord(Discord::Chapter(self.number)));
+        }
+        self.join(chapter)
+    }
+
+    /// Settles a sheaf that came under this number.
+    fn take_sheaf(&mut self, number: u16, sheaf: &Sheaf<N>) -> Result<(), Unkept>
+        ensures sheaves { OnOk result (self.new.sheaves ≡ self.old.sheaves ++ sheaf.now ∷ []) }
+        ensures chapters { self.new.chapters ≡ self.old.chapters }
+        ensures own { OnOk result (sheaf.now.caller ≡ number) }
+        ensures refused { IfErr result (GoesNoFurther (λ d. ((sheaf.now.caller ≢ number)
+            × (d ≡ Discord.Receipts sheaf.now.until (record { caller = sheaf.now.caller; at = 0 })))
+            ⊎ RefusesSheaf self.old sheaf.now d)) }
+        ensures err { OnErr result (self.new ≡ self.old) }
+    {
+        let caller = sheaf.caller();
+        if u16::from(caller) != number {
+            return Err(Unkept::Discord(discord(sheaf.until(), caller as usize, 0)));
+        }
+        self.settle(sheaf)
     }
 
     /// Does nothing: its contract says what the type keeps. The chapters that were taken are one run from the opening, and each that is
@@ -224,6 +253,7 @@ impl<N: Name> Keeper<N> {
         ensures settled { result ≡ true → AreKeptSettled self.now }
         ensures ahead { result ≡ true → HasNoneAhead self.now }
         ensures once { result ≡ true → AreOnce self.now }
+        ensures unmet { result ≡ false → ¬ (IsMet N.layout self.now locked.now) }
     {
         locked.audit();
         if !self.waiting.is_empty()

@@ -5,7 +5,11 @@
 //! calls cut off, goes by the [`Post`] to a [`Collector`], whose [`Keeper`] takes it. At the end each member resigns: the keeper then has all
 //! receipts that this caller ever had.
 //!
-//! `specs/Residents.antt` has a slave that stays, `specs/Keeping.antt` what a keeper has settled, `specs/Parcels.antt` what goes by the post, `specs/Sheaves.antt` receipts that were
+//! The tools of several seats share the slave's one session: it is of the seat that connected last, of those whose tools are still there
+//! (`specs/Sessions.antt`, `specs/Happenings.antt`), and its packets are that seat's.
+//!
+//! `specs/Residents.antt` has a slave that stays, `specs/Keeping.antt` what a keeper has settled, `specs/Parcels.antt` what goes by the post, `specs/Refusals.antt` what a
+//! keeper refuses, `specs/Sheaves.antt` receipts that were
 //! handed over, `specs/Calls.antt` a call that may cut chapters off.
 #![tactic(auto)]
 
@@ -20,18 +24,23 @@ mod noted;
 mod opening;
 mod parcel;
 mod post;
+mod pumps;
+mod refusal;
 mod resident;
 mod route;
 mod seated;
+mod sessions;
 mod waiting;
 
-pub use calling::{CHAPTER, call};
-pub use collector::Collector;
+pub use calling::{CHAPTER, call, call_for};
+pub use collector::{Collector, Halted};
 pub use former::{Former, Resigned, resign_all};
 pub use keeper::{Keeper, Unkept};
 pub use member::Member;
 pub use opening::{Posting, Unrouted};
 pub use post::Post;
+pub use refusal::Refusal;
 pub use resident::Resident;
 pub use route::Route;
 pub use seated::{Seated, Shared};
+pub use sessions::the_session_is_of_who_connected_last;

@@ -20,7 +20,7 @@ use relay::{Giver, Tray};
 use std::alloc::Global;
 use std::marker::{Model, PhantomData};
 use std::sync::Wait;
-use xcp_locked::{Caller, HasSlave, LockedError, Name};
+use xcp_locked::{Caller, LockedError, Name};
 use xcp_packet::Packet;
 use xcp_scribe::Scribe;
 use xcp_slave::{Asked, Told};
@@ -90,7 +90,7 @@ impl<N: Name, M: Route> Member<N, M> {
     )
         ensures { (self.new ≡ self.old) × (resident.new ≡ resident.old) }
     {
-        if self.chapter != resident.locked().chapter() {
+        if self.chapter != resident.as_locked().chapter() {
             self.hand_rest_over(rt, alloc, resident, post);
         }
     }
@@ -150,10 +150,11 @@ impl<N: Name, M: Route> Member<N, M> {
         ensures err { OnErr result ((resident.new ≡ resident.old) × (self.new ≡ self.old)) }
         ensures published { IfOk result (λ told. Publishes resident.old.locked resident.new.locked) }
         ensures past { resident.new.past ≡ resident.old.past }
+        ensures sessions { resident.new.sessions ≡ resident.old.sessions }
         ensures chapter { SameChapter resident.old.locked resident.new.locked }
     {
         let told = resident.submit(&mut self.caller, asked, packet)?;
-        self.chapter = resident.locked().chapter();
+        self.chapter = resident.as_locked().chapter();
         Ok(told)
     }
 }

@@ -7,11 +7,13 @@ use crate::collector::Collector;
 use crate::member::Member;
 use crate::parcel::Parcel;
 use crate::post::Post;
+use crate::pumps::Pumps;
 use crate::resident::Resident;
 use crate::route::Route;
 use relay::{Giver, Relay, Taker};
 use std::alloc::{AllocError, Global};
 use std::marker::Model;
+use std::sync::Arc;
 use xcp_locked::{Caller, Locked, Name};
 use xcp_scribe::Scribe;
 
@@ -65,15 +67,16 @@ impl<N: Name> Unrouted<N> {
         requires first { IsUncut N.layout locked }
         requires callers { AreOpened N.parts callers.items }
         requires scribe { S.wrote scribe [] }
-        ensures slave { IfOk result (λ p. p.resident ≡ record { locked = locked; past = [] }) }
+        ensures slave { IfOk result (λ p. p.resident ≡ record { locked = locked; past = []; sessions = [] }) }
         ensures members { IfOk result (λ p. p.members.items ≡ callers.items) }
     {
         let Unrouted { relay, mut taker } = self;
         let (members, chapters) = hire_all(alloc, &relay, &mut taker, callers)?;
         let desk = chapters.tag();
+        let pumps = Arc::new(alloc, Pumps::new())?;
         Ok(Posting {
             post: Post::new(relay),
-            resident: Resident::new(locked, chapters, each_store),
+            resident: Resident::new(locked, chapters, each_store, pumps),
             members,
             collector: Collector::new(alloc, taker, desk, scribe),
         })

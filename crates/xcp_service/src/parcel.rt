@@ -12,12 +12,14 @@ pub(crate) struct Parcel<N: Name> {
 }
 
 impl<N: Name> Model for Parcel<N> {
-    ghost use Rattle.std.specs.Prelude.{option_to_list};
+    ghost use Rattle.std.specs.Prelude.{◌≡◌, ◌⊎◌, None, option_to_list};
     ghost use Rattle.xcp_service.specs.Parcels.{ParcelValue};
 
     ghost Value = { ParcelValue };
 
     ghost view = { λ p. record { chapters = option_to_list p.chapter; sheaves = option_to_list p.sheaf } };
+
+    ghost invariant = { λ p. (p.chapter ≡ None) ⊎ (p.sheaf ≡ None) };
 }
 
 impl<N: Name> Parcel<N> {

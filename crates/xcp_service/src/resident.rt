@@ -11,17 +11,20 @@ ghost use Rattle.xcp_locked.specs.LockedSlave.{IsReached, SameChapter};
 ghost use Rattle.xcp_locked.specs.PublishingCalls.{AreAllImages, AreImagesFrom, Publishes};
 ghost use Rattle.xcp_locked.specs.Receipts.{receipt};
 ghost use Rattle.xcp_service.specs.Parcels.{chapters_put, parcel_of_sheaf};
-ghost use Rattle.xcp_service.specs.Residents.{GoesOn, HasPublished, IsUncut, with_a_cut};
+ghost use Rattle.xcp_service.specs.Residents.{GoesOn, HasPublished, IsUncut, pending_for, with_a_cut};
+ghost use Rattle.xcp_service.specs.Sessions.{has_session, noted, without};
 ghost use Rattle.xcp_service.specs.Sheaves.{sheaf_of};
 
 use crate::collector::Collector;
 use crate::parcel::Parcel;
 use crate::post::Post;
+use crate::pumps::Pumps;
 use crate::route::Route;
+use crate::sessions::Sessions;
 use relay::{Giver, Tray};
 use std::alloc::Global;
 use std::marker::{Model, PhantomData};
-use std::sync::Wait;
+use std::sync::{Arc, Wait};
 use xcp_locked::{Caller, HasSlave, Locked, LockedError, Name, Reader};
 use xcp_packet::Packet;
 use xcp_scribe::Scribe;
@@ -37,6 +40,9 @@ pub struct Resident<N: Name, M: Route> {
     tray: Tray<Parcel<N>>,
     /// Whether a store that stores ends its chapter, so that who keeps stored pages has them at once.
     each_store: bool,
+    sessions: Sessions,
+    /// Where pumps wait, which no contract sees.
+    pumps: Arc<Pumps>,
     of: PhantomData<M>,
 }
 
@@ -47,15 +53,18 @@ impl<N: Name, M: Route> Model for Resident<N, M> {
 
     ghost Value = { ResidentValue };
 
-    ghost view = { λ r. record { locked = r.locked; past = chapters_put r.tray.put } };
+    ghost view = { λ r. record { locked = r.locked; past = chapters_put r.tray.put; sessions = r.sessions } };
 
-    ghost invariant = { λ r. (r.tray.relay ≡ M.relay) × (r.tray.tag ≡ N.parts) × GoesOn N.layout (record { locked = r.locked; past = chapters_put r.tray.put }) × HasPublished N.layout (record { locked = r.locked; past = chapters_put r.tray.put }) };
+    ghost invariant = { λ r. (r.tray.relay ≡ M.relay) × (r.tray.tag ≡ N.parts) × GoesOn N.layout (record { locked = r.locked; past = chapters_put r.tray.put; sessions = r.sessions }) × HasPublished N.layout (record { locked = r.locked; past = chapters_put r.tray.put; sessions = r.sessions }) };
 }
 
 impl<N: Name, M: Route> HasSlave<N> for Resident<N, M> {
+    /// The slave, for who may stop a pump: where a connection has been heard, its pump's stop is set under this hold (`Locked::stop`).
+    /// So all pumps that wait look again when the lock is free.
     fn locked(&self) -> &Locked<N>
         ensures { result.now ≡ self.now.locked }
     {
+        self.pumps.tell_all();
         &self.locked
     }
 }
@@ -66,18 +75,68 @@ impl<N: Name, M: Route> Resident<N, M> {
         locked: Locked<N>,
         chapters: Giver<Parcel<N>>,
         each_store: bool,
+        pumps: Arc<Pumps>,
     ) -> Resident<N, M>
         requires first { IsUncut N.layout locked }
         requires chapters { chapters ≡ record { relay = M.relay; tag = N.parts; given = [] } }
-        ensures { result ≡ record { locked = locked; past = [] } }
+        ensures { result ≡ record { locked = locked; past = []; sessions = [] } }
     {
         locked.audit();
         Resident {
             locked,
             tray: Tray::new(chapters),
             each_store,
+            sessions: Sessions::new(),
+            pumps,
             of: PhantomData,
         }
+    }
+
+    /// The slave, where nobody who waits is told anything.
+    pub(crate) fn as_locked(&self) -> &Locked<N>
+        ensures { result.now ≡ self.now.locked }
+    {
+        &self.locked
+    }
+
+    /// Where pumps wait.
+    pub(crate) fn pumps(&self) -> &Arc<Pumps> {
+        &self.pumps
+    }
+
+    /// Whether the session is this seat's.
+    pub(crate) fn has_session(&self, seat: u8) -> bool
+        ensures { result ≡ has_session seat self.now.sessions }
+    {
+        self.sessions.has(seat)
+    }
+
+    /// How many packets wait for this seat: all that wait, if the session is its own, and else none.
+    pub fn pending_for(&self, seat: u8) -> u8
+        ensures { result ≡ pending_for seat self.now }
+    {
+        if self.sessions.has(seat) {
+            self.locked.pending()
+        } else {
+            0
+        }
+    }
+
+    /// Notes what came of a call of this seat: whose the session is then.
+    pub(crate) fn note(&mut self, seat: u8, asked: Asked<'_>, told: &Told, packet: &Packet)
+        ensures { self.new ≡ record self.old { sessions = noted seat (request_asked asked.entry) (answer_in told.now packet.now) self.old.sessions } }
+    {
+        if self.sessions.note(seat, asked, told, packet) {
+            self.pumps.tell_all();
+        }
+    }
+
+    /// A seat's tool has gone: the session isn't its own any more.
+    pub fn leave(&mut self, seat: u8)
+        ensures { self.new ≡ record self.old { sessions = without seat self.old.sessions } }
+    {
+        self.sessions.leave(seat);
+        self.pumps.tell_all();
     }
 
     /// Whether a store that stores ends its chapter.
@@ -153,9 +212,13 @@ impl<N: Name, M: Route> Resident<N, M> {
         ensures published { IfOk result (λ told. Publishes self.old.locked self.new.locked) }
         ensures chapter { SameChapter self.old.locked self.new.locked }
         ensures past { self.new.past ≡ self.old.past }
+        ensures sessions { self.new.sessions ≡ self.old.sessions }
     {
         self.locked.audit();
-        self.locked.submit_into(caller, asked, packet)
+        let before = self.locked.pending();
+        let submitted = self.locked.submit_into(caller, asked, packet);
+        self.pumps.tell_packets(before, self.locked.pending());
+        submitted
     }
 
     /// Tells a reader all that was published, as `Locked::tell` does.

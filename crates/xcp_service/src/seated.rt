@@ -2,16 +2,17 @@
 ghost use Rattle.std.specs.Prelude.{◌≡◌};
 ghost use Rattle.xcp_locked.specs.Tasks.{Same};
 
-use crate::calling::call;
+use crate::calling::call_for;
 use crate::member::Member;
 use crate::post::Post;
+use crate::pumps::wait_for_packets;
 use crate::resident::Resident;
 use crate::route::Route;
 use std::alloc::Global;
 use std::sync::atomic::AtomicBool;
 use std::sync::{Mutex, Wait};
 use xcp_framing::{Station, StationError};
-use xcp_locked::{HasSlave, LockedError, Name, wait_for_packets};
+use xcp_locked::{LockedError, Name};
 use xcp_packet::Packet;
 use xcp_slave::{Asked, Told};
 
@@ -22,32 +23,42 @@ pub struct Shared<N: Name, M: Route> {
     pub post: Post<N, M>,
 }
 
-/// A member, as a station. Its exchanges are those of all receipts that it ever had. A submit waits until the keeper is not far behind,
-/// and then for the lock.
+/// A member, as a station of a seat. Its exchanges are those of all receipts that it ever had. A submit waits until the keeper is not far
+/// behind, and then for the lock. Packets wait for the seat whose the session is, and for no other: it is the seat's whose CONNECT was
+/// accepted last, of those whose tool is still there.
 #[derive(Drop)]
 pub struct Seated<'a, N: Name, M: Route, R: Wait> {
     shared: &'a Shared<N, M>,
     alloc: Global,
     member: Member<N, M>,
+    seat: u8,
     rt: &'a R,
 }
 
 impl<'a, N: Name, M: Route, R: Wait> Seated<'a, N, M, R> {
-    /// A station for this member.
+    /// A station for this member, at the seat of this number.
     pub fn new(
         rt: &'a R,
         alloc: Global,
         shared: &'a Shared<N, M>,
         member: Member<N, M>,
+        seat: u8,
     ) -> Seated<'a, N, M, R>
-        ensures { result.member ≡ member }
+        ensures member { result.member ≡ member }
+        ensures seat { result.seat ≡ seat }
     {
         Seated {
             shared,
             alloc,
             member,
+            seat,
             rt,
         }
+    }
+
+    /// The seat's tool has gone: the session isn't the seat's any more.
+    pub fn leave_session(&self) {
+        self.shared.lock.lock(self.rt).leave(self.seat);
     }
 
     /// The member, with all its receipts.
@@ -78,12 +89,13 @@ impl<'a, N: Name, M: Route, R: Wait> Station for Seated<'a, N, M, R> {
         self.shared.post.wait_for_keeper(self.rt);
         // What grows is made before the lock is taken. Where there is no memory, submit says so.
         self.member.reserve();
-        let called = call(
+        let called = call_for(
             self.rt,
             self.alloc,
             &mut self.shared.lock.lock(self.rt),
             &self.shared.post,
             &mut self.member,
+            self.seat,
             asked,
             packet,
         );
@@ -94,19 +106,19 @@ impl<'a, N: Name, M: Route, R: Wait> Station for Seated<'a, N, M, R> {
         }
     }
 
-    /// How many packets wait in the shared slave's outbox. Others may empty it at once.
+    /// How many packets wait for this seat: none, where the session isn't its own. It may be another's at once.
     fn pending(&mut self) -> u8
         ensures kept { self.new ≡ self.old }
         ensures stays { Same self.old.member self.new.member }
     {
-        self.shared.lock.lock(self.rt).locked().pending()
+        self.shared.lock.lock(self.rt).pending_for(self.seat)
     }
 
-    /// Waits until packets wait in the shared slave's outbox, or `stop` is set, as `wait_for_packets` does.
+    /// Waits until packets wait for this seat, or `stop` is set.
     fn wait(&mut self, stop: &AtomicBool)
         ensures kept { self.new ≡ self.old }
         ensures stays { Same self.old.member self.new.member }
     {
-        wait_for_packets::<N, Resident<N, M>, R>(self.rt, &self.shared.lock, stop);
+        wait_for_packets(self.rt, &self.shared.lock, self.seat, stop);
     }
 }

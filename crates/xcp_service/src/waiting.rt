@@ -1,7 +1,8 @@
 //! Chapters that wait for the sheaves of their callers.
-ghost use Rattle.std.specs.Prelude.{◌≡◌, ◌==◌, IfOk, map, not};
+ghost use Rattle.std.specs.Prelude.{◌≡◌, ◌==◌, IfErr, OnOk, map, not};
 ghost use Rattle.std.specs.List.{AllByRecursion, filter, list_all};
-ghost use Rattle.xcp_service.specs.private.Waiting.{AreApart, FitsAll, IsCounted, IsCountedFor, is_due, marked, owes_nothing};
+ghost use Rattle.xcp_locked.specs.declared.joining.Discord.TheVariants as discords;
+ghost use Rattle.xcp_service.specs.private.Waiting.{AreApart, FitsAll, IsCounted, IsCountedFor, IsUnfit, is_due, marked, owes_nothing};
 
 use std::marker::Model;
 use xcp_locked::{Chapter, Discord, Name, Sheaf, Unsettled};
@@ -78,7 +79,8 @@ pub(crate) fn count_calls<N: Name>(chapter: &Chapter<N>) -> [u32; CALLERS]
 pub(crate) fn check_sheaf<N: Name>(waiting: &[Waiting<N>], sheaf: &Sheaf<N>) -> Result<(), Discord>
     requires apart { AreApart waiting.now }
     requires counted { AllByRecursion (IsCountedFor sheaf.now.caller) waiting.now }
-    ensures { IfOk result (λ _. FitsAll sheaf.now waiting.now) }
+    ensures fits { OnOk result (FitsAll sheaf.now waiting.now) }
+    ensures unfit { IfErr result (λ d. IsUnfit sheaf.now waiting.now d) }
 {
     let caller = sheaf.caller() as usize;
     let all = sheaf.len();
@@ -100,7 +102,9 @@ pub(crate) fn check_sheaf<N: Name>(waiting: &[Waiting<N>], sheaf: &Sheaf<N>) -> 
 }
 
 /// What isn't as it must be: this caller's receipts of this chapter.
-pub(crate) fn discord(chapter: u64, caller: usize, at: usize) -> Discord {
+pub(crate) fn discord(chapter: u64, caller: usize, at: usize) -> Discord
+    ensures { result ≡ discords.Receipts chapter (record { caller = caller; at = at }) }
+{
     Discord::Receipts(chapter, Unsettled { caller, at })
 }
 

@@ -1,4 +1,5 @@
 pub mod CountLemmas
 pub mod CrossingLemmas
 pub mod KeptLemmas
+pub mod NumberLemmas
 pub mod TeamLemmas

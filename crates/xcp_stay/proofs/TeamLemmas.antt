@@ -7,7 +7,7 @@ use Rattle.xcp_locked.specs.Caller.{CallerValue, callers_of}
 use Rattle.xcp_seats.specs.Seating.{Pair, SeatValue, pair}
 use Rattle.xcp_seats.specs.Ticking.{TaskValue}
 use Rattle.xcp_service.proofs.KeepingLemmas.{written}
-use Rattle.xcp_stay.specs.Team.{HaveServed, SeatLeft, SeatsServed, TaskLeft, TasksFrom, TasksServed}
+use Rattle.xcp_stay.specs.Team.{HaveServed, SeatLeft, SeatsFrom, SeatsServed, TaskLeft, TasksFrom, TasksServed}
 
 one_more_task : (k : ℕ) (ts : List TaskValue) (t : TaskValue) → TasksFrom k ts → t.task ≡ k + length ts → TasksFrom k (ts ++ t ∷ [])
 one_more_task k [] t h n = (omega (arith, n), tt)
@@ -16,6 +16,14 @@ one_more_task k (x ∷ xs) t h n = (h.0, one_more_task (k + 1) xs t h.1 (omega (
 -- one more task, whose number is that of those before it
 pub tasks_more : (k : ℕ) (ts : List TaskValue) (t : TaskValue) (more : List TaskValue) → TasksFrom k ts → t.task ≡ k + length ts → more ≡ ts ++ t ∷ [] → TasksFrom k more
 tasks_more k ts t more h n is = subst (λ z. TasksFrom k z) (sym is) (one_more_task k ts t h n)
+
+one_more_seat : (k : ℕ) (ss : List SeatValue) (s : SeatValue) → SeatsFrom k ss → s.number ≡ k + length ss → SeatsFrom k (ss ++ s ∷ [])
+one_more_seat k [] s h n = (omega (arith, n), tt)
+one_more_seat k (x ∷ xs) s h n = (h.0, one_more_seat (k + 1) xs s h.1 (omega (arith, n)))
+
+-- one more seat, whose number is that of those before it
+pub seats_more : (k : ℕ) (ss : List SeatValue) (s : SeatValue) (more : List SeatValue) → SeatsFrom k ss → s.number ≡ k + length ss → more ≡ ss ++ s ∷ [] → SeatsFrom k more
+seats_more k ss s more h n is = subst (λ z. SeatsFrom k z) (sym is) (one_more_seat k ss s h n)
 
 -- lists belong together where the second is made of one that does
 pub zip_mapped : {A B C : Type 0} (R : A → C → Type 0) (f : B → C) (xs : List A) (ys : List B) → AllZip (λ x y. R x (f y)) xs ys → AllZip R xs (map f ys)

@@ -1,5 +1,5 @@
 -- What is true of all calls of a server that stayed.
-use Rattle.std.specs.Prelude.{◌≡◌, ◌+◌, ◌-◌, ◌^◌, ℕ, min, List, [], length}
+use Rattle.std.specs.Prelude.{◌≡◌, ◌⊎◌, ◌+◌, ◌-◌, ◌^◌, ◌<◌, ⊤, ℕ, min, List, [], length}
 use Rattle.std.specs.List.{AllByRecursion}
 use Rattle.xcp_memory.specs.Layout.{LayoutValue}
 use Rattle.xcp_slave.specs.SlaveValue.{SlaveValue, opening}
@@ -12,17 +12,41 @@ use Rattle.xcp_locked.specs.PublishingCalls.{AreImages}
 use Rattle.xcp_service.specs.Keeping.{AreKeptSettled, KeeperValue, calls_by}
 use Rattle.xcp_service.specs.Losing.{lost_in}
 use Rattle.xcp_service.specs.Parcels.{AreNumbered, IsHandedOver, given_in}
+use Rattle.xcp_service.specs.Refusals.{IsMet, IsRefusal, RefusalValue}
 use Rattle.xcp_service.specs.declared.keeper.Unkept.{Unkept}
 use Rattle.xcp_service.specs.declared.keeper.Unkept.TheVariants as unkept
-use Rattle.xcp_stay.specs.declared.ending.StayError.{StayError}
-use Rattle.xcp_stay.specs.declared.ending.StayError.TheVariants as errors
+use Rattle.xcp_locked.specs.declared.joining.Discord.TheVariants as discords
+use Rattle.xcp_stay.specs.declared.unstayed.StayError.{StayError}
+use Rattle.xcp_stay.specs.declared.unstayed.StayError.TheVariants as errors
+use Rattle.xcp_stay.specs.declared.unstayed.Unstayed.{Unstayed}
+use Rattle.xcp_stay.specs.declared.unstayed.Unstayed.TheVariants as ends
 use Rattle.xcp_stay.specs.declared.staying.Report.{Report}
 use Rattle.xcp_stay.specs.Team.{HaveServed}
+use Rattle.xcp_stay.specs.Unmet.{UnmetValue}
 
 -- why a server ends whose keeper goes no further
 abbrev pub error_of : Unkept → StayError
 error_of unkept.Memory = errors.Memory
 error_of (unkept.Discord d) = errors.Discord d
+
+-- what is told of a server that ended early
+abbrev pub told_of : {N : Type 0} → Unstayed N → StayError
+told_of ends.Memory = errors.Memory
+told_of ends.Listener = errors.Listener
+told_of (ends.Refused r) = error_of r.why
+told_of (ends.Unmet u) = errors.Discord (discords.Chapter (length u.keeper.chapters))
+
+-- A mismatch is told: a keeper whose chapters come under this number refuses what came, or one that took all doesn't meet the slave of this
+-- layout, and the next chapter is named.
+abbrev pub IsMismatch : LayoutValue → ℕ → StayError → Type 0
+IsMismatch layout desk (errors.Discord d) =
+    ((r : RefusalValue) × IsRefusal desk r × (r.why ≡ unkept.Discord d))
+    ⊎ ((u : UnmetValue) × (IsMet layout u.keeper u.locked → ⊥) × (d ≡ discords.Chapter (length u.keeper.chapters)))
+IsMismatch layout desk error = ⊤
+
+-- the open chapter has no call, since it was cut off last
+abbrev pub IsClosed : LockedValue → Type 0
+IsClosed l = (l.journal ≡ []) × (l.base ≡ l.slave) × (0 < l.chapter)
 
 -- Each call of this caller that was accepted stands in these chapters once: it has as many receipts, and they have as many calls of it.
 abbrev pub IsOnce : List ChapterValue → CallerValue → Type 0
@@ -36,7 +60,7 @@ pub record AreAllMembers (count : ℕ) (k : KeeperValue) (members : List CallerV
   pub handed : AllByRecursion (IsHandedOver k) members
   pub once : AllByRecursion (IsOnce k.chapters) members
 
--- What is told of a server that stayed: so many chapters, one behind another from the opening of the layout, with so many calls, are one
+-- What is told of a server that stayed: so many chapters, at least one, one behind another from the opening of the layout, with so many calls, are one
 -- run of the slave, and each is settled by all callers, with all receipts that the members ever had; so many of them were events
 -- that found no room. The scribe was given just these chapters, in order. The members are the callers with which so many seats and so many
 -- tasks did all that they did.
@@ -44,6 +68,7 @@ pub record IsKept (layout : LayoutValue) (callers tools tasks : ℕ) (wrote : Li
   pub keeper : KeeperValue
   pub last : SlaveValue
   pub joined : AreJoined layout keeper.chapters r.chapters r.calls last
+  pub some : 0 < r.chapters
   pub settled : AreKeptSettled keeper
   pub members : List CallerValue
   pub all : AreAllMembers (tools + tools + tasks) keeper members
@@ -58,7 +83,7 @@ pub record LeavesKept (layout : LayoutValue) (count : ℕ) (written : List Given
   -- each of them is settled by all callers
   pub settled : AreKeptSettled k
   -- the open chapter has no call
-  pub closed : (l.journal ≡ []) × (l.base ≡ l.slave)
+  pub closed : IsClosed l
   -- the keeper took all receipts that the members ever had
   pub members : AreAllMembers count k former
   -- the scribe was given just these chapters, in order

@@ -11,6 +11,11 @@ abbrev pub TasksFrom : ℕ → List TaskValue → Type 0
 TasksFrom k [] = Unit {0}
 TasksFrom k (t ∷ ts) = (t.task ≡ k) × TasksFrom (k + 1) ts
 
+-- seats are numbered from k on
+abbrev pub SeatsFrom : ℕ → List SeatValue → Type 0
+SeatsFrom k [] = Unit {0}
+SeatsFrom k (s ∷ ss) = (s.number ≡ k) × SeatsFrom (k + 1) ss
+
 -- what a seat did: all its visits, from its two callers as they were dealt to these as they are left
 abbrev pub SeatLeft : SeatValue → Pair → Type 0
 SeatLeft s p = Sat s.max_cto (pair s.tool s.pump) p

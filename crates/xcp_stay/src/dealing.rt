@@ -1,7 +1,7 @@
 //! Members and readers are dealt to seats and tasks.
 ghost use Rattle.std.specs.Prelude.{◌≡◌, ◌≤◌, ◌+◌, ◌++◌, All, IfOk, List, length, map, vec_len};
 ghost use Rattle.std.specs.Vec.Iter.{into_iter_items};
-ghost use Rattle.xcp_stay.specs.Team.{TasksFrom};
+ghost use Rattle.xcp_stay.specs.Team.{SeatsFrom, TasksFrom};
 
 use crate::staying::Plan;
 use std::alloc::{AllocError, Global};
@@ -97,7 +97,7 @@ fn next_members<N: Name, M: Route>(
     Ok(taken)
 }
 
-/// A seat behind each door, with a member for its tools and one for their pumps.
+/// A seat behind each door, with a number of its own, a member for its tools and one for their pumps.
 pub(crate) fn make_seats<'a, N: Name, M: Route, W, R>(
     alloc: Global,
     common: &Common<'a, N, M, W, R>,
@@ -112,6 +112,7 @@ pub(crate) fn make_seats<'a, N: Name, M: Route, W, R>(
     ensures tools { IfOk result (λ ss. map (λ s. s.tool) ss.items ≡ tools.items) }
     ensures pumps { IfOk result (λ ss. map (λ s. s.pump) ss.items ≡ pumps.items) }
     ensures limit { IfOk result (λ ss. All (λ s. s.max_cto ≡ max_cto) ss.items) }
+    ensures numbered { IfOk result (λ ss. SeatsFrom 0 ss.items) }
 {
     let mut seats = Vec::with_capacity(alloc, plan.tools as usize)?;
     let mut tools = tools.into_iter();

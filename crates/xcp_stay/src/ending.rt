@@ -1,54 +1,23 @@
 //! How a server that stays ends.
-ghost use Rattle.std.specs.Prelude.{◌≡◌, ◌++◌, [], IfOk, map, true};
+ghost use Rattle.std.specs.Prelude.{◌≡◌, ◌++◌, IfOk, length, map, true};
 ghost use Rattle.xcp_slave.specs.SlaveValue.{opening};
 ghost use Rattle.xcp_locked.specs.Chapters.{entries_of};
 ghost use Rattle.xcp_locked.specs.Journal.{exchanges};
 ghost use Rattle.xcp_locked.specs.PublishingCalls.{AreImages};
-ghost use Rattle.xcp_stay.specs.Stay.{LeavesKept};
+ghost use Rattle.xcp_service.specs.Parcels.{AreNumbered};
+ghost use Rattle.xcp_stay.specs.Stay.{IsClosed, LeavesKept};
 
 use crate::running::Ended;
+use crate::unmet::Unmet;
+use crate::unstayed::Unstayed;
 use std::alloc::{AllocError, Global};
 use std::sync::Wait;
-use xcp_locked::{Discord, Locked, Name};
+use xcp_locked::{Locked, Name};
 use xcp_scribe::Scribe;
 use xcp_seats::{Left, Rested};
 use xcp_service::{
     Collector, Former, Keeper, Member, Post, Resident, Resigned, Route, Unkept, resign_all,
 };
-
-/// Why a server that stays doesn't begin, or ends early.
-#[derive(Clone, Copy, Debug, PartialEq, Eq)]
-pub enum StayError {
-    /// There was no memory, or no thread.
-    Memory,
-    /// The listener can't be shared with who shuts it.
-    Listener,
-    /// A chapter doesn't follow the one before it, or receipts aren't a chapter's calls.
-    Discord(Discord),
-}
-
-impl From<AllocError> for StayError {
-    ghost use Rattle.xcp_stay.specs.declared.ending.StayError.TheVariants.{Memory};
-
-    ghost from_gives = { λ _ e. e ≡ Memory };
-
-    fn from(_: AllocError) -> StayError {
-        StayError::Memory
-    }
-}
-
-impl From<Unkept> for StayError {
-    ghost use Rattle.xcp_stay.specs.Stay.{error_of};
-
-    ghost from_gives = { λ unkept e. e ≡ error_of unkept };
-
-    fn from(unkept: Unkept) -> StayError {
-        match unkept {
-            Unkept::Memory => StayError::Memory,
-            Unkept::Discord(discord) => StayError::Discord(discord),
-        }
-    }
-}
 
 /// What is left of a server that stayed: its keeper, which took all chapters, the scribe that wrote them down, the slave, and its callers.
 /// Nobody calls it any more.
@@ -121,8 +90,7 @@ fn close<N: Name, M: Route, R: Wait>(
     post: &Post<N, M>,
     members: &mut [Member<N, M>],
 ) -> bool
-    ensures closed { result ≡ true → (resident.new.locked.journal ≡ [])
-        × (resident.new.locked.base ≡ resident.new.locked.slave) }
+    ensures closed { result ≡ true → IsClosed resident.new.locked }
     ensures members { members.new ≡ members.old }
 {
     if !resident.cut(rt, alloc, post) {
@@ -135,7 +103,7 @@ fn close<N: Name, M: Route, R: Wait>(
     true
 }
 
-/// Ends what so many members did: the open chapter is cut off, all hand over what they have at hand, the keeper takes what is left, and
+/// Ends what the members did, which are numbered in order: the open chapter is cut off, all hand over what they have at hand, the keeper takes what is left, and
 /// each member resigns. The error is the keeper's, or what it finds at last.
 pub(crate) fn conclude<N: Name, M: Route, S: Scribe, R: Wait>(
     rt: &R,
@@ -143,19 +111,20 @@ pub(crate) fn conclude<N: Name, M: Route, S: Scribe, R: Wait>(
     resident: Resident<N, M>,
     post: &Post<N, M>,
     ended: Ended<N, M, S>,
-    count: usize,
-) -> Result<Stayed<N, S>, StayError>
-    ensures leaves { IfOk result (λ s. LeavesKept N.layout count (S.wrote s.scribe)
-        s.keeper s.locked s.members.items) }
-    ensures former { IfOk result (λ s. s.members.items ≡ map (λ l. l.tool) ended.left.items
+) -> Result<Stayed<N, S>, Unstayed<N>>
+    requires numbered { AreNumbered 0 (map (λ l. l.tool) ended.left.items
         ++ (map (λ d. d.member) ended.rested.items ++ map (λ l. l.pump) ended.left.items)) }
+    ensures { IfOk result (λ s. LeavesKept N.layout (length s.members.items) (S.wrote s.scribe)
+        s.keeper s.locked s.members.items
+        × (s.members.items ≡ map (λ l. l.tool) ended.left.items
+        ++ (map (λ d. d.member) ended.rested.items ++ map (λ l. l.pump) ended.left.items))) }
 {
     let Ended { left, rested, kept } = ended;
     let collector = kept?;
     let late = late_among(&rested);
     let mut members = gather(alloc, left, rested)?;
     let (locked, collector) = take_rest(rt, alloc, resident, post, collector, &mut members)?;
-    settle(alloc, locked, post, collector, members, count, late)
+    settle(alloc, locked, post, collector, members, late)
 }
 
 /// The open chapter is cut off, all members hand over what they have at hand, and the keeper takes what is left. The slave makes no more
@@ -167,8 +136,8 @@ fn take_rest<N: Name, M: Route, S: Scribe, R: Wait>(
     post: &Post<N, M>,
     collector: Collector<N, M, S>,
     members: &mut [Member<N, M>],
-) -> Result<(Locked<N>, Collector<N, M, S>), StayError>
-    ensures closed { IfOk result (λ r. (r.0.journal ≡ []) × (r.0.base ≡ r.0.slave)) }
+) -> Result<(Locked<N>, Collector<N, M, S>), Unstayed<N>>
+    ensures closed { IfOk result (λ r. IsClosed r.0) }
     ensures images { IfOk result (λ r. AreImages (opening N.layout) (exchanges (entries_of r.1.chapters)) r.0.writer.publications) }
     ensures members { members.new ≡ members.old }
 {
@@ -176,7 +145,7 @@ fn take_rest<N: Name, M: Route, S: Scribe, R: Wait>(
     if close(rt, alloc, &mut resident, post, members) {
         collect_rest(rt, resident, post, collector)
     } else {
-        Err(StayError::Memory)
+        Err(Unstayed::Memory)
     }
 }
 
@@ -186,14 +155,14 @@ fn collect_rest<N: Name, M: Route, S: Scribe, R: Wait>(
     resident: Resident<N, M>,
     post: &Post<N, M>,
     collector: Collector<N, M, S>,
-) -> Result<(Locked<N>, Collector<N, M, S>), StayError>
-    requires { (resident.locked.journal ≡ []) × (resident.locked.base ≡ resident.locked.slave) }
-    ensures closed { IfOk result (λ r. (r.0.journal ≡ []) × (r.0.base ≡ r.0.slave)) }
+) -> Result<(Locked<N>, Collector<N, M, S>), Unstayed<N>>
+    requires { IsClosed resident.locked }
+    ensures closed { IfOk result (λ r. IsClosed r.0) }
     ensures images { IfOk result (λ r. AreImages (opening N.layout) (exchanges (entries_of r.1.chapters)) r.0.writer.publications) }
 {
     match collector.collect(rt, post) {
         Ok(collector) => resign(resident, post, collector),
-        Err(error) => Err(StayError::from(error)),
+        Err(halted) => Err(Unstayed::from(halted)),
     }
 }
 
@@ -202,16 +171,16 @@ fn resign<N: Name, M: Route, S: Scribe>(
     resident: Resident<N, M>,
     post: &Post<N, M>,
     collector: Collector<N, M, S>,
-) -> Result<(Locked<N>, Collector<N, M, S>), StayError>
-    requires { (resident.locked.journal ≡ []) × (resident.locked.base ≡ resident.locked.slave) }
-    ensures closed { IfOk result (λ r. (r.0.journal ≡ []) × (r.0.base ≡ r.0.slave)) }
+) -> Result<(Locked<N>, Collector<N, M, S>), Unstayed<N>>
+    requires { IsClosed resident.locked }
+    ensures closed { IfOk result (λ r. IsClosed r.0) }
     ensures images { IfOk result (λ r. AreImages (opening N.layout) (exchanges (entries_of r.1.chapters)) r.0.writer.publications) }
 {
     resident.audit();
     let mut collector = collector;
     match resident.resign(post, &mut collector) {
         Some(locked) => Ok((locked, collector)),
-        None => Err(StayError::Memory),
+        None => Err(Unstayed::Memory),
     }
 }
 
@@ -222,22 +191,26 @@ fn settle<N: Name, M: Route, S: Scribe>(
     post: &Post<N, M>,
     collector: Collector<N, M, S>,
     members: Vec<Member<N, M>>,
-    count: usize,
     late: u64,
-) -> Result<Stayed<N, S>, StayError>
-    requires closed { (locked.journal ≡ []) × (locked.base ≡ locked.slave) }
+) -> Result<Stayed<N, S>, Unstayed<N>>
+    requires closed { IsClosed locked }
     requires images { AreImages (opening N.layout) (exchanges (entries_of collector.chapters)) locked.writer.publications }
-    ensures leaves { IfOk result (λ s. LeavesKept N.layout count (S.wrote s.scribe)
-        s.keeper s.locked s.members.items) }
-    ensures former { IfOk result (λ s. s.members.items ≡ members.items) }
+    requires numbered { AreNumbered 0 members.items }
+    ensures { IfOk result (λ s. LeavesKept N.layout (length s.members.items) (S.wrote s.scribe)
+        s.keeper s.locked s.members.items × (s.members.items ≡ members.items)) }
 {
+    let resigned = match resign_all(alloc, post, collector, members) {
+        Ok(resigned) => resigned,
+        Err(Unkept::Memory) => return Err(Unstayed::Memory),
+        Err(Unkept::Discord(_)) => unreachable!(),
+    };
     let Resigned {
         keeper,
         scribe,
         members,
-    } = resign_all(alloc, post, collector, members)?;
-    if members.len() != count || !keeper.meets(&locked) {
-        return Err(StayError::Discord(Discord::Chapter(keeper.chapters())));
+    } = resigned;
+    if !keeper.meets(&locked) {
+        return Err(Unstayed::Unmet(Unmet::new(&keeper, &locked)));
     }
     Ok(Stayed {
         keeper,

@@ -10,7 +10,11 @@ mod ending;
 mod running;
 mod staying;
 mod stop_line;
+mod unmet;
+mod unstayed;
 
-pub use ending::{StayError, Stayed};
+pub use ending::Stayed;
 pub use staying::{Plan, Report, stay, stay_named};
 pub use stop_line::wait_for_stop;
+pub use unmet::Unmet;
+pub use unstayed::{StayError, Unstayed};

@@ -5,8 +5,8 @@ ghost use Rattle.xcp_seats.specs.Seating.{pair};
 ghost use Rattle.xcp_stay.specs.Team.{SeatsServed, TasksServed};
 
 use crate::dealing::{Common, Crew, make_seats, make_tickers};
-use crate::ending::StayError;
 use crate::staying::Plan;
+use crate::unstayed::Unstayed;
 use std::alloc::{AllocError, Global};
 use std::net::TcpListener;
 use std::sync::{Mutex, Wait};
@@ -20,14 +20,14 @@ use xcp_seats::{
     Door, Entrance, Gate, Hall, Halt, Keeping, Left, Lobby, Losses, Pace, Rested, Seat, Sits, Ward,
     Watcher, start_entrance, start_seat, start_ward,
 };
-use xcp_service::{Collector, Member, Route, Shared, Unkept};
+use xcp_service::{Collector, Halted, Member, Route, Shared};
 
 /// What comes of a team, once all have ended.
 #[derive(Drop)]
 pub(crate) struct Ended<N: Name, M: Route, S: Scribe> {
     pub left: Vec<Left<N, M>>,
     pub rested: Vec<Rested<N, M>>,
-    pub kept: Result<Collector<N, M, S>, Unkept>,
+    pub kept: Result<Collector<N, M, S>, Halted<N, M>>,
 }
 
 /// The threads of seats.
@@ -56,7 +56,7 @@ pub(crate) fn run<
     crew: Crew<N, M, S>,
     max_cto: u8,
     plan: Plan,
-) -> Result<Ended<N, M, S>, StayError>
+) -> Result<Ended<N, M, S>, Unstayed<N>>
     requires doors { length doors.now ≡ plan.tools }
     requires tools { vec_len crew.tools ≡ plan.tools }
     requires hired { vec_len crew.hired ≡ plan.tasks }
@@ -71,7 +71,7 @@ pub(crate) fn run<
     thread::scope(
         thread::scope_env(),
         rt,
-        move |scope| -> Result<Ended<N, M, S>, StayError>
+        move |scope| -> Result<Ended<N, M, S>, Unstayed<N>>
             requires { (length doors.now ≡ plan.tools) × (vec_len crew.tools ≡ plan.tools)
                 × (vec_len crew.hired ≡ plan.tasks) × (vec_len crew.pumps ≡ plan.tools)
                 × (plan.tasks ≤ vec_len crew.readers) }
@@ -112,7 +112,7 @@ fn in_scope<
     crew: Crew<N, M, S>,
     max_cto: u8,
     plan: Plan,
-) -> Result<Ended<N, M, S>, StayError>
+) -> Result<Ended<N, M, S>, Unstayed<N>>
     requires doors { length doors.now ≡ plan.tools }
     requires tools { vec_len crew.tools ≡ plan.tools }
     requires hired { vec_len crew.hired ≡ plan.tasks }
@@ -139,7 +139,7 @@ fn in_scope<
         watcher,
     };
     let Ok(gate) = Gate::new(listener) else {
-        return Err(StayError::Listener);
+        return Err(Unstayed::Listener);
     };
     let seats = make_seats(alloc, &common, tools, pumps, max_cto, plan)?;
     let room = Vec::with_capacity(alloc, seats.len())?;
@@ -201,7 +201,7 @@ fn start_ends<
 }
 
 /// What comes of tasks, and of their keeper.
-type Performed<N, M, S> = (Vec<Rested<N, M>>, Result<Collector<N, M, S>, Unkept>);
+type Performed<N, M, S> = (Vec<Rested<N, M>>, Result<Collector<N, M, S>, Halted<N, M>>);
 
 /// Runs so many tasks, each in a thread of its own, and the keeper in the thread that calls.
 fn run_tasks<

@@ -1,15 +1,16 @@
 //! A server that stays.
-ghost use Rattle.std.specs.Prelude.{◌≡◌, ◌≤◌, ◌+◌, ◌-◌, ◌^◌, min, [], IfOk, length};
+ghost use Rattle.std.specs.Prelude.{◌≡◌, ◌≤◌, ◌+◌, ◌-◌, ◌^◌, min, [], IfErr, IfOk, length};
 ghost use Rattle.xcp_locked.specs.Caller.{callers_of};
 ghost use Rattle.xcp_service.specs.Losing.{lost_in};
 ghost use Rattle.xcp_service.specs.Residents.{IsUncut};
-ghost use Rattle.xcp_stay.specs.Stay.{IsKept, LeavesKept};
+ghost use Rattle.xcp_stay.specs.Stay.{IsKept, IsMismatch, LeavesKept};
 ghost use Rattle.xcp_stay.specs.Team.{HaveServed};
 
 use crate::boxed::Boxed;
 use crate::dealing::{deal, make_doors};
-use crate::ending::{StayError, Stayed, conclude};
+use crate::ending::{Stayed, conclude};
 use crate::running::run;
+use crate::unstayed::{StayError, Unstayed};
 use std::alloc::{AllocError, Global};
 use std::boxed::Box;
 use std::marker::Brand;
@@ -85,6 +86,7 @@ pub fn stay<S: Scribe + Send, W: Watcher + Sync, R: Threads + Wait + Clock + Syn
     requires scribe { S.wrote scribe [] }
     ensures kept { IfOk result (λ r. IsKept unnamed.layout unnamed.callers plan.tools plan.tasks
         (S.wrote r.1) r.0) }
+    ensures mismatch { IfErr result (IsMismatch unnamed.layout unnamed.callers) }
 {
     stay_and_tell::<Brand, S, W, R>(rt, alloc, unnamed, listener, plan, scribe, halt, watcher)
 }
@@ -112,12 +114,18 @@ fn stay_and_tell<
     requires scribe { S.wrote scribe [] }
     ensures kept { IfOk result (λ r. IsKept unnamed.layout unnamed.callers plan.tools plan.tasks
         (S.wrote r.1) r.0) }
+    ensures mismatch { IfErr result (IsMismatch unnamed.layout unnamed.callers) }
 {
     let stayed = stay_named::<N, S, W, R>(
         rt, alloc, unnamed, listener, plan, scribe, halt, watcher,
-    )?;
-    let told = tell(&stayed);
-    Ok((told, stayed.scribe))
+    );
+    match stayed {
+        Ok(stayed) => {
+            let told = tell(&stayed);
+            Ok((told, stayed.scribe))
+        }
+        Err(unstayed) => Err(unstayed.told()),
+    }
 }
 
 /// What is told of a server that left this.
@@ -151,7 +159,7 @@ pub fn stay_named<
     scribe: S,
     halt: &Halt,
     watcher: &W,
-) -> Result<Stayed<N, S>, StayError>
+) -> Result<Stayed<N, S>, Unstayed<N>>
     requires name { (unnamed.name ≡ N.name) × (unnamed.callers ≡ N.parts)
         × (unnamed.layout ≡ N.layout) × (unnamed.bank ≡ N.bank) }
     requires callers { plan.tools + plan.tools + plan.tasks ≤ unnamed.callers }
@@ -162,7 +170,7 @@ pub fn stay_named<
     ensures served { IfOk result (λ s. HaveServed unnamed.layout unnamed.callers plan.tools plan.tasks s.members.items) }
 {
     let Ok(scribe) = Box::new(alloc, scribe) else {
-        return Err(StayError::Memory);
+        return Err(Unstayed::Memory);
     };
     let boxed = Boxed { scribe };
     let ready = make_ready::<N>(alloc, unnamed)?;
@@ -227,7 +235,7 @@ fn stay_by_post<
     scribe: Boxed<S>,
     halt: &Halt,
     watcher: &W,
-) -> Result<Stayed<N, Boxed<S>>, StayError>
+) -> Result<Stayed<N, Boxed<S>>, Unstayed<N>>
     requires relay { ready.unrouted ≡ M.relay }
     requires first { IsUncut N.layout ready.opening.locked }
     requires opened { ready.opening.callers.items ≡ callers_of N.layout N.parts }
@@ -280,6 +288,5 @@ fn stay_by_post<
         plan,
     )?;
     let Shared { lock, post } = shared;
-    let count = plan.tools as usize + plan.tools as usize + plan.tasks as usize;
-    conclude(rt, alloc, lock.into_inner(), &post, ended, count)
+    conclude(rt, alloc, lock.into_inner(), &post, ended)
 }

@@ -5,6 +5,7 @@ use denote.Param.Send.{AllSend, IsSend, IsSync, recorded_send, sendable, struct_
 use denote.Struct.Declared as declared
 use denote.Struct.Struct.{Struct}
 use Rattle.std.proofs.Crossing.{crosses}
+use Rattle.xcp_behind.proofs.behind.Behind.TheSendSync as behind
 use Rattle.xcp_flash.proofs.references.References.TheSendSync as references
 use Rattle.xcp_framing.specs.contracts.record.Record as Record
 use Rattle.xcp_framing.specs.contracts.tally.Tally as Tally
@@ -18,10 +19,11 @@ use Rattle.xcp_scribe.specs.contracts.standing.Flashing as Flashing
 use Rattle.xcp_scribe.specs.contracts.recording.Recording as Recording
 use Rattle.xcp_scribe.specs.contracts.watched_shelf.WatchedShelf as WatchedShelf
 use Rattle.xcp_scribe.specs.contracts.watched_shelf.WatchedShelf.TheInside as WatchedShelfInside
-use Rattle.xcp_scribe.proofs.synced.Synced.TheSendSync as synced
 use Rattle.xcpd.proofs.lines.Lines.TheSendSync as lines
+use Rattle.xcpd.proofs.teller.Alarm.TheSendSync as alarm
+use Rattle.xcpd.specs.contracts.distant.Counting as Counting
+use Rattle.xcpd.specs.contracts.distant.Handing as Handing
 use Rattle.xcpd.specs.contracts.flash.Place as Place
-use Rattle.xcpd.specs.contracts.journal.Telling as Telling
 use Rattle.xcpd.specs.contracts.teller.Teller as Teller
 
 -- a struct, as all its fields may
@@ -44,10 +46,10 @@ recorder_crosses W w =
     struct_send (declared.shape (Recorder.the_type W))
     (watched_crosses W w, (search (sendable, crosses) depth 20, (search sendable, (search sendable, (search sendable, (search (sendable, crosses) depth 20, tt))))))
 
--- a recording whose stream may
-pub recording_crosses : (W : RattleType) → IsSend W → IsSend (Recording.the_row W)
+-- a recording whose stream may, as a field
+recording_crosses : (W : RattleType) → IsSend W → IsSend (Recording.the_field W).row
 recording_crosses W w =
-    struct_crosses (Recording.the_type W)
+    struct_send (declared.shape (Recording.the_type W))
     (recorder_crosses W w, (search (sendable, crosses) depth 20, (search (sendable, crosses) depth 20, (search (sendable, crosses, fault.the_send) depth 20, tt))))
 
 -- nor does a list of calls
@@ -79,6 +81,10 @@ place_crosses κ R r =
     struct_crosses (Place.the_type κ R)
     (search (sendable, crosses) depth 20, (search (sendable, crosses) depth 20, (search (sendable, crosses) depth 20, (teller_crosses κ R r, (search (sendable, crosses) depth 20, tt)))))
 
--- a journal's file
-pub telling_crosses : (κ : NamedLft) (R : RattleType) → IsSync R → IsSend (Telling.the_row κ R)
-telling_crosses κ R r = struct_crosses (Telling.the_type κ R) (synced.the_field_send, (teller_crosses κ R r, tt))
+-- what hands a journal's bytes on
+handing_crosses : (κ : NamedLft) (R : RattleType) → IsSync R → IsSend (Handing.the_row κ R)
+handing_crosses κ R r = struct_crosses (Handing.the_type κ R) (behind.the_field_send, (search (sendable, crosses) depth 20, (search (sendable, crosses, alarm.the_send, alarm.the_sync) depth 20, tt)))
+
+-- and what counts its calls
+pub counting_crosses : (κ : NamedLft) (R : RattleType) → IsSync R → IsSend (Counting.the_row κ R)
+counting_crosses κ R r = struct_crosses (Counting.the_type κ R) (recording_crosses (Handing.the_row κ R) (handing_crosses κ R r), (search sendable, (search (sendable, crosses) depth 20, tt)))

@@ -1,6 +1,6 @@
 //! The file of a server's journal, by the program's words.
-ghost use Rattle.std.specs.Prelude.{IfOk};
-ghost use Rattle.xcp_scribe.specs.Scribing.{HasBegun};
+ghost use Rattle.std.specs.Prelude.{[], IfOk};
+ghost use Rattle.xcp_scribe.specs.Scribing.{HasBegun, HasWritten};
 
 use crate::teller::Teller;
 use sha2::{Digest, Sha256};
@@ -55,8 +55,19 @@ pub fn journal_at<'a, R: Wait>(
         file: Synced::new(file),
         teller,
     };
+    Ok(Some(begin_recording(rt, text, stream)?))
+}
+
+/// A recording to this stream, of the layout file that has this text.
+pub fn begin_recording<W: Write + Drop>(
+    rt: &HostRuntime,
+    text: &str,
+    stream: W,
+) -> Result<Recording<W>, Fault>
+    ensures { IfOk result (λ r. HasWritten W.contents r []) }
+{
     match Recording::new(rt.alloc(), stream, Sha256::digest(text.as_bytes())) {
-        Ok(recording) => Ok(Some(recording)),
+        Ok(recording) => Ok(recording),
         Err(
             NotBegun {
                 fault: RecordFault::Memory,
@@ -68,7 +79,7 @@ pub fn journal_at<'a, R: Wait>(
 }
 
 /// A new file of this name, locked for as long as it is open.
-fn new_file(rt: &HostRuntime, path: &str, flash: &Option<String>) -> Result<File, Fault> {
+pub fn new_file(rt: &HostRuntime, path: &str, flash: &Option<String>) -> Result<File, Fault> {
     let Ok(file) = File::create_new(rt, path) else {
         return Err(Fault::Journal(1));
     };
@@ -116,7 +127,11 @@ pub fn print_recorded<R: Wait>(
     if settled {
         end_recording(written);
     }
-    let recording = written.as_ref()?;
+    print_calls(rt, written.as_ref()?)
+}
+
+/// Prints how many calls stand in the file of a recording. The fault is that of calls, or of an end mark, that don't stand there.
+pub fn print_calls<W: Write>(rt: &HostRuntime, recording: &Recording<W>) -> Option<Fault> {
     let printed = println!(rt; "recorded {}", recording.calls());
     if recording.fault().is_some() {
         Some(Fault::Journal(2))

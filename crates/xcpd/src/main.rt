@@ -4,6 +4,7 @@
 
 mod audit;
 mod background;
+mod distant;
 mod flash;
 mod journal;
 mod lines;
@@ -208,7 +209,7 @@ fn print_end(rt: &HostRuntime, told: Result<Report, Fault>) -> Option<Fault> {
 
 /// Prints how many calls stand in the journal's file, if there is one, which is ended before if all callers are settled. The fault is that of
 /// the journal's file, else that of the stored pages'.
-pub fn print_written<R: Wait>(
+fn print_written<R: Wait>(
     rt: &HostRuntime,
     scribe: &mut Both<Written<'_, R>, Kept<'_, R>>,
     settled: bool,

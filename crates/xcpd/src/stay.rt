@@ -2,18 +2,19 @@
 ghost use Rattle.std.specs.Prelude.{◌≡◌, ◌≤◌};
 
 use crate::background::is_in_background;
-use crate::flash::{Kept, begin_with};
-use crate::journal::{Written, journal_at};
+use crate::distant::{Distant, distant_at, finish_writing, print_distant};
+use crate::flash::{Kept, begin_with, fault_of as flash_fault_of};
 use crate::lines::{Lines, begin_lines};
 use crate::log::Log;
 use crate::stack::deepen;
 use crate::teller::Teller;
-use crate::{end, listen, print_counts, print_written, text_of};
+use crate::{end, listen, print_counts, text_of};
 use std::process::ExitCode;
 use std::sync::{Arc, Wait};
 use std::thread::Threads;
 use std::time::{Clock, Duration};
 use std::{io, thread};
+use xcp_behind::Backlog;
 use xcp_locked::{Discord, Unnamed};
 use xcp_memory::Layout;
 use xcp_program::{Fault, Staying, periods_of};
@@ -82,7 +83,7 @@ fn stay_with<R: Threads + Wait + Clock + Copy + Send + Sync + 'static>(
     staying: Staying,
     journal: &Option<String>,
     flash: &Option<String>,
-    lines: &Lines,
+    lines: &Arc<Lines>,
 ) -> Result<(), Fault>
     requires { (1 ≤ staying.tools) × (staying.tools ≤ 4) × (staying.tasks ≤ 6) }
 {
@@ -92,7 +93,7 @@ fn stay_with<R: Threads + Wait + Clock + Copy + Send + Sync + 'static>(
         rt,
         text.as_str(),
         flash,
-        Teller::new(rt, handle, Some(lines)),
+        Teller::new(rt, handle, Some(&**lines)),
     )?;
     let plan = plan_of(staying, &layout);
     let Ok(unnamed) = Unnamed::new(rt.alloc(), layout, plan.tools + plan.tools + plan.tasks) else {
@@ -102,14 +103,9 @@ fn stay_with<R: Threads + Wait + Clock + Copy + Send + Sync + 'static>(
     let Ok(halt) = halt_by_input(rt, handle, staying.reads_input) else {
         return Err(Fault::Memory);
     };
+    let (written, backlog) = distant_at(rt, handle, text.as_str(), journal, flash, lines)?;
     let scribe = Both {
-        first: journal_at(
-            rt,
-            text.as_str(),
-            journal,
-            flash,
-            Teller::new(rt, handle, Some(lines)),
-        )?,
+        first: written,
         second: kept,
     };
     let _ = println!(rt; "listening {port}");
@@ -129,19 +125,25 @@ fn stay_with<R: Threads + Wait + Clock + Copy + Send + Sync + 'static>(
         &halt,
         &log,
     ) {
-        Ok((told, mut scribe)) => tell(rt, &told, &mut scribe),
-        Err(error) => Err(fault_of(error)),
+        Ok((told, mut scribe)) => tell(rt, handle, &told, &mut scribe, &backlog),
+        Err(error) => {
+            let _ = finish_writing(handle, &backlog);
+            Err(fault_of(error))
+        }
     }
 }
 
 /// Prints what is told of a server that stayed, and how many of its calls were written down.
-fn tell<R: Wait>(
+fn tell<R: Wait + Clock>(
     rt: &HostRuntime,
+    handle: &R,
     told: &Report,
-    scribe: &mut Both<Written<'_, R>, Kept<'_, R>>,
+    scribe: &mut Both<Distant<'_, R>, Kept<'_, R>>,
+    backlog: &Option<Arc<Backlog>>,
 ) -> Result<(), Fault> {
     let printed = print_counts(rt, told.chapters, told.calls, told.lost, told.late);
-    match print_written(rt, scribe, true) {
+    let written = print_distant(rt, handle, &mut scribe.first, backlog);
+    match written.or(flash_fault_of(&scribe.second)) {
         Some(fault) => Err(fault),
         None => printed.map_err(|_| Fault::Stream(2)),
     }

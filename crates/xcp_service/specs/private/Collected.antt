@@ -5,6 +5,7 @@ use Rattle.xcp_locked.specs.LockedSlave.{ChapterValue}
 use Rattle.xcp_locked.specs.Sheaves.{SheafValue}
 use Rattle.xcp_service.specs.Keeping.{KeeperValue}
 use Rattle.xcp_service.specs.Parcels.{ParcelValue}
+use Rattle.xcp_service.specs.Refusals.{RefusalValue}
 
 -- the chapters in what was taken, in order
 abbrev pub chapters_taken : List (ℕ × ParcelValue) → List ChapterValue
@@ -31,3 +32,9 @@ pub record IsCollected (desk : ℕ) (k : KeeperValue) (taken : List (ℕ × Parc
   pub sheaves : k.sheaves ≡ sheaves_taken taken
   pub callers : AllByRecursion IsOfItsCaller taken
   pub only : AllByRecursion (IsOfItsDesk desk) taken
+
+-- What a keeper refuses is what was taken last, under the number under which it came; all that it has was taken before.
+pub record CameLast (desk : ℕ) (r : RefusalValue) (taken : List (ℕ × ParcelValue)) : Type 0 where
+  pub earlier : List (ℕ × ParcelValue)
+  pub has : IsCollected desk r.keeper earlier
+  pub last : taken ≡ earlier ++ (r.number, r.came) ∷ []

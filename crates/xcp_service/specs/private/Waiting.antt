@@ -1,9 +1,11 @@
 -- Chapters that wait for the sheaves of their callers.
-use Rattle.std.specs.Prelude.{◌≡◌, ◌⊎◌, ◌<◌, ◌≤◌, ℕ, Bool, true, false, not, ◌&&◌, ◌==◌, ⊤, List, [], ◌∷◌, length, map, if◌then◌else◌, slice_index_or as get_or, slice_set, Some, nat_lt}
+use Rattle.std.specs.Prelude.{◌≡◌, ◌≢◌, ◌⊎◌, ◌<◌, ◌≤◌, ℕ, Bool, true, false, not, ◌&&◌, ◌==◌, ⊤, List, [], ◌∷◌, length, map, if◌then◌else◌, slice_index_or as get_or, slice_set, Some, nat_lt}
 use Rattle.std.specs.List.{AllByRecursion, list_all, list_any, slice_get}
 use Rattle.xcp_locked.specs.LockedSlave.{ChapterValue}
-use Rattle.xcp_locked.specs.SettledReceipts.{receipts_for, tally}
+use Rattle.xcp_locked.specs.SettledReceipts.{DifferAt, among, receipts_for, tally}
 use Rattle.xcp_locked.specs.Sheaves.{SheafValue}
+use Rattle.xcp_locked.specs.declared.joining.Discord.{Discord}
+use Rattle.xcp_locked.specs.declared.joining.Discord.TheVariants as discords
 use Rattle.xcp_service.specs.Keeping.{IsSettledBy, caller_limit, is_among, receipts_by}
 
 -- A chapter, and how many of its calls are still to be settled, of each caller.
@@ -74,3 +76,21 @@ pub record FitsAll (s : SheafValue) (ws : List WaitingValue) : Type 0 where
 -- what is wanted of a caller is nothing, or as many as it has calls there
 abbrev pub IsCountedFor : ℕ → WaitingValue → Type 0
 IsCountedFor caller w = (get_or w.owed caller 0 ≡ 0) ⊎ (get_or w.owed caller 0 ≡ calls_of caller w.chapter)
+
+-- A chapter is due, and the sheaf's receipts of it differ from its caller's calls there; the place at which they do first is told.
+pub record DiffersFrom (s : SheafValue) (w : WaitingValue) (d : Discord) : Type 0 where
+  pub due : is_due s w ≡ true
+  pub at : ℕ
+  pub differs : DifferAt at (receipts_for false w.chapter.number s.receipts) (tally s.caller w.chapter.number 0 w.chapter.entries)
+  pub told : d ≡ discords.Receipts w.chapter.number (record { caller = s.caller; at = at })
+
+-- The sheaf has receipts of others than the chapters that are due; how many it has of these is told.
+pub record HasOthers (s : SheafValue) (ws : List WaitingValue) (d : Discord) : Type 0 where
+  pub right : ℕ
+  pub count : right ≡ length (among (has_due s ws) s.receipts)
+  pub less : right ≢ length s.receipts
+  pub told : d ≡ discords.Receipts s.until (record { caller = s.caller; at = right })
+
+-- the sheaf doesn't fit
+abbrev pub IsUnfit : SheafValue → List WaitingValue → Discord → Type 0
+IsUnfit s ws d = ((k : ℕ) × (w : WaitingValue) × (slice_get ws k ≡ Some w) × DiffersFrom s w d) ⊎ HasOthers s ws d

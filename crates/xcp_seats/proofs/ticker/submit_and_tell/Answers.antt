@@ -5,14 +5,14 @@ use Rattle.xcp_slave.specs.AskedRequest.{request_asked}
 use Rattle.xcp_locked.specs.Caller.{CallerValue}
 use Rattle.xcp_locked.specs.Journal.{entry, exchanges}
 use Rattle.xcp_locked.specs.PublishingCalls.{AreAllImages, AreImagesFrom}
-use Rattle.xcp_locked.specs.Receipts.{receipt}
+use Rattle.xcp_service.specs.Calls.{receipt_at}
 use Rattle.xcp_seats.proofs.ticker.submit_and_tell.Goals as goal
 
 pub returns-in-Ok-clause-told : goal.returns-in-Ok-clause-told
 returns-in-Ok-clause-told g c =
     let said = (c.in-Ok.ensures {u = tt}).member in
     let published = said.3 in
-    let call = receipt said.0 said.1 (request_asked c.args.asked) (answer_in c.in-Ok.told c.call.new.packet) in
+    let call = receipt_at said.0 (request_asked c.args.asked) (answer_in c.in-Ok.told c.call.new.packet) in
     let look = looked_at c.args.reader.now.index c.call.new.resident.locked.writer.current in
     record {
       call = call;

@@ -1,4 +1,4 @@
-use Rattle.std.proofs.Common.{◌≡◌, ◌<◌, ◌∙◌, ◌++◌, ◌∷◌, [], List, length, ap, sym, subst, arith}
+use Rattle.std.proofs.Common.{◌≡◌, ◌<◌, ◌∙◌, ◌++◌, ◌∷◌, [], List, length, ap, inr, refl, sym, subst, arith}
 use Rattle.std.specs.List.{AllByRecursion}
 use Rattle.std.specs.Vec.Iter.{into_iter_items}
 use Rattle.xcp_locked.proofs.PairedListLemmas.{finish, turn}
@@ -6,7 +6,7 @@ use Rattle.xcp_locked.specs.Caller.{CallerValue}
 use Rattle.xcp_service.specs.Keeping.{KeeperValue, caller_limit}
 use Rattle.xcp_service.specs.Parcels.{AreNumbered, HasAllReceipts, IsHandedOver}
 use Rattle.xcp_service.proofs.KeepingLemmas.{all_more}
-use Rattle.xcp_service.proofs.ParcelLemmas.{numbered_more}
+use Rattle.xcp_service.proofs.ParcelLemmas.{numbered_at, numbered_more}
 use Rattle.xcp_service.proofs.former.resign_all.Goals as goal
 
 pub loop-member-preserved : goal.loop-member-preserved
@@ -35,3 +35,15 @@ pub returns-clause-members : goal.returns-clause-members
 returns-clause-members g c =
     let at = c.loop-member in
     finish at.all.items _ _ c.args.members.items _ at.invariant.3 at.invariant.4 c.in-None.ensures.steps.0 c.into_iter-member-iterator.ensures.into_iter_gives.0
+
+pub returns-then-number-len-clause-refused : goal.returns-then-number-len-clause-refused
+returns-then-number-len-clause-refused g c =
+    let at = c.loop-member in
+    let former = c.in-Some-resign.former in
+    let rest = c.in-Some.ensures.steps.0 ∙ ap (λ (x : CallerValue). x ∷ into_iter_items c.next.new.self) (sym c.in-Some-resign.ensures.former) in
+    let all : c.args.members.items ≡ at.all.items ++ former ∷ into_iter_items c.next.new.self =
+    sym (ap (λ (l : List CallerValue). at.all.items ++ l) (sym rest) ∙ (at.invariant.3 ∙ c.into_iter-member-iterator.ensures.into_iter_gives.0)) in
+    let number = c.number.ensures in
+    let differs = c.if-number-len.true in
+    let many = c.len.ensures in
+    inr (_, refl, λ numbered. absurd (let is = numbered_at 0 at.all.items former (into_iter_items c.next.new.self) (subst (λ (l : List CallerValue). AreNumbered 0 l) all numbered) in omega (arith, number, differs, many, is)))

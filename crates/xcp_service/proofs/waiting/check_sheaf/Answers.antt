@@ -41,7 +41,7 @@ loop-k-preserved g c =
     let more = ap₂ (λ (l : List ℕ) (i : ℕ). slice_index_or l i 0) owed c.caller-caller.ensures ∙ wanted s ws c.loop-k.k w c.loop-k-test.true c.requires.counted due in
     seen_yes s ws c.loop-k.k c.loop-k.settled _ w c.requires.apart c.loop-k-test.true due c.loop-k.invariant fits more
 
-pub returns : goal.returns
-returns g c =
+pub returns-clause-fits : goal.returns-clause-fits
+returns-clause-fits g c =
     let end = c.loop-k.auto.k-end in
     seen_all c.args.sheaf.now c.args.waiting.now c.loop-k.k c.loop-k.settled (omega (arith, end, c.loop-k-test.false)) (c.if-settled-all.false ∙ c.len-all.ensures) c.loop-k.invariant

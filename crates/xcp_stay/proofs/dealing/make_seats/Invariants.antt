@@ -1,5 +1,6 @@
 use Rattle.std.specs.Prelude.{◌≡◌, ◌+◌, ◌≤◌, ◌++◌, All, length, map, vec_len, vec_capacity}
 use Rattle.std.specs.Vec.Iter.{into_iter_items}
+use Rattle.xcp_stay.specs.Team.{SeatsFrom}
 use Rattle.xcp_stay.proofs.dealing.make_seats.Given as goal
 
 abbrev pub invariant-loop-number : goal.invariant-loop-number
@@ -11,3 +12,4 @@ invariant-loop-number g l =
     × (map (λ s. s.tool) l.seats.items ++ into_iter_items l.tools ≡ into_iter_items l.initial.tools)
     × (map (λ s. s.pump) l.seats.items ++ into_iter_items l.pumps ≡ into_iter_items l.initial.pumps)
     × All (λ s. s.max_cto ≡ l.max_cto) l.seats.items
+    × SeatsFrom 0 l.seats.items

@@ -1,0 +1,23 @@
+//! What a slave is asked, as a text.
+use hex::encode_upper;
+use std::alloc::{AllocError, Global};
+use std::fmt::Write;
+use xcp_slave::Request;
+
+/// What is asked, as a text: `drain`, `store`, `hangup`, `command` with the packet in hex, or `event` with the channel and the
+/// signals in hex.
+pub fn request_text(alloc: Global, request: &Request) -> Result<String, AllocError> {
+    let (verb, bytes) = match request {
+        Request::Command(packet) => ("command ", packet.as_slice()),
+        Request::Event(_, signals) => ("event ", signals.as_slice()),
+        Request::Drain => return String::from_str(alloc, "drain"),
+        Request::FinishStore => return String::from_str(alloc, "store"),
+        Request::Hangup => return String::from_str(alloc, "hangup"),
+    };
+    let mut text = String::from_str(alloc, verb)?;
+    if let Request::Event(channel, _) = request {
+        write!(text, "{channel} ")?;
+    }
+    text.push_str(encode_upper(alloc, bytes)?.as_str())?;
+    Ok(text)
+}

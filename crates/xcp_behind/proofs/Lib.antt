@@ -1,0 +1,2 @@
+pub mod CrossingLemmas
+pub mod WritingLemmas
