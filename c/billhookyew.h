@@ -109,6 +109,11 @@ bool xcp_drain(xcp_slave *slave, xcp_answer *answer);        /* takes the first 
 bool xcp_finish_store(xcp_slave *slave, xcp_answer *answer); /* the controller has stored what was asked for */
 bool xcp_hangup(xcp_slave *slave, xcp_answer *answer);       /* the tool's connection is gone */
 
+/* Tells the time: the clock stands at so many ticks, as the layout file's [clock] has them. Call it before an event, and
+ * before a packet that begins with DC (GET_DAQ_CLOCK): a sample's time stamp and that command's answer have the latest time
+ * that was told. It never goes back. Without [clock] it changes nothing that a tool sees. False: the handle is closed. */
+bool xcp_time(xcp_slave *slave, uint64_t ticks, xcp_answer *answer);
+
 /* 0 where the handle is closed. */
 uint8_t xcp_max_cto(xcp_slave *slave); /* the longest command, and packet that answers one: 8 to 255 bytes */
 uint8_t xcp_pending(xcp_slave *slave); /* packets that wait for xcp_drain: 0 to 64 */

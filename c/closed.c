@@ -15,7 +15,9 @@ static void each_is_refused(void) {
     want(!xcp_event(&slave, 0, bytes, 16, &answer), "xcp_event");
     want(!xcp_drain(&slave, &answer), "xcp_drain");
     want(!xcp_finish_store(&slave, &answer), "xcp_finish_store");
+    want(!xcp_time(&slave, 1, &answer), "xcp_time");
     want(!xcp_hangup(&slave, &answer), "xcp_hangup");
+    want(!xcp_time(&slave, 5, &answer), "xcp_time");
     want(xcp_max_cto(&slave) == 0 && xcp_pending(&slave) == 0 && xcp_held(&slave) == 0, "what is asked");
     want(xcp_reader_open(&slave, &reader) == XCP_SLAVE_CLOSED, "xcp_reader_open");
     want(!xcp_acquire(&reader), "xcp_acquire");

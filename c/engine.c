@@ -1,5 +1,6 @@
 /* A controller: a tool's commands under a lock, and a task that reads the calibration without one. */
 #include "common.h"
+#include <time.h>
 
 static xcp_slave slave = XCP_CLOSED;
 static xcp_reader reader = XCP_CLOSED;
@@ -25,9 +26,20 @@ static void task_has_seen(int n) {
     show("  task reads", seen[n - 1], 4);
 }
 
+/* Tells the time of the monotonic clock, in microseconds: before an event, and before GET_DAQ_CLOCK. Under the lock. This layout
+ * has no clock, so no answer has the time; clock.c has one. */
+static void tell_time(void) {
+    xcp_answer answer = {0, 0, 0, 0, {0}};
+    struct timespec now;
+    clock_gettime(CLOCK_MONOTONIC, &now);
+    want(xcp_time(&slave, (uint64_t)now.tv_sec * 1000000u + (uint64_t)now.tv_nsec / 1000u, &answer), "a time is taken");
+    want(answer.told == XCP_SILENT, "a time is answered by nothing");
+}
+
 static void command(const char *what, const uint8_t *packet, size_t length) {
     xcp_answer answer = {0, 0, 0, 0, {0}};
     pthread_mutex_lock(&lock);
+    if (packet[0] == 0xDC) tell_time();
     bool taken = xcp_command(&slave, packet, length, &answer);
     pthread_mutex_unlock(&lock);
     want(taken, "a command is taken");
@@ -60,8 +72,10 @@ int main(int argc, char **argv) {
     COMMAND("SET_MTA", 0xF6, 0, 0, 0, 0, 0, 0x08, 0);
     COMMAND("UPLOAD", 0xF5, 80); /* more than one packet has room for: a block */
     COMMAND("unknown", 0x01);
+    COMMAND("GET_DAQ_CLOCK", 0xDC); /* unknown, where the layout has no clock */
     xcp_answer answer = {0, 0, 0, 0, {0}};
     static const uint8_t signals[24] = {1, 2, 3};
+    tell_time();
     want(xcp_event(&slave, 1, signals, sizeof signals, &answer), "an event is taken");
     printf("event          told %d, count %d, pending %d\n", answer.told, answer.count, xcp_pending(&slave));
     want(xcp_event(&slave, 9999, signals, sizeof signals, &answer), "an event is taken");

@@ -85,7 +85,8 @@ static long all_calls(long rounds) {
                 xcp_feed(&framer, frame.bytes, frame.length, &fed);
             }
         }
-        xcp_event(&slave, 0, image, 24, &answer), xcp_drain(&slave, &answer), xcp_finish_store(&slave, &answer);
+        xcp_time(&slave, (uint64_t)i, &answer), xcp_event(&slave, 0, image, 24, &answer);
+        xcp_drain(&slave, &answer), xcp_finish_store(&slave, &answer);
         xcp_acquire(&reader), xcp_read(&reader, 0, image, sizeof image), xcp_number(&reader, &number);
         xcp_pending(&slave), xcp_held(&slave), xcp_hangup(&slave, &answer);
     }

@@ -53,6 +53,7 @@ int main(int argc, char **argv) {
     TIME("xcp_command: SHORT_DOWNLOAD of 4, another image", 500, COMMAND(0xED, 4, 0, 0, 0, 0, 8, 0, (uint8_t)i, (uint8_t)(i >> 8), 3, 4));
     uint8_t signals[24] = {0};
     TIME("xcp_event that no list has", 4000, signals[0] = (uint8_t)i; xcp_event(&slave, 1, signals, 24, &answer));
+    TIME("xcp_time", 4000, xcp_time(&slave, i, &answer));
     DONE(0xD6); DONE(0xD5, 0, 1, 0); DONE(0xD4, 0, 0, 0, 1); DONE(0xD3, 0, 0, 0, 0, 2); DONE(0xE2, 0, 0, 0, 0, 0);
     DONE(0xE1, 0xFF, 4, 0, 0, 0, 0, 0x20); DONE(0xE1, 0xFF, 2, 0, 0, 1, 8, 0); DONE(0xE0, 0, 0, 0, 1, 0, 1, 0); DONE(0xDE, 1, 0, 0);
     TIME("xcp_event sampled into a packet, and its xcp_drain", 4000, signals[0] = (uint8_t)i; xcp_event(&slave, 1, signals, 24, &answer); xcp_drain(&slave, &answer));

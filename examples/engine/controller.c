@@ -1,5 +1,6 @@
 #include "controller.h"
 #include <stdio.h>
+#include <time.h>
 
 bool controller_open(controller *it, const uint8_t *text, size_t length) {
     uint8_t fault = xcp_open(text, length, &it->slave);
@@ -23,10 +24,18 @@ void controller_close(controller *it) {
     xcp_close(&it->slave);
 }
 
+void controller_time(controller *it) {
+    xcp_answer answer = {0, 0, 0, 0, {0}};
+    struct timespec time;
+    clock_gettime(CLOCK_MONOTONIC, &time);
+    xcp_time(&it->slave, (uint64_t)time.tv_sec * 1000000u + (uint64_t)time.tv_nsec / 1000u, &answer);
+}
+
 void controller_event(controller *it, uint16_t channel) {
     xcp_answer answer = {0, 0, 0, 0, {0}};
     uint8_t bytes[SIGNAL_BYTES];
     signals_into(&it->measured, bytes);
+    controller_time(it); /* the time stamp of the event's packets */
     xcp_event(&it->slave, channel, bytes, sizeof bytes, &answer);
     if (answer.told != XCP_SAMPLED) it->overruns++;
 }

@@ -36,7 +36,10 @@ bool controller_open(controller *it, const uint8_t *text, size_t length);
 /* Once no other thread uses it. */
 void controller_close(controller *it);
 
-/* Raises an event with the signals as they were measured. Under the lock. */
+/* Tells the slave the time of the monotonic clock, in the microseconds that engine.toml says. Under the lock. */
+void controller_time(controller *it);
+
+/* Raises an event of this moment with the signals as they were measured. Under the lock. */
 void controller_event(controller *it, uint16_t channel);
 
 /* Carries out a store, if the tool asked for one. Under the lock. */

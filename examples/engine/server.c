@@ -7,6 +7,7 @@
 #include <sys/socket.h>
 #include <unistd.h>
 
+enum { GET_DAQ_CLOCK = 0xDC };
 enum { LOOK_MS = 2 /* how long packets that an event made may wait for the server to look */, ACCEPT_MS = 100 };
 
 /* A tool's connection. */
@@ -60,6 +61,7 @@ static bool executed(connection *it, const uint8_t *bytes, size_t length) {
         if (!xcp_feed(&it->framer, bytes + at, length - at, &fed) || fed.got == XCP_BAD_LEN) return false;
         if (fed.got != XCP_ONE) continue;
         pthread_mutex_lock(&it->shared->lock);
+        if (fed.bytes[0] == GET_DAQ_CLOCK) controller_time(it->shared);
         xcp_command(&it->shared->slave, fed.bytes, fed.length, &answer);
         pthread_mutex_unlock(&it->shared->lock);
         if (!sent(it, &answer)) return false;

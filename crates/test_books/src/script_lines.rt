@@ -1,7 +1,7 @@
 //! Rows of kind `line M`: lines of a script, and what they ask a slave with MAX_CTO M; and of kind `text`: the lines of a text.
 //!
-//! Of a line the answer is `skipped`, `faulty`, `drain`, `store`, `hangup`, `command` with the packet in hex, or `event` with the
-//! channel and the signals in hex. Of a text it is the lines, each with `|` behind it, or `nothing`.
+//! Of a line the answer is `skipped`, `faulty`, `drain`, `store`, `hangup`, `time` with its ticks, `command` with the packet in hex, or
+//! `event` with the channel and the signals in hex. Of a text it is the lines, each with `|` behind it, or `nothing`.
 use std::alloc::{AllocError, Global};
 use test_playing::{Row, Section, Trouble, request_text, unescaped};
 use xcp_script::{Line, parse_line, plain_lines};

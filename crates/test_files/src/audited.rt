@@ -32,7 +32,7 @@ fn taken<const N: usize>(bytes: &[u8]) -> ArrayVec<u8, N> {
 }
 
 /// The request of this number: commands, one of them without bytes and one answered by three packets; events, one of them on a
-/// channel that isn't there and one of too few signals; a drain, a store and a Hangup.
+/// channel that isn't there and one of too few signals; a drain, a store, a time and a Hangup.
 fn request(number: usize) -> Request {
     match number {
         0 => Request::Command(taken(&[0xFF, 0])),
@@ -46,15 +46,16 @@ fn request(number: usize) -> Request {
         8 => Request::FinishStore,
         9 => Request::Command(taken(&[0xF9, 1, 0, 0])),
         10 => Request::FinishStore,
+        11 => Request::Time(18_446_744_073_709_551_615),
         _ => Request::Hangup,
     }
 }
 
 /// How many requests there are.
-const REQUESTS: usize = 12;
+const REQUESTS: usize = 13;
 
 /// The callers of the requests.
-static CALLERS: [u8; REQUESTS] = [0, 0, 0, 0, 9, 10, 99, 1, 100, 0, 255, 2];
+static CALLERS: [u8; REQUESTS] = [0, 0, 0, 0, 9, 10, 99, 1, 100, 0, 255, 3, 2];
 
 /// The lines of the calls.
 pub(crate) static LINES: [&str; REQUESTS] = [
@@ -69,6 +70,7 @@ pub(crate) static LINES: [&str; REQUESTS] = [
     "100\tstore\tno store\n",
     "0\tF9010000\tFF\n",
     "255\tstore\tstored 0\n",
+    "3\ttime 18446744073709551615\t-\n",
     "2\thangup\t-\n",
 ];
 
@@ -124,7 +126,7 @@ fn file_of(alloc: Global, slave: &mut Slave) -> Option<Vec<u8>> {
     written(alloc, &first, &second)
 }
 
-/// The file of a journal of two chapters, of 5 and 7 calls, and an end mark.
+/// The file of a journal of two chapters, of 5 and 8 calls, and an end mark.
 pub(crate) fn file(alloc: Global) -> Option<Vec<u8>> {
     match new_slave(alloc) {
         Some(mut slave) => file_of(alloc, &mut slave),

@@ -90,7 +90,7 @@ fn whole(alloc: Global) -> Result<String, AllocError> {
     for line in LINES.iter() {
         text.push_str(line)?;
     }
-    text.push_str("calls 12\nsettled\nended\n")?;
+    text.push_str("calls 13\nsettled\nended\n")?;
     Ok(text)
 }
 

@@ -6,7 +6,7 @@ use std::alloc::{AllocError, Global};
 use xcp_framing::Watched;
 use xcp_packet::{Packet, Train};
 use xcp_record::{Ending, Settled, Silent, audit};
-use xcp_slave::{Answer, Request};
+use xcp_slave::{Answer, Asked, Request};
 use xcp_trace::Journal;
 
 /// A head with 32 bytes 07 as the SHA-256 of a layout's file; chapter 0 with CONNECT by caller 0, an event by
@@ -31,6 +31,20 @@ static MARK: [u8; 56] = [
     0x03, 0x00, 0x00, 0x00, 0x00, 0x00, 0x00, 0x00, 0xB1, 0x6E, 0x74, 0x2D, 0x6F, 0xD4, 0x20, 0xCD,
     0xAF, 0xE4, 0xAA, 0x6E, 0xDB, 0xCE, 0x25, 0x07, 0x47, 0x4A, 0xC1, 0x1A, 0x08, 0xBD, 0x76, 0xA2,
     0xC7, 0x6A, 0x93, 0xFE, 0x12, 0x41, 0x47, 0xAA,
+];
+
+/// The same head; chapter 0 with the time 0x0102030405060708 by caller 1, its lowest byte first; and chapter 1 without calls.
+static TIMED: [u8; 151] = [
+    0x58, 0x43, 0x50, 0x4A, 0x01, 0x00, 0x07, 0x07, 0x07, 0x07, 0x07, 0x07, 0x07, 0x07, 0x07, 0x07,
+    0x07, 0x07, 0x07, 0x07, 0x07, 0x07, 0x07, 0x07, 0x07, 0x07, 0x07, 0x07, 0x07, 0x07, 0x07, 0x07,
+    0x07, 0x07, 0x07, 0x07, 0x07, 0x07, 0x00, 0x00, 0x00, 0x00, 0x00, 0x00, 0x00, 0x00, 0x01, 0x00,
+    0x00, 0x00, 0x11, 0x00, 0x00, 0x00, 0x0F, 0x00, 0x01, 0x05, 0x00, 0x00, 0x00, 0x00, 0x08, 0x08,
+    0x07, 0x06, 0x05, 0x04, 0x03, 0x02, 0x01, 0xBF, 0x29, 0x69, 0x09, 0x7A, 0x44, 0xBC, 0x21, 0x08,
+    0xC8, 0x0E, 0xDA, 0x15, 0xD0, 0x10, 0xB2, 0x58, 0x46, 0x20, 0x20, 0xAE, 0x2A, 0xB0, 0x87, 0xAF,
+    0xBF, 0x55, 0x57, 0x36, 0x08, 0x60, 0xD0, 0x01, 0x00, 0x00, 0x00, 0x00, 0x00, 0x00, 0x00, 0x00,
+    0x00, 0x00, 0x00, 0x00, 0x00, 0x00, 0x00, 0xB5, 0x40, 0x9B, 0x5E, 0x1D, 0x33, 0x18, 0x4D, 0x7B,
+    0x08, 0x58, 0x34, 0xEB, 0x83, 0xB4, 0xA8, 0xA6, 0x6A, 0x9A, 0xDC, 0xBE, 0xDF, 0x3E, 0x9E, 0xD1,
+    0x84, 0xC1, 0xDA, 0xE4, 0x63, 0x4C, 0xA3,
 ];
 
 /// These bytes, in place.
@@ -91,14 +105,14 @@ fn written(alloc: Global, ending: Ending) -> Option<Vec<u8>> {
     }
 }
 
-/// Whether an audit settles three calls of a file that ends so.
-fn is_settled(alloc: Global, bytes: &[u8], ending: Ending) -> bool {
+/// Whether an audit settles so many calls of a file that ends so.
+fn is_settled(alloc: Global, bytes: &[u8], calls: u64, ending: Ending) -> bool {
     let Some(slave) = slave(alloc) else {
         return false;
     };
     let mut reader = Watched::new(Pieces { text: bytes });
     let said = audit(alloc, slave, &LAYOUT, &mut reader, &mut Silent);
-    said == Ok(Settled { calls: 3, ending })
+    said == Ok(Settled { calls, ending })
 }
 
 /// Whether the file of this ending is what stands by hand.
@@ -107,7 +121,7 @@ fn is_as_by_hand(alloc: Global, ending: Ending, mark: &[u8]) -> bool {
         return false;
     };
     let (front, behind) = bytes.split_at(bytes.len().min(FILE.len()));
-    front == FILE.as_slice() && behind == mark && is_settled(alloc, &bytes, ending)
+    front == FILE.as_slice() && behind == mark && is_settled(alloc, &bytes, 3, ending)
 }
 
 #[test]
@@ -118,4 +132,30 @@ fn a_file_is_as_by_hand(rt: HostRuntime) {
 #[test]
 fn an_ended_file_is_as_by_hand(rt: HostRuntime) {
     assert!(rt; is_as_by_hand(rt.alloc(), Ending::Ended, &MARK));
+}
+
+/// The call of a time.
+fn a_time(alloc: Global) -> Result<Journal, AllocError> {
+    let mut journal = Journal::new(alloc);
+    journal.reserve()?;
+    let mut packet = Packet::new();
+    let told = Answer::Silent.lay(&mut packet);
+    journal.push(1, Asked::Time(0x0102_0304_0506_0708), &told, &packet);
+    Ok(journal)
+}
+
+/// Whether the file of that call is what stands by hand.
+fn is_timed_as_by_hand(alloc: Global) -> bool {
+    let Ok(calls) = a_time(alloc) else {
+        return false;
+    };
+    let Some(bytes) = written_of(alloc, &calls, Ending::Open) else {
+        return false;
+    };
+    bytes.as_slice() == TIMED.as_slice() && is_settled(alloc, &bytes, 1, Ending::Open)
+}
+
+#[test]
+fn a_file_with_a_time_is_as_by_hand(rt: HostRuntime) {
+    assert!(rt; is_timed_as_by_hand(rt.alloc()));
 }

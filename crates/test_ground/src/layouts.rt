@@ -1,7 +1,7 @@
 //! Small layouts, of whose slaves tests are, and the layout file of one.
 use std::alloc::{AllocError, Global};
 use std::test::Fail;
-use xcp_memory::{EventPart, Layout, Parts, SegmentPart};
+use xcp_memory::{ClockPart, EventPart, Layout, NO_CLOCK, Parts, SegmentPart};
 use xcp_packet::Order;
 
 /// A segment's address, its bytes and how many pages it has.
@@ -15,17 +15,19 @@ pub struct Small<'a> {
     /// The number of the type of checksum.
     pub checksum: i64,
     pub order: Order,
+    pub clock: ClockPart,
     /// How many bytes of signals there are.
     pub signals: i64,
     pub segments: &'a [Segment<'a>],
 }
 
-/// MAX_CTO 32, MAX_DTO 64, checksums of type ADD_14, Intel byte order, 8 bytes of signals, and no segment.
+/// MAX_CTO 32, MAX_DTO 64, checksums of type ADD_14, Intel byte order, no time stamps, 8 bytes of signals, and no segment.
 pub const USUAL: Small = Small {
     max_cto: 32,
     max_dto: 64,
     checksum: 3,
     order: Order::Intel,
+    clock: NO_CLOCK,
     signals: 8,
     segments: &[],
 };
@@ -56,6 +58,7 @@ pub fn parts(alloc: Global, small: Small) -> Result<Parts, AllocError> {
         max_dto: small.max_dto,
         checksum: small.checksum,
         order: small.order,
+        clock: small.clock,
         segments: Vec::new(alloc),
         signals_address: 0x8000,
         signals_length: small.signals,

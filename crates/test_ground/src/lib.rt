@@ -17,7 +17,7 @@ pub use document::{WHOLE, changed};
 pub use gates::{Open, Spent, seen};
 pub use hiring::workers;
 pub use layouts::{COUNTED, SECOND, Small, TWO_SEGMENTS, USUAL, layout, parts};
-pub use openings::{blank, narrow, unnamed};
+pub use openings::{blank, timed, unnamed};
 pub use receipts::{lose_last, put_answer, put_chapter};
 pub use rows::{WrongRow, bytes_of, none_is_wrong, so};
 pub use streams::{Hole, Pieces};

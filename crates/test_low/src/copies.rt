@@ -5,7 +5,14 @@ use test_ground::none_is_wrong;
 use xcp_packet::{Packet, Train, Width};
 use xcp_slave::Answer;
 
-static REQUESTS: [&str; 5] = ["F5 04", "event 201 01 02 03", "drain", "store", "hangup"];
+static REQUESTS: [&str; 6] = [
+    "F5 04",
+    "event 201 01 02 03",
+    "drain",
+    "store",
+    "hangup",
+    "time 18446744073709551615",
+];
 
 fn is_copied(text: &str) -> bool {
     match request(text) {

@@ -2,13 +2,15 @@
 use std::alloc::{AllocError, Global};
 use std::test::Fail;
 use xcp_memory::LayoutFault::{Overlap, Range, TooMany};
-use xcp_memory::{Area, EventPart, Key, Layout, LayoutFault, Parts, SegmentPart};
+use xcp_memory::{Area, ClockPart, EventPart, Key, Layout, LayoutFault, Parts, SegmentPart};
 use xcp_packet::Order;
 
-/// The parts of a layout: the segments by address and numbers of bytes and of pages, the events by name and numbers.
+/// The parts of a layout: the clock by size, unit and ticks, the segments by address and numbers of bytes and of pages, the events
+/// by name and numbers.
 struct Row {
     id: &'static [u8],
     own: (i64, i64, i64),
+    clock: (i64, i64, i64),
     segments: &'static [(i64, usize, i64)],
     signals: (i64, i64),
     events: &'static [(&'static [u8], i64, i64, i64)],
@@ -58,6 +60,7 @@ fn add(parts: &mut Parts, alloc: Global, row: &Row) -> Result<(), AllocError> {
 
 fn parts(alloc: Global, row: &Row) -> Result<Parts, AllocError> {
     let (max_cto, max_dto, checksum) = row.own;
+    let (size, unit, ticks) = row.clock;
     let (signals_address, signals_length) = row.signals;
     let mut parts = Parts {
         id: Vec::new(alloc),
@@ -65,6 +68,7 @@ fn parts(alloc: Global, row: &Row) -> Result<Parts, AllocError> {
         max_dto,
         checksum,
         order: Order::Intel,
+        clock: ClockPart { size, unit, ticks },
         segments: Vec::new(alloc),
         signals_address,
         signals_length,
@@ -85,6 +89,7 @@ const WRONG: (&[u8], i64, i64, i64) = (b"", -1, -1, -1);
 const BARE: Row = Row {
     id: b"ECU1",
     own: (32, 64, 3),
+    clock: (0, 0, 1),
     segments: &[],
     signals: (-1, 65),
     events: &[],
@@ -110,6 +115,18 @@ macro_rules! with_itself {
         Row {
             id: $id,
             own: $own,
+            fault: Some($fault),
+            ..BARE
+        }
+    };
+}
+
+/// The clock, where all behind it is bare.
+macro_rules! with_clock {
+    ($clock:expr, $fault:expr) => {
+        Row {
+            own: (255, 255, 1),
+            clock: $clock,
             fault: Some($fault),
             ..BARE
         }
@@ -150,12 +167,18 @@ macro_rules! with_events {
 }
 
 /// Each row keeps the limit that the row before breaks, and breaks all those behind that it can.
-static ROWS: [Row; 31] = [
+static ROWS: [Row; 37] = [
     with_itself!(b"", (7, 256, 7), Range(Key::Id)),
     with_itself!(b"ECU\x7F", (7, 256, 7), Range(Key::Id)),
     with_itself!(b"ECU 1~", (256, 7, 0), Range(Key::MaxCto)),
     with_itself!(b"ECU1", (8, 256, 0), Range(Key::MaxDto)),
     with_itself!(b"ECU1", (255, 255, 7), Range(Key::Checksum)),
+    with_clock!((-1, -1, 0), Range(Key::ClockSize)),
+    with_clock!((5, 13, 65_536), Range(Key::ClockSize)),
+    with_clock!((3, 13, 0), Range(Key::ClockSize)),
+    with_clock!((4, 13, 0), Range(Key::ClockUnit)),
+    with_clock!((1, 12, 0), Range(Key::ClockTicks)),
+    with_clock!((2, 0, 65_536), Range(Key::ClockTicks)),
     with_itself!(b"ECU1", (32, 8, 1), Range(Key::Segment)),
     Row {
         own: (32, 64, 2),
@@ -221,6 +244,7 @@ static ROWS: [Row; 31] = [
         ..TIMED
     },
     Row {
+        clock: (4, 12, 65_535),
         segments: &[(0xFFFF_FFEF, 16, 4), (0x2000, 2024, 3)],
         signals: (0x1FC0, 64),
         fault: None,

@@ -2,8 +2,8 @@
 use std::alloc::Global;
 use std::test::Fail;
 use test_ground::{COUNTED, SECOND, Small, TWO_SEGMENTS, WrongRow, layout, so};
-use xcp_memory::{Area, ChecksumKind, Key, Layout, LayoutFault};
-use xcp_packet::Order;
+use xcp_memory::{Area, ChecksumKind, Clock, ClockPart, Key, Layout, LayoutFault};
+use xcp_packet::{Order, Stamp};
 
 /// Address and size of a segment, how many pages it has, and its last byte.
 fn segment(layout: &Layout, segment: usize) -> Option<(u32, usize, u8, u8)> {
@@ -87,6 +87,70 @@ fn values_are_told(alloc: Global) -> Result<(), Fail> {
 fn layout_has_its_values(rt: HostRuntime) -> Result<(), Fail> {
     has_its_order(rt.alloc())?;
     values_are_told(rt.alloc())
+}
+
+/// How many bytes a time stamp has, and the clock that a layout tells with that, its unit and its ticks.
+static CLOCKS: [(u8, Clock); 4] = [
+    (
+        0,
+        Clock {
+            stamp: Stamp::Without,
+            unit: 0,
+            ticks: 1,
+        },
+    ),
+    (
+        1,
+        Clock {
+            stamp: Stamp::Byte,
+            unit: 12,
+            ticks: 65_535,
+        },
+    ),
+    (
+        2,
+        Clock {
+            stamp: Stamp::Word,
+            unit: 6,
+            ticks: 10,
+        },
+    ),
+    (
+        4,
+        Clock {
+            stamp: Stamp::Double,
+            unit: 3,
+            ticks: 1,
+        },
+    ),
+];
+
+/// Whether a layout tells its clock so.
+fn is_clocked(alloc: Global, (size, told): &(u8, Clock)) -> Result<bool, Fail> {
+    let clock = ClockPart {
+        size: i64::from(*size),
+        unit: i64::from(told.unit),
+        ticks: i64::from(told.ticks),
+    };
+    let small = Small {
+        clock,
+        ..TWO_SEGMENTS
+    };
+    Ok(layout(alloc, small)?.clock() == *told)
+}
+
+fn all_are_clocked(alloc: Global) -> Result<(), Fail> {
+    for (number, row) in CLOCKS.iter().enumerate() {
+        if !is_clocked(alloc, row)? {
+            return Err(WrongRow(number).into());
+        }
+    }
+    Ok(())
+}
+
+#[test]
+fn layout_has_its_clock(rt: HostRuntime) -> Result<(), Fail> {
+    all_are_clocked(rt.alloc())
 }
 
 /// A range, the segment in which it lies, and whether it lies in the signals.

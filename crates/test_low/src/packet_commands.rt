@@ -72,7 +72,7 @@ macro_rules! rows {
 /// A command's code, the least bytes that it has, and its parameters.
 type Row = (u8, usize, &'static [(Field, u8)]);
 
-static ROWS: [Row; 39] = commands!(rows []);
+static ROWS: [Row; 40] = commands!(rows []);
 
 macro_rules! command_of {
     ([$code:ident] $($variant:ident $handler:ident $value:literal $least:literal { $($name:ident: $kind:ident $place:literal),* })*) => {
@@ -188,7 +188,7 @@ static REFUSED: [(&[u8], Refuse); 4] = [
     (&[], Refuse::Empty),
     (&[0xF9, 1, 2], Refuse::Short),
     (&[0xD8, 0], Refuse::Unknown),
-    (&[0xDC], Refuse::Unknown),
+    (&[0xD2], Refuse::Unknown),
 ];
 
 /// The first of them that is taken, or refused otherwise.

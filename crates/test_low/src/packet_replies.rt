@@ -1,7 +1,7 @@
-//! Numbers of errors, byte orders, and a reply against its bytes.
+//! Numbers of errors, byte orders, time stamps, and replies against their bytes.
 use std::test::Fail;
 use test_ground::{none_is_wrong, so};
-use xcp_packet::{Code, Order, Reply, encode_reply};
+use xcp_packet::{Code, Order, Packet, Reply, Stamp, encode_reply};
 
 /// Whether a reply fits, and is laid out so.
 fn is_laid_out(reply: &Reply, order: Order, bytes: &[u8]) -> bool {
@@ -80,4 +80,56 @@ fn orders(_rt: HostRuntime) -> Result<(), Fail> {
             && motorola == (1, 0x0102_0304, 0x0304, [1, 2, 3, 4]),
         words,
     )
+}
+
+/// The bytes of time stamps of one time, behind a byte.
+static STAMPS: [(Stamp, Order, &[u8]); 7] = [
+    (Stamp::Without, Order::Intel, &[0x50]),
+    (Stamp::Byte, Order::Intel, &[0x50, 8]),
+    (Stamp::Byte, Order::Motorola, &[0x50, 8]),
+    (Stamp::Word, Order::Intel, &[0x50, 8, 7]),
+    (Stamp::Word, Order::Motorola, &[0x50, 7, 8]),
+    (Stamp::Double, Order::Intel, &[0x50, 8, 7, 6, 5]),
+    (Stamp::Double, Order::Motorola, &[0x50, 5, 6, 7, 8]),
+];
+
+/// Whether a time stamp has these bytes, and is so long.
+fn is_stamped((stamp, order, bytes): &(Stamp, Order, &[u8])) -> bool {
+    let mut packet = Packet::new();
+    packet.push(0x50);
+    stamp.append(&mut packet, 0x0102_0304_0506_0708, *order);
+    packet.as_slice() == *bytes && 1 + usize::from(stamp.size()) == bytes.len()
+}
+
+fn first_wrong_stamp() -> Option<usize> {
+    STAMPS.iter().position(|row| !is_stamped(row))
+}
+
+/// The reply to GET_DAQ_CLOCK, and what is told of a clock.
+fn clock_is_told() -> bool {
+    let time = Reply::DaqClock(0x0403_0201);
+    let resolution = Reply::DaqResolution {
+        greatest: 63,
+        mode: 0x34,
+        ticks: 10,
+    };
+    let info = Reply::DaqInfo {
+        properties: 0x13,
+        lists: 2,
+        events: 1,
+    };
+    is_laid_out(&time, Order::Intel, &[0xFF, 0, 0, 0, 1, 2, 3, 4])
+        && is_laid_out(&time, Order::Motorola, &[0xFF, 0, 0, 0, 4, 3, 2, 1])
+        && is_laid_out(
+            &resolution,
+            Order::Motorola,
+            &[0xFF, 1, 63, 1, 0, 0x34, 0, 10],
+        )
+        && is_laid_out(&info, Order::Intel, &[0xFF, 0x13, 2, 0, 1, 0, 0, 0])
+}
+
+#[test]
+fn time_stamps(_rt: HostRuntime) -> Result<(), Fail> {
+    none_is_wrong(first_wrong_stamp())?;
+    so(clock_is_told(), "a clock is told otherwise")
 }

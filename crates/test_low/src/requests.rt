@@ -19,7 +19,14 @@ fn event(text: &str) -> Option<Request> {
     }
 }
 
-/// What a line asks: bytes in hex, with blanks between them, or a word, or `event C HEX`.
+fn time_or_command(text: &str) -> Option<Request> {
+    match text.strip_prefix("time ") {
+        Some(time) => Some(Request::Time(time.parse::<u64>().ok()?)),
+        None => command(text),
+    }
+}
+
+/// What a line asks: bytes in hex, with blanks between them, or a word, or `event C HEX`, or `time T`.
 pub(crate) fn request(text: &str) -> Option<Request> {
     match text {
         "drain" => Some(Request::Drain),
@@ -27,7 +34,7 @@ pub(crate) fn request(text: &str) -> Option<Request> {
         "hangup" => Some(Request::Hangup),
         _ => match text.strip_prefix("event ") {
             Some(rest) => event(rest),
-            None => command(text),
+            None => time_or_command(text),
         },
     }
 }

@@ -8,7 +8,7 @@ use xcp_slave::{Request, Slave};
 
 /// Each of these changes the slave in another way: that somebody is connected, a page's number, a mode, the
 /// MTA, a byte of a page, what may be allocated, lists, ODTs, entries, the pointer, an entry, a mode, that a
-/// list runs, signals and packets that wait, a store that is requested and that is finished, a block.
+/// list runs, signals and packets that wait, a store that is requested and that is finished, a block, the time.
 const CHANGES: &str = "
     FF 00
     EB 02 00 01
@@ -30,6 +30,7 @@ const CHANGES: &str = "
     store
     F0 28 01 02 03 04 05 06 07 08 09 0A 0B 0C 0D 0E 0F 10 11 12 13 14 15 16 17 18 19 1A 1B 1C 1D 1E
     hangup
+    time 1
 ";
 
 /// Whether a copy is the same, another one once the slave was asked, and the same again once it was asked too.
@@ -72,8 +73,8 @@ fn shown(alloc: Global, slave: &mut Slave, lines: &str) -> Result<u32, Fail> {
 fn all_are_shown(alloc: Global) -> Result<(), Fail> {
     let mut slave = long_slave(alloc)?;
     so(
-        shown(alloc, &mut slave, CHANGES)? == 20,
-        "there are 20 changes",
+        shown(alloc, &mut slave, CHANGES)? == 21,
+        "there are 21 changes",
     )
 }
 

@@ -4,8 +4,8 @@ use std::alloc::{AllocError, Global};
 use std::fmt::Write;
 use xcp_slave::Request;
 
-/// What is asked, as a text: `drain`, `store`, `hangup`, `command` with the packet in hex, or `event` with the channel and the
-/// signals in hex.
+/// What is asked, as a text: `drain`, `store`, `hangup`, `time` with its ticks, `command` with the packet in hex, or `event` with the
+/// channel and the signals in hex.
 pub fn request_text(alloc: Global, request: &Request) -> Result<String, AllocError> {
     let (verb, bytes) = match request {
         Request::Command(packet) => ("command ", packet.as_slice()),
@@ -13,6 +13,7 @@ pub fn request_text(alloc: Global, request: &Request) -> Result<String, AllocErr
         Request::Drain => return String::from_str(alloc, "drain"),
         Request::FinishStore => return String::from_str(alloc, "store"),
         Request::Hangup => return String::from_str(alloc, "hangup"),
+        Request::Time(time) => return format!(in alloc; "time {time}"),
     };
     let mut text = String::from_str(alloc, verb)?;
     if let Request::Event(channel, _) = request {

@@ -1,9 +1,11 @@
 //! Tests of the program but for its `main`, by public calls alone: files of many sizes, faults and their texts, turns, want of memory,
-//! and writers that take no more.
+//! writers that take no more, and layouts with a clock.
 #![tactic(auto)]
 
 #[cfg(test)]
 mod checks;
+#[cfg(test)]
+mod clocks;
 #[cfg(test)]
 mod faults;
 #[cfg(test)]

@@ -52,7 +52,7 @@ fn turns_bound_the_reads(rt: HostRuntime) -> Result<(), Fail> {
 }
 
 /// Faults, and their texts with their statuses.
-static FAULTS: [(Fault, &str); 9] = [
+static FAULTS: [(Fault, &str); 10] = [
     (Fault::Configuration(0), "configuration 0, 1"),
     (Fault::Line(4), "line 4, 2"),
     (Fault::Stream(2), "stream 2, 3"),
@@ -65,6 +65,10 @@ static FAULTS: [(Fault, &str); 9] = [
     (Fault::MismatchedCall(7), "mismatch call 7, 5"),
     (Fault::Journal(3), "journal 3, 6"),
     (Fault::Flash(2), "flash 2, 6"),
+    (
+        Fault::Clock,
+        "clock: only a server that stays tells the time, 1",
+    ),
 ];
 
 fn first_other_fault(alloc: Global) -> Result<Option<usize>, AllocError> {

@@ -1,7 +1,9 @@
 //! Tests of a server that stays, by public calls alone: tools over TCP that come and go, and whose the session is; chapters that are cut, settled
-//! and dropped meanwhile, and the line that ends it.
+//! and dropped meanwhile, times that are told, and the line that ends it.
 #![tactic(auto)]
 
+#[cfg(test)]
+mod clocks;
 #[cfg(test)]
 mod crowd;
 #[cfg(test)]

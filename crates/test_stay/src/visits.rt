@@ -82,6 +82,10 @@ pub fn serve<R: Threads + Wait + Clock + Sync>(
 ) -> Option<Report>
     requires { unnamed.callers ≡ 2 }
 {
+    // The layout has no clock.
+    if unnamed.clock().stamp.size() > 0 {
+        return None;
+    }
     let plan = plan_of(1, 0, patience);
     let scribe = Counting(0);
     let (report, scribe) = stay(

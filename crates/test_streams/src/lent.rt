@@ -24,6 +24,7 @@ enum Asks {
     Drain,
     FinishStore,
     Hangup,
+    Time(u64),
 }
 
 fn request(asks: Asks) -> Request {
@@ -33,6 +34,7 @@ fn request(asks: Asks) -> Request {
         Asks::Drain => Request::Drain,
         Asks::FinishStore => Request::FinishStore,
         Asks::Hangup => Request::Hangup,
+        Asks::Time(time) => Request::Time(time),
     }
 }
 
@@ -110,7 +112,7 @@ fn answers_are_laid_into_a_packet() -> Result<(), Fail> {
 }
 
 /// A script, and what the small slave with MAX_CTO 8 answers to each of its requests.
-static SCRIPT: [(Asks, Gives); 15] = [
+static SCRIPT: [(Asks, Gives); 16] = [
     (Asks::Command(&[0xFC]), Gives::Silent),
     (
         Asks::Command(&[0xFF, 0]),
@@ -134,6 +136,7 @@ static SCRIPT: [(Asks, Gives); 15] = [
     (Asks::Event(0, &[1, 2]), Gives::BadSignals),
     (Asks::Event(1, &[1, 2]), Gives::NoChannel),
     (Asks::FinishStore, Gives::NoStore),
+    (Asks::Time(70_000), Gives::Silent),
     (Asks::Hangup, Gives::Silent),
     (Asks::Command(&[0xF5, 4]), Gives::Silent),
     (

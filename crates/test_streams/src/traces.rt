@@ -17,7 +17,7 @@ fn bytes<const N: usize>(bytes: &[u8]) -> ArrayVec<u8, N> {
 
 /// How many exchanges there are: each answer, and the requests in turn; the longest packets, and the least and the
 /// greatest numbers.
-const EXCHANGES: u8 = 13;
+const EXCHANGES: u8 = 15;
 
 /// The request of this number.
 fn request(number: u8) -> Request {
@@ -32,7 +32,9 @@ fn request(number: u8) -> Request {
         7 => Request::Event(255, bytes(&[1, 2])),
         8 | 9 => Request::Drain,
         10 | 11 => Request::FinishStore,
-        _ => Request::Hangup,
+        12 => Request::Hangup,
+        13 => Request::Time(0),
+        _ => Request::Time(0x0102_0304_0506_0708),
     }
 }
 
@@ -51,7 +53,8 @@ fn answer(number: u8) -> Answer {
         9 => Answer::Nothing,
         10 => Answer::Stored(4),
         11 => Answer::NoStore,
-        _ => Answer::Later,
+        12 => Answer::Later,
+        _ => Answer::Silent,
     }
 }
 
@@ -84,7 +87,7 @@ fn first_not_traced(trace: &Trace) -> Option<usize> {
             return Some(index);
         }
     }
-    let ends = left.next().is_none() && trace.get(13).is_none() && trace.len() == 13;
+    let ends = left.next().is_none() && trace.get(15).is_none() && trace.len() == 15;
     if ends { None } else { Some(trace.len()) }
 }
 
@@ -100,7 +103,7 @@ fn entered(alloc: Global) -> Result<Journal, AllocError> {
         journal.reserve()?;
         let mut packet = Packet::new();
         let told = answer(number).lay(&mut packet);
-        journal.push(243 + number, request(number).asked(), &told, &packet);
+        journal.push(241 + number, request(number).asked(), &told, &packet);
     }
     Ok(journal)
 }
@@ -108,7 +111,7 @@ fn entered(alloc: Global) -> Result<Journal, AllocError> {
 /// Whether this is the entry of this number, with its caller.
 fn is_entered(found: Option<Entry>, number: u8) -> bool {
     match found {
-        Some(found) => found.caller == number.wrapping_add(243)
+        Some(found) => found.caller == number.wrapping_add(241)
             && is_wanted(Some(found.exchange), number),
         None => false,
     }
@@ -123,7 +126,7 @@ fn first_not_entered(journal: &Journal) -> Option<usize> {
             return Some(index);
         }
     }
-    let ends = left.next().is_none() && journal.get(13).is_none() && journal.len() == 13;
+    let ends = left.next().is_none() && journal.get(15).is_none() && journal.len() == 15;
     if ends { None } else { Some(journal.len()) }
 }
 
@@ -141,12 +144,12 @@ fn first_not_in_bytes(journal: &Journal) -> Option<usize> {
         let Some((lent, others)) = LentEntry::first(left) else {
             return Some(usize::from(number));
         };
-        if lent.caller() != number.wrapping_add(243) || !is_wanted(Some(lent.exchange()), number) {
+        if lent.caller() != number.wrapping_add(241) || !is_wanted(Some(lent.exchange()), number) {
             return Some(usize::from(number));
         }
         left = others;
     }
-    let ends = left.is_empty() && entries.len() == 13;
+    let ends = left.is_empty() && entries.len() == 15;
     if ends { None } else { Some(entries.len()) }
 }
 
@@ -158,7 +161,7 @@ fn the_bytes_of_entries_give_them_back(rt: HostRuntime) -> Result<(), Fail> {
 /// Bytes, and how many of them stand behind the entry with which they begin, if they begin with one: a
 /// length of two bytes, the caller, the request's tag, its channel, the answer's tag, its number, and the
 /// length of the request's bytes.
-static BYTES: [(&[u8], Option<usize>); 11] = [
+static BYTES: [(&[u8], Option<usize>); 15] = [
     (&[], None),
     (&[7], None),
     (&[7, 0, 2, 2, 0, 0, 0, 0, 0], Some(0)),
@@ -170,6 +173,16 @@ static BYTES: [(&[u8], Option<usize>); 11] = [
     (&[8, 0, 2, 0, 0, 0, 0, 0, 1, 0xFF], Some(0)),
     (&[7, 0, 2, 2, 0, 0, 10, 6, 0], None),
     (&[7, 0, 2, 2, 0, 0, 10, 7, 0], Some(0)),
+    (&[7, 0, 2, 5, 0, 0, 0, 0, 0], None),
+    (&[14, 0, 2, 5, 0, 0, 0, 0, 7, 1, 2, 3, 4, 5, 6, 7], None),
+    (
+        &[15, 0, 2, 5, 0, 0, 0, 0, 8, 1, 2, 3, 4, 5, 6, 7, 8],
+        Some(0),
+    ),
+    (
+        &[16, 0, 2, 5, 0, 0, 0, 0, 9, 1, 2, 3, 4, 5, 6, 7, 8, 9],
+        None,
+    ),
 ];
 
 /// How many bytes stand behind the entry with which these begin.

@@ -13,6 +13,7 @@ words_asked (requests.Event channel signals) = codes "event " ++ decimal channel
 words_asked requests.Drain = codes "drain"
 words_asked requests.FinishStore = codes "store"
 words_asked requests.Hangup = codes "hangup"
+words_asked (requests.Time time) = codes "time " ++ decimal time
 
 -- a call's line: its caller, its request and its answer's line, with a tab (9) between them
 abbrev pub line_of : Entry → List ℕ

@@ -34,6 +34,7 @@ fn push_request(text: &mut Vec<u8>, request: &Request) -> Result<(), AllocError>
         Request::Drain => text.extend_from_slice(b"drain"),
         Request::FinishStore => text.extend_from_slice(b"store"),
         Request::Hangup => text.extend_from_slice(b"hangup"),
+        Request::Time(time) => push_time(text, *time),
     }
 }
 
@@ -46,6 +47,15 @@ fn push_event(text: &mut Vec<u8>, channel: u16, signals: &[u8]) -> Result<(), Al
     let digits = hex::encode_upper(alloc, signals)?;
     let event = format!(in alloc; "event {channel} {digits}")?;
     text.extend_from_slice(event.as_bytes())
+}
+
+/// Appends the words of a time.
+fn push_time(text: &mut Vec<u8>, time: u64) -> Result<(), AllocError>
+    ensures { OnOk result (text.new.items ≡ text.old.items ++ codes "time " ++ decimal time) }
+{
+    let alloc = *text.allocator();
+    let words = format!(in alloc; "time {time}")?;
+    text.extend_from_slice(words.as_bytes())
 }
 
 /// Appends bytes in upper-case hex.

@@ -94,6 +94,20 @@ pub extern "C" fn xcp_finish_store(
     submit(alloc, slave, Asked::FinishStore, answer)
 }
 
+/// The clock stands at this time, in ticks of the layout's clock. False where the handle owns no slave.
+#[unsafe(no_mangle)]
+pub extern "C" fn xcp_time(
+    alloc: Global,
+    slave: &mut SlaveHandle,
+    ticks: u64,
+    answer: &mut XcpAnswer,
+) -> bool
+    ensures done { IsTrue result → Submitted (requests.Time ticks) slave.old.value answer.new slave.new.value }
+    ensures closed { result ≡ false → (slave.old.value ≡ None) × (slave.new ≡ slave.old) }
+{
+    submit(alloc, slave, Asked::Time(ticks), answer)
+}
+
 /// The tool's connection is gone. False where the handle owns no slave.
 #[unsafe(no_mangle)]
 pub extern "C" fn xcp_hangup(alloc: Global, slave: &mut SlaveHandle, answer: &mut XcpAnswer) -> bool

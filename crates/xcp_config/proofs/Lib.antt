@@ -1,5 +1,6 @@
 pub mod TableArrayLemmas
 pub mod CheckLemmas
+pub mod ClockLemmas
 pub mod ArrayMemberLemmas
 pub mod LimitLemmas
 pub mod TableFaultLemmas

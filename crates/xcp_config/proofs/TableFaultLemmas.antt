@@ -1,5 +1,5 @@
 -- No check of a table tells that the text is no document, or that an allocation failed.
-use Rattle.std.proofs.Common.{◌≡◌, ◌≢◌, ℕ, Bool, true, false, ◌&&◌, List, [], ◌∷◌, ◌++◌, map, ◌+◌, codes, Option, Some, refl, sym, if◌then◌else◌}
+use Rattle.std.proofs.Common.{◌≡◌, ◌≢◌, ℕ, Bool, true, false, ◌&&◌, List, [], ◌∷◌, ◌++◌, map, codes, Option, Some, None, refl, sym, if◌then◌else◌}
 use Rattle.std.specs.List.{list_all, flat_map, enumerate_from}
 use Rattle.toml.specs.Data.{Data, get}
 use Rattle.xcp_memory.specs.declared.Key.{Key}
@@ -13,8 +13,8 @@ use Rattle.xcp_config.specs.declared.config_error.ConfigError.TheVariants.{Text,
 use Rattle.xcp_packet.specs.Rows.{first_holding}
 use Rattle.xcp_config.specs.Check.{Check}
 use Rattle.xcp_config.specs.FaultNumbers.{error_of}
-use Rattle.xcp_config.specs.TableLayout.{layout_in, segments_of, events_of}
-use Rattle.xcp_config.specs.TableChecks.{text_checks, name_checks, integer_checks, data_checks, array_checks, table_checks, own_checks, segment_checks, checks_in, segments_checks, place_checks, signals_checks, event_checks, events_checks, limit_check, limit_checks, checks, first_fault}
+use Rattle.xcp_config.specs.TableLayout.{layout_in, clock_key, segments_of, events_of}
+use Rattle.xcp_config.specs.TableChecks.{text_checks, name_checks, integer_checks, data_checks, array_checks, table_checks, checks_of_clock, clock_checks, clock_key_checks, own_checks, segment_checks, checks_in, segments_checks, place_checks, signals_checks, event_checks, events_checks, limit_check, limit_checks, checks, first_fault}
 
 -- a fault of a table
 abbrev of_table : ConfigError → Bool
@@ -62,9 +62,14 @@ array_told : (k : Key) (n : ℕ) (v : Option Data) → all_of_table (array_check
 unfolding array_checks
 array_told k n v = refl
 
+clock_told : (v : Option Data) → all_of_table (checks_of_clock v) ≡ true
+unfolding clock_key_checks table_checks integer_checks
+clock_told None = refl
+clock_told (Some c) = refl
+
 own_told : (t : Data) → all_of_table (own_checks t) ≡ true
-unfolding own_checks text_checks name_checks integer_checks
-own_told t = refl
+unfolding own_checks text_checks name_checks integer_checks clock_checks
+own_told t = clock_told (clock_key t)
 
 segment_told : (ss : List Data) (p : ℕ × Data) → all_of_table (checks_in ss p) ≡ true
 unfolding segment_checks integer_checks data_checks

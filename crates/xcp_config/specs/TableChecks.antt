@@ -1,20 +1,21 @@
 -- The layout of a table: the checks of a configuration's table, in the order in which they are made. A key that isn't named here
 -- is ignored.
-use Rattle.std.specs.Prelude.{ℕ, ℤ, ◌+◌, List, [], ◌∷◌, ◌++◌, length, map, sum_by, take, codes, Option, is_some}
+use Rattle.std.specs.Prelude.{ℕ, ℤ, ◌+◌, List, [], ◌∷◌, ◌++◌, length, map, sum_by, take, codes, Option, Some, None, is_some, not, ◌==◌}
 use Rattle.std.specs.Option.{option_and_then}
 use Rattle.std.specs.List.{flat_map, enumerate_from}
 use Rattle.toml.specs.Data.{Data, get, as_integer, as_str, as_table}
 use Rattle.xcp_memory.specs.declared.Key.{Key}
 use Rattle.xcp_memory.specs.declared.Key.TheVariants as key
+use Rattle.xcp_memory.specs.declared.LayoutFault.TheVariants as limit
 use Rattle.xcp_memory.specs.LayoutParts.{number, areas}
-use Rattle.xcp_memory.specs.Limits.{Limit, id_limit, max_cto_limit, max_dto_limit, segment_counts, address_limit, data_limit, total_limit, end_limit, pages_limit, signals_address_limit, signals_length_limit, event_counts, name_limit, cycle_limit, unit_limit, priority_limit, apart_limits}
+use Rattle.xcp_memory.specs.Limits.{Limit, id_limit, max_cto_limit, max_dto_limit, number_limit, segment_counts, address_limit, data_limit, total_limit, end_limit, pages_limit, signals_address_limit, signals_length_limit, event_counts, name_limit, cycle_limit, unit_limit, priority_limit, apart_limits}
 use Rattle.xcp_config.specs.declared.config_error.ConfigError.{ConfigError}
 use Rattle.xcp_config.specs.declared.config_error.ConfigError.TheVariants.{Missing, Kind, Range}
 use Rattle.xcp_config.specs.FaultNumbers.{error_of}
 use Rattle.xcp_packet.specs.Rows.{first_holding, must}
 use Rattle.xcp_config.specs.Check.{Check}
 use Rattle.xcp_config.specs.TomlValues.{text_of, integer_of, bytes_of, members_of, is_array_of_tables, named, byte_orders, checksums}
-use Rattle.xcp_config.specs.TableLayout.{layout_in, byte_order_of, checksum_of, segments_of, signals_of, events_of, address_of, size_of, pages_of, length_of, setting}
+use Rattle.xcp_config.specs.TableLayout.{layout_in, byte_order_of, checksum_of, clock_key, clock_setting, clock_part, segments_of, signals_of, events_of, address_of, size_of, pages_of, length_of, setting}
 
 -- the check that a limit of a layout makes
 abbrev pub limit_check : Limit → Check
@@ -66,6 +67,26 @@ table_checks k v =
     ∷ must (is_some (option_and_then as_table v)) (Kind k)
     ∷ []
 
+-- a time stamp doesn't have three bytes
+abbrev pub size_check : ℤ → List Check
+size_check size = limit_check (must (not (number size == 3)) (limit.Range key.ClockSize)) ∷ []
+
+-- the keys of the table `clock`
+unfoldable pub clock_key_checks : Data → List Check
+clock_key_checks c =
+    integer_checks key.ClockSize (number_limit 1 4 key.ClockSize) (clock_setting (codes "size") 4 c)
+    ++ size_check (clock_part c).size
+    ++ integer_checks key.ClockUnit (number_limit 0 12 key.ClockUnit) (clock_setting (codes "unit") 3 c)
+    ++ integer_checks key.ClockTicks (number_limit 1 65535 key.ClockTicks) (clock_setting (codes "ticks") 1 c)
+
+-- a table needn't be there
+abbrev pub checks_of_clock : Option Data → List Check
+checks_of_clock None = []
+checks_of_clock (Some c) = table_checks key.Clock (Some c) ++ clock_key_checks c
+
+unfoldable pub clock_checks : Data → List Check
+clock_checks t = checks_of_clock (clock_key t)
+
 -- the values of the slave itself
 unfoldable pub own_checks : Data → List Check
 own_checks t =
@@ -74,6 +95,7 @@ own_checks t =
     ++ integer_checks key.MaxDto max_dto_limit (get (codes "max_dto") t)
     ++ name_checks key.ByteOrder byte_orders (byte_order_of t)
     ++ name_checks key.Checksum checksums (checksum_of t)
+    ++ clock_checks t
 
 -- how many bytes there are in all with those of segment i, and where the last one of these lies
 abbrev pub size_checks : ℕ → ℕ → ℤ → ℕ → List Check

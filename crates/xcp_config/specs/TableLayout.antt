@@ -1,11 +1,12 @@
 -- The layout that the table of a configuration has.
-use Rattle.std.specs.Prelude.{ℕ, ℤ, pos, List, map, length, codes, Option, unwrap_or}
+use Rattle.std.specs.Prelude.{ℕ, ℤ, pos, List, map, length, codes, Option, Some, None, unwrap_or}
 use Rattle.toml.specs.Data.{Data, integer, string, table, no_members, get}
 use Rattle.xcp_packet.specs.declared.Order.{Order}
 use Rattle.xcp_packet.specs.declared.Order.TheVariants.{Intel}
 use Rattle.xcp_memory.specs.declared.ChecksumKind.{ChecksumKind}
 use Rattle.xcp_memory.specs.declared.ChecksumKind.TheVariants.{Add14}
-use Rattle.xcp_memory.specs.LayoutParts.{number}
+use Rattle.xcp_memory.specs.LayoutParts.{number, clock_of}
+use Rattle.xcp_memory.specs.declared.ClockPart.{ClockPart}
 use Rattle.xcp_memory.specs.Layout.{LayoutValue, SegmentValue, EventValue}
 use Rattle.xcp_config.specs.TomlValues.{optional, text_of, integer_of, bytes_of, members_of, named, byte_orders, checksums}
 
@@ -22,6 +23,30 @@ checksum_of t = optional (string (codes "ADD_14")) (get (codes "checksum") t)
 
 abbrev pub checksum_in : Data → ChecksumKind
 checksum_in t = unwrap_or (named checksums (text_of (checksum_of t))) Add14
+
+-- a number of the clock, or its default where none is given
+abbrev pub clock_setting : List ℕ → ℕ → Data → Option Data
+clock_setting name default c = optional (integer (pos default)) (get name c)
+
+-- the clock of a table `clock`: time stamps of four bytes, and ticks of a microsecond, where it says nothing else
+abbrev pub clock_part : Data → ClockPart
+clock_part c = record {
+  size = integer_of (clock_setting (codes "size") 4 c);
+  unit = integer_of (clock_setting (codes "unit") 3 c);
+  ticks = integer_of (clock_setting (codes "ticks") 1 c);
+}
+
+-- no time stamps
+abbrev pub no_clock : ClockPart
+no_clock = record { size = pos 0; unit = pos 0; ticks = pos 1 }
+
+-- there are none without such a table
+abbrev pub clock_in : Option Data → ClockPart
+clock_in None = no_clock
+clock_in (Some c) = clock_part c
+
+abbrev pub clock_key : Data → Option Data
+clock_key t = get (codes "clock") t
 
 -- the tables of the array `segment`, and of the array `event`
 abbrev pub segments_of : Data → List Data
@@ -75,6 +100,7 @@ layout_in t = record {
   max_dto = number (integer_of (get (codes "max_dto") t));
   checksum = checksum_in t;
   order = order_in t;
+  clock = clock_of (clock_in (clock_key t));
   segments = map segment_in (segments_of t);
   signals_address = number (address_of (signals_of t));
   signals_length = number (length_of (signals_of t));

@@ -3,6 +3,7 @@
 //! The definitions that the contracts cite are in `specs/`; `specs/TableChecks.antt` has the checks in their order.
 #![tactic(auto)]
 
+mod clock;
 mod config_error;
 mod events;
 mod own;

@@ -7,15 +7,16 @@ ghost use Rattle.xcp_memory.specs.LayoutParts.{number, kind_numbered};
 ghost use Rattle.xcp_memory.specs.Limits.{is_within};
 ghost use Rattle.xcp_packet.specs.Rows.{first_holding};
 ghost use Rattle.xcp_config.specs.TomlValues.{byte_orders, checksums, integer_of, named, text_of};
-ghost use Rattle.xcp_config.specs.TableLayout.{byte_order_of, checksum_in, checksum_of, order_in};
+ghost use Rattle.xcp_config.specs.TableLayout.{byte_order_of, checksum_in, checksum_of, clock_in, clock_key, order_in};
 ghost use Rattle.xcp_config.specs.TableChecks.{own_checks, name_checks};
 
 use crate::ConfigError;
+use crate::clock::read_clock;
 use crate::values::{read_integer, read_text, text_in};
 use std::alloc::Global;
 use toml::Value;
 use xcp_memory::limits::MAX_ID;
-use xcp_memory::{ChecksumKind, Key};
+use xcp_memory::{ChecksumKind, ClockPart, Key};
 use xcp_packet::Order;
 
 /// The values of the slave itself.
@@ -27,6 +28,7 @@ pub(crate) struct Own {
     pub(crate) order: Order,
     /// The number of the type of checksums: 1 to 6.
     pub(crate) checksum: i64,
+    pub(crate) clock: ClockPart,
 }
 
 /// The byte order with this name.
@@ -90,7 +92,7 @@ fn read_checksum(table: &Value) -> Result<ChecksumKind, ConfigError>
 }
 
 impl Own {
-    /// Reads the identification, MAX_CTO, MAX_DTO, the byte order and the type of checksums, in this order.
+    /// Reads the identification, MAX_CTO, MAX_DTO, the byte order, the type of checksums and the clock, in this order.
     pub(crate) fn read(alloc: Global, table: &Value) -> Result<Own, ConfigError>
         ensures passes { IfOk result (λ o. first_holding (own_checks (view table.now)) ≡ None) }
         ensures id { IfOk result (λ o. o.id.items ≡ text_of (get (codes "id") (view table.now))) }
@@ -99,6 +101,7 @@ impl Own {
         ensures order { IfOk result (λ o. o.order ≡ order_in (view table.now)) }
         ensures checksum { IfOk result (λ o. kind_numbered (number o.checksum) ≡ checksum_in (view table.now)) }
         ensures range { IfOk result (λ o. is_within 1 6 o.checksum ≡ true) }
+        ensures clock { IfOk result (λ o. o.clock ≡ clock_in (clock_key (view table.now))) }
         ensures refused { IfErr result (λ e. (e ≡ ConfigError.Memory) ⊎ (first_holding (own_checks (view table.now)) ≡ Some e)) }
     {
         let id = read_text(alloc, table, "id", Key::Id, MAX_ID)?;
@@ -106,12 +109,14 @@ impl Own {
         let max_dto = read_integer(table, "max_dto", Key::MaxDto, 8, 255)?;
         let order = read_order(table)?;
         let checksum = read_checksum(table)?;
+        let clock = read_clock(table)?;
         Ok(Own {
             id,
             max_cto,
             max_dto,
             order,
             checksum: i64::from(checksum.number()),
+            clock,
         })
     }
 }

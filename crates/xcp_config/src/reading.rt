@@ -48,6 +48,7 @@ fn read_parts(alloc: Global, table: &Value) -> Result<Parts, ConfigError>
         max_dto: own.max_dto,
         checksum: own.checksum,
         order: own.order,
+        clock: own.clock,
         segments,
         signals_address: signals.address,
         signals_length: signals.length,

@@ -22,7 +22,7 @@ pub fn keeps_image(asked: Asked<'_>) -> bool
 {
     match asked {
         Asked::Command(packet) => is_reading(packet),
-        Asked::Event(_, _) | Asked::Drain | Asked::Hangup => true,
+        Asked::Event(_, _) | Asked::Drain | Asked::Hangup | Asked::Time(_) => true,
         Asked::FinishStore => false,
     }
 }

@@ -12,6 +12,8 @@ use Rattle.std.specs.Prelude.{◌||◌, ◌&&◌, ◌==◌, ◌%◌, ◌^◌, no
 use Rattle.xcp_packet.specs.declared.Code.{Code}
 use Rattle.xcp_packet.specs.declared.Code.TheVariants.{DaqConfig, DaqActive}
 use Rattle.xcp_packet.specs.Rows.{first_holding}
+use Rattle.xcp_packet.specs.declared.Stamp.{Stamp}
+use Rattle.xcp_packet.specs.TimeStamps.{stamp_size}
 use Rattle.xcp_daq.specs.declared.mode.Mode.{Mode}
 use Rattle.xcp_daq.specs.Configuring.{moved_on, cleared, clear_daq_list_after, has_no_pointer, pointed_list_runs}
 use Rattle.xcp_daq.specs.Starting.{stopped, started, synchronised}
@@ -20,8 +22,8 @@ use Rattle.std.proofs.lemmas.List.Elements.{All-set, All-append, All-replicate, 
 use Rattle.xcp_daq.specs.declared.element.Element.{Element}
 use Rattle.xcp_daq.specs.declared.pointer.Pointer.{Pointer}
 use Rattle.xcp_daq.specs.declared.allocation.Allocation.{Allocation}
-use Rattle.xcp_daq.specs.DaqLists.{DaqValue, DaqList, no_list, list_at, odt_at, all_odts, all_entries, with_list, odt_size, any_large}
-use Rattle.xcp_daq.specs.DaqInvariant.{IsEntry, IsList, IsPointer, IsPointerOf, IsDaq}
+use Rattle.xcp_daq.specs.DaqLists.{DaqValue, DaqList, no_list, list_at, odt_at, all_odts, all_entries, with_list, odt_size, first_size, any_large, is_large}
+use Rattle.xcp_daq.specs.DaqInvariant.{IsEntry, FitsPackets, IsList, IsPointer, IsPointerOf, IsDaq}
 use Rattle.xcp_daq.specs.Pools.{joined, list_of, lists_of}
 use Rattle.xcp_daq.proofs.DaqListLemmas.{new_mode, list_of_is, length-lists, default_free}
 
@@ -257,8 +259,8 @@ pub moved_in : (v : DaqValue) (p : Pointer) → IsPointer v p → IsPointerOf v 
 moved_in v p h = moved_by_test v p h (nat_lt (p.entry + 1) (length (odt_at v p.list p.odt))) refl
 
 -- the mode of a lawful list, with other values that are lawful
-pub lawful_bound : (l : DaqList) (m : Mode) (event prescaler priority : ℕ) → list_of m l.odts ≡ l → IsList l → l.running ≡ false → event < 2 ^ 16 → 1 ≤ prescaler → prescaler ≤ 255 → priority ≤ 255 → IsList (list_of (record m { event = event; prescaler = prescaler; priority = priority }) l.odts)
-lawful_bound l m event prescaler priority is h still a b c d =
+pub lawful_bound : (l : DaqList) (m : Mode) (event prescaler priority : ℕ) (stamp : Stamp) → list_of m l.odts ≡ l → IsList l → l.running ≡ false → event < 2 ^ 16 → 1 ≤ prescaler → prescaler ≤ 255 → priority ≤ 255 → IsList (list_of (record m { event = event; prescaler = prescaler; priority = priority; stamp = stamp }) l.odts)
+lawful_bound l m event prescaler priority stamp is h still a b c d =
     let running = ap (λ (x : DaqList). x.running) is in
     let since : m.since ≡ 0 = ap (λ (x : DaqList). x.since) is ∙ h.still still in
     record { event = a; prescaler_least = b; prescaler_most = c; priority = d; since = omega arith; still = λ e. since; fits = λ e. cc }
@@ -271,13 +273,13 @@ lawful_stopped l m selected is h =
     let priority = ap (λ (x : DaqList). x.priority) is in
     record { event = omega (arith, h.event); prescaler_least = omega (arith, h.prescaler_least); prescaler_most = omega (arith, h.prescaler_most); priority = omega (arith, h.priority); since = omega (arith, h.prescaler_least); still = λ e. refl; fits = λ e. cc }
 
--- a lawful list that is started, its count of events 0, is lawful, if each of its ODTs has at most 254 bytes
-pub lawful_started : (l : DaqList) (m : Mode) (selected : Bool) → list_of m l.odts ≡ l → IsList l → All (λ odt. odt_size odt ≤ 254) l.odts → IsList (list_of (record m { running = true; selected = selected; since = 0 }) l.odts)
+-- a lawful list that is started, its count of events 0, is lawful, if its ODTs have room
+pub lawful_started : (l : DaqList) (m : Mode) (selected : Bool) → list_of m l.odts ≡ l → IsList l → FitsPackets l.stamp l.odts → IsList (list_of (record m { running = true; selected = selected; since = 0 }) l.odts)
 lawful_started l m selected is h small =
     let event = ap (λ (x : DaqList). x.event) is in
     let prescaler = ap (λ (x : DaqList). x.prescaler) is in
     let priority = ap (λ (x : DaqList). x.priority) is in
-    record { event = omega (arith, h.event); prescaler_least = omega (arith, h.prescaler_least); prescaler_most = omega (arith, h.prescaler_most); priority = omega (arith, h.priority); since = omega (arith, h.prescaler_least); still = λ e. refl; fits = λ e. small }
+    record { event = omega (arith, h.event); prescaler_least = omega (arith, h.prescaler_least); prescaler_most = omega (arith, h.prescaler_most); priority = omega (arith, h.priority); since = omega (arith, h.prescaler_least); still = λ e. refl; fits = λ e. subst (λ (s : Stamp). FitsPackets s l.odts) (sym (ap (λ (x : DaqList). x.stamp) is)) small }
 
 -- a lawful list that is selected, or is no longer, is lawful
 pub lawful_selected : (l : DaqList) (m : Mode) (selected : Bool) → list_of m l.odts ≡ l → IsList l → IsList (list_of (record m { selected = selected }) l.odts)
@@ -326,14 +328,20 @@ none_large greatest (o ∷ odts) h none =
     let both = neither (nat_lt greatest (odt_size o)) (any_large greatest odts) none in
     all_cons o odts (small_one greatest (odt_size o) h both.0) (none_large greatest odts h both.1)
 
-lawful_synchronised_by : (l : DaqList) → IsList l → (stop : Bool) (chosen : Bool) → l.selected ≡ chosen → (start : Bool) → (start ≡ true → l.selected ≡ true → All (λ odt. odt_size odt ≤ 254) l.odts) → IsList (record (if stop then stopped l else (if not chosen then l else (if start then started l else stopped l))) { selected = false })
+-- a list that isn't large has room
+pub room_of : (greatest : ℕ) (l : DaqList) → greatest ≤ 254 → is_large greatest l ≡ false → FitsPackets l.stamp l.odts
+room_of greatest l h none =
+    let both = neither (any_large greatest l.odts) (nat_lt greatest (stamp_size l.stamp + first_size l.odts)) none in
+    record { each = none_large greatest l.odts h both.0; first = small_one greatest (stamp_size l.stamp + first_size l.odts) h both.1 }
+
+lawful_synchronised_by : (l : DaqList) → IsList l → (stop : Bool) (chosen : Bool) → l.selected ≡ chosen → (start : Bool) → (start ≡ true → l.selected ≡ true → FitsPackets l.stamp l.odts) → IsList (record (if stop then stopped l else (if not chosen then l else (if start then started l else stopped l))) { selected = false })
 lawful_synchronised_by l h true chosen e start small = record { event = h.event; prescaler_least = h.prescaler_least; prescaler_most = h.prescaler_most; priority = h.priority; since = omega (arith, h.prescaler_least); still = λ k. refl; fits = λ k. cc }
 lawful_synchronised_by l h false false e start small = record { event = h.event; prescaler_least = h.prescaler_least; prescaler_most = h.prescaler_most; priority = h.priority; since = h.since; still = h.still; fits = h.fits }
 lawful_synchronised_by l h false true e true small = record { event = h.event; prescaler_least = h.prescaler_least; prescaler_most = h.prescaler_most; priority = h.priority; since = omega (arith, h.prescaler_least); still = λ k. refl; fits = λ k. small refl e }
 lawful_synchronised_by l h false true e false small = record { event = h.event; prescaler_least = h.prescaler_least; prescaler_most = h.prescaler_most; priority = h.priority; since = omega (arith, h.prescaler_least); still = λ k. refl; fits = λ k. cc }
 
 -- a stopped or started list, as START_STOP_SYNCH leaves it
-pub lawful_synchronised : (mode : ℕ) (l : DaqList) → IsList l → (mode ≡ 1 → l.selected ≡ true → All (λ odt. odt_size odt ≤ 254) l.odts) → IsList (record (synchronised mode l) { selected = false })
+pub lawful_synchronised : (mode : ℕ) (l : DaqList) → IsList l → (mode ≡ 1 → l.selected ≡ true → FitsPackets l.stamp l.odts) → IsList (record (synchronised mode l) { selected = false })
 lawful_synchronised mode l h small = lawful_synchronised_by l h (mode == 0) l.selected refl (mode == 1) (λ e. small (eqb-true mode 1 e))
 
 lawful_counted_by : (l : DaqList) → IsList l → (runs on : Bool) → l.running ≡ runs → IsList (if runs && on then record l { since = (l.since + 1) % l.prescaler } else l)

@@ -2,6 +2,7 @@
 use Rattle.std.proofs.Common.{◌≡◌, ℕ, zero, suc, ◌+◌, ◌<◌, Bool, true, false, List, [], ◌∷◌, ◌++◌, length, map, take, get_or, slice_set, Option, ap, sym, ◌∙◌, refl, arith, ◌||◌}
 use Rattle.std.specs.Prelude.{replicate}
 use Rattle.std.specs.List.{list_any}
+use Rattle.xcp_packet.specs.declared.Stamp.TheVariants.{Without}
 use Rattle.xcp_daq.specs.declared.element.Element.{Element}
 use Rattle.xcp_daq.specs.declared.mode.Mode.{Mode}
 use Rattle.xcp_daq.specs.declared.pointer.Pointer.{Pointer}
@@ -24,7 +25,7 @@ daq_of ms os p l = record { lists = lists_of ms os; pointer = p; last = l }
 
 -- the mode of a new list
 abbrev pub new_mode : Mode
-new_mode = record { event = 0; prescaler = 1; priority = 0; running = false; selected = false; since = 0 }
+new_mode = record { event = 0; prescaler = 1; priority = 0; running = false; selected = false; since = 0; stamp = Without }
 
 -- modes and the ODTs of as many lists make as many lists
 pub length-lists : (ms : List Mode) (os : List Os) → length ms ≡ length os → length (lists_of ms os) ≡ length ms
@@ -189,3 +190,12 @@ synchronised_of mode m o = synchronised_by m o (mode == 0) m.selected (mode == 1
 -- an event changes a list as it changes the list's mode
 pub counted_of : (channel : ℕ) (m : Mode) (o : Os) → list_of (counted_mode channel m) o ≡ counted channel (list_of m o)
 counted_of channel m o = counted_by m o (m.running && (m.event == channel))
+
+-- either of two tests
+pub or_first : (a b c : Bool) → c ≡ a → c ≡ true → c ≡ (a || b)
+or_first true b c e h = h
+or_first false b c e h = absurd (let z : false ≡ true = sym e ∙ h in cc)
+
+pub or_second : (a b c d : Bool) → c ≡ a → c ≡ false → d ≡ b → d ≡ (a || b)
+or_second true b c d e h k = absurd (let z : true ≡ false = sym e ∙ h in cc)
+or_second false b c d e h k = k

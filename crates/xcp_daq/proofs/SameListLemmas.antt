@@ -45,7 +45,7 @@ same_pools oc ec es oc2 ec2 es2 f g e = record {
 
 -- the mode of a list
 mode_in : DaqList → Mode
-mode_in l = record { event = l.event; prescaler = l.prescaler; priority = l.priority; running = l.running; selected = l.selected; since = l.since }
+mode_in l = record { event = l.event; prescaler = l.prescaler; priority = l.priority; running = l.running; selected = l.selected; since = l.since; stamp = l.stamp }
 
 modes_again : (ms : List Mode) (os : List (List (List E))) → length ms ≡ length os → map mode_in (lists_of ms os) ≡ ms
 unfolding mode_in

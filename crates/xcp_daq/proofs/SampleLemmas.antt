@@ -1,5 +1,5 @@
 -- The bytes of ODTs, and their packets.
-use Rattle.std.proofs.Common.{◌≡◌, ℕ, ◌+◌, ◌<◌, ◌≤◌, Bool, true, false, List, [], ◌∷◌, ◌++◌, length, take, drop, get_or, Option, Some, None, ap, sym, ◌∙◌, refl, arith, append_assoc, length-append, if◌then◌else◌}
+use Rattle.std.proofs.Common.{◌≡◌, ℕ, suc, All, ◌+◌, ◌<◌, ◌≤◌, Bool, true, false, List, [], ◌∷◌, ◌++◌, length, take, drop, get_or, Option, Some, None, ap, sym, ◌∙◌, refl, arith, append_assoc, length-append, if◌then◌else◌}
 use Rattle.std.proofs.lemmas.Grind.{flat_map-append}
 use Rattle.std.proofs.lemmas.List.{take_more, length-take}
 use Rattle.std.proofs.lemmas.List.Sums.{sum_by_push, sum_by-cons, sum_by-take-le}
@@ -9,7 +9,7 @@ use Rattle.xcp_memory.specs.ComputedAccess.{lies_inside, controller_bytes, bytes
 use Rattle.xcp_daq.specs.declared.element.Element.{Element}
 use Rattle.xcp_daq.specs.DaqLists.{entry_size, odt_size}
 use Rattle.xcp_daq.specs.Pools.{parts}
-use Rattle.xcp_daq.specs.Sample.{entry_bytes, odt_bytes, packet_of, odt_packets, packets_from}
+use Rattle.xcp_daq.specs.Sample.{entry_bytes, odt_bytes, packet_of, stamped_packet, odt_packets, packets_from, stamped_packets}
 use Rattle.xcp_daq.proofs.OdtLemmas.{parts_step}
 
 short_range : (page_of : SegmentPages → List ℕ) (o : Option ℕ) (pages : PagesValue) (a n : ℕ) → length (bytes_by page_of o pages a n) ≤ n
@@ -60,6 +60,33 @@ pub same_packets : (pages : PagesValue) (p q : ℕ) (odts : List (List (Option E
 same_packets pages p q [] = refl
 same_packets pages p q (o ∷ odts) = omega (arith, length-append (odt_packets pages (p, o)) (packets_from pages (p + 1) odts), length-append (odt_packets pages (q, o)) (packets_from pages (q + 1) odts), same_packet p q (odt_bytes pages o), same_packets pages (p + 1) (q + 1) odts)
 
+-- with a time stamp there are as many
+same_stamped_packet : (p q : ℕ) (s t bytes : List ℕ) → length (stamped_packet p s bytes) ≡ length (stamped_packet q t bytes)
+same_stamped_packet p q s t [] = refl
+same_stamped_packet p q s t (b ∷ bytes) = refl
+
+pub same_stamped : (pages : PagesValue) (p q : ℕ) (s t : List ℕ) (odts : List (List (Option Element))) → length (stamped_packets pages p s odts) ≡ length (stamped_packets pages q t odts)
+same_stamped pages p q s t [] = refl
+same_stamped pages p q s t (o ∷ odts) = omega (arith, length-append (stamped_packet p s (odt_bytes pages o)) (packets_from pages (p + 1) odts), length-append (stamped_packet q t (odt_bytes pages o)) (packets_from pages (q + 1) odts), same_stamped_packet p q s t (odt_bytes pages o), same_packets pages (p + 1) (q + 1) odts)
+
+-- a list without a time stamp gives the packets of its ODTs
+pub unstamped : (pages : PagesValue) (p : ℕ) (odts : List (List (Option Element))) → stamped_packets pages p [] odts ≡ packets_from pages p odts
+unstamped pages p [] = refl
+unstamped pages p (o ∷ odts) = refl
+
+-- and as many with one
+pub stamped_count : (pages : PagesValue) (p q : ℕ) (s : List ℕ) (odts : List (List (Option Element))) → length (packets_from pages p odts) ≡ length (stamped_packets pages q s odts)
+stamped_count pages p q s odts = ap length (sym (unstamped pages p odts)) ∙ same_stamped pages p q [] s odts
+
+-- no bytes give no packet, and some give one
+pub no_stamped : (pid : ℕ) (stamp bytes : List ℕ) → length bytes ≡ 0 → stamped_packet pid stamp bytes ≡ []
+no_stamped pid stamp [] h = refl
+no_stamped pid stamp (b ∷ bytes) h = absurd (omega arith)
+
+pub some_stamped : (pid : ℕ) (stamp bytes : List ℕ) → 0 < length bytes → stamped_packet pid stamp bytes ≡ record { items = pid ∷ (stamp ++ bytes) } ∷ []
+some_stamped pid stamp [] h = absurd (omega arith)
+some_stamped pid stamp (b ∷ bytes) h = refl
+
 -- how many packets one ODT and those behind it give
 pub count_step : (pages : PagesValue) (ns : List ℕ) (es : List (Option Element)) (j at : ℕ) → j < length ns → length (packets_from pages 0 (parts (drop j ns) (drop at es))) ≡ length (packet_of 0 (odt_bytes pages (take (get_or ns j 0) (drop at es)))) + length (packets_from pages 0 (parts (drop (j + 1) ns) (drop (at + get_or ns j 0) es)))
 count_step pages ns es j at h =
@@ -81,3 +108,8 @@ packets_step pages out out' all ns es first j at h e f =
     ∙ ap (λ n. out ++ (packet ++ packets_from pages n rest)) (omega arith)
     ∙ ap (λ (odts : List (List (Option Element))). out ++ packets_from pages (first + j) odts) (sym (parts_step ns es j at h))
     ∙ e
+
+-- what holds of all ODTs holds of those behind the first
+pub rest_all : (P : List (Option Element) → Type 0) (ns : List ℕ) (es : List (Option Element)) → 0 < length ns → All P (parts ns es) → All P (parts (drop 1 ns) (drop (get_or ns 0 0) es))
+rest_all P [] es some h = absurd (omega arith)
+rest_all P (n ∷ ns) es some h = λ k d below. h (suc k) d (omega arith)

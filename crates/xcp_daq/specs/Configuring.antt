@@ -1,15 +1,17 @@
 -- The commands that write and read what a list samples, and when.
 -- (ASAM MCD-1 XCP, protocol layer, description of commands: CLEAR_DAQ_LIST, SET_DAQ_PTR, WRITE_DAQ, READ_DAQ,
 -- SET_DAQ_LIST_MODE.)
-use Rattle.std.specs.Prelude.{ℕ, ◌+◌, ◌==◌, not, ◌&&◌, nat_le, nat_lt, Bool, true, false, List, [], ◌∷◌, length, map, Option, Some, None, if◌then◌else◌, slice_index_or as get_or, slice_set}
+use Rattle.std.specs.Prelude.{ℕ, ◌+◌, ◌==◌, not, ◌&&◌, ◌||◌, nat_le, nat_lt, Bool, true, false, List, [], ◌∷◌, length, map, Option, Some, None, if◌then◌else◌, slice_index_or as get_or, slice_set}
 use Rattle.xcp_packet.specs.declared.Code.{Code}
 use Rattle.xcp_packet.specs.declared.Code.TheVariants.{OutOfRange, DaqActive, DaqConfig, AccessDenied, ModeNotValid}
+use Rattle.xcp_packet.specs.declared.Stamp.{Stamp}
+use Rattle.xcp_packet.specs.declared.Stamp.TheVariants.{Without}
 use Rattle.xcp_memory.specs.Layout.{LayoutValue}
 use Rattle.xcp_memory.specs.ComputedAccess.{lies_inside}
 use Rattle.xcp_packet.specs.Rows.{first_holding}
 use Rattle.xcp_daq.specs.declared.element.Element.{Element}
 use Rattle.xcp_daq.specs.declared.pointer.Pointer.{Pointer}
-use Rattle.xcp_daq.specs.DaqLists.{DaqValue, DaqList, list_at, odt_at, lacks_list, lacks_odt, lacks_entry, greatest_size, with_list, with_odt}
+use Rattle.xcp_daq.specs.DaqLists.{DaqValue, DaqList, list_at, odt_at, lacks_list, lacks_odt, lacks_entry, greatest_size, has_stamp, with_list, with_odt}
 
 -- when CLEAR_DAQ_LIST is refused
 abbrev pub clear_daq_list_refusal : ℕ → DaqValue → Option Code
@@ -99,11 +101,19 @@ moved_by (Some p) v = record v { pointer = moved_on v p }
 abbrev pub read_daq_after : DaqValue → DaqValue
 read_daq_after v = moved_by v.pointer v
 
+-- whether this is a mode of lists: no bit is set, or bit 4 alone, with time stamps, where the layout has a clock
+abbrev pub is_mode : LayoutValue → ℕ → Bool
+is_mode layout mode = (mode == 0) || ((mode == 0x10) && has_stamp layout.clock.stamp)
+
+-- the time stamp that a mode asks for
+abbrev pub stamp_asked : LayoutValue → ℕ → Stamp
+stamp_asked layout mode = if mode == 0 then Without else layout.clock.stamp
+
 -- when SET_DAQ_LIST_MODE is refused: the event channel has to be one of the layout's
 abbrev pub set_daq_list_mode_refusal : LayoutValue → ℕ → ℕ → ℕ → ℕ → DaqValue → Option Code
 set_daq_list_mode_refusal layout mode list event prescaler v =
     first_holding (
-    (not (mode == 0), ModeNotValid)
+    (not (is_mode layout mode), ModeNotValid)
     ∷ (lacks_list v list, OutOfRange)
     ∷ ((list_at v list).running, DaqActive)
     ∷ (nat_le (length layout.events) event, OutOfRange)
@@ -111,6 +121,6 @@ set_daq_list_mode_refusal layout mode list event prescaler v =
     ∷ [])
 
 -- what SET_DAQ_LIST_MODE does
-abbrev pub set_daq_list_mode_after : ℕ → ℕ → ℕ → ℕ → DaqValue → DaqValue
-set_daq_list_mode_after list event prescaler priority v =
-    with_list v list (record (list_at v list) { event = event; prescaler = prescaler; priority = priority })
+abbrev pub set_daq_list_mode_after : LayoutValue → ℕ → ℕ → ℕ → ℕ → ℕ → DaqValue → DaqValue
+set_daq_list_mode_after layout mode list event prescaler priority v =
+    with_list v list (record (list_at v list) { event = event; prescaler = prescaler; priority = priority; stamp = stamp_asked layout mode })

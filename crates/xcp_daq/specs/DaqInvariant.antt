@@ -1,13 +1,20 @@
 -- What is true of the acquisition lists at any time.
-use Rattle.std.specs.Prelude.{◌≡◌, ◌^◌, ◌<◌, ◌≤◌, true, false, length, Option, Some, None, All}
+use Rattle.std.specs.Prelude.{◌≡◌, ◌^◌, ◌+◌, ◌<◌, ◌≤◌, List, true, false, length, Option, Some, None, All}
+use Rattle.xcp_packet.specs.declared.Stamp.{Stamp}
+use Rattle.xcp_packet.specs.TimeStamps.{stamp_size}
 use Rattle.xcp_daq.specs.declared.element.Element.{Element}
 use Rattle.xcp_daq.specs.declared.pointer.Pointer.{Pointer}
-use Rattle.xcp_daq.specs.DaqLists.{DaqValue, DaqList, list_at, odt_at, all_odts, all_entries, odt_size}
+use Rattle.xcp_daq.specs.DaqLists.{DaqValue, DaqList, list_at, odt_at, all_odts, all_entries, odt_size, first_size}
 
 -- a written entry has 1 to 254 bytes, and an address of four bytes
 abbrev pub IsEntry : Option Element → Type 0
 IsEntry None = Unit {0}
 IsEntry (Some e) = (1 ≤ e.size) × (e.size ≤ 254) × (e.address < 2 ^ 32)
+
+-- each ODT has room in a data packet, the first one behind the time stamp
+pub record FitsPackets (stamp : Stamp) (odts : List (List (Option Element))) : Type 0 where
+  pub each : All (λ odt. odt_size odt ≤ 254) odts
+  pub first : stamp_size stamp + first_size odts ≤ 254
 
 -- the numbers of a list are within their words and bytes; it has a prescaler, and counts below it, from 0 while it
 -- is stopped; while it runs, each of its ODTs has room in a data packet
@@ -18,7 +25,7 @@ pub record IsList (l : DaqList) : Type 0 where
   pub priority : l.priority ≤ 255
   pub since : l.since < l.prescaler
   pub still : l.running ≡ false → l.since ≡ 0
-  pub fits : l.running ≡ true → All (λ odt. odt_size odt ≤ 254) l.odts
+  pub fits : l.running ≡ true → FitsPackets l.stamp l.odts
 
 -- the pointer names an entry that there is
 pub record IsPointer (v : DaqValue) (p : Pointer) : Type 0 where

@@ -1,15 +1,18 @@
 -- The acquisition lists: a tree of DAQ lists, their ODTs, and the ODTs' entries.
 -- (ASAM MCD-1 XCP, protocol layer: DAQ lists and ODTs; dynamic DAQ configuration.)
-use Rattle.std.specs.Prelude.{ℕ, ◌-◌, Bool, false, List, [], length, take, Option, Some, None, nat_le, nat_lt, slice_index_or as get_or, slice_set, sum_by}
+use Rattle.std.specs.Prelude.{ℕ, ◌+◌, ◌-◌, Bool, false, ◌||◌, List, [], ◌∷◌, length, take, Option, Some, None, nat_le, nat_lt, slice_index_or as get_or, slice_set, sum_by}
 use Rattle.std.specs.List.{flat_map, list_any}
+use Rattle.xcp_packet.specs.declared.Stamp.{Stamp}
+use Rattle.xcp_packet.specs.declared.Stamp.TheVariants.{Without}
+use Rattle.xcp_packet.specs.TimeStamps.{stamp_size}
 use Rattle.xcp_memory.specs.Layout.{LayoutValue}
 use Rattle.xcp_daq.specs.declared.element.Element.{Element}
 use Rattle.xcp_daq.specs.declared.pointer.Pointer.{Pointer}
 use Rattle.xcp_daq.specs.declared.allocation.Allocation.{Allocation}
 
 -- A DAQ list: its event channel, prescaler and priority, whether it runs and whether it is selected, the events
--- of its channel since its start modulo its prescaler (0 while it is stopped), and its ODTs, each a list of
--- entries: an entry is an element, or None while it is unwritten.
+-- of its channel since its start modulo its prescaler (0 while it is stopped), the time stamp of its samples, and its
+-- ODTs, each a list of entries: an entry is an element, or None while it is unwritten.
 -- (Protocol layer, description of commands: SET_DAQ_LIST_MODE, START_STOP_DAQ_LIST, WRITE_DAQ.)
 pub record DaqList : Type 0 where
   pub event : ℕ
@@ -18,6 +21,7 @@ pub record DaqList : Type 0 where
   pub running : Bool
   pub selected : Bool
   pub since : ℕ
+  pub stamp : Stamp
   pub odts : List (List (Option Element))
 
 -- The lists, the DAQ pointer, and the last allocating command since the session began.
@@ -31,9 +35,9 @@ pub record DaqValue : Type 0 where
 abbrev pub opening_daq : DaqValue
 opening_daq = record { lists = []; pointer = None; last = None }
 
--- a new list: event channel 0, prescaler 1, priority 0, stopped, unselected, with no ODT
+-- a new list: event channel 0, prescaler 1, priority 0, stopped, unselected, with no time stamp and no ODT
 abbrev pub no_list : DaqList
-no_list = record { event = 0; prescaler = 1; priority = 0; running = false; selected = false; since = 0; odts = [] }
+no_list = record { event = 0; prescaler = 1; priority = 0; running = false; selected = false; since = 0; stamp = Without; odts = [] }
 
 -- list i
 abbrev pub list_at : DaqValue → ℕ → DaqList
@@ -89,9 +93,22 @@ greatest_size layout = layout.max_dto - 1
 abbrev pub any_large : ℕ → List (List (Option Element)) → Bool
 any_large greatest odts = list_any (λ odt. nat_lt greatest (odt_size odt)) odts
 
+-- whether samples of a list have this time stamp
+abbrev pub has_stamp : Stamp → Bool
+has_stamp stamp = nat_lt 0 (stamp_size stamp)
+
+-- the size of the first ODT
+abbrev pub first_size : List (List (Option Element)) → ℕ
+first_size [] = 0
+first_size (odt ∷ odts) = odt_size odt
+
+-- whether an ODT of the list has more bytes than that, or the first one has with the time stamp that stands before its bytes
+abbrev pub is_large : ℕ → DaqList → Bool
+is_large greatest l = any_large greatest l.odts || nat_lt greatest (stamp_size l.stamp + first_size l.odts)
+
 -- whether an ODT of the list has more bytes than a data packet holds
 abbrev pub has_large_odt : LayoutValue → DaqList → Bool
-has_large_odt layout l = any_large (greatest_size layout) l.odts
+has_large_odt layout l = is_large (greatest_size layout) l
 
 -- v with another list i
 abbrev pub with_list : DaqValue → ℕ → DaqList → DaqValue

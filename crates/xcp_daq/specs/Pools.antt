@@ -16,7 +16,7 @@ joined parts = flat_map (λ part. part) parts
 
 -- a list of its mode and its ODTs
 abbrev pub list_of : Mode → List (List (Option Element)) → DaqList
-list_of m odts = record { event = m.event; prescaler = m.prescaler; priority = m.priority; running = m.running; selected = m.selected; since = m.since; odts = odts }
+list_of m odts = record { event = m.event; prescaler = m.prescaler; priority = m.priority; running = m.running; selected = m.selected; since = m.since; stamp = m.stamp; odts = odts }
 
 -- the lists of their modes and their ODTs, one by one
 abbrev pub lists_of : List Mode → List (List (List (Option Element))) → List DaqList

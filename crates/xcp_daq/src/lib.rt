@@ -19,5 +19,5 @@ pub use allocation::Allocation;
 pub use daq::Daq;
 pub use element::Element;
 pub use pointer::Pointer;
-pub use reports::{EventInfo, ListMode, ProcessorInfo};
+pub use reports::{EventInfo, ListMode, ProcessorInfo, ResolutionInfo};
 pub use sample_laws::samples_are_bounded;

@@ -11,6 +11,8 @@ bitflag_items! {
     impl ListFlags: u8 {
         /// The list is selected.
         const SELECTED = 0x01;
+        /// Its samples have a time stamp.
+        const TIMESTAMP = 0x10;
         /// The list runs.
         const RUNNING = 0x40;
     }
@@ -21,7 +23,7 @@ impl Flags for ListFlags {
 
     ghost exact = { ⊤ };
 
-    ghost table = { (codes "SELECTED", 0x01) ∷ (codes "RUNNING", 0x40) ∷ [] };
+    ghost table = { (codes "SELECTED", 0x01) ∷ (codes "TIMESTAMP", 0x10) ∷ (codes "RUNNING", 0x40) ∷ [] };
 
     ghost set_of = { λ s. s.0 };
 
@@ -39,13 +41,16 @@ impl Flags for ListFlags {
 }
 
 impl ListFlags {
-    /// The bits of a list that is selected, that runs.
-    pub(crate) fn bits_of(selected: bool, running: bool) -> u8
-        ensures { result ≡ (if selected then 0x01 else 0) + (if running then 0x40 else 0) }
+    /// The bits of a list that is selected, that has time stamps, that runs.
+    pub(crate) fn bits_of(selected: bool, stamped: bool, running: bool) -> u8
+        ensures { result ≡ (if selected then 0x01 else 0) + (if stamped then 0x10 else 0) + (if running then 0x40 else 0) }
     {
         let mut flags = ListFlags(0);
         if selected {
             flags.insert(ListFlags::SELECTED);
+        }
+        if stamped {
+            flags.insert(ListFlags::TIMESTAMP);
         }
         if running {
             flags.insert(ListFlags::RUNNING);

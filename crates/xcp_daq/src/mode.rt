@@ -1,8 +1,10 @@
 //! The mode of a list: all but its ODTs.
 ghost use Rattle.std.specs.Prelude.{◌≡◌, ◌==◌, ◌&&◌, true, false};
 
+use xcp_packet::Stamp;
+
 /// The mode of a DAQ list: its event channel, prescaler and priority, whether it is selected, and whether and for how
-/// many events, modulo the prescaler, it runs.
+/// many events, modulo the prescaler, it runs, and the time stamp of its samples.
 #[derive(Clone, Copy, Debug, PartialEq, Eq, Default)]
 pub(crate) struct Mode {
     pub(crate) event: u16,
@@ -11,6 +13,7 @@ pub(crate) struct Mode {
     pub(crate) running: bool,
     pub(crate) selected: bool,
     pub(crate) since: u8,
+    pub(crate) stamp: Stamp,
 }
 
 /// The mode of a new list.
@@ -21,6 +24,7 @@ pub(crate) const NEW_LIST: Mode = Mode {
     running: false,
     selected: false,
     since: 0,
+    stamp: Stamp::Without,
 };
 
 impl Mode {

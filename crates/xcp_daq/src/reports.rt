@@ -5,7 +5,7 @@
 /// ASAM MCD-1 XCP, protocol layer, description of commands: GET_DAQ_LIST_MODE.
 #[derive(Clone, Copy, Debug, PartialEq, Eq)]
 pub struct ListMode {
-    /// Bit 0: the list is selected; bit 6: it runs.
+    /// Bit 0: the list is selected; bit 4: its samples have a time stamp; bit 6: it runs.
     pub mode: u8,
     /// The number of the event channel.
     pub event: u16,
@@ -20,10 +20,25 @@ pub struct ListMode {
 /// ASAM MCD-1 XCP, protocol layer, description of commands: GET_DAQ_PROCESSOR_INFO.
 #[derive(Clone, Copy, Debug, PartialEq, Eq)]
 pub struct ProcessorInfo {
+    /// DAQ_PROPERTIES: 03, or 13 where lists may have time stamps.
+    pub properties: u8,
     /// How many DAQ lists there are: up to 16.
     pub lists: u16,
     /// How many event channels there are: 1 to 8.
     pub events: u16,
+}
+
+/// What GET_DAQ_RESOLUTION_INFO is told.
+///
+/// ASAM MCD-1 XCP, protocol layer, description of commands: GET_DAQ_RESOLUTION_INFO.
+#[derive(Clone, Copy, Debug, PartialEq, Eq)]
+pub struct ResolutionInfo {
+    /// How many bytes an ODT entry has at most: MAX_DTO - 1.
+    pub greatest: u8,
+    /// TIMESTAMP_MODE: how many bytes a time stamp has, and from bit 4 on the unit of time; 0 without a clock.
+    pub mode: u8,
+    /// TIMESTAMP_TICKS: how many units a tick has; 0 without a clock.
+    pub ticks: u16,
 }
 
 /// What GET_DAQ_EVENT_INFO is told of an event channel.

@@ -2,7 +2,7 @@
 use Rattle.std.specs.Prelude.{ℕ, List, [], ◌++◌, codes}
 use Rattle.std.specs.Fmt.{decimal}
 use Rattle.xcp_memory.specs.declared.Key.{Key}
-use Rattle.xcp_memory.specs.declared.Key.TheVariants.{Id, MaxCto, MaxDto, ByteOrder, Checksum, Segment, Address, Data, Pages, Signals, SignalsAddress, SignalsLength, Event, Name, Cycle, Unit, Priority}
+use Rattle.xcp_memory.specs.declared.Key.TheVariants.{Id, MaxCto, MaxDto, ByteOrder, Checksum, Clock, ClockSize, ClockUnit, ClockTicks, Segment, Address, Data, Pages, Signals, SignalsAddress, SignalsLength, Event, Name, Cycle, Unit, Priority}
 use Rattle.xcp_memory.specs.declared.Area.{Area}
 use Rattle.xcp_memory.specs.declared.Area.TheVariants as area
 use Rattle.xcp_config.specs.declared.config_error.ConfigError.{ConfigError}
@@ -18,6 +18,9 @@ place_of_key (Data n) = member_text (codes "segment") n
 place_of_key (Pages n) = member_text (codes "segment") n
 place_of_key SignalsAddress = codes "signals: "
 place_of_key SignalsLength = codes "signals: "
+place_of_key ClockSize = codes "clock: "
+place_of_key ClockUnit = codes "clock: "
+place_of_key ClockTicks = codes "clock: "
 place_of_key (Name n) = member_text (codes "event") n
 place_of_key (Cycle n) = member_text (codes "event") n
 place_of_key (Unit n) = member_text (codes "event") n
@@ -31,6 +34,10 @@ name_of_key MaxCto = codes "max_cto"
 name_of_key MaxDto = codes "max_dto"
 name_of_key ByteOrder = codes "byte_order"
 name_of_key Checksum = codes "checksum"
+name_of_key Clock = codes "clock"
+name_of_key ClockSize = codes "size"
+name_of_key ClockUnit = codes "unit"
+name_of_key ClockTicks = codes "ticks"
 name_of_key Segment = codes "segment"
 name_of_key (Address n) = codes "address"
 name_of_key (Data n) = codes "data"
@@ -54,6 +61,7 @@ type_of_key (Name n) = codes "a text"
 type_of_key Segment = codes "an array of tables"
 type_of_key Event = codes "an array of tables"
 type_of_key Signals = codes "a table"
+type_of_key Clock = codes "a table"
 type_of_key _ = codes "an integer"
 
 -- what it has to be besides
@@ -63,6 +71,10 @@ range_of_key MaxCto = codes ", 8 to 255"
 range_of_key MaxDto = codes ", 8 to 255"
 range_of_key ByteOrder = codes ": intel or motorola"
 range_of_key Checksum = codes ": ADD_11, ADD_12, ADD_14, ADD_22, ADD_24 or ADD_44"
+range_of_key Clock = []
+range_of_key ClockSize = codes ": 1, 2 or 4"
+range_of_key ClockUnit = codes ", 0 to 12"
+range_of_key ClockTicks = codes ", 1 to 65535"
 range_of_key Segment = codes ", one at least"
 range_of_key (Address n) = codes ", 0 to 0xFFFFFFFE, and so has its last address"
 range_of_key (Data n) = codes " of hex digits, two for a byte, and one byte at least"

@@ -6,6 +6,7 @@ pub mod FindingsText
 pub mod Hosts
 pub mod Places
 pub mod RefusalWords
+pub mod TimeStampText
 pub mod UnreadKeys
 pub mod Findings
 pub mod private

@@ -1,5 +1,5 @@
--- The keys of a layout file that nothing reads, each with its place. `crates/xcp_config/specs/TableChecks.antt` reads those of the document, of its segments,
--- of its signals and of its event channels; a description reads those of its parameters and measurements.
+-- The keys of a layout file that nothing reads, each with its place. `crates/xcp_config/specs/TableChecks.antt` reads those of the document, of its clock,
+-- of its segments, of its signals and of its event channels; a description reads those of its parameters and measurements.
 use Rattle.std.specs.Prelude.{ℕ, Bool, not, List, [], ◌∷◌, ◌++◌, map, filter, codes, Option, Some, None, unwrap_or, if◌then◌else◌}
 use Rattle.std.specs.Option.{option_and_then}
 use Rattle.std.specs.List.{list_any, flat_map, enumerate_from}
@@ -10,9 +10,12 @@ use Rattle.xcp_describe.specs.Places.{Place, no_table, table_named, member_of, P
 
 -- the keys that are read outside of the tables
 abbrev pub top_keys : List (List ℕ)
-top_keys = codes "id" ∷ codes "max_cto" ∷ codes "max_dto" ∷ codes "byte_order" ∷ codes "checksum" ∷ codes "segment" ∷ codes "signals" ∷ codes "event" ∷ codes "parameter" ∷ codes "measurement" ∷ []
+top_keys = codes "id" ∷ codes "max_cto" ∷ codes "max_dto" ∷ codes "byte_order" ∷ codes "checksum" ∷ codes "clock" ∷ codes "segment" ∷ codes "signals" ∷ codes "event" ∷ codes "parameter" ∷ codes "measurement" ∷ []
 
--- those of a segment, of the signals and of an event channel
+-- those of the clock, of a segment, of the signals and of an event channel
+abbrev pub clock_keys : List (List ℕ)
+clock_keys = codes "size" ∷ codes "unit" ∷ codes "ticks" ∷ []
+
 abbrev pub segment_keys : List (List ℕ)
 segment_keys = codes "address" ∷ codes "data" ∷ codes "pages" ∷ []
 
@@ -52,16 +55,17 @@ unread_member name known (i, d) = unread_of (member_of name i) known d
 abbrev pub unread_each : List ℕ → List (List ℕ) → Data → List PlacedKey
 unread_each name known t = flat_map (unread_member name known) (enumerate_from 0 (members_of (get name t)))
 
--- of the table `signals`
-abbrev pub unread_signals : Data → List PlacedKey
-unread_signals t = unread_of (table_named (codes "signals")) signals_keys (unwrap_or (get (codes "signals") t) (table no_members))
+-- of the table of a name, if it is there
+abbrev pub unread_named : List ℕ → List (List ℕ) → Data → List PlacedKey
+unread_named name known t = unread_of (table_named name) known (unwrap_or (get name t) (table no_members))
 
 -- all of a document
 abbrev pub unread_keys : Data → List PlacedKey
 unread_keys t =
     unread_of no_table top_keys t
+    ++ unread_named (codes "clock") clock_keys t
     ++ unread_each (codes "segment") segment_keys t
-    ++ unread_signals t
+    ++ unread_named (codes "signals") signals_keys t
     ++ unread_each (codes "event") event_keys t
     ++ unread_each (codes "parameter") parameter_keys t
     ++ unread_each (codes "measurement") measurement_keys t

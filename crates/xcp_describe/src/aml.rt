@@ -1,8 +1,18 @@
 //! The grammar of the IF_DATA blocks.
+use std::alloc::AllocError;
 
-/// The block A2ML, by which a tool reads the IF_DATA blocks of this description: of the standard's grammar what these have.
+/// Appends the block A2ML, by which a tool reads the IF_DATA blocks of this description: of the standard's grammar what these have.
 /// ASAM MCD-1 XCP, interface specification.
-pub(crate) const AML: &str = r#"
+pub(crate) fn put_grammar(has_time_stamps: bool, text: &mut String) -> Result<(), AllocError> {
+    text.push_str(FRONT)?;
+    if has_time_stamps {
+        text.push_str(TIME_STAMPS)?;
+    }
+    text.push_str(BACK)
+}
+
+/// The block up to the place in the block DAQ where time stamps stand.
+const FRONT: &str = r#"
     /begin A2ML
       taggedstruct Common_Parameters {
         block "PROTOCOL_LAYER" struct {
@@ -169,7 +179,37 @@ pub(crate) const AML: &str = r#"
           };
           taggedstruct {
             "PRESCALER_SUPPORTED";
-            (block "EVENT" struct {
+"#;
+
+/// What the block DAQ may have of time stamps.
+const TIME_STAMPS: &str = r#"            block "TIMESTAMP_SUPPORTED" struct {
+              uint;  /* ticks */
+              enum {
+                "NO_TIME_STAMP" = 0,
+                "SIZE_BYTE" = 1,
+                "SIZE_WORD" = 2,
+                "SIZE_DWORD" = 4
+              };
+              enum {
+                "UNIT_1NS" = 0,
+                "UNIT_10NS" = 1,
+                "UNIT_100NS" = 2,
+                "UNIT_1US" = 3,
+                "UNIT_10US" = 4,
+                "UNIT_100US" = 5,
+                "UNIT_1MS" = 6,
+                "UNIT_10MS" = 7,
+                "UNIT_100MS" = 8,
+                "UNIT_1S" = 9,
+                "UNIT_1PS" = 10,
+                "UNIT_10PS" = 11,
+                "UNIT_100PS" = 12
+              };
+            };
+"#;
+
+/// The rest of the block.
+const BACK: &str = r#"            (block "EVENT" struct {
               char[101];  /* name */
               char[9];  /* short name */
               uint;  /* number */

@@ -1,5 +1,6 @@
 //! Data acquisition: the lists, their entries, and the event channels.
 use crate::asking::Asked;
+use crate::clock::Clock;
 use crate::text::put_quoted;
 use std::alloc::AllocError;
 use xcp_packet::Command;
@@ -22,6 +23,7 @@ pub(crate) struct Daq {
     key: u8,
     granularity: u8,
     greatest: u8,
+    clock: Clock,
 }
 
 impl Daq {
@@ -30,6 +32,7 @@ impl Daq {
         allocate_all(asked);
         let processor = asked.ask(&Command::GetDaqProcessorInfo);
         let resolution = asked.ask(&Command::GetDaqResolutionInfo);
+        let clock = Clock::ask(asked);
         asked.ask(&Command::FreeDaq);
         Daq {
             properties: processor.byte(1),
@@ -39,6 +42,7 @@ impl Daq {
             key: processor.byte(7),
             granularity: resolution.byte(1),
             greatest: resolution.byte(2),
+            clock,
         }
     }
 
@@ -107,6 +111,7 @@ impl Daq {
         writeln!(text, "        {} /* MAX_EVENT_CHANNEL */", self.channels)?;
         writeln!(text, "        {} /* MIN_DAQ */", self.predefined)?;
         self.put_kinds(text)?;
+        self.clock.put(text)?;
         for channel in 0..self.channels {
             put_channel(asked, channel, text)?;
         }

@@ -11,8 +11,9 @@ ghost use Rattle.xcp_describe.specs.Findings.{IsEntry};
 ghost use Rattle.xcp_describe.specs.Hosts.{IsHost};
 ghost use Rattle.xcp_describe.specs.private.Refusals.{IsEntryOrMemory};
 
-use crate::aml::AML;
+use crate::aml::put_grammar;
 use crate::asking::Asked;
+use crate::clock::Clock;
 use crate::daq::Daq;
 use crate::host::is_host;
 use crate::memory::Paging;
@@ -137,7 +138,7 @@ fn put_module(
     put_quoted(text, id.as_slice(), id.len())?;
     text.push_str("\n  /begin MODULE slave ")?;
     put_quoted(text, id.as_slice(), id.len())?;
-    text.push_str(AML)?;
+    put_grammar(Clock::ask(asked).has_time_stamps(), text)?;
     put_common(&protocol, text)?;
     put_memory(asked, signals, text)?;
     put_interface(asked, &protocol, host, port, text)

@@ -7,6 +7,7 @@
 mod aml;
 mod asking;
 mod checking;
+mod clock;
 mod commands;
 mod daq;
 mod describing;

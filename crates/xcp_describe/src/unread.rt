@@ -5,7 +5,7 @@ ghost use Rattle.toml.specs.Data.{get};
 ghost use Rattle.toml.specs.View.{table_view, view};
 ghost use Rattle.xcp_config.specs.TomlValues.{members_of};
 ghost use Rattle.xcp_describe.specs.FindingsText.{unread_line};
-ghost use Rattle.xcp_describe.specs.UnreadKeys.{is_among, unread_each, unread_keys, unread_member, unread_members, unread_of, unread_signals};
+ghost use Rattle.xcp_describe.specs.UnreadKeys.{is_among, unread_each, unread_keys, unread_member, unread_members, unread_named, unread_of};
 ghost use Rattle.xcp_describe.specs.private.TableKeys.{keys_of, place_of, placed};
 
 use crate::key_text::put_key;
@@ -14,18 +14,22 @@ use std::alloc::{AllocError, Global};
 use toml::{Table, Value};
 
 /// The keys of a layout file, outside its tables.
-const TOP_KEYS: [&str; 10] = [
+const TOP_KEYS: [&str; 11] = [
     "id",
     "max_cto",
     "max_dto",
     "byte_order",
     "checksum",
+    "clock",
     "segment",
     "signals",
     "event",
     "parameter",
     "measurement",
 ];
+
+/// Those of the clock.
+const CLOCK_KEYS: [&str; 3] = ["size", "unit", "ticks"];
 
 /// Those of a segment.
 const SEGMENT_KEYS: [&str; 3] = ["address", "data", "pages"];
@@ -151,12 +155,17 @@ fn gather_each<'a>(
     gather_members(members_in(document, name), name, known, found)
 }
 
-/// Adds those of the table `signals`.
-fn gather_signals<'a>(document: &'a Value, found: &mut Vec<Unread<'a>>) -> Result<(), AllocError>
-    ensures { IfOk result (λ _. keys_of found.new.items ≡ keys_of found.old.items ++ unread_signals (view document.now)) }
+/// Adds those of the table with this name, if it is there.
+fn gather_table<'a>(
+    document: &'a Value,
+    name: &'static str,
+    known: &[&str],
+    found: &mut Vec<Unread<'a>>,
+) -> Result<(), AllocError>
+    ensures { IfOk result (λ _. keys_of found.new.items ≡ keys_of found.old.items ++ unread_named name.now (map (λ k. k.now) known.now) (view document.now)) }
 {
-    match document.get("signals") {
-        Some(signals) => gather(signals, Place::Table("signals"), &SIGNALS_KEYS, found),
+    match document.get(name) {
+        Some(table) => gather(table, Place::Table(name), known, found),
         None => Ok(()),
     }
 }
@@ -170,8 +179,9 @@ pub(crate) fn unread_in<'a>(
 {
     let mut found = Vec::new(alloc);
     gather(document, Place::Top, &TOP_KEYS, &mut found)?;
+    gather_table(document, "clock", &CLOCK_KEYS, &mut found)?;
     gather_each(document, "segment", &SEGMENT_KEYS, &mut found)?;
-    gather_signals(document, &mut found)?;
+    gather_table(document, "signals", &SIGNALS_KEYS, &mut found)?;
     gather_each(document, "event", &EVENT_KEYS, &mut found)?;
     gather_each(document, "parameter", &PARAMETER_KEYS, &mut found)?;
     gather_each(document, "measurement", &MEASUREMENT_KEYS, &mut found)?;

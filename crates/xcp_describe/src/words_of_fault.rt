@@ -74,6 +74,7 @@ fn place_of(key: Key) -> Place
             Place::Member("segment", usize::from(number))
         }
         Key::SignalsAddress | Key::SignalsLength => Place::Table("signals"),
+        Key::ClockSize | Key::ClockUnit | Key::ClockTicks => Place::Table("clock"),
         Key::Name(number) | Key::Cycle(number) | Key::Unit(number) | Key::Priority(number) => {
             Place::Member("event", usize::from(number))
         }
@@ -91,6 +92,9 @@ fn name_of(key: Key) -> &'static str
         Key::MaxDto => "max_dto",
         Key::ByteOrder => "byte_order",
         Key::Checksum => "checksum",
+        Key::Clock => "clock",
+        Key::ClockSize => "size",
+        Key::ClockTicks => "ticks",
         Key::Segment => "segment",
         Key::Address(_) | Key::SignalsAddress => "address",
         Key::Data(_) => "data",
@@ -100,7 +104,7 @@ fn name_of(key: Key) -> &'static str
         Key::Event => "event",
         Key::Name(_) => "name",
         Key::Cycle(_) => "cycle",
-        Key::Unit(_) => "unit",
+        Key::Unit(_) | Key::ClockUnit => "unit",
         Key::Priority(_) => "priority",
     }
 }
@@ -112,7 +116,7 @@ fn kind_of(key: Key) -> &'static str
     match key {
         Key::Id | Key::ByteOrder | Key::Checksum | Key::Data(_) | Key::Name(_) => "a text",
         Key::Segment | Key::Event => "an array of tables",
-        Key::Signals => "a table",
+        Key::Signals | Key::Clock => "a table",
         _ => "an integer",
     }
 }
@@ -126,6 +130,9 @@ fn range_of(key: Key) -> &'static str
         Key::MaxCto | Key::MaxDto => ", 8 to 255",
         Key::ByteOrder => ": intel or motorola",
         Key::Checksum => ": ADD_11, ADD_12, ADD_14, ADD_22, ADD_24 or ADD_44",
+        Key::ClockSize => ": 1, 2 or 4",
+        Key::ClockUnit => ", 0 to 12",
+        Key::ClockTicks => ", 1 to 65535",
         Key::Segment | Key::Event => ", one at least",
         Key::Address(_) | Key::SignalsAddress => ", 0 to 0xFFFFFFFE, and so has its last address",
         Key::Data(_) => " of hex digits, two for a byte, and one byte at least",
@@ -133,7 +140,7 @@ fn range_of(key: Key) -> &'static str
         Key::SignalsLength => ", 1 to 64",
         Key::Name(_) => " of 1 to 32 printable ASCII characters",
         Key::Cycle(_) | Key::Unit(_) | Key::Priority(_) => ", 0 to 255",
-        Key::Signals => "",
+        Key::Signals | Key::Clock => "",
     }
 }
 

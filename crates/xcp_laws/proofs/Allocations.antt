@@ -5,6 +5,7 @@ use Rattle.std.proofs.lemmas.Bool.Decides.{nat_tests}
 use Rattle.std.proofs.lemmas.List.{get_or_append_left, get_or-append_right, get_or_past, get_or-replicate, get_or-set_other, get_or-set_same, length-replicate, length-set}
 use Rattle.xcp_packet.specs.declared.Code.TheVariants.{DaqActive, MemoryOverflow, OutOfRange, Sequence}
 use Rattle.xcp_packet.specs.declared.Command.TheVariants as commands
+use Rattle.xcp_packet.specs.declared.Stamp.TheVariants.{Without}
 use Rattle.xcp_daq.specs.AllocationSequence.{may_follow}
 use Rattle.xcp_daq.specs.DaqLists.{DaqList, all_entries, all_odts, any_running, lacks_list, lacks_odt, list_at, no_list}
 use Rattle.xcp_daq.specs.declared.Allocation.{Allocation}
@@ -51,7 +52,7 @@ lists-kept v w count i bytes h below =
     ap (λ (xs : List DaqList). get_or xs i no_list) (lists-after v w count bytes h)
     ∙ get_or_append_left v.daq.lists (replicate count no_list) no_list i below
 
-pub lists-new : (v w : SlaveValue) (count i : ℕ) (bytes : List ℕ) → Accepts v (commands.AllocDaq count) bytes w → length v.daq.lists ≤ i → list_at w.daq i ≡ record { event = 0; prescaler = 1; priority = 0; running = false; selected = false; since = 0; odts = [] }
+pub lists-new : (v w : SlaveValue) (count i : ℕ) (bytes : List ℕ) → Accepts v (commands.AllocDaq count) bytes w → length v.daq.lists ≤ i → list_at w.daq i ≡ record { event = 0; prescaler = 1; priority = 0; running = false; selected = false; since = 0; stamp = Without; odts = [] }
 lists-new v w count i bytes h past =
     ap (λ (xs : List DaqList). get_or xs i no_list) (lists-after v w count bytes h)
     ∙ added-new v.daq.lists count i no_list past

@@ -45,5 +45,6 @@ pub selection-kept : (v : SlaveValue) (q : Request) (a : Answer) (w : SlaveValue
 selection-kept v (requests.Command p) a w i b k = same-selected w.daq v.daq i (lists-kept v (requests.Command p) a w b tt (λ e. cc) k)
 selection-kept v (requests.Event channel signals) a w i b k = fired v channel signals a w i k
 selection-kept v requests.Drain a w i b k = same-selected w.daq v.daq i (lists-kept v requests.Drain a w tt tt (λ e. cc) k)
+selection-kept v (requests.Time time) a w i b k = same-selected w.daq v.daq i (lists-kept v (requests.Time time) a w tt tt (λ e. cc) k)
 selection-kept v requests.FinishStore a w i b k = same-selected w.daq v.daq i (lists-kept v requests.FinishStore a w tt tt (λ e. cc) k)
 selection-kept v requests.Hangup a w i b k = absurd b

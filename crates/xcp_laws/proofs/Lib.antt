@@ -17,3 +17,4 @@ pub mod Allocations
 pub mod SpeltCommands
 pub mod NoCommands
 pub mod Stores
+pub mod TimelessRuns

@@ -1,19 +1,22 @@
 -- The ranges of the commands on DAQ lists.
 use Rattle.std.proofs.Common.{◌≡◌, ◌≢◌, ℕ, ◌+◌, ◌-◌, ◌<◌, ◌≤◌, Bool, true, false, List, [], ◌∷◌, length, get_or, All, Option, Some, None, refl, sym, ap, ◌∙◌, nat_lt, nat_le, arith, inl, inr}
-use Rattle.std.specs.Prelude.{◌↔◌, ◌==◌, ◌&&◌, ◌⊎◌, not}
+use Rattle.std.specs.Prelude.{◌↔◌, ◌==◌, ◌&&◌, ◌||◌, ◌⊎◌, not}
 use Rattle.std.specs.List.{list_any}
 use Rattle.std.proofs.lemmas.Bool.Decides.{nat_tests}
-use Rattle.xcp_packet.specs.declared.Code.TheVariants.{AccessDenied, DaqActive, DaqConfig, MemoryOverflow, ModeNotValid, OutOfRange, Sequence}
+use Rattle.xcp_packet.specs.declared.Code.TheVariants.{AccessDenied, CmdUnknown, DaqActive, DaqConfig, MemoryOverflow, ModeNotValid, OutOfRange, Sequence}
 use Rattle.xcp_packet.specs.declared.Command.{Command}
 use Rattle.xcp_packet.specs.declared.Command.TheVariants as commands
 use Rattle.xcp_packet.specs.declared.Reply.TheVariants as replies
+use Rattle.xcp_packet.specs.declared.Stamp.{Stamp}
+use Rattle.xcp_packet.specs.declared.Stamp.TheVariants.{Without, Byte, Word, Double}
+use Rattle.xcp_packet.specs.TimeStamps.{stamp_size}
 use Rattle.xcp_memory.specs.ComputedAccess.{lies_inside}
 use Rattle.xcp_memory.specs.Layout.{LayoutValue}
 use Rattle.xcp_memory.specs.Memory.{LiesInside}
 use Rattle.xcp_memory.proofs.AreaLaws.{inside_computes, inside_lies}
 use Rattle.xcp_daq.specs.AllocationSequence.{may_follow}
-use Rattle.xcp_daq.specs.Configuring.{element_rows, has_no_pointer, pointed_list_runs, read_daq_reply}
-use Rattle.xcp_daq.specs.DaqLists.{DaqList, DaqValue, all_entries, all_odts, any_large, any_running, greatest_size, has_large_odt, lacks_entry, lacks_list, lacks_odt, list_at, no_list, odt_at, odt_size}
+use Rattle.xcp_daq.specs.Configuring.{element_rows, has_no_pointer, is_mode, pointed_list_runs, read_daq_reply}
+use Rattle.xcp_daq.specs.DaqLists.{DaqList, DaqValue, all_entries, all_odts, any_large, any_running, first_size, greatest_size, has_large_odt, has_stamp, is_large, lacks_entry, lacks_list, lacks_odt, list_at, no_list, odt_at, odt_size}
 use Rattle.xcp_daq.specs.declared.Allocation.{Allocation}
 use Rattle.xcp_daq.specs.declared.Allocation.TheVariants.{AllocDaq, AllocOdt, AllocOdtEntry, FreeDaq}
 use Rattle.xcp_daq.specs.declared.Element.{Element}
@@ -23,7 +26,7 @@ use Rattle.xcp_slave.specs.DaqRows.{entry_reply}
 use Rattle.xcp_slave.specs.SlaveValue.{SlaveValue, layout_of}
 use Rattle.xcp_slave.specs.declared.Outcome.TheVariants as answers
 use Rattle.xcp_slave.proofs.ListInvariantLemmas.{is_true}
-use Rattle.xcp_laws.proofs.PositiveAnswers.{all-pass, also, below, chained, codes-allow, first-refused, five, four, holds-first, implied, is_response, is, is-it, isnt-not, itself, known, lastly, none-pass, not-false, positive, six, some, three, unless, within}
+use Rattle.xcp_laws.proofs.PositiveAnswers.{all-pass, also, below, chained, codes-allow, first-refused, five, four, holds-first, implied, is_response, is, is-it, isnt-not, itself, known, lastly, none-pass, not-false, positive, six, some, tests-allow, three, unless, within}
 use Rattle.xcp_laws.specs.AskedCommands.{IsAsked, IsPositive}
 
 -- the ODTs of a list, none of which is larger than a packet holds
@@ -31,6 +34,50 @@ small-odts : (greatest : ℕ) (odts : List (List (Option Element))) → (any_lar
 small-odts greatest odts =
     let each = all-pass (λ odt. nat_lt greatest (odt_size odt)) odts in
     (λ h i d b. (within _ greatest).0 (each.0 h i d b), λ h. each.1 (λ i d b. (within _ greatest).1 (h i d b)))
+
+neither : (a b : Bool) → ((a || b) ≡ false) ↔ ((a ≡ false) × (b ≡ false))
+neither true b = (λ h. (h, cc), λ p. p.0)
+neither false b = (λ h. (refl, h), λ p. p.1)
+
+-- nor the first one with the time stamp
+small-list : (greatest : ℕ) (l : DaqList) → (is_large greatest l ≡ false) ↔ (All (λ odt. odt_size odt ≤ greatest) l.odts × (stamp_size l.stamp + first_size l.odts ≤ greatest))
+small-list greatest l =
+    chained (neither (any_large greatest l.odts) (nat_lt greatest (stamp_size l.stamp + first_size l.odts)))
+    (also (small-odts greatest l.odts) (within (stamp_size l.stamp + first_size l.odts) greatest))
+
+-- a clock
+
+has-clock : (s : Stamp) → (has_stamp s ≡ true) ↔ (s ≢ Without)
+has-clock Without = (λ h. let z : false ≡ true = h in cc, λ n. absurd (n refl))
+has-clock Byte = (λ h e. cc, λ n. refl)
+has-clock Word = (λ h e. cc, λ n. refl)
+has-clock Double = (λ h e. cc, λ n. refl)
+
+-- a test that holds
+holds : (b : Bool) → (not b ≡ false) ↔ (b ≡ true)
+holds b = (is_true b, not-false b)
+
+either-maps : {A B C D : Type 0} → (A → B) → (C → D) → A ⊎ C → B ⊎ D
+either-maps f g (inl a) = inl (f a)
+either-maps f g (inr c) = inr (g c)
+
+either-of : {A B C D : Type 0} → (A ↔ B) → (C ↔ D) → ((A ⊎ C) ↔ (B ⊎ D))
+either-of f g = (λ s. either-maps f.0 g.0 s, λ s. either-maps f.1 g.1 s)
+
+one-holds : (a b : Bool) → ((a || b) ≡ true) ↔ ((a ≡ true) ⊎ (b ≡ true))
+one-holds true b = (λ h. inl refl, λ s. refl)
+one-holds false b = (λ h. inr h, λ s. elim s [ inl e ↦ cc | inr e ↦ e ])
+
+both-hold : (a b : Bool) → ((a && b) ≡ true) ↔ ((a ≡ true) × (b ≡ true))
+both-hold true b = (λ h. (refl, h), λ p. p.1)
+both-hold false b = (λ h. (h, cc), λ p. p.0)
+
+-- the modes of a list
+list-mode : (l : LayoutValue) (mode : ℕ) → (not (is_mode l mode) ≡ false) ↔ ((mode ≡ 0x00) ⊎ ((mode ≡ 0x10) × (l.clock.stamp ≢ Without)))
+list-mode l mode =
+    chained (holds (is_mode l mode))
+    (chained (one-holds (mode == 0) ((mode == 0x10) && has_stamp l.clock.stamp))
+    (either-of (is-it mode 0) (chained (both-hold (mode == 0x10) (has_stamp l.clock.stamp)) (also (is-it mode 0x10) (has-clock l.clock.stamp)))))
 
 -- no list runs
 none-runs : (v : DaqValue) → (any_running v ≡ false) ↔ ((i : ℕ) → i < length v.lists → (list_at v i).running ≡ false)
@@ -113,37 +160,43 @@ write-nowhere v w offset size extension address a e h =
     let c : Command = commands.WriteDaq offset size extension address in
     first-refused c v w a (replies.Error DaqConfig) (holds-first (has_no_pointer v.daq.pointer) DaqConfig ((pointed_list_runs v.daq.pointer v.daq, DaqActive) ∷ element_rows (layout_of v) offset size extension address) (no-pointer v.daq e)) h
 
-pub set-daq-list-mode : (v w : SlaveValue) (mode i event prescaler priority : ℕ) (a : Answer) → IsAsked v (commands.SetDaqListMode mode i event prescaler priority) a w → IsPositive a ↔ ((mode ≡ 0x00) × (i < length v.daq.lists) × ((list_at v.daq i).running ≡ false) × (event < length (layout_of v).events) × (0 < prescaler))
+pub set-daq-list-mode : (v w : SlaveValue) (mode i event prescaler priority : ℕ) (a : Answer) → IsAsked v (commands.SetDaqListMode mode i event prescaler priority) a w → IsPositive a ↔ (((mode ≡ 0x00) ⊎ ((mode ≡ 0x10) × ((layout_of v).clock.stamp ≢ Without))) × (i < length v.daq.lists) × ((list_at v.daq i).running ≡ false) × (event < length (layout_of v).events) × (0 < prescaler))
 set-daq-list-mode v w mode i event prescaler priority a h =
     chained (positive (commands.SetDaqListMode mode i event prescaler priority) v w a replies.Done refl refl h)
-    (chained (codes-allow ((not (mode == 0), ModeNotValid) ∷ (lacks_list v.daq i, OutOfRange) ∷ ((list_at v.daq i).running, DaqActive) ∷ (nat_le (length (layout_of v).events) event, OutOfRange) ∷ (prescaler == 0, OutOfRange) ∷ []))
-    (chained (also (is mode 0) (also (below i (length v.daq.lists)) (also itself (also (below event (length (layout_of v).events)) (lastly (some prescaler)))))) five))
+    (chained (codes-allow ((not (is_mode (layout_of v) mode), ModeNotValid) ∷ (lacks_list v.daq i, OutOfRange) ∷ ((list_at v.daq i).running, DaqActive) ∷ (nat_le (length (layout_of v).events) event, OutOfRange) ∷ (prescaler == 0, OutOfRange) ∷ []))
+    (chained (also (list-mode (layout_of v) mode) (also (below i (length v.daq.lists)) (also itself (also (below event (length (layout_of v).events)) (lastly (some prescaler)))))) five))
 
 pub get-daq-list-mode : (v w : SlaveValue) (i : ℕ) (a : Answer) → IsAsked v (commands.GetDaqListMode i) a w → IsPositive a ↔ (i < length v.daq.lists)
 get-daq-list-mode v w i a h =
     chained (positive (commands.GetDaqListMode i) v w a _ refl refl h)
     (chained (codes-allow ((lacks_list v.daq i, OutOfRange) ∷ [])) (lastly (below i (length v.daq.lists))))
 
-pub start-stop-daq-list : (v w : SlaveValue) (mode i : ℕ) (a : Answer) → IsAsked v (commands.StartStopDaqList mode i) a w → IsPositive a ↔ ((mode ≤ 2) × (i < length v.daq.lists) × (mode ≢ 0 → All (λ odt. odt_size odt ≤ (layout_of v).max_dto - 1) (list_at v.daq i).odts))
+pub start-stop-daq-list : (v w : SlaveValue) (mode i : ℕ) (a : Answer) → IsAsked v (commands.StartStopDaqList mode i) a w → IsPositive a ↔ ((mode ≤ 2) × (i < length v.daq.lists) × (mode ≢ 0 → All (λ odt. odt_size odt ≤ (layout_of v).max_dto - 1) (list_at v.daq i).odts × (stamp_size (list_at v.daq i).stamp + first_size (list_at v.daq i).odts ≤ (layout_of v).max_dto - 1)))
 start-stop-daq-list v w mode i a h =
     chained (positive (commands.StartStopDaqList mode i) v w a _ refl refl h)
     (chained (codes-allow ((nat_lt 2 mode, ModeNotValid) ∷ (lacks_list v.daq i, OutOfRange) ∷ (not (mode == 0) && has_large_odt (layout_of v) (list_at v.daq i), DaqConfig) ∷ []))
     (chained (also (within mode 2) (also (below i (length v.daq.lists))
-    (lastly (chained (unless (not (mode == 0)) (has_large_odt (layout_of v) (list_at v.daq i))) (implied (isnt-not mode 0) (small-odts (greatest_size (layout_of v)) (list_at v.daq i).odts)))))) three))
+    (lastly (chained (unless (not (mode == 0)) (has_large_odt (layout_of v) (list_at v.daq i))) (implied (isnt-not mode 0) (small-list (greatest_size (layout_of v)) (list_at v.daq i))))))) three))
 
--- no list that is selected has an ODT that is too large
-selected-small : (l : LayoutValue) (v : DaqValue) → (list_any (λ x. x.selected && has_large_odt l x) v.lists ≡ false) ↔ ((i : ℕ) → i < length v.lists → (list_at v i).selected ≡ true → All (λ odt. odt_size odt ≤ l.max_dto - 1) (list_at v i).odts)
+-- no list that is selected has an ODT that is too large, nor a first one that is too large with the time stamp
+selected-small : (l : LayoutValue) (v : DaqValue) → (list_any (λ x. x.selected && has_large_odt l x) v.lists ≡ false) ↔ ((i : ℕ) → i < length v.lists → (list_at v i).selected ≡ true → All (λ odt. odt_size odt ≤ l.max_dto - 1) (list_at v i).odts × (stamp_size (list_at v i).stamp + first_size (list_at v i).odts ≤ l.max_dto - 1))
 selected-small l v =
     let each = none-pass (λ (x : DaqList). x.selected && has_large_odt l x) v.lists no_list in
-    let one = λ (i : ℕ). (chained (unless (list_at v i).selected (has_large_odt l (list_at v i))) (implied itself (small-odts (greatest_size l) (list_at v i).odts))) in
+    let one = λ (i : ℕ). (chained (unless (list_at v i).selected (has_large_odt l (list_at v i))) (implied itself (small-list (greatest_size l) (list_at v i)))) in
     (λ h i b. (one i).0 (each.0 h i b), λ h. each.1 (λ i b. (one i).1 (h i b)))
 
-pub start-stop-synch : (v w : SlaveValue) (mode : ℕ) (a : Answer) → IsAsked v (commands.StartStopSynch mode) a w → IsPositive a ↔ ((mode ≤ 2) × (mode ≡ 1 → (i : ℕ) → i < length v.daq.lists → (list_at v.daq i).selected ≡ true → All (λ odt. odt_size odt ≤ (layout_of v).max_dto - 1) (list_at v.daq i).odts))
+pub start-stop-synch : (v w : SlaveValue) (mode : ℕ) (a : Answer) → IsAsked v (commands.StartStopSynch mode) a w → IsPositive a ↔ ((mode ≤ 2) × (mode ≡ 1 → (i : ℕ) → i < length v.daq.lists → (list_at v.daq i).selected ≡ true → All (λ odt. odt_size odt ≤ (layout_of v).max_dto - 1) (list_at v.daq i).odts × (stamp_size (list_at v.daq i).stamp + first_size (list_at v.daq i).odts ≤ (layout_of v).max_dto - 1)))
 start-stop-synch v w mode a h =
     let large : Bool = list_any (λ x. x.selected && has_large_odt (layout_of v) x) v.daq.lists in
     chained (positive (commands.StartStopSynch mode) v w a replies.Done refl refl h)
     (chained (codes-allow ((nat_lt 2 mode, ModeNotValid) ∷ ((mode == 1) && large, DaqConfig) ∷ []))
     (also (within mode 2) (lastly (chained (unless (mode == 1) large) (implied (is-it mode 1) (selected-small (layout_of v) v.daq))))))
+
+pub get-daq-clock : (v w : SlaveValue) (a : Answer) → IsAsked v commands.GetDaqClock a w → IsPositive a ↔ ((layout_of v).clock.stamp ≢ Without)
+get-daq-clock v w a h =
+    chained (positive commands.GetDaqClock v w a _ refl refl h)
+    (chained (tests-allow ((not (has_stamp (layout_of v).clock.stamp), replies.Error CmdUnknown) ∷ []))
+    (lastly (chained (holds (has_stamp (layout_of v).clock.stamp)) (has-clock (layout_of v).clock.stamp))))
 
 entry-response : (o : Option Element) → is_response (entry_reply o) ≡ true
 entry-response None = refl

@@ -119,6 +119,9 @@ start-stop-daq-list order mode a b more = (record { first = refl; enough = omega
 pub start-stop-synch : (order : Order) (mode : ℕ) (more : List ℕ) → spells order (commands.StartStopSynch mode) (0xDD ∷ mode ∷ more)
 start-stop-synch order mode more = (record { first = refl; enough = omega arith }, (refl, tt))
 
+pub get-daq-clock : (order : Order) (more : List ℕ) → spells order commands.GetDaqClock (0xDC ∷ more)
+get-daq-clock order more = (record { first = refl; enough = omega arith }, tt)
+
 pub read-daq : (order : Order) (more : List ℕ) → spells order commands.ReadDaq (0xDB ∷ more)
 read-daq order more = (record { first = refl; enough = omega arith }, tt)
 

@@ -1,5 +1,5 @@
 -- What CONNECT and the commands that ask for limits are told.
-use Rattle.std.proofs.Common.{◌≡◌, ◌≢◌, ℕ, ◌+◌, ◌-◌, Bool, true, false, List, [], ◌∷◌, ◌++◌, length, Some, Result, Ok, refl, ap, subst, ◌∙◌}
+use Rattle.std.proofs.Common.{◌≡◌, ◌≢◌, ℕ, ◌+◌, ◌-◌, ◌*◌, Bool, true, false, List, [], ◌∷◌, ◌++◌, length, Some, Result, Ok, refl, ap, subst, ◌∙◌}
 use Rattle.std.specs.Prelude.{◌==◌, ◌||◌, ◌%◌, ◌/◌, MatchBool, if◌then◌else◌}
 use Rattle.arrayvec.specs.ArrayVec.{ArrayVec}
 use Rattle.xcp_packet.proofs.DecodingLaws.{decodes_once}
@@ -11,7 +11,12 @@ use Rattle.xcp_packet.specs.declared.Command.TheVariants as commands
 use Rattle.xcp_packet.specs.declared.Order.{Order}
 use Rattle.xcp_packet.specs.declared.Order.TheVariants.{Intel, Motorola}
 use Rattle.xcp_packet.specs.declared.Refuse.{Refuse}
+use Rattle.xcp_packet.specs.declared.Stamp.{Stamp}
+use Rattle.xcp_packet.specs.declared.Stamp.TheVariants.{Without, Byte, Word, Double}
+use Rattle.xcp_packet.specs.TimeStamps.{stamp_size}
 use Rattle.xcp_packet.specs.declared.Reply.{Reply}
+use Rattle.xcp_memory.specs.declared.Clock.{Clock}
+use Rattle.xcp_daq.specs.DaqLists.{has_stamp}
 use Rattle.xcp_slave.specs.AcceptedCommands.{Accepts}
 use Rattle.xcp_slave.specs.Outcomes.{Answer}
 use Rattle.xcp_slave.specs.Rows.{row}
@@ -73,11 +78,63 @@ comm-mode-told v w bytes h = bytes-told commands.GetCommModeInfo v bytes w h
 pub pag-told : (v w : SlaveValue) (bytes : List ℕ) → Accepts v commands.GetPagProcessorInfo bytes w → bytes ≡ length (layout_of v).segments ∷ 0x01 ∷ []
 pag-told v w bytes h = bytes-told commands.GetPagProcessorInfo v bytes w h
 
-pub daq-told : (v w : SlaveValue) (bytes : List ℕ) → Accepts v commands.GetDaqProcessorInfo bytes w → bytes ≡ 0x03 ∷ (word_bytes (layout_of v).order (length v.daq.lists) ++ word_bytes (layout_of v).order (length (layout_of v).events) ++ 0 ∷ 0x00 ∷ [])
-daq-told v w bytes h = bytes-told commands.GetDaqProcessorInfo v bytes w h
+-- whether there is a clock
 
-pub resolution-told : (v w : SlaveValue) (bytes : List ℕ) → Accepts v commands.GetDaqResolutionInfo bytes w → bytes ≡ 1 ∷ ((layout_of v).max_dto - 1) ∷ 1 ∷ 0 ∷ 0 ∷ 0 ∷ 0 ∷ []
-resolution-told v w bytes h = bytes-told commands.GetDaqResolutionInfo v bytes w h
+no-clock : (s : Stamp) → s ≡ Without → has_stamp s ≡ false
+no-clock s e = ap has_stamp e
+
+pub a-clock : (s : Stamp) → s ≢ Without → has_stamp s ≡ true
+a-clock Without n = absurd (n refl)
+a-clock Byte n = refl
+a-clock Word n = refl
+a-clock Double n = refl
+
+-- the lists and the event channels, behind properties that hang on whether there is a clock
+daq-by : SlaveValue → Bool → List ℕ
+daq-by v b = (0x03 + (if b then 0x10 else 0)) ∷ (word_bytes (layout_of v).order (length v.daq.lists) ++ word_bytes (layout_of v).order (length (layout_of v).events) ++ 0 ∷ 0x00 ∷ [])
+
+daq-bytes : (v w : SlaveValue) (bytes : List ℕ) → Accepts v commands.GetDaqProcessorInfo bytes w → bytes ≡ daq-by v (has_stamp (layout_of v).clock.stamp)
+unfolding daq-by
+daq-bytes v w bytes h = bytes-told commands.GetDaqProcessorInfo v bytes w h
+
+pub daq-told : (v w : SlaveValue) (bytes : List ℕ) → (layout_of v).clock.stamp ≡ Without → Accepts v commands.GetDaqProcessorInfo bytes w → bytes ≡ 0x03 ∷ (word_bytes (layout_of v).order (length v.daq.lists) ++ word_bytes (layout_of v).order (length (layout_of v).events) ++ 0 ∷ 0x00 ∷ [])
+unfolding daq-by
+daq-told v w bytes e h = daq-bytes v w bytes h ∙ ap (daq-by v) (no-clock (layout_of v).clock.stamp e)
+
+pub daq-clock-told : (v w : SlaveValue) (bytes : List ℕ) → (layout_of v).clock.stamp ≢ Without → Accepts v commands.GetDaqProcessorInfo bytes w → bytes ≡ 0x13 ∷ (word_bytes (layout_of v).order (length v.daq.lists) ++ word_bytes (layout_of v).order (length (layout_of v).events) ++ 0 ∷ 0x00 ∷ [])
+unfolding daq-by
+daq-clock-told v w bytes n h = daq-bytes v w bytes h ∙ ap (daq-by v) (a-clock (layout_of v).clock.stamp n)
+
+-- the entries, and TIMESTAMP_MODE and TIMESTAMP_TICKS, which hang on that too
+resolution-by : SlaveValue → Bool → List ℕ
+resolution-by v b =
+    let k : Clock = (layout_of v).clock in
+    1 ∷ ((layout_of v).max_dto - 1) ∷ 1 ∷ 0 ∷ (if b then stamp_size k.stamp + 0x10 * k.unit else 0) ∷ word_bytes (layout_of v).order (if b then k.ticks else 0)
+
+resolution-bytes : (v w : SlaveValue) (bytes : List ℕ) → Accepts v commands.GetDaqResolutionInfo bytes w → bytes ≡ resolution-by v (has_stamp (layout_of v).clock.stamp)
+unfolding resolution-by
+resolution-bytes v w bytes h = bytes-told commands.GetDaqResolutionInfo v bytes w h
+
+no-word : (order : Order) → word_bytes order 0 ≡ 0 ∷ 0 ∷ []
+no-word Intel = refl
+no-word Motorola = refl
+
+pub resolution-told : (v w : SlaveValue) (bytes : List ℕ) → (layout_of v).clock.stamp ≡ Without → Accepts v commands.GetDaqResolutionInfo bytes w → bytes ≡ 1 ∷ ((layout_of v).max_dto - 1) ∷ 1 ∷ 0 ∷ 0 ∷ 0 ∷ 0 ∷ []
+unfolding resolution-by
+resolution-told v w bytes e h =
+    resolution-bytes v w bytes h
+    ∙ ap (resolution-by v) (no-clock (layout_of v).clock.stamp e)
+    ∙ ap (λ (xs : List ℕ). 1 ∷ ((layout_of v).max_dto - 1) ∷ 1 ∷ 0 ∷ 0 ∷ xs) (no-word (layout_of v).order)
+
+pub resolution-clock-told : (v w : SlaveValue) (bytes : List ℕ) → (layout_of v).clock.stamp ≢ Without → Accepts v commands.GetDaqResolutionInfo bytes w → bytes ≡ 1 ∷ ((layout_of v).max_dto - 1) ∷ 1 ∷ 0 ∷ (stamp_size (layout_of v).clock.stamp + 0x10 * (layout_of v).clock.unit) ∷ word_bytes (layout_of v).order (layout_of v).clock.ticks
+unfolding resolution-by
+resolution-clock-told v w bytes n h = resolution-bytes v w bytes h ∙ ap (resolution-by v) (a-clock (layout_of v).clock.stamp n)
+
+pub stamp-sizes : (stamp_size Byte ≡ 1) × (stamp_size Word ≡ 2) × (stamp_size Double ≡ 4)
+stamp-sizes = (refl, refl, refl)
+
+pub clock-told : (v w : SlaveValue) (bytes : List ℕ) → Accepts v commands.GetDaqClock bytes w → bytes ≡ 0 ∷ 0 ∷ 0 ∷ double_bytes (layout_of v).order (v.time % 0x1_0000_0000)
+clock-told v w bytes h = bytes-told commands.GetDaqClock v bytes w h
 
 -- a page
 

@@ -13,7 +13,7 @@ use Rattle.xcp_packet.specs.declared.Reply.{Reply}
 use Rattle.xcp_memory.specs.Layout.{no_event}
 use Rattle.xcp_memory.specs.Pages.{no_segment, segment_at}
 use Rattle.xcp_daq.specs.DaqInfo.{mode_bits}
-use Rattle.xcp_daq.specs.DaqLists.{DaqList, DaqValue, any_running, lacks_list, list_at, no_list}
+use Rattle.xcp_daq.specs.DaqLists.{DaqList, DaqValue, any_running, has_stamp, lacks_list, list_at, no_list}
 use Rattle.xcp_slave.specs.AcceptedCommands.{Accepts}
 use Rattle.xcp_slave.specs.Rows.{row, status_of}
 use Rattle.xcp_slave.specs.SlaveValue.{SlaveValue, layout_of}
@@ -65,6 +65,54 @@ no_more_bits true false n e = e ∙ sym (ap (λ m. bit_and m 0x41) e)
 no_more_bits false true n e = e ∙ sym (ap (λ m. bit_and m 0x41) e)
 no_more_bits false false n e = e ∙ sym (ap (λ m. bit_and m 0x41) e)
 
+-- three bits, one for each of three facts
+three : Bool → Bool → Bool → ℕ
+three s t r = (if s then 0x01 else 0) + (if t then 0x10 else 0) + (if r then 0x40 else 0)
+
+selected_bit : (s t r : Bool) (n : ℕ) → n ≡ three s t r → (bit_and n 0x01 ≡ 0x01) ↔ (s ≡ true)
+unfolding three
+selected_bit true true true n e = (λ h. refl, λ h. ap (λ m. bit_and m 0x1) e)
+selected_bit true true false n e = (λ h. refl, λ h. ap (λ m. bit_and m 0x1) e)
+selected_bit true false true n e = (λ h. refl, λ h. ap (λ m. bit_and m 0x1) e)
+selected_bit true false false n e = (λ h. refl, λ h. ap (λ m. bit_and m 0x1) e)
+selected_bit false true true n e = (λ h. let z : ◌≡◌ {A = ℕ} 0 0x1 = sym (ap (λ m. bit_and m 0x1) e) ∙ h in cc, λ h. cc)
+selected_bit false true false n e = (λ h. let z : ◌≡◌ {A = ℕ} 0 0x1 = sym (ap (λ m. bit_and m 0x1) e) ∙ h in cc, λ h. cc)
+selected_bit false false true n e = (λ h. let z : ◌≡◌ {A = ℕ} 0 0x1 = sym (ap (λ m. bit_and m 0x1) e) ∙ h in cc, λ h. cc)
+selected_bit false false false n e = (λ h. let z : ◌≡◌ {A = ℕ} 0 0x1 = sym (ap (λ m. bit_and m 0x1) e) ∙ h in cc, λ h. cc)
+
+stamped_bit : (s t r : Bool) (n : ℕ) → n ≡ three s t r → (bit_and n 0x10 ≡ 0x10) ↔ (t ≡ true)
+unfolding three
+stamped_bit true true true n e = (λ h. refl, λ h. ap (λ m. bit_and m 0x10) e)
+stamped_bit true true false n e = (λ h. refl, λ h. ap (λ m. bit_and m 0x10) e)
+stamped_bit true false true n e = (λ h. let z : ◌≡◌ {A = ℕ} 0 0x10 = sym (ap (λ m. bit_and m 0x10) e) ∙ h in cc, λ h. cc)
+stamped_bit true false false n e = (λ h. let z : ◌≡◌ {A = ℕ} 0 0x10 = sym (ap (λ m. bit_and m 0x10) e) ∙ h in cc, λ h. cc)
+stamped_bit false true true n e = (λ h. refl, λ h. ap (λ m. bit_and m 0x10) e)
+stamped_bit false true false n e = (λ h. refl, λ h. ap (λ m. bit_and m 0x10) e)
+stamped_bit false false true n e = (λ h. let z : ◌≡◌ {A = ℕ} 0 0x10 = sym (ap (λ m. bit_and m 0x10) e) ∙ h in cc, λ h. cc)
+stamped_bit false false false n e = (λ h. let z : ◌≡◌ {A = ℕ} 0 0x10 = sym (ap (λ m. bit_and m 0x10) e) ∙ h in cc, λ h. cc)
+
+running_bit : (s t r : Bool) (n : ℕ) → n ≡ three s t r → (bit_and n 0x40 ≡ 0x40) ↔ (r ≡ true)
+unfolding three
+running_bit true true true n e = (λ h. refl, λ h. ap (λ m. bit_and m 0x40) e)
+running_bit true true false n e = (λ h. let z : ◌≡◌ {A = ℕ} 0 0x40 = sym (ap (λ m. bit_and m 0x40) e) ∙ h in cc, λ h. cc)
+running_bit true false true n e = (λ h. refl, λ h. ap (λ m. bit_and m 0x40) e)
+running_bit true false false n e = (λ h. let z : ◌≡◌ {A = ℕ} 0 0x40 = sym (ap (λ m. bit_and m 0x40) e) ∙ h in cc, λ h. cc)
+running_bit false true true n e = (λ h. refl, λ h. ap (λ m. bit_and m 0x40) e)
+running_bit false true false n e = (λ h. let z : ◌≡◌ {A = ℕ} 0 0x40 = sym (ap (λ m. bit_and m 0x40) e) ∙ h in cc, λ h. cc)
+running_bit false false true n e = (λ h. refl, λ h. ap (λ m. bit_and m 0x40) e)
+running_bit false false false n e = (λ h. let z : ◌≡◌ {A = ℕ} 0 0x40 = sym (ap (λ m. bit_and m 0x40) e) ∙ h in cc, λ h. cc)
+
+no_other_bit : (s t r : Bool) (n : ℕ) → n ≡ three s t r → n ≡ bit_and n 0x51
+unfolding three
+no_other_bit true true true n e = e ∙ sym (ap (λ m. bit_and m 0x51) e)
+no_other_bit true true false n e = e ∙ sym (ap (λ m. bit_and m 0x51) e)
+no_other_bit true false true n e = e ∙ sym (ap (λ m. bit_and m 0x51) e)
+no_other_bit true false false n e = e ∙ sym (ap (λ m. bit_and m 0x51) e)
+no_other_bit false true true n e = e ∙ sym (ap (λ m. bit_and m 0x51) e)
+no_other_bit false true false n e = e ∙ sym (ap (λ m. bit_and m 0x51) e)
+no_other_bit false false true n e = e ∙ sym (ap (λ m. bit_and m 0x51) e)
+no_other_bit false false false n e = e ∙ sym (ap (λ m. bit_and m 0x51) e)
+
 first_of : (bytes : List ℕ) (n : ℕ) (more : List ℕ) → bytes ≡ n ∷ more → slice_index bytes 0 ≡ n
 first_of bytes n more e = ap (λ xs. slice_index xs 0) e
 
@@ -109,21 +157,24 @@ mode-told : (v w : SlaveValue) (i : ℕ) (bytes : List ℕ) → Accepts v (comma
 unfolding mode_and
 mode-told v w i bytes h = bytes-told (commands.GetDaqListMode i) v bytes w h
 
-mode-bits : (v w : SlaveValue) (i : ℕ) (bytes : List ℕ) → Accepts v (commands.GetDaqListMode i) bytes w → slice_index bytes 0 ≡ bits (list_at v.daq i).selected (list_at v.daq i).running
-unfolding mode_and bits
+mode-bits : (v w : SlaveValue) (i : ℕ) (bytes : List ℕ) → Accepts v (commands.GetDaqListMode i) bytes w → slice_index bytes 0 ≡ three (list_at v.daq i).selected (has_stamp (list_at v.daq i).stamp) (list_at v.daq i).running
+unfolding mode_and three
 mode-bits v w i bytes h = ap (λ xs. slice_index xs 0) (mode-told v w i bytes h)
 
 pub mode-selected : (v w : SlaveValue) (i : ℕ) (bytes : List ℕ) → Accepts v (commands.GetDaqListMode i) bytes w → (bit_and (slice_index bytes 0) 0x01 ≡ 0x01) ↔ ((list_at v.daq i).selected ≡ true)
-mode-selected v w i bytes h = first_bit _ _ (slice_index bytes 0) (mode-bits v w i bytes h)
+mode-selected v w i bytes h = selected_bit _ _ _ (slice_index bytes 0) (mode-bits v w i bytes h)
+
+pub mode-stamped : (v w : SlaveValue) (i : ℕ) (bytes : List ℕ) → Accepts v (commands.GetDaqListMode i) bytes w → (bit_and (slice_index bytes 0) 0x10 ≡ 0x10) ↔ (has_stamp (list_at v.daq i).stamp ≡ true)
+mode-stamped v w i bytes h = stamped_bit _ _ _ (slice_index bytes 0) (mode-bits v w i bytes h)
 
 pub mode-running : (v w : SlaveValue) (i : ℕ) (bytes : List ℕ) → Accepts v (commands.GetDaqListMode i) bytes w → (bit_and (slice_index bytes 0) 0x40 ≡ 0x40) ↔ ((list_at v.daq i).running ≡ true)
-mode-running v w i bytes h = second_bit _ _ (slice_index bytes 0) (mode-bits v w i bytes h)
+mode-running v w i bytes h = running_bit _ _ _ (slice_index bytes 0) (mode-bits v w i bytes h)
 
-pub mode-rest : (v w : SlaveValue) (i : ℕ) (bytes : List ℕ) → Accepts v (commands.GetDaqListMode i) bytes w → bytes ≡ bit_and (slice_index bytes 0) 0x41 ∷ 0 ∷ 0 ∷ (word_bytes (layout_of v).order (list_at v.daq i).event ++ (list_at v.daq i).prescaler ∷ (list_at v.daq i).priority ∷ [])
-unfolding mode_and bits
+pub mode-rest : (v w : SlaveValue) (i : ℕ) (bytes : List ℕ) → Accepts v (commands.GetDaqListMode i) bytes w → bytes ≡ bit_and (slice_index bytes 0) 0x51 ∷ 0 ∷ 0 ∷ (word_bytes (layout_of v).order (list_at v.daq i).event ++ (list_at v.daq i).prescaler ∷ (list_at v.daq i).priority ∷ [])
+unfolding mode_and three
 mode-rest v w i bytes h =
     let b = mode-bits v w i bytes h in
-    mode-told v w i bytes h ∙ ap (mode_and v i) (sym b ∙ no_more_bits _ _ (slice_index bytes 0) b)
+    mode-told v w i bytes h ∙ ap (mode_and v i) (sym b ∙ no_other_bit _ _ _ (slice_index bytes 0) b)
 
 pub mode-there : (v w : SlaveValue) (i : ℕ) (bytes : List ℕ) → Accepts v (commands.GetDaqListMode i) bytes w → i < length v.daq.lists
 mode-there v w i bytes h =

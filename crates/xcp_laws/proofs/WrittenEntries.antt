@@ -1,16 +1,19 @@
 -- What is set, written and read of DAQ lists.
 use Rattle.std.proofs.Common.{◌≡◌, ◌≢◌, ℕ, ◌+◌, ◌<◌, ◌≤◌, Bool, true, false, List, [], ◌∷◌, drop, get_or, length, slice_set, zero, suc, Option, Some, None, refl, sym, ap, subst, ◌∙◌, nat_le, nat_lt, arith, inl, inr}
-use Rattle.std.specs.Prelude.{◌==◌, ◌⊎◌, not, if◌then◌else◌}
+use Rattle.std.specs.Prelude.{◌==◌, ◌&&◌, ◌||◌, ◌⊎◌, not, if◌then◌else◌}
 use Rattle.std.proofs.lemmas.Bool.Decides.{nat_tests}
 use Rattle.std.proofs.lemmas.List.{get_or-set_same, get_or-set_other}
 use Rattle.xcp_packet.specs.ByteOrder.{double_bytes}
 use Rattle.xcp_packet.specs.ReplyPacket.{layout}
 use Rattle.xcp_packet.specs.declared.Command.TheVariants as commands
+use Rattle.xcp_packet.specs.declared.Code.{Code}
 use Rattle.xcp_packet.specs.declared.Code.TheVariants.{DaqActive, ModeNotValid, OutOfRange}
+use Rattle.xcp_packet.specs.declared.Stamp.{Stamp}
+use Rattle.xcp_packet.specs.declared.Stamp.TheVariants.{Without}
 use Rattle.xcp_memory.specs.Layout.{LayoutValue}
-use Rattle.xcp_daq.specs.Configuring.{entry_by, moved_by, moved_on, written_at}
+use Rattle.xcp_daq.specs.Configuring.{entry_by, is_mode, moved_by, moved_on, stamp_asked, written_at}
 use Rattle.xcp_daq.specs.DaqInvariant.{IsPointer, IsPointerOf}
-use Rattle.xcp_daq.specs.DaqLists.{DaqList, DaqValue, lacks_list, list_at, no_list, odt_at}
+use Rattle.xcp_daq.specs.DaqLists.{DaqList, DaqValue, has_stamp, lacks_list, list_at, no_list, odt_at}
 use Rattle.xcp_daq.specs.declared.Element.{Element}
 use Rattle.xcp_daq.specs.declared.Pointer.{Pointer}
 use Rattle.xcp_slave.specs.AcceptedCommands.{Accepts}
@@ -18,35 +21,65 @@ use Rattle.xcp_slave.specs.DaqRows.{entry_reply}
 use Rattle.xcp_slave.specs.SlaveInvariant.{IsSlave}
 use Rattle.xcp_slave.specs.SlaveValue.{SlaveValue, layout_of, noblock}
 use Rattle.xcp_slave.proofs.AcceptedCommandLaws.{accepted}
-use Rattle.xcp_slave.proofs.ListInvariantLemmas.{none-holds, is_below}
+use Rattle.xcp_slave.proofs.ListInvariantLemmas.{NoneHolds, none-holds, is_below}
 use Rattle.xcp_slave.proofs.TransferInvariantLemmas.{none-refused}
+use Rattle.xcp_laws.proofs.PositiveAnswers.{is-it}
 use Rattle.xcp_laws.proofs.ToldValues.{bytes-told}
 
 -- SET_DAQ_LIST_MODE
 
-mode-below : (v w : SlaveValue) (mode i event prescaler priority : ℕ) (bytes : List ℕ) → Accepts v (commands.SetDaqListMode mode i event prescaler priority) bytes w → i < length v.daq.lists
-mode-below v w mode i event prescaler priority bytes h =
-    let k = accepted (commands.SetDaqListMode mode i event prescaler priority) v bytes w h in
-    let a = none-holds ((not (mode == 0), ModeNotValid) ∷ (lacks_list v.daq i, OutOfRange) ∷ ((list_at v.daq i).running, DaqActive) ∷ (nat_le (length (layout_of v).events) event, OutOfRange) ∷ (prescaler == 0, OutOfRange) ∷ []) (none-refused _ k.allowed) in
-    is_below _ _ a.1.0
+-- the list with this mode
+in-mode : SlaveValue → ℕ → ℕ → ℕ → ℕ → ℕ → DaqList
+in-mode v mode i event prescaler priority = record (list_at v.daq i) { event = event; prescaler = prescaler; priority = priority; stamp = stamp_asked (layout_of v) mode }
 
-pub mode-set : (v w : SlaveValue) (mode i event prescaler priority : ℕ) (bytes : List ℕ) → Accepts v (commands.SetDaqListMode mode i event prescaler priority) bytes w → list_at w.daq i ≡ record (list_at v.daq i) { event = event; prescaler = prescaler; priority = priority }
-mode-set v w mode i event prescaler priority bytes h =
+abbrev mode-tests : SlaveValue → ℕ → ℕ → ℕ → ℕ → List (Bool × Code)
+mode-tests v mode i event prescaler = (not (is_mode (layout_of v) mode), ModeNotValid) ∷ (lacks_list v.daq i, OutOfRange) ∷ ((list_at v.daq i).running, DaqActive) ∷ (nat_le (length (layout_of v).events) event, OutOfRange) ∷ (prescaler == 0, OutOfRange) ∷ []
+
+mode-passed : (v w : SlaveValue) (mode i event prescaler priority : ℕ) (bytes : List ℕ) → Accepts v (commands.SetDaqListMode mode i event prescaler priority) bytes w → NoneHolds (mode-tests v mode i event prescaler)
+mode-passed v w mode i event prescaler priority bytes h =
+    none-holds (mode-tests v mode i event prescaler) (none-refused _ (accepted (commands.SetDaqListMode mode i event prescaler priority) v bytes w h).allowed)
+
+mode-after : (v w : SlaveValue) (mode i event prescaler priority : ℕ) (bytes : List ℕ) → Accepts v (commands.SetDaqListMode mode i event prescaler priority) bytes w → list_at w.daq i ≡ in-mode v mode i event prescaler priority
+unfolding in-mode
+mode-after v w mode i event prescaler priority bytes h =
     ap (λ (x : SlaveValue). list_at x.daq i) (accepted (commands.SetDaqListMode mode i event prescaler priority) v bytes w h).after
-    ∙ get_or-set_same v.daq.lists i (record (list_at v.daq i) { event = event; prescaler = prescaler; priority = priority }) no_list (mode-below v w mode i event prescaler priority bytes h)
+    ∙ get_or-set_same v.daq.lists i (in-mode v mode i event prescaler priority) no_list (is_below _ _ (mode-passed v w mode i event prescaler priority bytes h).1.0)
+
+same-mode : (a b : DaqList) (event prescaler priority : ℕ) (s : Stamp) → a ≡ record b { event = event; prescaler = prescaler; priority = priority; stamp = s } → a ≡ record b { event = event; prescaler = prescaler; priority = priority; stamp = a.stamp }
+same-mode a b event prescaler priority s e = e ∙ ap (λ (x : Stamp). record b { event = event; prescaler = prescaler; priority = priority; stamp = x }) (sym (ap (λ (l : DaqList). l.stamp) e))
+
+pub mode-set : (v w : SlaveValue) (mode i event prescaler priority : ℕ) (bytes : List ℕ) → Accepts v (commands.SetDaqListMode mode i event prescaler priority) bytes w → list_at w.daq i ≡ record (list_at v.daq i) { event = event; prescaler = prescaler; priority = priority; stamp = (list_at w.daq i).stamp }
+unfolding in-mode
+mode-set v w mode i event prescaler priority bytes h =
+    same-mode (list_at w.daq i) (list_at v.daq i) event prescaler priority (stamp_asked (layout_of v) mode) (mode-after v w mode i event prescaler priority bytes h)
+
+-- the time stamp of each mode
+stamp-by : (t u : Bool) (m : ℕ) (s x : Stamp) → (m == 0) ≡ t → (m == 0x10) ≡ u → not (t || (u && has_stamp s)) ≡ false → x ≡ (if t then Without else s) → ((m ≡ 0x00) × (x ≡ Without)) ⊎ ((m ≡ 0x10) × (x ≡ s))
+stamp-by true u m s x e f h k = inl ((is-it m 0).0 e, k)
+stamp-by false true m s x e f h k = inr ((is-it m 0x10).0 f, k)
+stamp-by false false m s x e f h k = absurd (let z : true ≡ false = h in cc)
+
+pub mode-stamp : (v w : SlaveValue) (mode i event prescaler priority : ℕ) (bytes : List ℕ) → Accepts v (commands.SetDaqListMode mode i event prescaler priority) bytes w → ((mode ≡ 0x00) × ((list_at w.daq i).stamp ≡ Without)) ⊎ ((mode ≡ 0x10) × ((list_at w.daq i).stamp ≡ (layout_of v).clock.stamp))
+unfolding in-mode
+mode-stamp v w mode i event prescaler priority bytes h =
+    stamp-by (mode == 0) (mode == 0x10) mode (layout_of v).clock.stamp (list_at w.daq i).stamp refl refl
+    (mode-passed v w mode i event prescaler priority bytes h).0
+    (ap (λ (l : DaqList). l.stamp) (mode-after v w mode i event prescaler priority bytes h))
 
 pub mode-others : (v w : SlaveValue) (mode i event prescaler priority k : ℕ) (bytes : List ℕ) → Accepts v (commands.SetDaqListMode mode i event prescaler priority) bytes w → k ≢ i → list_at w.daq k ≡ list_at v.daq k
+unfolding in-mode
 mode-others v w mode i event prescaler priority k bytes h other =
     ap (λ (x : SlaveValue). list_at x.daq k) (accepted (commands.SetDaqListMode mode i event prescaler priority) v bytes w h).after
-    ∙ get_or-set_other v.daq.lists i k (record (list_at v.daq i) { event = event; prescaler = prescaler; priority = priority }) no_list other
+    ∙ get_or-set_other v.daq.lists i k (in-mode v mode i event prescaler priority) no_list other
 
 -- nothing changes but these lists
 same-rest : (v w : SlaveValue) (lists : List DaqList) → w ≡ record (noblock v) { daq = record v.daq { lists = lists } } → w ≡ record (noblock v) { daq = record v.daq { lists = w.daq.lists } }
 same-rest v w lists e = e ∙ ap (λ (l : List DaqList). record (noblock v) { daq = record v.daq { lists = l } }) (sym (ap (λ (x : SlaveValue). x.daq.lists) e))
 
 pub mode-rest : (v w : SlaveValue) (mode i event prescaler priority : ℕ) (bytes : List ℕ) → Accepts v (commands.SetDaqListMode mode i event prescaler priority) bytes w → w ≡ record (noblock v) { daq = record v.daq { lists = w.daq.lists } }
+unfolding in-mode
 mode-rest v w mode i event prescaler priority bytes h =
-    same-rest v w (slice_set v.daq.lists i (record (list_at v.daq i) { event = event; prescaler = prescaler; priority = priority })) (accepted (commands.SetDaqListMode mode i event prescaler priority) v bytes w h).after
+    same-rest v w (slice_set v.daq.lists i (in-mode v mode i event prescaler priority)) (accepted (commands.SetDaqListMode mode i event prescaler priority) v bytes w h).after
 
 -- the pointer
 

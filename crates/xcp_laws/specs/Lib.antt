@@ -1,3 +1,4 @@
 pub mod AskedCommands
 pub mod ImagePlace
 pub mod NumberBytes
+pub mod Timeless

@@ -1,6 +1,7 @@
 //! What the commands do that allocate and free DAQ lists.
 ghost use Rattle.std.specs.Prelude.{◌≡◌, ◌≢◌, ◌+◌, ◌<◌, ◌≤◌, ℕ, List, None, Some, [], false, get_or, length};
 ghost use Rattle.xcp_packet.specs.declared.Command.{Command};
+ghost use Rattle.xcp_packet.specs.declared.Stamp.{Stamp};
 ghost use Rattle.xcp_daq.specs.DaqLists.{list_at};
 ghost use Rattle.xcp_daq.specs.declared.Allocation.{Allocation};
 ghost use Rattle.xcp_slave.specs.AcceptedCommands.{Accepts};
@@ -13,12 +14,12 @@ pub fn all_lists_are_freed()
 {}
 
 /// ALLOC_DAQ adds so many lists behind those that there are, which stay as they are. A new one has event channel 0,
-/// prescaler 1 and priority 0, is stopped and not selected, and has no ODT.
+/// prescaler 1 and priority 0, is stopped and not selected, and has no time stamps and no ODT.
 /// ASAM MCD-1 XCP, protocol layer, description of commands: ALLOC_DAQ.
 pub fn new_lists_come_behind()
     ensures count { (v w : SlaveValue) (count : ℕ) (bytes : List ℕ) → Accepts v (Command.AllocDaq count) bytes w → length w.daq.lists ≡ length v.daq.lists + count }
     ensures kept { (v w : SlaveValue) (count i : ℕ) (bytes : List ℕ) → Accepts v (Command.AllocDaq count) bytes w → i < length v.daq.lists → list_at w.daq i ≡ list_at v.daq i }
-    ensures new { (v w : SlaveValue) (count i : ℕ) (bytes : List ℕ) → Accepts v (Command.AllocDaq count) bytes w → length v.daq.lists ≤ i → list_at w.daq i ≡ record { event = 0; prescaler = 1; priority = 0; running = false; selected = false; since = 0; odts = [] } }
+    ensures new { (v w : SlaveValue) (count i : ℕ) (bytes : List ℕ) → Accepts v (Command.AllocDaq count) bytes w → length v.daq.lists ≤ i → list_at w.daq i ≡ record { event = 0; prescaler = 1; priority = 0; running = false; selected = false; since = 0; stamp = Stamp.Without; odts = [] } }
     ensures rest { (v w : SlaveValue) (count : ℕ) (bytes : List ℕ) → Accepts v (Command.AllocDaq count) bytes w → w ≡ record (noblock v) { daq = record v.daq { lists = w.daq.lists; last = Some Allocation.AllocDaq } } }
 {}
 

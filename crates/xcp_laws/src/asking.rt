@@ -4,7 +4,7 @@ ghost use Rattle.xcp_memory.specs.Layout.{no_event};
 ghost use Rattle.xcp_memory.specs.Pages.{no_segment, segment_at};
 ghost use Rattle.xcp_packet.specs.ByteOrder.{double_bytes, word_bytes};
 ghost use Rattle.xcp_packet.specs.declared.Command.{Command};
-ghost use Rattle.xcp_daq.specs.DaqLists.{list_at};
+ghost use Rattle.xcp_daq.specs.DaqLists.{has_stamp, list_at};
 ghost use Rattle.xcp_slave.specs.AcceptedCommands.{Accepts};
 ghost use Rattle.xcp_slave.specs.SlaveValue.{SlaveValue, layout_of};
 
@@ -18,13 +18,14 @@ pub fn a_status_tells_stores_and_lists()
     ensures rest { (v w : SlaveValue) (bytes : List ℕ) → Accepts v Command.GetStatus bytes w → bytes ≡ bit_and (slice_index bytes 0) 0x41 ∷ 0 ∷ 0 ∷ 0 ∷ 0 ∷ [] }
 {}
 
-/// GET_DAQ_LIST_MODE tells of the list that it names: bit 0, it is selected; bit 6, it runs; its event
+/// GET_DAQ_LIST_MODE tells of the list that it names: bit 0, it is selected; bit 4, it has time stamps; bit 6, it runs; its event
 /// channel, its prescaler and its priority.
 /// ASAM MCD-1 XCP, protocol layer, description of commands: GET_DAQ_LIST_MODE.
 pub fn a_list_mode_is_of_its_list()
     ensures selected { (v w : SlaveValue) (i : ℕ) (bytes : List ℕ) → Accepts v (Command.GetDaqListMode i) bytes w → (bit_and (slice_index bytes 0) 0x01 ≡ 0x01) ↔ ((list_at v.daq i).selected ≡ true) }
+    ensures stamped { (v w : SlaveValue) (i : ℕ) (bytes : List ℕ) → Accepts v (Command.GetDaqListMode i) bytes w → (bit_and (slice_index bytes 0) 0x10 ≡ 0x10) ↔ (has_stamp (list_at v.daq i).stamp ≡ true) }
     ensures running { (v w : SlaveValue) (i : ℕ) (bytes : List ℕ) → Accepts v (Command.GetDaqListMode i) bytes w → (bit_and (slice_index bytes 0) 0x40 ≡ 0x40) ↔ ((list_at v.daq i).running ≡ true) }
-    ensures rest { (v w : SlaveValue) (i : ℕ) (bytes : List ℕ) → Accepts v (Command.GetDaqListMode i) bytes w → bytes ≡ bit_and (slice_index bytes 0) 0x41 ∷ 0 ∷ 0 ∷ (word_bytes (layout_of v).order (list_at v.daq i).event ++ (list_at v.daq i).prescaler ∷ (list_at v.daq i).priority ∷ []) }
+    ensures rest { (v w : SlaveValue) (i : ℕ) (bytes : List ℕ) → Accepts v (Command.GetDaqListMode i) bytes w → bytes ≡ bit_and (slice_index bytes 0) 0x51 ∷ 0 ∷ 0 ∷ (word_bytes (layout_of v).order (list_at v.daq i).event ++ (list_at v.daq i).prescaler ∷ (list_at v.daq i).priority ∷ []) }
     ensures there { (v w : SlaveValue) (i : ℕ) (bytes : List ℕ) → Accepts v (Command.GetDaqListMode i) bytes w → i < length v.daq.lists }
 {}
 

@@ -1,10 +1,12 @@
 //! What CONNECT and the commands that ask for the slave's limits are told, byte by byte.
-ghost use Rattle.std.specs.Prelude.{◌≡◌, ◌≢◌, ◌-◌, ◌%◌, ◌/◌, ◌++◌, ℕ, List, [], ◌∷◌, length};
+ghost use Rattle.std.specs.Prelude.{◌≡◌, ◌≢◌, ◌+◌, ◌-◌, ◌*◌, ◌%◌, ◌/◌, ◌++◌, ℕ, List, [], ◌∷◌, length};
 ghost use Rattle.arrayvec.specs.ArrayVec.{ArrayVec};
 ghost use Rattle.xcp_packet.specs.ByteOrder.{double_bytes, word_bytes};
 ghost use Rattle.xcp_packet.specs.CommandSpelling.{spells};
 ghost use Rattle.xcp_packet.specs.declared.Command.{Command};
 ghost use Rattle.xcp_packet.specs.declared.Order.{Order};
+ghost use Rattle.xcp_packet.specs.declared.Stamp.{Stamp};
+ghost use Rattle.xcp_packet.specs.TimeStamps.{stamp_size};
 ghost use Rattle.xcp_slave.specs.AcceptedCommands.{Accepts};
 ghost use Rattle.xcp_slave.specs.Step.{Answers};
 ghost use Rattle.xcp_slave.specs.SlaveValue.{SlaveValue, layout_of};
@@ -35,16 +37,22 @@ pub fn a_session_begins_with_the_limits()
 /// What the commands without a parameter tell of the slave. GET_COMM_MODE_INFO: COMM_MODE_OPTIONAL 01 (bit 0, master
 /// block mode), MAX_BS 8, MIN_ST 0, QUEUE_SIZE 0, driver version 1.0. GET_PAG_PROCESSOR_INFO: how many segments there
 /// are, PAG_PROPERTIES 01 (bit 0, FREEZE). GET_DAQ_PROCESSOR_INFO: DAQ_PROPERTIES 03 (bit 0, dynamic configuration;
-/// bit 1, prescaler), MAX_DAQ, how many lists there are, MAX_EVENT_CHANNEL, how many event channels, MIN_DAQ 0 and
-/// DAQ_KEY_BYTE 00. GET_DAQ_RESOLUTION_INFO: granularity 1 and greatest size MAX_DTO - 1 of an entry for DAQ,
-/// granularity 1 and size 0 for STIM, no time stamp. All other bytes are 0.
+/// bit 1, prescaler), and 13 of a slave with a clock (bit 4, time stamps), MAX_DAQ, how many lists there are,
+/// MAX_EVENT_CHANNEL, how many event channels, MIN_DAQ 0 and DAQ_KEY_BYTE 00. GET_DAQ_RESOLUTION_INFO: granularity 1
+/// and greatest size MAX_DTO - 1 of an entry for DAQ, granularity 1 and size 0 for STIM; of a slave with a clock
+/// TIMESTAMP_MODE (bits 0 to 2, how many bytes a time stamp has; bits 4 to 7, the unit) and TIMESTAMP_TICKS, how many
+/// units a tick has. GET_DAQ_CLOCK: the lowest four bytes of the time. All other bytes are 0.
 /// ASAM MCD-1 XCP, protocol layer, description of commands: GET_COMM_MODE_INFO, GET_PAG_PROCESSOR_INFO,
-/// GET_DAQ_PROCESSOR_INFO, GET_DAQ_RESOLUTION_INFO.
+/// GET_DAQ_PROCESSOR_INFO, GET_DAQ_RESOLUTION_INFO, GET_DAQ_CLOCK.
 pub fn the_slave_is_told_as_it_is()
     ensures comm_mode { (v w : SlaveValue) (bytes : List ℕ) → Accepts v Command.GetCommModeInfo bytes w → bytes ≡ 0x00 ∷ 0x01 ∷ 0x00 ∷ 8 ∷ 0 ∷ 0 ∷ 0x10 ∷ [] }
     ensures pag { (v w : SlaveValue) (bytes : List ℕ) → Accepts v Command.GetPagProcessorInfo bytes w → bytes ≡ length (layout_of v).segments ∷ 0x01 ∷ [] }
-    ensures daq { (v w : SlaveValue) (bytes : List ℕ) → Accepts v Command.GetDaqProcessorInfo bytes w → bytes ≡ 0x03 ∷ (word_bytes (layout_of v).order (length v.daq.lists) ++ word_bytes (layout_of v).order (length (layout_of v).events) ++ 0 ∷ 0x00 ∷ []) }
-    ensures resolution { (v w : SlaveValue) (bytes : List ℕ) → Accepts v Command.GetDaqResolutionInfo bytes w → bytes ≡ 1 ∷ ((layout_of v).max_dto - 1) ∷ 1 ∷ 0 ∷ 0 ∷ 0 ∷ 0 ∷ [] }
+    ensures daq { (v w : SlaveValue) (bytes : List ℕ) → (layout_of v).clock.stamp ≡ Stamp.Without → Accepts v Command.GetDaqProcessorInfo bytes w → bytes ≡ 0x03 ∷ (word_bytes (layout_of v).order (length v.daq.lists) ++ word_bytes (layout_of v).order (length (layout_of v).events) ++ 0 ∷ 0x00 ∷ []) }
+    ensures daq_with_clock { (v w : SlaveValue) (bytes : List ℕ) → (layout_of v).clock.stamp ≢ Stamp.Without → Accepts v Command.GetDaqProcessorInfo bytes w → bytes ≡ 0x13 ∷ (word_bytes (layout_of v).order (length v.daq.lists) ++ word_bytes (layout_of v).order (length (layout_of v).events) ++ 0 ∷ 0x00 ∷ []) }
+    ensures resolution { (v w : SlaveValue) (bytes : List ℕ) → (layout_of v).clock.stamp ≡ Stamp.Without → Accepts v Command.GetDaqResolutionInfo bytes w → bytes ≡ 1 ∷ ((layout_of v).max_dto - 1) ∷ 1 ∷ 0 ∷ 0 ∷ 0 ∷ 0 ∷ [] }
+    ensures resolution_with_clock { (v w : SlaveValue) (bytes : List ℕ) → (layout_of v).clock.stamp ≢ Stamp.Without → Accepts v Command.GetDaqResolutionInfo bytes w → bytes ≡ 1 ∷ ((layout_of v).max_dto - 1) ∷ 1 ∷ 0 ∷ (stamp_size (layout_of v).clock.stamp + 0x10 * (layout_of v).clock.unit) ∷ word_bytes (layout_of v).order (layout_of v).clock.ticks }
+    ensures sizes { (stamp_size Stamp.Byte ≡ 1) × (stamp_size Stamp.Word ≡ 2) × (stamp_size Stamp.Double ≡ 4) }
+    ensures clock { (v w : SlaveValue) (bytes : List ℕ) → Accepts v Command.GetDaqClock bytes w → bytes ≡ 0 ∷ 0 ∷ 0 ∷ double_bytes (layout_of v).order (v.time % 0x1_0000_0000) }
 {}
 
 /// GET_PAGE_INFO tells PAGE_PROPERTIES and INIT_SEGMENT. The controller has access to each page, whether the tool has

@@ -19,6 +19,7 @@ mod refusing;
 mod spelling;
 mod storing;
 mod switching;
+mod timeless;
 
 pub use allocating::{
     all_lists_are_freed, new_lists_come_behind, new_odts_and_entries_come_behind,
@@ -55,3 +56,4 @@ pub use switching::{
     a_cleared_list_is_stopped_and_empty, a_list_is_switched_alone, a_selection_is_kept,
     selected_lists_are_switched_together,
 };
+pub use timeless::without_a_clock_time_is_nothing;

@@ -2,6 +2,7 @@
 ghost use Rattle.std.specs.Prelude.{◌≡◌, ◌≢◌, ◌⊎◌, ◌+◌, ◌<◌, ◌≤◌, ◌++◌, ℕ, List, None, Some, [], ◌∷◌, false, get_or, length};
 ghost use Rattle.xcp_packet.specs.ByteOrder.{double_bytes};
 ghost use Rattle.xcp_packet.specs.declared.Command.{Command};
+ghost use Rattle.xcp_packet.specs.declared.Stamp.{Stamp};
 ghost use Rattle.xcp_daq.specs.DaqLists.{list_at};
 ghost use Rattle.xcp_daq.specs.declared.Allocation.{Allocation};
 ghost use Rattle.xcp_daq.specs.declared.Element.{Element};
@@ -11,10 +12,12 @@ ghost use Rattle.xcp_slave.specs.SlaveInvariant.{IsSlave};
 ghost use Rattle.xcp_slave.specs.SlaveValue.{SlaveValue, layout_of, noblock};
 
 /// SET_DAQ_LIST_MODE gives the list that it names this event channel, prescaler and priority, and changes nothing
-/// else of it, and no other list.
+/// else of it but its time stamps, and no other list. Its samples have those of the slave's clock if bit 4 is set, and
+/// none if no bit is.
 /// ASAM MCD-1 XCP, protocol layer, description of commands: SET_DAQ_LIST_MODE.
 pub fn a_list_has_the_mode_that_is_set()
-    ensures set { (v w : SlaveValue) (mode i event prescaler priority : ℕ) (bytes : List ℕ) → Accepts v (Command.SetDaqListMode mode i event prescaler priority) bytes w → list_at w.daq i ≡ record (list_at v.daq i) { event = event; prescaler = prescaler; priority = priority } }
+    ensures set { (v w : SlaveValue) (mode i event prescaler priority : ℕ) (bytes : List ℕ) → Accepts v (Command.SetDaqListMode mode i event prescaler priority) bytes w → list_at w.daq i ≡ record (list_at v.daq i) { event = event; prescaler = prescaler; priority = priority; stamp = (list_at w.daq i).stamp } }
+    ensures stamp { (v w : SlaveValue) (mode i event prescaler priority : ℕ) (bytes : List ℕ) → Accepts v (Command.SetDaqListMode mode i event prescaler priority) bytes w → ((mode ≡ 0x00) × ((list_at w.daq i).stamp ≡ Stamp.Without)) ⊎ ((mode ≡ 0x10) × ((list_at w.daq i).stamp ≡ (layout_of v).clock.stamp)) }
     ensures others { (v w : SlaveValue) (mode i event prescaler priority k : ℕ) (bytes : List ℕ) → Accepts v (Command.SetDaqListMode mode i event prescaler priority) bytes w → k ≢ i → list_at w.daq k ≡ list_at v.daq k }
     ensures rest { (v w : SlaveValue) (mode i event prescaler priority : ℕ) (bytes : List ℕ) → Accepts v (Command.SetDaqListMode mode i event prescaler priority) bytes w → w ≡ record (noblock v) { daq = record v.daq { lists = w.daq.lists } } }
 {}

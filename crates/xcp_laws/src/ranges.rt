@@ -2,10 +2,12 @@
 ghost use Rattle.std.specs.Prelude.{◌≡◌, ◌≢◌, ◌↔◌, ◌⊎◌, ◌+◌, ◌-◌, ◌<◌, ◌≤◌, ◌%◌, ◌*◌, ℕ, All, List, None, Some, [], ◌∷◌, bit_and, false, get_or, length, min, true};
 ghost use Rattle.arrayvec.specs.ArrayVec.{ArrayVec};
 ghost use Rattle.xcp_packet.specs.declared.Command.{Command};
+ghost use Rattle.xcp_packet.specs.declared.Stamp.{Stamp};
+ghost use Rattle.xcp_packet.specs.TimeStamps.{stamp_size};
 ghost use Rattle.xcp_memory.specs.Checksum.{unit};
 ghost use Rattle.xcp_memory.specs.Memory.{LiesInside, LiesProtected};
 ghost use Rattle.xcp_memory.specs.Pages.{segment_at};
-ghost use Rattle.xcp_daq.specs.DaqLists.{all_entries, all_odts, list_at, odt_size};
+ghost use Rattle.xcp_daq.specs.DaqLists.{all_entries, all_odts, first_size, list_at, odt_size};
 ghost use Rattle.xcp_daq.specs.declared.Allocation.{Allocation};
 ghost use Rattle.xcp_daq.specs.declared.Pointer.{Pointer};
 ghost use Rattle.xcp_memory.specs.declared.ChecksumKind.{ChecksumKind};
@@ -76,19 +78,22 @@ pub fn page_commands_are_accepted_in_range()
 /// The commands on DAQ lists are accepted exactly if there are the list, the ODT and the entry that they name,
 /// their mode is one that they have, and all else that they name is in its range. A list that runs isn't written
 /// to, and while a list runs none is allocated and no ODT; a list that is started or selected has no ODT of more
-/// than MAX_DTO - 1 bytes. There are at most 16 lists, 64 ODTs and 256 entries.
+/// than MAX_DTO - 1 bytes, and no more in the first one with the time stamp. A list has time stamps (mode 10) only of a
+/// slave with a clock, and GET_DAQ_CLOCK is one of its commands alone. There are at most 16 lists, 64 ODTs and 256
+/// entries.
 /// ASAM MCD-1 XCP, protocol layer, description of commands: CLEAR_DAQ_LIST, SET_DAQ_PTR, WRITE_DAQ,
-/// SET_DAQ_LIST_MODE, GET_DAQ_LIST_MODE, START_STOP_DAQ_LIST, START_STOP_SYNCH, READ_DAQ, GET_DAQ_EVENT_INFO,
+/// SET_DAQ_LIST_MODE, GET_DAQ_LIST_MODE, START_STOP_DAQ_LIST, START_STOP_SYNCH, GET_DAQ_CLOCK, READ_DAQ, GET_DAQ_EVENT_INFO,
 /// ALLOC_DAQ, ALLOC_ODT, ALLOC_ODT_ENTRY.
 pub fn list_commands_are_accepted_in_range()
     ensures clear_daq_list { (v w : SlaveValue) (i : ℕ) (a : Answer) → IsAsked v (Command.ClearDaqList i) a w → IsPositive a ↔ (i < length v.daq.lists) }
     ensures set_daq_ptr { (v w : SlaveValue) (i j k : ℕ) (a : Answer) → IsAsked v (Command.SetDaqPtr i j k) a w → IsPositive a ↔ ((i < length v.daq.lists) × (j < length (list_at v.daq i).odts) × (k < length (get_or (list_at v.daq i).odts j []))) }
     ensures write_daq { (v w : SlaveValue) (offset size extension address : ℕ) (a : Answer) (p : Pointer) → v.daq.pointer ≡ Some p → IsAsked v (Command.WriteDaq offset size extension address) a w → IsPositive a ↔ (((list_at v.daq p.list).running ≡ false) × (offset ≡ 0xFF) × ((0 < size) × (size ≤ (layout_of v).max_dto - 1)) × (extension ≡ 0) × LiesInside (layout_of v) address size) }
     ensures write_nowhere { (v w : SlaveValue) (offset size extension address : ℕ) (a : Answer) → v.daq.pointer ≡ None → IsAsked v (Command.WriteDaq offset size extension address) a w → a ≡ Outcome.Packets ((0xFE ∷ 0x2A ∷ []) ∷ []) }
-    ensures set_daq_list_mode { (v w : SlaveValue) (mode i event prescaler priority : ℕ) (a : Answer) → IsAsked v (Command.SetDaqListMode mode i event prescaler priority) a w → IsPositive a ↔ ((mode ≡ 0x00) × (i < length v.daq.lists) × ((list_at v.daq i).running ≡ false) × (event < length (layout_of v).events) × (0 < prescaler)) }
+    ensures set_daq_list_mode { (v w : SlaveValue) (mode i event prescaler priority : ℕ) (a : Answer) → IsAsked v (Command.SetDaqListMode mode i event prescaler priority) a w → IsPositive a ↔ (((mode ≡ 0x00) ⊎ ((mode ≡ 0x10) × ((layout_of v).clock.stamp ≢ Stamp.Without))) × (i < length v.daq.lists) × ((list_at v.daq i).running ≡ false) × (event < length (layout_of v).events) × (0 < prescaler)) }
     ensures get_daq_list_mode { (v w : SlaveValue) (i : ℕ) (a : Answer) → IsAsked v (Command.GetDaqListMode i) a w → IsPositive a ↔ (i < length v.daq.lists) }
-    ensures start_stop_daq_list { (v w : SlaveValue) (mode i : ℕ) (a : Answer) → IsAsked v (Command.StartStopDaqList mode i) a w → IsPositive a ↔ ((mode ≤ 2) × (i < length v.daq.lists) × (mode ≢ 0 → All (λ odt. odt_size odt ≤ (layout_of v).max_dto - 1) (list_at v.daq i).odts)) }
-    ensures start_stop_synch { (v w : SlaveValue) (mode : ℕ) (a : Answer) → IsAsked v (Command.StartStopSynch mode) a w → IsPositive a ↔ ((mode ≤ 2) × (mode ≡ 1 → (i : ℕ) → i < length v.daq.lists → (list_at v.daq i).selected ≡ true → All (λ odt. odt_size odt ≤ (layout_of v).max_dto - 1) (list_at v.daq i).odts)) }
+    ensures start_stop_daq_list { (v w : SlaveValue) (mode i : ℕ) (a : Answer) → IsAsked v (Command.StartStopDaqList mode i) a w → IsPositive a ↔ ((mode ≤ 2) × (i < length v.daq.lists) × (mode ≢ 0 → All (λ odt. odt_size odt ≤ (layout_of v).max_dto - 1) (list_at v.daq i).odts × (stamp_size (list_at v.daq i).stamp + first_size (list_at v.daq i).odts ≤ (layout_of v).max_dto - 1))) }
+    ensures start_stop_synch { (v w : SlaveValue) (mode : ℕ) (a : Answer) → IsAsked v (Command.StartStopSynch mode) a w → IsPositive a ↔ ((mode ≤ 2) × (mode ≡ 1 → (i : ℕ) → i < length v.daq.lists → (list_at v.daq i).selected ≡ true → All (λ odt. odt_size odt ≤ (layout_of v).max_dto - 1) (list_at v.daq i).odts × (stamp_size (list_at v.daq i).stamp + first_size (list_at v.daq i).odts ≤ (layout_of v).max_dto - 1))) }
+    ensures get_daq_clock { (v w : SlaveValue) (a : Answer) → IsAsked v Command.GetDaqClock a w → IsPositive a ↔ ((layout_of v).clock.stamp ≢ Stamp.Without) }
     ensures read_daq { (v w : SlaveValue) (a : Answer) → IsAsked v Command.ReadDaq a w → IsPositive a ↔ (v.daq.pointer ≢ None) }
     ensures get_daq_event_info { (v w : SlaveValue) (channel : ℕ) (a : Answer) → IsAsked v (Command.GetDaqEventInfo channel) a w → IsPositive a ↔ (channel < length (layout_of v).events) }
     ensures alloc_daq { (v w : SlaveValue) (count : ℕ) (a : Answer) → IsAsked v (Command.AllocDaq count) a w → IsPositive a ↔ (((v.daq.last ≡ Some Allocation.FreeDaq) ⊎ (v.daq.last ≡ Some Allocation.AllocDaq)) × ((i : ℕ) → i < length v.daq.lists → (list_at v.daq i).running ≡ false) × (0 < count) × (length v.daq.lists + count ≤ 16)) }

@@ -51,6 +51,7 @@ pub fn list_commands_have_their_bytes()
     ensures get_daq_list_mode { (order : Order) (r a b : ℕ) (more : List ℕ) → spells order (Command.GetDaqListMode (word_of order a b)) (0xDF ∷ r ∷ a ∷ b ∷ more) }
     ensures start_stop_daq_list { (order : Order) (mode a b : ℕ) (more : List ℕ) → spells order (Command.StartStopDaqList mode (word_of order a b)) (0xDE ∷ mode ∷ a ∷ b ∷ more) }
     ensures start_stop_synch { (order : Order) (mode : ℕ) (more : List ℕ) → spells order (Command.StartStopSynch mode) (0xDD ∷ mode ∷ more) }
+    ensures get_daq_clock { (order : Order) (more : List ℕ) → spells order Command.GetDaqClock (0xDC ∷ more) }
     ensures read_daq { (order : Order) (more : List ℕ) → spells order Command.ReadDaq (0xDB ∷ more) }
     ensures get_daq_processor_info { (order : Order) (more : List ℕ) → spells order Command.GetDaqProcessorInfo (0xDA ∷ more) }
     ensures get_daq_resolution_info { (order : Order) (more : List ℕ) → spells order Command.GetDaqResolutionInfo (0xD9 ∷ more) }

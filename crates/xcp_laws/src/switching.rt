@@ -33,8 +33,8 @@ pub fn selected_lists_are_switched_together()
 {}
 
 /// CLEAR_DAQ_LIST stops the list that it names, unselects it, and leaves each of its entries unwritten. It
-/// keeps its event channel, prescaler and priority, and how many ODTs and entries it has; and no other
-/// list changes.
+/// keeps its event channel, prescaler, priority and time stamps, and how many ODTs and entries it has; and no
+/// other list changes.
 /// ASAM MCD-1 XCP, protocol layer, description of commands: CLEAR_DAQ_LIST.
 pub fn a_cleared_list_is_stopped_and_empty()
     ensures stopped { (v w : SlaveValue) (i : ℕ) (bytes : List ℕ) → Accepts v (Command.ClearDaqList i) bytes w → (list_at w.daq i).running ≡ false }

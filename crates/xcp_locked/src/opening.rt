@@ -15,7 +15,7 @@ use std::marker::Model;
 use std::sync::ledger::{Blank, Share};
 use std::sync::{Arc, Condvar};
 use xcp_bank::{Bank, Writer};
-use xcp_memory::Layout;
+use xcp_memory::{Clock, Layout};
 use xcp_slave::Slave;
 use xcp_trace::Journal;
 
@@ -71,6 +71,14 @@ impl Unnamed {
         ensures { result ≡ self.now.layout.max_cto }
     {
         self.slave.max_cto()
+    }
+
+    /// The clock of its slave.
+    pub fn clock(&self) -> Clock
+        ensures value { result ≡ self.now.layout.clock }
+        ensures unit { result.unit ≤ 12 }
+    {
+        self.slave.layout().clock()
     }
 }
 

@@ -1,5 +1,5 @@
 -- Parts whose numbers are those of a lawful layout break no limit.
-use Rattle.std.proofs.Common.{◌≡◌, ℕ, ◌+◌, ◌<◌, ◌≤◌, inl, inr, ℤ, pos, negsuc, true, false, not, List, [], ◌∷◌, length, map, take, drop, suc, None, Some, refl, ◌∙◌, ap, subst, arith, nat_le, sum_by, All, if◌then◌else◌, slice_index_or as get_or}
+use Rattle.std.proofs.Common.{◌≡◌, ◌≢◌, ◌==◌, ℕ, ◌+◌, ◌<◌, ◌≤◌, inl, inr, ℤ, pos, negsuc, true, false, not, List, [], ◌∷◌, length, map, take, drop, suc, None, Some, refl, ◌∙◌, ap, subst, arith, nat_le, sum_by, All, if◌then◌else◌, slice_index_or as get_or}
 use Rattle.std.specs.Prelude.{◌↔◌}
 use Rattle.std.specs.List.{flat_map, enumerate_from}
 use Rattle.std.proofs.lemmas.Bool.{and_from}
@@ -161,13 +161,22 @@ signals_keep p h n =
     let bytes = within 1 64 p.signals_length n.signals_length least h.signals_most in
     keeps (signals_limits p.signals_address p.signals_length) (ap not address, (ap not bytes, (ap not (at_most (number p.signals_address + number p.signals_length) 0xFFFF_FFFF ends), tt)))
 
+not_three : (n : ℕ) → n ≢ 3 → not (not (n == 3)) ≡ false
+not_three n h = grind (arith, nat_tests)
+
+is_other : (n : ℕ) → not (not (n == 3)) ≡ false → n ≢ 3
+is_other n h = grind (arith, nat_tests)
+
 own_keep : (p : Parts) → IsLayout (layout_of p) → AreNumbers p → first_holding (own_limits p) ≡ None
 own_keep p h n =
     let id = text 64 p.id.items h.id_least h.id_most h.id_text in
     let cto = within 8 255 p.max_cto n.cto h.cto_least h.cto_most in
     let dto = within 8 255 p.max_dto n.dto h.dto_least h.dto_most in
     let kind = within 1 6 p.checksum n.checksum n.kinds.0 n.kinds.1 in
-    keeps (own_limits p) (ap not id, (ap not cto, (ap not dto, (ap not kind, tt))))
+    let size = within 0 4 p.clock.size n.stamp_natural (omega arith) n.stamp_most in
+    let unit = within 0 12 p.clock.unit n.unit (omega arith) h.unit_most in
+    let ticks = within 1 65535 p.clock.ticks n.ticks h.ticks_least h.ticks_most in
+    keeps (own_limits p) (ap not id, (ap not cto, (ap not dto, (ap not kind, (ap not size, (not_three _ n.stamp_known, (ap not unit, (ap not ticks, tt))))))))
 
 keep : (p : Parts) → IsLayout (layout_of p) → AreNumbers p → first_fault p ≡ None
 keep p h n =
@@ -202,6 +211,11 @@ numbers p h =
       dto = natural 8 255 p.max_dto (kept _ own.1.1.0);
       checksum = natural 1 6 p.checksum (kept _ own.1.1.1.0);
       kinds = within_number 1 6 p.checksum (kept _ own.1.1.1.0);
+      stamp_natural = natural 0 4 p.clock.size (kept _ own.1.1.1.1.0);
+      stamp_most = (within_number 0 4 p.clock.size (kept _ own.1.1.1.1.0)).1;
+      stamp_known = is_other _ own.1.1.1.1.1.0;
+      unit = natural 0 12 p.clock.unit (kept _ own.1.1.1.1.1.1.0);
+      ticks = natural 1 65535 p.clock.ticks (kept _ own.1.1.1.1.1.1.1.0);
       segments = each_kept (limits_in ss) (λ s. IsNatural s.address × IsNatural s.pages) (segment_numbers ss) 0 ss segments.behind;
       signals_address = natural 0 0xFFFF_FFFE p.signals_address (kept _ signals.0);
       signals_length = natural 1 64 p.signals_length (kept _ signals.1.0);

@@ -5,8 +5,9 @@ use Rattle.xcp_memory.specs.declared.key.Area.TheVariants as area
 use Rattle.xcp_memory.specs.declared.key.LayoutFault.{LayoutFault}
 use Rattle.xcp_memory.specs.declared.parts.Parts.{Parts}
 use Rattle.xcp_memory.specs.declared.checksum_kind.ChecksumKind.{ChecksumKind}
+use Rattle.xcp_memory.specs.declared.clock.Clock.{Clock}
 use Rattle.xcp_memory.specs.Layout.{LayoutValue, Extent, SegmentValue, EventValue, signals_extent}
-use Rattle.xcp_memory.specs.LayoutParts.{Placed, placed_segment, areas, number, segment_of_part, event_of_part, kind_numbered, layout_of}
+use Rattle.xcp_memory.specs.LayoutParts.{Placed, placed_segment, areas, number, segment_of_part, event_of_part, kind_numbered, clock_of, layout_of}
 use Rattle.xcp_packet.specs.Rows.{first_holding}
 use Rattle.xcp_memory.specs.Limits.{own_limits, segments_limits, signals_limits, events_limits, apart_limits, first_fault}
 use Rattle.xcp_packet.proofs.RowTestLemmas.{behind_4, holding_1_of_5, holding_2_of_5, holding_3_of_5, holding_4_of_5}
@@ -66,5 +67,5 @@ pub areas_built : (p : Parts) (ss : List SegmentValue) (signals : Extent) → ss
 areas_built p ss signals e f = rw (e, f) refl
 
 -- what was read is the layout
-pub layout_built : (p : Parts) (cto dto : ℕ) (kind : ChecksumKind) (ss : List SegmentValue) (signals : Extent) (es : List EventValue) → cto ≡ number p.max_cto → dto ≡ number p.max_dto → kind ≡ kind_numbered (number p.checksum) → ss ≡ map segment_of_part p.segments.items → signals ≡ signals_extent (layout_of p) → es ≡ map event_of_part p.events.items → (let l : LayoutValue = record { id = p.id.items; max_cto = cto; max_dto = dto; checksum = kind; order = p.order; segments = ss; signals_address = signals.address; signals_length = signals.size; events = es } in l) ≡ layout_of p
-layout_built p cto dto kind ss signals es a b c d e f = rw (a, b, c, d, e, f) refl
+pub layout_built : (p : Parts) (cto dto : ℕ) (kind : ChecksumKind) (clock : Clock) (ss : List SegmentValue) (signals : Extent) (es : List EventValue) → cto ≡ number p.max_cto → dto ≡ number p.max_dto → kind ≡ kind_numbered (number p.checksum) → clock ≡ clock_of p.clock → ss ≡ map segment_of_part p.segments.items → signals ≡ signals_extent (layout_of p) → es ≡ map event_of_part p.events.items → (let l : LayoutValue = record { id = p.id.items; max_cto = cto; max_dto = dto; checksum = kind; order = p.order; clock = clock; segments = ss; signals_address = signals.address; signals_length = signals.size; events = es } in l) ≡ layout_of p
+layout_built p cto dto kind clock ss signals es a b c g d e f = rw (a, b, c, g, d, e, f) refl

@@ -1,6 +1,7 @@
 -- A layout: what a controller shows to a calibration tool.
 use Rattle.std.specs.Prelude.{ℕ, List, [], ◌∷◌, ◌++◌, length, map, sum_by, All, ◌+◌, ◌<◌, ◌≤◌, ◌⊎◌, slice_index_or as get_or}
 use Rattle.xcp_packet.specs.declared.Order.{Order}
+use Rattle.xcp_memory.specs.declared.clock.Clock.{Clock}
 use Rattle.xcp_memory.specs.declared.checksum_kind.ChecksumKind.{ChecksumKind}
 
 -- A segment: its first address, the bytes of its reference page, and how many pages it has.
@@ -19,7 +20,7 @@ pub record EventValue : Type 0 where
   pub priority : ℕ
 
 -- The identification, the greatest lengths of command and data packets (MAX_CTO, MAX_DTO), the type of
--- checksums, the byte order of words and double words in packets, the segments, where the signals stand that the
+-- checksums, the byte order of words and double words in packets, the clock, the segments, where the signals stand that the
 -- controller measures, and the event channels.
 pub record LayoutValue : Type 0 where
   pub id : List ℕ
@@ -27,6 +28,7 @@ pub record LayoutValue : Type 0 where
   pub max_dto : ℕ
   pub checksum : ChecksumKind
   pub order : Order
+  pub clock : Clock
   pub segments : List SegmentValue
   pub signals_address : ℕ
   pub signals_length : ℕ
@@ -70,6 +72,9 @@ pub record IsLayout (l : LayoutValue) : Type 0 where
   pub id_least : 1 ≤ length l.id
   pub id_most : length l.id ≤ 64
   pub id_text : All IsPrintable l.id
+  pub unit_most : l.clock.unit ≤ 12
+  pub ticks_least : 1 ≤ l.clock.ticks
+  pub ticks_most : l.clock.ticks ≤ 65535
   pub segments_least : 1 ≤ length l.segments
   pub segments_most : length l.segments ≤ 4
   pub filled : All (λ s. 1 ≤ length s.bytes) l.segments

@@ -1,5 +1,5 @@
 -- Laws of layouts.
-use Rattle.std.specs.Prelude.{◌≡◌, ℕ, ℤ, pos, ◌≤◌, ◌↔◌, All, true, None}
+use Rattle.std.specs.Prelude.{◌≡◌, ℕ, ℤ, pos, ◌≤◌, ◌↔◌, ◌≢◌, All, true, None}
 use Rattle.xcp_memory.specs.declared.parts.Parts.{Parts}
 use Rattle.xcp_memory.specs.Layout.{LayoutValue, IsLayout}
 use Rattle.xcp_memory.specs.LayoutParts.{number, layout_of}
@@ -19,12 +19,17 @@ abbrev pub IsByte : ℤ → Type 0
 IsByte z = IsNatural z × (number z ≤ 255)
 
 -- What a layout doesn't tell of the parts that it was made of: none of their numbers is negative, that of the type of
--- checksums is one from 1 to 6, and those of event channels are bytes.
+-- checksums is one from 1 to 6, a time stamp has 0, 1, 2 or 4 bytes, and the numbers of event channels are bytes.
 pub record AreNumbers (p : Parts) : Type 0 where
   pub cto : IsNatural p.max_cto
   pub dto : IsNatural p.max_dto
   pub checksum : IsNatural p.checksum
   pub kinds : (1 ≤ number p.checksum) × (number p.checksum ≤ 6)
+  pub stamp_natural : IsNatural p.clock.size
+  pub stamp_most : number p.clock.size ≤ 4
+  pub stamp_known : number p.clock.size ≢ 3
+  pub unit : IsNatural p.clock.unit
+  pub ticks : IsNatural p.clock.ticks
   pub segments : All (λ s. IsNatural s.address × IsNatural s.pages) p.segments.items
   pub signals_address : IsNatural p.signals_address
   pub signals_length : IsNatural p.signals_length

@@ -4,6 +4,10 @@ use Rattle.std.specs.List.{enumerate_from}
 use Rattle.xcp_memory.specs.declared.parts.Parts.{Parts}
 use Rattle.xcp_memory.specs.declared.parts.SegmentPart.{SegmentPart}
 use Rattle.xcp_memory.specs.declared.parts.EventPart.{EventPart}
+use Rattle.xcp_packet.specs.declared.Stamp.{Stamp}
+use Rattle.xcp_packet.specs.declared.Stamp.TheVariants.{Without, Byte, Word, Double}
+use Rattle.xcp_memory.specs.declared.clock.Clock.{Clock}
+use Rattle.xcp_memory.specs.declared.clock.ClockPart.{ClockPart}
 use Rattle.xcp_memory.specs.declared.key.Area.{Area}
 use Rattle.xcp_memory.specs.declared.key.Area.TheVariants as area
 use Rattle.xcp_memory.specs.declared.checksum_kind.ChecksumKind.{ChecksumKind}
@@ -29,6 +33,18 @@ kind_numbered n =
     else (if n == 5 then Add24
     else Add44))))
 
+-- the time stamp with so many bytes
+abbrev pub stamp_sized : ℕ → Stamp
+stamp_sized n =
+    if n == 0 then Without
+    else (if n == 1 then Byte
+    else (if n == 2 then Word
+    else Double))
+
+-- the clock of this part
+abbrev pub clock_of : ClockPart → Clock
+clock_of c = record { stamp = stamp_sized (number c.size); unit = number c.unit; ticks = number c.ticks }
+
 abbrev pub segment_of_part : SegmentPart → SegmentValue
 segment_of_part s = record { address = number s.address; bytes = s.bytes.items; pages = number s.pages }
 
@@ -43,6 +59,7 @@ layout_of p = record {
   max_dto = number p.max_dto;
   checksum = kind_numbered (number p.checksum);
   order = p.order;
+  clock = clock_of p.clock;
   segments = map segment_of_part p.segments.items;
   signals_address = number p.signals_address;
   signals_length = number p.signals_length;

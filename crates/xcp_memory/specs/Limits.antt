@@ -1,10 +1,11 @@
 -- The limits of a layout's parts, and the fault of the first one that is broken.
-use Rattle.std.specs.Prelude.{ℕ, ℤ, pos, negsuc, ◌+◌, Bool, false, ◌&&◌, ◌||◌, List, [], ◌∷◌, ◌++◌, length, map, sum_by, take, Option, nat_le}
+use Rattle.std.specs.Prelude.{ℕ, ℤ, pos, negsuc, ◌+◌, Bool, false, ◌&&◌, ◌||◌, List, [], ◌∷◌, ◌++◌, length, map, sum_by, take, Option, nat_le, not, ◌==◌}
 use Rattle.std.specs.List.{flat_map, enumerate_from, list_all}
 use Rattle.xcp_packet.specs.Rows.{first_holding, must}
 use Rattle.xcp_memory.specs.declared.parts.Parts.{Parts}
 use Rattle.xcp_memory.specs.declared.parts.SegmentPart.{SegmentPart}
 use Rattle.xcp_memory.specs.declared.parts.EventPart.{EventPart}
+use Rattle.xcp_memory.specs.declared.clock.ClockPart.{ClockPart}
 use Rattle.xcp_memory.specs.declared.key.Key.{Key}
 use Rattle.xcp_memory.specs.declared.key.Key.TheVariants as key
 use Rattle.xcp_memory.specs.declared.key.LayoutFault.{LayoutFault}
@@ -70,13 +71,22 @@ max_cto_limit = number_limit 8 255 key.MaxCto
 abbrev pub max_dto_limit : ℤ → Limit
 max_dto_limit = number_limit 8 255 key.MaxDto
 
+-- the clock: how many bytes a time stamp has, which are not three, the unit of time, and how many units a tick has
+abbrev pub clock_limits : ClockPart → List Limit
+clock_limits c =
+    number_limit 0 4 key.ClockSize c.size
+    ∷ must (not (number c.size == 3)) (Range key.ClockSize)
+    ∷ number_limit 0 12 key.ClockUnit c.unit
+    ∷ number_limit 1 65535 key.ClockTicks c.ticks
+    ∷ []
+
 abbrev pub own_limits : Parts → List Limit
 own_limits p =
     id_limit p.id.items
     ∷ max_cto_limit p.max_cto
     ∷ max_dto_limit p.max_dto
     ∷ number_limit 1 6 key.Checksum p.checksum
-    ∷ []
+    ∷ clock_limits p.clock
 
 -- how many segments there are; of segment i the first address, its bytes, the bytes in all with its own, and its pages
 abbrev pub segment_counts : ℕ → List Limit

@@ -17,6 +17,14 @@ pub enum Key {
     ByteOrder,
     /// The type of checksums.
     Checksum,
+    /// The clock.
+    Clock,
+    /// How many bytes a time stamp has.
+    ClockSize,
+    /// The unit of time.
+    ClockUnit,
+    /// How many units a tick has.
+    ClockTicks,
     /// The segments.
     Segment,
     /// The first address of a segment.

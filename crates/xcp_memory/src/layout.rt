@@ -4,7 +4,7 @@ ghost use Rattle.xcp_memory.specs.Pages.{no_segment};
 ghost use Rattle.xcp_memory.specs.ReferencePage.{with_reference};
 ghost use Rattle.xcp_memory.specs.Layout.{IsLayout, IsPrintable, signals_extent, no_event};
 ghost use Rattle.xcp_memory.specs.declared.key.LayoutFault.{LayoutFault};
-ghost use Rattle.xcp_memory.specs.LayoutParts.{layout_of, number, kind_numbered};
+ghost use Rattle.xcp_memory.specs.LayoutParts.{clock_of, layout_of, number, kind_numbered};
 ghost use Rattle.xcp_packet.specs.Rows.{first_holding};
 ghost use Rattle.xcp_memory.specs.Limits.{first_fault, own_limits};
 ghost use Rattle.xcp_memory.specs.ComputedAccess.{segment_of, is_inside, Located};
@@ -14,7 +14,7 @@ use crate::event_channel::{EventChannel, copy_events, read_events, same_events};
 use crate::extent::{Extent, read_signals};
 use crate::limits::{MAX_EVENTS, MAX_ID, MAX_SEGMENTS, MIN_PACKET};
 use crate::segment::{Segment, copy_segments, read_segments, same_segments};
-use crate::{ChecksumKind, Key, LayoutFault, Parts, checks};
+use crate::{ChecksumKind, Clock, Key, LayoutFault, Parts, checks};
 use arrayvec::ArrayVec;
 use std::alloc::{AllocError, Global};
 use std::marker::Model;
@@ -29,6 +29,7 @@ pub struct Layout {
     max_dto: u8,
     checksum: ChecksumKind,
     order: Order,
+    clock: Clock,
     segments: ArrayVec<Segment, MAX_SEGMENTS, Global>,
     signals: Extent,
     events: ArrayVec<EventChannel, MAX_EVENTS, Global>,
@@ -40,21 +41,24 @@ struct OwnValues {
     max_cto: u8,
     max_dto: u8,
     checksum: ChecksumKind,
+    clock: Clock,
 }
 
 impl OwnValues {
     fn read(parts: &Parts) -> Result<OwnValues, LayoutFault>
-        ensures ok { IfOk result (λ o. (first_holding (own_limits parts.now) ≡ None) × (o.max_cto ≡ number parts.now.max_cto) × (o.max_dto ≡ number parts.now.max_dto) × (o.checksum ≡ kind_numbered (number parts.now.checksum))) }
+        ensures ok { IfOk result (λ o. (first_holding (own_limits parts.now) ≡ None) × (o.max_cto ≡ number parts.now.max_cto) × (o.max_dto ≡ number parts.now.max_dto) × (o.checksum ≡ kind_numbered (number parts.now.checksum)) × (o.clock ≡ clock_of parts.now.clock)) }
         ensures refused { IfErr result (λ e. first_holding (own_limits parts.now) ≡ Some e) }
     {
         checks::check_text(&parts.id, MAX_ID, Key::Id)?;
         let max_cto = checks::byte(parts.max_cto, MIN_PACKET, u8::MAX, Key::MaxCto)?;
         let max_dto = checks::byte(parts.max_dto, MIN_PACKET, u8::MAX, Key::MaxDto)?;
         let number = checks::byte(parts.checksum, 1, 6, Key::Checksum)?;
+        let clock = Clock::read(parts.clock)?;
         Ok(OwnValues {
             max_cto,
             max_dto,
             checksum: ChecksumKind::of_number(number),
+            clock,
         })
     }
 }
@@ -64,14 +68,14 @@ impl Model for Layout {
 
     ghost Value = { LayoutValue };
 
-    ghost view = { λ l. record { id = l.id.items; max_cto = l.max_cto; max_dto = l.max_dto; checksum = l.checksum; order = l.order; segments = l.segments.items; signals_address = l.signals.address; signals_length = l.signals.size; events = l.events.items } };
+    ghost view = { λ l. record { id = l.id.items; max_cto = l.max_cto; max_dto = l.max_dto; checksum = l.checksum; order = l.order; clock = l.clock; segments = l.segments.items; signals_address = l.signals.address; signals_length = l.signals.size; events = l.events.items } };
 
-    ghost invariant = { λ l. IsLayout (record { id = l.id.items; max_cto = l.max_cto; max_dto = l.max_dto; checksum = l.checksum; order = l.order; segments = l.segments.items; signals_address = l.signals.address; signals_length = l.signals.size; events = l.events.items }) };
+    ghost invariant = { λ l. IsLayout (record { id = l.id.items; max_cto = l.max_cto; max_dto = l.max_dto; checksum = l.checksum; order = l.order; clock = l.clock; segments = l.segments.items; signals_address = l.signals.address; signals_length = l.signals.size; events = l.events.items }) };
 }
 
 impl Layout {
     /// The layout that these parts make, or the first limit that they break, in this order: the identification,
-    /// MAX_CTO, MAX_DTO, the type of checksums; how many segments there are, and for each its first address, that it
+    /// MAX_CTO, MAX_DTO, the type of checksums, the clock; how many segments there are, and for each its first address, that it
     /// has a byte, the bytes so far, its last address and its number of pages; the signals' first address, length and
     /// last address; how many event channels there are, and for each its name, time cycle, time unit and priority; the
     /// first two areas that share an address. It takes no memory.
@@ -106,6 +110,7 @@ impl Layout {
             max_dto: own.max_dto,
             checksum: own.checksum,
             order,
+            clock: own.clock,
             segments,
             signals,
             events,
@@ -125,6 +130,7 @@ impl Layout {
             max_dto: self.max_dto,
             checksum: self.checksum,
             order: self.order,
+            clock: self.clock,
             segments,
             signals: self.signals,
             events,
@@ -140,6 +146,7 @@ impl Layout {
             && self.max_dto == other.max_dto
             && self.checksum == other.checksum
             && self.order == other.order
+            && self.clock == other.clock
             && self.signals.address() == other.signals.address()
             && self.signals.size() == other.signals.size()
             && same_segments(&self.segments, &other.segments)
@@ -191,6 +198,14 @@ impl Layout {
         ensures { result ≡ self.now.order }
     {
         self.order
+    }
+
+    /// The clock.
+    pub fn clock(&self) -> Clock
+        ensures value { result ≡ self.now.clock }
+        ensures unit { result.unit ≤ 12 }
+    {
+        self.clock
     }
 
     /// How many segments there are.

@@ -8,6 +8,7 @@ mod access_laws;
 mod areas;
 mod checks;
 mod checksum_kind;
+mod clock;
 mod event_channel;
 mod extent;
 mod key;
@@ -26,6 +27,7 @@ pub use access_laws::{
 };
 pub use checks::is_text;
 pub use checksum_kind::ChecksumKind;
+pub use clock::{Clock, ClockPart, NO_CLOCK};
 pub use key::{Area, Key, LayoutFault};
 pub use layout::Layout;
 pub use layout_laws::{areas_share_no_address, kept_limits_make_a_layout, ranges_are_decided};

@@ -30,5 +30,14 @@ pub const MAX_NAME: usize = 32;
 /// What MAX_CTO and MAX_DTO are at least.
 pub const MIN_PACKET: u8 = 8;
 
+/// How many bytes a time stamp has at most.
+pub const MAX_STAMP: u8 = 4;
+
+/// The last code of a unit of time.
+pub const MAX_UNIT: u8 = 12;
+
+/// How many units a tick of the clock has at most.
+pub const MAX_TICKS: u16 = 65_535;
+
 /// The last address that an area may have.
 pub const LAST_ADDRESS: u32 = 0xFFFF_FFFE;

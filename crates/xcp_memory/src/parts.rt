@@ -1,4 +1,5 @@
 //! The parts that a layout is made of.
+use crate::ClockPart;
 use xcp_packet::Order;
 
 /// What a layout is made of, as it was read: no limit has been checked.
@@ -14,6 +15,8 @@ pub struct Parts {
     pub checksum: i64,
     /// The byte order of words and double words in packets.
     pub order: Order,
+    /// The clock.
+    pub clock: ClockPart,
     /// The segments: 1 to 4, with 2,040 bytes in all, whatever number of pages they have.
     pub segments: Vec<SegmentPart>,
     /// The first address of the signals: 0 to 0xFFFF_FFFE, and so for their last address.

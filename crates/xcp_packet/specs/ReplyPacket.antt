@@ -6,7 +6,7 @@ use Rattle.xcp_packet.specs.declared.order.Order.{Order}
 use Rattle.xcp_packet.specs.declared.code.Code.{Code}
 use Rattle.xcp_packet.specs.declared.code.Code.TheVariants.{CmdSynch, CmdBusy, DaqActive, PgmActive, CmdUnknown, CmdSyntax, OutOfRange, WriteProtected, AccessDenied, AccessLocked, PageNotValid, ModeNotValid, SegmentNotValid, Sequence, DaqConfig, MemoryOverflow, Generic, Verify}
 use Rattle.xcp_packet.specs.declared.reply.Reply.{Reply}
-use Rattle.xcp_packet.specs.declared.reply.Reply.TheVariants.{Done, Connect, Status, CommMode, Id, Bytes, Checksum, CalPage, PagInfo, SegmentWord, SegmentStandard, PageInfo, SegmentMode, DaqEntry, DaqListMode, FirstPid, DaqInfo, DaqResolution, EventInfo, Error, ErrorCount}
+use Rattle.xcp_packet.specs.declared.reply.Reply.TheVariants.{Done, Connect, Status, CommMode, Id, Bytes, Checksum, CalPage, PagInfo, SegmentWord, SegmentStandard, PageInfo, SegmentMode, DaqEntry, DaqListMode, FirstPid, DaqClock, DaqInfo, DaqResolution, EventInfo, Error, ErrorCount}
 
 -- the number of an error code
 abbrev pub number_of : Code → ℕ
@@ -65,11 +65,13 @@ layout order (DaqEntry size extension address) = 0xFF ∷ 0xFF ∷ size ∷ exte
 layout order (DaqListMode mode event prescaler priority) = 0xFF ∷ mode ∷ 0 ∷ 0 ∷ (word_bytes order event ++ prescaler ∷ priority ∷ [])
 -- START_STOP_DAQ_LIST: FIRST_PID
 layout order (FirstPid pid) = 0xFF ∷ pid ∷ []
--- GET_DAQ_PROCESSOR_INFO: DAQ_PROPERTIES (dynamic, prescaler), MAX_DAQ, MAX_EVENT_CHANNEL, MIN_DAQ, DAQ_KEY_BYTE
-layout order (DaqInfo lists events) = 0xFF ∷ 0x03 ∷ (word_bytes order lists ++ word_bytes order events ++ 0 ∷ 0 ∷ [])
--- GET_DAQ_RESOLUTION_INFO: granularity and greatest size of an ODT entry for DAQ, the same for STIM, timestamp mode
--- and ticks
-layout order (DaqResolution greatest) = 0xFF ∷ 0x01 ∷ greatest ∷ 0x01 ∷ 0 ∷ 0 ∷ 0 ∷ 0 ∷ []
+-- GET_DAQ_CLOCK: three reserved bytes, the time
+layout order (DaqClock time) = 0xFF ∷ 0 ∷ 0 ∷ 0 ∷ double_bytes order time
+-- GET_DAQ_PROCESSOR_INFO: DAQ_PROPERTIES, MAX_DAQ, MAX_EVENT_CHANNEL, MIN_DAQ, DAQ_KEY_BYTE
+layout order (DaqInfo properties lists events) = 0xFF ∷ properties ∷ (word_bytes order lists ++ word_bytes order events ++ 0 ∷ 0 ∷ [])
+-- GET_DAQ_RESOLUTION_INFO: granularity and greatest size of an ODT entry for DAQ, the same for STIM, TIMESTAMP_MODE and
+-- TIMESTAMP_TICKS
+layout order (DaqResolution greatest mode ticks) = 0xFF ∷ 0x01 ∷ greatest ∷ 0x01 ∷ 0 ∷ mode ∷ word_bytes order ticks
 -- GET_DAQ_EVENT_INFO: DAQ_EVENT_PROPERTIES (DAQ), MAX_DAQ_LIST, length of the name, cycle, unit, priority
 layout order (EventInfo name cycle unit priority) = 0xFF ∷ 0x04 ∷ 0x10 ∷ name ∷ cycle ∷ unit ∷ priority ∷ []
 -- an error packet

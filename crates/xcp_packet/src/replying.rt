@@ -45,11 +45,11 @@ fn write_with_double(packet: &mut Packet, front: &[u8], double: u32, order: Orde
     append_double(packet, double, order);
 }
 
-/// DAQ_PROPERTIES (dynamic DAQ lists, with prescalers), the two numbers, MIN_DAQ and DAQ_KEY_BYTE.
-fn write_daq_info(packet: &mut Packet, lists: u16, events: u16, order: Order)
-    ensures { packet.new.items ≡ layout order (Reply.DaqInfo lists events) }
+/// DAQ_PROPERTIES, the two numbers, MIN_DAQ and DAQ_KEY_BYTE.
+fn write_daq_info(packet: &mut Packet, properties: u8, lists: u16, events: u16, order: Order)
+    ensures { packet.new.items ≡ layout order (Reply.DaqInfo properties lists events) }
 {
-    write(packet, &[RES, 0x03]);
+    write(packet, &[RES, properties]);
     append_word(packet, lists, order);
     append_word(packet, events, order);
     append(packet, &[0, 0]);
@@ -165,10 +165,23 @@ pub fn write_reply(packet: &mut Packet, reply: &Reply, order: Order)
             order,
         ),
         Reply::FirstPid(pid) => write(packet, &[RES, *pid]),
-        Reply::DaqInfo { lists, events } => write_daq_info(packet, *lists, *events, order),
-        Reply::DaqResolution { greatest } => {
-            write(packet, &[RES, 0x01, *greatest, 0x01, 0, 0, 0, 0])
-        }
+        Reply::DaqClock(time) => write_with_double(packet, &[RES, 0, 0, 0], *time, order),
+        Reply::DaqInfo {
+            properties,
+            lists,
+            events,
+        } => write_daq_info(packet, *properties, *lists, *events, order),
+        Reply::DaqResolution {
+            greatest,
+            mode,
+            ticks,
+        } => write_with_word(
+            packet,
+            &[RES, 0x01, *greatest, 0x01, 0, *mode],
+            *ticks,
+            &[],
+            order,
+        ),
         Reply::EventInfo {
             name,
             cycle,

@@ -55,7 +55,7 @@ IsFault config f = (n : ℕ) × (f ≡ faults.Configuration n) × IsFaulty confi
 
 -- What a replay did, by what it returned. Configuration(n): the configuration has the fault of that number, and nothing was
 -- written. Flash(1): the file of the stored pages is unfit, and nothing was written. An allocation may fail before a slave stands: then
--- nothing was written either. A mismatch or a journal's fault is no end of a replay.
+-- nothing was written either. A mismatch, a journal's fault or a refused clock is no end of a replay.
 abbrev pub Ends : List ℕ → Option (List ℕ) → Option (List ℕ) → Option (List ℕ) → Option (List ℕ) → Result ℕ Fault → Type 0
 Ends config flash script old new (Ok n) = Replays config flash script old new (Ok n)
 Ends config flash script old new (Err (faults.Configuration n)) = IsFaulty config n × (new ≡ old)
@@ -67,3 +67,4 @@ Ends config flash script old new (Err (faults.Mismatch caller at)) = ⊥
 Ends config flash script old new (Err (faults.MismatchedCall at)) = ⊥
 Ends config flash script old new (Err (faults.Journal n)) = ⊥
 Ends config flash script old new (Err (faults.Flash n)) = (n ≡ 1) × IsUnfit config flash × (new ≡ old)
+Ends config flash script old new (Err faults.Clock) = ⊥

@@ -25,7 +25,7 @@ const STATUS: &str = help!(wrong_words);
 
 /// What help says below the options of a replay.
 const LINES: &str = help!(
-    "Each line is a command packet in hex, as FF00 (CONNECT), or one of: event C HEX, drain, store, hangup.
+    "Each line is a command packet in hex, as FF00 (CONNECT), or one of: event C HEX, time T, drain, store, hangup.
 Empty lines and lines that begin with # are skipped. A dash is the answer where nothing is sent.
 With --flash the slave begins with the stored pages of FILE, which isn't changed.":
     configuration, line, streams_of_a_replay, memory, read_flash

@@ -48,6 +48,9 @@ pub enum Fault {
     /// no file can be made beside it, 3 if another program keeps it.
     #[error("flash {0}")]
     Flash(u8),
+    /// The layout has a clock, and a server that ends tells its slave no time; one that stays does.
+    #[error("clock: only a server that stays tells the time")]
+    Clock,
 }
 
 impl Fault {
@@ -58,7 +61,7 @@ impl Fault {
         ensures { result ≡ status_of self.now }
     {
         match self {
-            Fault::Configuration(_) => 1,
+            Fault::Configuration(_) | Fault::Clock => 1,
             Fault::Line(_) => 2,
             Fault::Stream(_) => 3,
             Fault::Memory => 4,

@@ -18,6 +18,7 @@ mod replaying;
 mod server_words;
 mod source;
 mod staying;
+mod untimed;
 mod words;
 
 pub use command_line::options;
@@ -28,4 +29,5 @@ pub use purpose::{Options, OptionsFault};
 pub use replaying::replay;
 pub use source::{read_flash, read_text, read_whole};
 pub use staying::Staying;
+pub use untimed::refuse_clock;
 pub use words::{Unasked, asked, read_words};

@@ -6,7 +6,7 @@ use Rattle.std.specs.Char.{digit_value, is_ascii_digit}
 use Rattle.std.proofs.lemmas.List.{drop_all}
 use Rattle.std.proofs.lemmas.Bool.Decides.{nat_tests}
 use Rattle.xcp_script.specs.declared.line.Line.TheVariants.{Faulty}
-use Rattle.xcp_script.specs.ScriptLine.{event_of, event_with, channel_of, hex_bytes, is_space}
+use Rattle.xcp_script.specs.ScriptLine.{event_of, event_with, channel_of, hex_bytes, is_space, time_of}
 
 found : (b : Bool) (n i : ℕ) → Some i ≡ cond b (Some n) None → i ≡ n
 found true n i h = cc
@@ -62,3 +62,18 @@ too_great_at value i digits within digit h k =
     let later : digits_value_after 10 (value * 10 + digit_value d) (drop (i + 1) digits) ≡ digits_value 10 digits = rw (next i digits within) at h in
     let grown : value * 10 + digit_value d ≤ digits_value_after 10 (value * 10 + digit_value d) (drop (i + 1) digits) = value_grows (value * 10 + digit_value d) (drop (i + 1) digits) in
     too_great digits (omega (arith, later, grown, k, value_of_digit d digit))
+
+-- a value of 2^64 or more is no time's
+pub too_late : (digits : List ℕ) → 0xFFFF_FFFF_FFFF_FFFF < digits_value 10 digits → None ≡ time_of digits
+unfolding time_of
+too_late digits h = grind (arith, nat_tests)
+
+-- nor are digits a time's where the value of the first ones with the next digit is so great
+pub too_late_at : (value i : ℕ) (digits : List ℕ) → i < length digits → is_ascii_digit (slice_index digits i) ≡ true
+    → digits_value_after 10 value (drop i digits) ≡ digits_value 10 digits
+    → 0xFFFF_FFFF_FFFF_FFFF < value * 10 + (slice_index digits i - 48) → None ≡ time_of digits
+too_late_at value i digits within digit h k =
+    let d : ℕ = slice_index digits i in
+    let later : digits_value_after 10 (value * 10 + digit_value d) (drop (i + 1) digits) ≡ digits_value 10 digits = rw (next i digits within) at h in
+    let grown : value * 10 + digit_value d ≤ digits_value_after 10 (value * 10 + digit_value d) (drop (i + 1) digits) = value_grows (value * 10 + digit_value d) (drop (i + 1) digits) in
+    too_late digits (omega (arith, later, grown, k, value_of_digit d digit))

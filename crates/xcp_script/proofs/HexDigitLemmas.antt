@@ -180,4 +180,5 @@ faulty_in (parseds.Event channel) command signals h = absurd (cc)
 faulty_in parseds.Drain command signals h = absurd (cc)
 faulty_in parseds.FinishStore command signals h = absurd (cc)
 faulty_in parseds.Hangup command signals h = absurd (cc)
+faulty_in (parseds.Time time) command signals h = absurd (cc)
 faulty_in parseds.Faulty command signals h = refl

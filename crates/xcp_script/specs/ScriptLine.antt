@@ -37,6 +37,16 @@ channel_of digits =
     if nat_lt 0 (length digits) && list_all is_ascii_digit digits && nat_le (digits_value 10 digits) 65535
     then Some (digits_value 10 digits) else None
 
+-- the number of a time: one or more decimal digits of a value below 2^64
+unfoldable pub time_of : List ℕ → Option ℕ
+time_of digits =
+    if nat_lt 0 (length digits) && list_all is_ascii_digit digits && nat_le (digits_value 10 digits) 0xFFFF_FFFF_FFFF_FFFF
+    then Some (digits_value 10 digits) else None
+
+abbrev pub time_with : Option ℕ → Line
+time_with (Some time) = Ask (requests.Time time)
+time_with None = Faulty
+
 abbrev pub event_with : Option ℕ → Option (List ℕ) → Line
 event_with (Some channel) (Some signals) = Ask (requests.Event channel (record { items = signals }))
 event_with _ _ = Faulty
@@ -62,5 +72,6 @@ meaning max_cto line =
     if is_word (codes "drain") line then Ask requests.Drain else (
     if is_word (codes "store") line then Ask requests.FinishStore else (
     if is_word (codes "hangup") line then Ask requests.Hangup else (
-    if is_word (codes "event ") (take 6 line) then event_of (drop 6 line) else
-    command_of max_cto line)))))
+    if is_word (codes "event ") (take 6 line) then event_of (drop 6 line) else (
+    if is_word (codes "time ") (take 5 line) then time_with (time_of (drop 5 line)) else
+    command_of max_cto line))))))

@@ -1,6 +1,6 @@
 //! The lines of a script, read one by one.
-ghost use Rattle.std.specs.Prelude.{◌≡◌, ◌≤◌, MatchBool, MatchOption, codes, drop, position, length, take, true, false, Some, None};
-ghost use Rattle.xcp_script.specs.ScriptLine.{meaning, channel_of, command_of, command_with, event_of, event_with, hex_bytes, is_skipped, is_space, is_word};
+ghost use Rattle.std.specs.Prelude.{◌≡◌, ◌≤◌, MatchBool, MatchOption, codes, drop, if◌then◌else◌, position, length, take, true, false, Some, None};
+ghost use Rattle.xcp_script.specs.ScriptLine.{meaning, channel_of, command_of, command_with, event_of, event_with, hex_bytes, is_skipped, is_space, is_word, time_of, time_with};
 ghost use Rattle.xcp_script.specs.private.LineInSlot.{line_in};
 
 use crate::Line;
@@ -14,7 +14,7 @@ pub const LINE_BYTES: usize = 1024;
 /// What a line says, where packets have at most `max_cto` bytes (MAX_CTO).
 ///
 /// A line of more than 1,024 bytes is faulty. An empty line and one that begins with `#` are
-/// skipped. `drain`, `store`, `hangup` and `event C HEX` are the requests of these names; any other
+/// skipped. `drain`, `store`, `hangup`, `event C HEX` and `time T` are the requests of these names; any other
 /// line is a command packet in hex.
 pub fn parse_line(max_cto: u8, line: &[u8]) -> Line
     ensures { result ≡ meaning max_cto line.now }
@@ -56,8 +56,62 @@ fn parse_request(max_cto: u8, line: &[u8], slot: &mut Slot) -> Parsed
     }
     match event_text(line) {
         Some(text) => parse_event(text, slot),
+        None => parse_other(max_cto, line, slot),
+    }
+}
+
+/// What a line says that begins with none of the other words.
+#[tactic(auto, unfolding(crate::specs::ScriptLine::meaning))]
+fn parse_other(max_cto: u8, line: &[u8], slot: &mut Slot) -> Parsed
+    requires short { length line.now ≤ 1024 }
+    ensures { line_in result slot.new.command slot.new.signals ≡ (if is_word (codes "time ") (take 5 line.now) then time_with (time_of (drop 5 line.now)) else command_of max_cto line.now) }
+{
+    match time_text(line) {
+        Some(digits) => parse_time(digits, slot),
         None => parse_command(max_cto, line, slot),
     }
+}
+
+/// What stands behind `time ` in a line that begins with it.
+fn time_text(line: &[u8]) -> Option<&[u8]>
+    ensures { MatchOption result (is_word (codes "time ") (take 5 line.now) ≡ false)
+        (λ text. (is_word (codes "time ") (take 5 line.now) ≡ true) × (text.now ≡ drop 5 line.now)) }
+{
+    match line {
+        [b't', ..] => line.strip_prefix(b"time "),
+        _ => None,
+    }
+}
+
+/// What `time T` says, from behind its space.
+fn parse_time(digits: &[u8], _slot: &Slot) -> Parsed
+    ensures { line_in result _slot.now.command _slot.now.signals ≡ time_with (time_of digits.now) }
+{
+    match parse_ticks(digits) {
+        Some(time) => Parsed::Time(time),
+        None => Parsed::Faulty,
+    }
+}
+
+/// The number of a time, if the digits write one.
+#[tactic(auto, unfolding(crate::specs::ScriptLine::time_of))]
+fn parse_ticks(digits: &[u8]) -> Option<u64>
+    ensures { result ≡ time_of digits.now }
+{
+    if digits.is_empty() {
+        return None;
+    }
+    let mut value: u128 = 0;
+    for digit in digits {
+        if !digit.is_ascii_digit() {
+            return None;
+        }
+        value = value * 10 + u128::from(*digit - b'0');
+        if value > u128::from(u64::MAX) {
+            return None;
+        }
+    }
+    Some(value as u64)
 }
 
 /// What stands behind `event ` in a line that begins with it. Commands seldom begin with an `e`: a line that doesn't isn't

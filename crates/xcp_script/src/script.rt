@@ -198,6 +198,7 @@ fn asked_in<'a>(
         Parsed::Drain => Ok(Some(Asked::Drain)),
         Parsed::FinishStore => Ok(Some(Asked::FinishStore)),
         Parsed::Hangup => Ok(Some(Asked::Hangup)),
+        Parsed::Time(time) => Ok(Some(Asked::Time(time))),
     }
 }
 

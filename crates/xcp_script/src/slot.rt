@@ -25,6 +25,8 @@ pub(crate) enum Parsed {
     FinishStore,
     /// `hangup`.
     Hangup,
+    /// `time T`.
+    Time(u64),
     /// No request.
     Faulty,
 }
@@ -58,6 +60,7 @@ impl Slot {
             Parsed::Drain => Line::Ask(Request::Drain),
             Parsed::FinishStore => Line::Ask(Request::FinishStore),
             Parsed::Hangup => Line::Ask(Request::Hangup),
+            Parsed::Time(time) => Line::Ask(Request::Time(time)),
             Parsed::Faulty => Line::Faulty,
         }
     }

@@ -3,6 +3,7 @@ ghost use Rattle.std.specs.Prelude.{◌≡◌};
 ghost use Rattle.xcp_seats.specs.Seating.{Departs, HangsUp};
 
 use std::sync::{Mutex, Wait};
+use std::time::Clock;
 use xcp_framing::{Station, StationError};
 use xcp_locked::Name;
 use xcp_packet::Packet;
@@ -40,7 +41,7 @@ impl Hall {
 
     /// One tool is gone: the session isn't its seat's any more. Where it was the last one, a `Hangup` is submitted before another can be
     /// here. Where it is refused, for want of memory, the slave's session stands until the next tool goes.
-    pub fn leave<N: Name, M: Route, R: Wait>(
+    pub fn leave<N: Name, M: Route, R: Wait + Clock>(
         &self,
         rt: &R,
         station: &mut Seated<'_, N, M, R>,
@@ -58,7 +59,7 @@ impl Hall {
 }
 
 /// Ends the session of the tools that are gone.
-fn hang_up<N: Name, M: Route, R: Wait>(
+fn hang_up<N: Name, M: Route, R: Wait + Clock>(
     station: &mut Seated<'_, N, M, R>,
 ) -> Result<(), StationError>
     ensures { HangsUp result station.old.member station.new.member }

@@ -43,6 +43,11 @@ impl<'a, R: Clock + Wait> Pace<'a, R> {
         step
     }
 
+    /// The clock that it reads.
+    pub fn clock(&self) -> &'a R {
+        self.clock
+    }
+
     /// Whether a cycle of a task begins at once behind the one before it.
     pub fn is_free(&self, task: u8) -> bool {
         self.period(task) == 0

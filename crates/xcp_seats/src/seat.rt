@@ -15,6 +15,7 @@ use std::net::{SocketAddr, TcpStream};
 use std::sync::Wait;
 use std::sync::atomic::{AtomicBool, Ordering};
 use std::thread::Threads;
+use std::time::Clock;
 use xcp_connection::{Attended, Limits, attend};
 use xcp_framing::{Noting, ServeError, Served, Watched};
 use xcp_locked::Name;
@@ -73,7 +74,7 @@ pub fn sit<
     N: Name + Send + Sync,
     M: Route + Send + Sync,
     W: Watcher + Sync,
-    T: Threads + Wait + Sync,
+    T: Threads + Wait + Clock + Sync,
 >(seat: Seat<'a, N, M, W, T>) -> Left<N, M>
     ensures { Sat seat.entry.max_cto (pair seat.entry.tool seat.entry.pump) (pair result.tool result.pump) }
 {
@@ -111,7 +112,7 @@ fn visit<
     N: Name + Send + Sync,
     M: Route + Send + Sync,
     W: Watcher + Sync,
-    T: Threads + Wait + Sync,
+    T: Threads + Wait + Clock + Sync,
 >(
     rt: &T,
     alloc: Global,
@@ -163,7 +164,13 @@ type Seats<'r, N, M, T> = (
 
 /// Serves a tool, from its first frame until its connection is closed, and answers how it ended. `Memory` comes also where the connection
 /// can't begin.
-fn serve_tool<'r, N: Name + Send + Sync, M: Route + Send + Sync, W, T: Threads + Wait + Sync>(
+fn serve_tool<
+    'r,
+    N: Name + Send + Sync,
+    M: Route + Send + Sync,
+    W,
+    T: Threads + Wait + Clock + Sync,
+>(
     rt: &'r T,
     alloc: Global,
     shared: &'r Shared<N, M>,

@@ -30,7 +30,7 @@ pub fn start_seat<
     N: Name + Send + Sync + 's,
     M: Route + Send + Sync + 's,
     W: Watcher + Sync + 's,
-    T: Threads + Wait + Sync + 's,
+    T: Threads + Wait + Clock + Sync + 's,
 >(
     scope: &'s Scope<'s, E>,
     rt: &'s T,
@@ -51,7 +51,7 @@ fn once_started<
     N: Name + Send + Sync,
     M: Route + Send + Sync,
     W: Watcher + Sync,
-    T: Threads + Wait + Sync,
+    T: Threads + Wait + Clock + Sync,
 >(rt: &T, start: &Mutex<bool>, seat: Seat<'a, N, M, W, T>) -> Left<N, M>
     ensures { Sat seat.entry.max_cto (pair seat.entry.tool seat.entry.pump) (pair result.tool result.pump) }
 {

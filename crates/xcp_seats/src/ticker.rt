@@ -83,6 +83,7 @@ impl<'a, N: Name, M: Route, C: Clock + Wait> Ticker<'a, N, M, C> {
             }
             cycle(
                 rt,
+                pace.clock(),
                 alloc,
                 shared,
                 losses,
@@ -125,6 +126,7 @@ impl<'a, N: Name + Send + Sync, M: Route + Send + Sync, C: Clock + Wait + Sync> 
 /// One cycle.
 fn cycle<N: Name, M: Route>(
     rt: &impl Wait,
+    clock: &impl Clock,
     alloc: Global,
     shared: &Shared<N, M>,
     losses: &Losses,
@@ -137,16 +139,20 @@ fn cycle<N: Name, M: Route>(
     ensures { Ticked N.layout task (task_at number member.old reader.old image.old)
         (task_at ((number + 1) % 2 ^ 64) member.new reader.new image.new) }
 {
-    raise(rt, alloc, shared, losses, task, number, member, reader);
+    raise(
+        rt, clock, alloc, shared, losses, task, number, member, reader,
+    );
     take_image(reader, image);
     if task == 0 {
         store(rt, alloc, shared, member);
     }
 }
 
-/// Submits the event of a cycle, and tells the reader, under the same hold, what was published by then. Whether there was memory for it.
+/// Submits the event of a cycle, before which the slave is told the time, and tells the reader what was published by then, all under the
+/// same hold. Whether there was memory for the event.
 fn raise<N: Name, M: Route>(
     rt: &impl Wait,
+    clock: &impl Clock,
     alloc: Global,
     shared: &Shared<N, M>,
     losses: &Losses,
@@ -163,10 +169,12 @@ fn raise<N: Name, M: Route>(
 {
     let request = event(member.caller(), task, (number % 256) as u32);
     member.reserve();
+    let mut resident = shared.lock.lock(rt);
+    shared.tell_time(rt, clock, alloc, &mut resident);
     submit_and_tell(
         rt,
         alloc,
-        &mut shared.lock.lock(rt),
+        &mut resident,
         &shared.post,
         losses,
         member,

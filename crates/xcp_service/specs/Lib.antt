@@ -8,4 +8,5 @@ pub mod Refusals
 pub mod Residents
 pub mod Sessions
 pub mod Sheaves
+pub mod Telling
 pub mod private

@@ -8,9 +8,11 @@
 //! The tools of several seats share the slave's one session: it is of the seat that connected last, of those whose tools are still there
 //! (`specs/Sessions.antt`, `specs/Happenings.antt`), and its packets are that seat's.
 //!
+//! Where the layout has a clock, a [`Timekeeper`] tells the slave the time under the same hold as an event and as a GET_DAQ_CLOCK.
+//!
 //! `specs/Residents.antt` has a slave that stays, `specs/Keeping.antt` what a keeper has settled, `specs/Parcels.antt` what goes by the post, `specs/Refusals.antt` what a
 //! keeper refuses, `specs/Sheaves.antt` receipts that were
-//! handed over, `specs/Calls.antt` a call that may cut chapters off.
+//! handed over, `specs/Calls.antt` a call that may cut chapters off, `specs/Telling.antt` the time that is told.
 #![tactic(auto)]
 
 mod calling;
@@ -30,6 +32,7 @@ mod resident;
 mod route;
 mod seated;
 mod sessions;
+mod timekeeper;
 mod waiting;
 
 pub use calling::{CHAPTER, call, call_for};
@@ -44,3 +47,4 @@ pub use resident::Resident;
 pub use route::Route;
 pub use seated::{Seated, Shared};
 pub use sessions::the_session_is_of_who_connected_last;
+pub use timekeeper::Timekeeper;

@@ -1,6 +1,7 @@
 //! A member of a slave that stays, as a station.
 ghost use Rattle.std.specs.Prelude.{◌≡◌};
 ghost use Rattle.xcp_locked.specs.Tasks.{Same};
+ghost use Rattle.xcp_service.specs.Telling.{TellsTime};
 
 use crate::calling::call_for;
 use crate::member::Member;
@@ -8,26 +9,55 @@ use crate::post::Post;
 use crate::pumps::wait_for_packets;
 use crate::resident::Resident;
 use crate::route::Route;
+use crate::sessions::has_code;
+use crate::timekeeper::Timekeeper;
 use std::alloc::Global;
 use std::sync::atomic::AtomicBool;
 use std::sync::{Mutex, Wait};
+use std::time::Clock;
 use xcp_framing::{Station, StationError};
 use xcp_locked::{LockedError, Name};
 use xcp_packet::Packet;
 use xcp_slave::{Asked, Told};
 
-/// A slave that stays, under its lock, and the post of its keeper.
+/// The code of GET_DAQ_CLOCK.
+const GET_DAQ_CLOCK: u8 = 0xDC;
+
+/// A slave that stays, under its lock, the post of its keeper, and who tells the slave the time, where its layout has a clock. Who takes the
+/// lock of the latter has the slave's already.
 #[derive(Drop)]
 pub struct Shared<N: Name, M: Route> {
     pub lock: Mutex<Resident<N, M>>,
     pub post: Post<N, M>,
+    pub timekeeper: Option<Mutex<Timekeeper<N, M>>>,
+}
+
+impl<N: Name, M: Route> Shared<N, M> {
+    /// Tells the slave the time, under the lock that it is lent from, if there is somebody who does and the clock can be read.
+    pub fn tell_time(
+        &self,
+        rt: &impl Wait,
+        clock: &impl Clock,
+        alloc: Global,
+        resident: &mut Resident<N, M>,
+    )
+        ensures { TellsTime N.parts resident.old resident.new }
+    {
+        let Some(timekeeper) = &self.timekeeper else {
+            return;
+        };
+        let mut timekeeper = timekeeper.lock(rt);
+        if let Some(time) = timekeeper.time(clock) {
+            timekeeper.tell(rt, alloc, resident, &self.post, time);
+        }
+    }
 }
 
 /// A member, as a station of a seat. Its exchanges are those of all receipts that it ever had. A submit waits until the keeper is not far
-/// behind, and then for the lock. Packets wait for the seat whose the session is, and for no other: it is the seat's whose CONNECT was
-/// accepted last, of those whose tool is still there.
+/// behind, and then for the lock. Before a GET_DAQ_CLOCK the slave is told the time, under the same hold. Packets wait for the seat whose
+/// the session is, and for no other: it is the seat's whose CONNECT was accepted last, of those whose tool is still there.
 #[derive(Drop)]
-pub struct Seated<'a, N: Name, M: Route, R: Wait> {
+pub struct Seated<'a, N: Name, M: Route, R: Wait + Clock> {
     shared: &'a Shared<N, M>,
     alloc: Global,
     member: Member<N, M>,
@@ -35,7 +65,7 @@ pub struct Seated<'a, N: Name, M: Route, R: Wait> {
     rt: &'a R,
 }
 
-impl<'a, N: Name, M: Route, R: Wait> Seated<'a, N, M, R> {
+impl<'a, N: Name, M: Route, R: Wait + Clock> Seated<'a, N, M, R> {
     /// A station for this member, at the seat of this number.
     pub fn new(
         rt: &'a R,
@@ -69,7 +99,7 @@ impl<'a, N: Name, M: Route, R: Wait> Seated<'a, N, M, R> {
     }
 }
 
-impl<'a, N: Name, M: Route, R: Wait> Station for Seated<'a, N, M, R> {
+impl<'a, N: Name, M: Route, R: Wait + Clock> Station for Seated<'a, N, M, R> {
     ghost use Rattle.xcp_locked.specs.Receipts.{exchanges_of};
     ghost use Rattle.std.proofs.Common.{refl, ◌∙◌};
     ghost use Rattle.xcp_locked.specs.CallRefusal.{MayRefuse};
@@ -89,10 +119,15 @@ impl<'a, N: Name, M: Route, R: Wait> Station for Seated<'a, N, M, R> {
         self.shared.post.wait_for_keeper(self.rt);
         // What grows is made before the lock is taken. Where there is no memory, submit says so.
         self.member.reserve();
+        let mut resident = self.shared.lock.lock(self.rt);
+        if has_code(GET_DAQ_CLOCK, asked) {
+            self.shared
+                .tell_time(self.rt, self.rt, self.alloc, &mut resident);
+        }
         let called = call_for(
             self.rt,
             self.alloc,
-            &mut self.shared.lock.lock(self.rt),
+            &mut resident,
             &self.shared.post,
             &mut self.member,
             self.seat,

@@ -103,7 +103,7 @@ fn is_connect(asked: Asked<'_>, told: &Told, packet: &Packet) -> bool
 }
 
 /// Whether a command packet with this code is asked.
-fn has_code(code: u8, asked: Asked<'_>) -> bool
+pub(crate) fn has_code(code: u8, asked: Asked<'_>) -> bool
     ensures { result ≡ has_code code (request_asked asked.entry) }
 {
     match asked {

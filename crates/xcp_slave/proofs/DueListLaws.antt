@@ -104,6 +104,7 @@ step-advances v (requests.Event channel signals) a w i h r b k = event-steps v c
 step-advances v requests.Drain a w i h r b k = kept-steps v requests.Drain a w i h r refl (lists-kept v requests.Drain a w tt tt (λ e. cc) k)
 step-advances v requests.FinishStore a w i h r b k = kept-steps v requests.FinishStore a w i h r refl (lists-kept v requests.FinishStore a w tt tt (λ e. cc) k)
 step-advances v requests.Hangup a w i h r b k = absurd b
+step-advances v (requests.Time time) a w i h r b k = kept-steps v (requests.Time time) a w i h r refl (lists-kept v (requests.Time time) a w tt tt (λ e. cc) k)
 
 two-later : (l m x : DaqList) (n k : ℕ) → Advanced l n m → Advanced m k x → Advanced l (n + k) x
 two-later l m x n k f g = record {
@@ -211,6 +212,7 @@ step-still v (requests.Event channel signals) a w i r b k =
 step-still v requests.Drain a w i r b k = list-in w.daq v.daq i (lists-kept v requests.Drain a w tt tt (λ e. cc) k)
 step-still v requests.FinishStore a w i r b k = list-in w.daq v.daq i (lists-kept v requests.FinishStore a w tt tt (λ e. cc) k)
 step-still v requests.Hangup a w i r b k = absurd b
+step-still v (requests.Time time) a w i r b k = list-in w.daq v.daq i (lists-kept v (requests.Time time) a w tt tt (λ e. cc) k)
 
 run-still : (v : SlaveValue) (xs : List Exchange) (w : SlaveValue) (i : ℕ) → (list_at v.daq i).running ≡ false → All (λ (x : Exchange). KeepsLists x.request) xs → Run v xs w → list_at w.daq i ≡ list_at v.daq i
 run-still v [] w i r b k = list-in w.daq v.daq i (daq-of v w k)

@@ -76,6 +76,7 @@ every-error v (requests.Event channel signals) a w h k r =
 every-error v requests.Drain a w h k r = drains-error v.outbox v a w _ h.waiting k r
 every-error v requests.FinishStore a w h k r = either v.store _ _ _ k (λ m. either (v.connected && nat_le outbox_size (length v.outbox)) _ _ _ m (λ n. other-error answers.Later a _ refl n.0 r) (λ n. other-error (answers.Stored (frozen_count v.transfer.pages)) a _ refl n.0 r)) (λ m. other-error answers.NoStore a _ refl m.0 r)
 every-error v requests.Hangup a w h k r = other-error answers.Silent a _ refl k.0 r
+every-error v (requests.Time time) a w h k r = other-error answers.Silent a _ refl k.0 r
 
 -- the bytes of an error packet of a command
 

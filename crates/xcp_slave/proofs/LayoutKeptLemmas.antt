@@ -99,3 +99,4 @@ answers-layout v (requests.Event channel signals) a w h = fires-layout channel s
 answers-layout v requests.Drain a w h = drains-layout v.outbox v a w h
 answers-layout v requests.FinishStore a w h = either v.store _ _ _ h (stores-layout v a w) (λ k. same-layout v w k.1)
 answers-layout v requests.Hangup a w h = ap (λ (x : SlaveValue). layout_of x) h.1
+answers-layout v (requests.Time time) a w h = ap (λ (x : SlaveValue). layout_of x) h.1

@@ -26,3 +26,4 @@ pub mod DueListLaws
 pub mod PacketIdentifierLaws
 pub mod BlockDownloadLaws
 pub mod UploadLaws
+pub mod ClockLaws

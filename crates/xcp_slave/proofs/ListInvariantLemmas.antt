@@ -1,6 +1,6 @@
 -- The lists after each command of data acquisition.
-use Rattle.std.proofs.Common.{◌≡◌, ◌≢◌, ℕ, zero, suc, ◌+◌, ◌<◌, ◌≤◌, Bool, true, false, List, [], ◌∷◌, ◌++◌, length, map, get_or, slice_set, Option, Some, None, ap, sym, ◌∙◌, refl, subst, arith, All, nat_le, nat_lt}
-use Rattle.std.specs.Prelude.{replicate, ◌==◌, not, ◌&&◌, if◌then◌else◌}
+use Rattle.std.proofs.Common.{◌≡◌, ◌≢◌, ℕ, zero, suc, ◌+◌, ◌<◌, ◌≤◌, Bool, true, false, List, [], ◌∷◌, ◌++◌, length, map, get_or, slice_set, Option, Some, None, inl, inr, ap, sym, ◌∙◌, refl, subst, arith, All, nat_le, nat_lt}
+use Rattle.std.specs.Prelude.{replicate, ◌==◌, not, ◌&&◌, ◌||◌, if◌then◌else◌}
 use Rattle.std.specs.List.{list_any}
 use Rattle.std.proofs.lemmas.Grind.{flat_map-append}
 use Rattle.std.proofs.lemmas.Bool.Decides.{nat_tests}
@@ -8,6 +8,8 @@ use Rattle.std.proofs.lemmas.List.{append-nil, length-set, get_or-map, get_or-se
 use Rattle.std.proofs.lemmas.List.Folds.{list_any_at}
 use Rattle.std.proofs.lemmas.List.Elements.{All-set, All-append, All-replicate, All-map}
 use Rattle.xcp_packet.specs.declared.Code.TheVariants.{Sequence, OutOfRange, DaqActive, MemoryOverflow, DaqConfig, ModeNotValid}
+use Rattle.xcp_packet.specs.declared.Stamp.TheVariants.{Without}
+use Rattle.xcp_packet.specs.TimeStamps.{stamp_size}
 use Rattle.xcp_memory.specs.Layout.{LayoutValue, IsLayout}
 use Rattle.xcp_memory.specs.ComputedAccess.{lies_inside}
 use Rattle.xcp_memory.proofs.AreaLaws.{inside_lies}
@@ -18,16 +20,16 @@ use Rattle.xcp_daq.specs.declared.pointer.Pointer.{Pointer}
 use Rattle.xcp_daq.specs.declared.mode.Mode.{Mode}
 use Rattle.xcp_daq.specs.declared.allocation.Allocation.{Allocation}
 use Rattle.xcp_daq.specs.declared.allocation.Allocation.TheVariants.{AllocDaq, AllocOdt, AllocOdtEntry}
-use Rattle.xcp_daq.specs.DaqLists.{DaqValue, DaqList, no_list, list_at, odt_at, all_odts, all_entries, any_running, lacks_list, lacks_odt, lacks_entry, with_list, odt_size, any_large, has_large_odt, greatest_size}
+use Rattle.xcp_daq.specs.DaqLists.{DaqValue, DaqList, no_list, list_at, odt_at, all_odts, all_entries, any_running, lacks_list, lacks_odt, lacks_entry, with_list, odt_size, first_size, any_large, is_large, has_large_odt, greatest_size}
 use Rattle.xcp_daq.specs.DaqInvariant.{IsList, IsPointer, IsPointerOf, IsDaq}
 use Rattle.xcp_daq.specs.Pools.{joined, list_of}
 use Rattle.xcp_daq.specs.AllocationSequence.{may_follow}
 use Rattle.xcp_daq.specs.Allocating.{alloc_daq_refusal, alloc_daq_after, alloc_odt_refusal, alloc_odt_after, alloc_odt_entry_refusal, alloc_odt_entry_after}
-use Rattle.xcp_daq.specs.Configuring.{clear_daq_list_refusal, clear_daq_list_after, cleared, set_daq_ptr_refusal, set_daq_ptr_after, write_daq_refusal, write_daq_after, written_at, moved_on, moved_by, has_no_pointer, pointed_list_runs, element_rows, read_daq_after, set_daq_list_mode_refusal, set_daq_list_mode_after}
+use Rattle.xcp_daq.specs.Configuring.{clear_daq_list_refusal, clear_daq_list_after, cleared, set_daq_ptr_refusal, set_daq_ptr_after, write_daq_refusal, write_daq_after, written_at, moved_on, moved_by, has_no_pointer, pointed_list_runs, element_rows, is_mode, stamp_asked, read_daq_after, set_daq_list_mode_refusal, set_daq_list_mode_after}
 use Rattle.xcp_daq.specs.Starting.{stopped, started, selected, switched, synchronised, start_stop_daq_list_refusal, start_stop_daq_list_after, start_stop_synch_refusal, start_stop_synch_after}
 use Rattle.xcp_daq.specs.Sample.{counts, counted, after_event}
-use Rattle.xcp_daq.proofs.DaqInvariantLemmas.{all_set, all_part, entries_by_list, lawful_last, lawful_pointer, lawful_added, lawful_map, lawful_more_odts, lawful_more_entries, lawful_entry, lawful_mode, lawful_bare, lawful_bound, lawful_stopped, lawful_started, lawful_selected, cleared_twice, stands_still, moved_in, grows_entry, none_large, lawful_synchronised, synchronised_odts, lawful_counted, counted_odts}
-use Rattle.xcp_slave.specs.SlaveInvariant.{LiesWritten, HasRoom, IsLists}
+use Rattle.xcp_daq.proofs.DaqInvariantLemmas.{all_set, all_part, entries_by_list, lawful_last, lawful_pointer, lawful_added, lawful_map, lawful_more_odts, lawful_more_entries, lawful_entry, lawful_mode, lawful_bare, lawful_bound, lawful_stopped, lawful_started, lawful_selected, cleared_twice, stands_still, moved_in, grows_entry, room_of, lawful_synchronised, synchronised_odts, lawful_counted, counted_odts}
+use Rattle.xcp_slave.specs.SlaveInvariant.{LiesWritten, HasRoom, IsLists, IsStampOf}
 
 -- none of the tests holds
 abbrev pub NoneHolds : {A : Type 0} → List (Bool × A) → Type 0
@@ -89,8 +91,8 @@ with-pointer : (l : LayoutValue) (v : DaqValue) (p : Option Pointer) → IsLists
 with-pointer l v p h k = record { daq = lawful_pointer v p h.daq k; inside = h.inside; room = h.room }
 
 -- a list that is stopped has room
-idle-room : (l : LayoutValue) (x : DaqList) → x.running ≡ false → HasRoom l x
-idle-room l x e = record { fits = λ k. cc }
+idle-room : (l : LayoutValue) (x : DaqList) → IsStampOf l x.stamp → x.running ≡ false → HasRoom l x
+idle-room l x s e = record { stamp = s; fits = λ k. cc; first = λ k. cc }
 
 -- no lists
 pub no-lists : (l : LayoutValue) (a : Option Allocation) → IsLists l (record { lists = []; pointer = None; last = a })
@@ -116,7 +118,7 @@ alloc-daq l count v h r =
     let lists : IsLists l w = record {
       daq = lawful_added v count h.daq (at_most _ _ d.0);
       inside = subst (λ (xs : List (List (Option Element))). All (LiesWritten l) (joined xs)) (sym odts) h.inside;
-      room = All-append (HasRoom l) v.lists (replicate count no_list) h.room (All-replicate (HasRoom l) count no_list (idle-room l no_list refl));
+      room = All-append (HasRoom l) v.lists (replicate count no_list) h.room (All-replicate (HasRoom l) count no_list (idle-room l no_list (inl refl) refl));
     } in
     with-last l w (Some AllocDaq) lists
 
@@ -139,7 +141,7 @@ alloc-odt l list count v h r =
     let entries : joined new ≡ joined os = flat_map-append (λ odt. odt) os (replicate count []) ∙ ap (λ xs. joined os ++ xs) (empty_odts count) ∙ append-nil (joined os) in
     let x : DaqList = record (list_at v list) { odts = new } in
     with-last l (with_list v list x) (Some AllocOdt)
-    (with-list l v list x h (lawful_more_odts v list count h.daq below still (at_most _ _ e.0)) (subst (All (LiesWritten l)) (sym entries) (entries-at l v list h below)) (idle-room l x still))
+    (with-list l v list x h (lawful_more_odts v list count h.daq below still (at_most _ _ e.0)) (subst (All (LiesWritten l)) (sym entries) (entries-at l v list h below)) (idle-room l x (room-at l v list h below).stamp still))
 
 -- the same for ALLOC_ODT_ENTRY
 pub alloc-entry : (l : LayoutValue) (list odt count : ℕ) (v : DaqValue) → IsLists l v → alloc_odt_entry_refusal list odt count v ≡ None → IsLists l (alloc_odt_entry_after list odt count v)
@@ -157,11 +159,11 @@ alloc-entry l list odt count v h r =
     let x : DaqList = record (list_at v list) { odts = slice_set os odt new } in
     let all : All (LiesWritten l) new = All-append (LiesWritten l) (odt_at v list odt) (replicate count None) (odt-entries l v list odt h below place) (All-replicate (LiesWritten l) count None tt) in
     with-last l (with_list v list x) (Some AllocOdtEntry)
-    (with-list l v list x h (lawful_more_entries v list odt count h.daq below place d.0 (at_most _ _ f.0)) (all_set (LiesWritten l) (λ (y : List (Option Element)). y) os odt new (entries-at l v list h below) all) (idle-room l x d.0))
+    (with-list l v list x h (lawful_more_entries v list odt count h.daq below place d.0 (at_most _ _ f.0)) (all_set (LiesWritten l) (λ (y : List (Option Element)). y) os odt new (entries-at l v list h below) all) (idle-room l x (room-at l v list h below).stamp d.0))
 
 -- the mode of a list
 abbrev mode_of : DaqList → Mode
-mode_of x = record { event = x.event; prescaler = x.prescaler; priority = x.priority; running = x.running; selected = x.selected; since = x.since }
+mode_of x = record { event = x.event; prescaler = x.prescaler; priority = x.priority; running = x.running; selected = x.selected; since = x.since; stamp = x.stamp }
 
 bare : Option Element → Option Element
 bare entry = None
@@ -185,7 +187,7 @@ clear-list l list v h r =
     let there : list < length u.lists = omega (arith, length-set v.lists list y) in
     let w : DaqValue = with_list u list (record (list_at u list) { odts = map (map (λ entry. None)) (list_at u list).odts }) in
     let second : IsDaq w = lawful_bare u list first there still in
-    with-list l v list (cleared x) h (subst IsDaq (cleared_twice v u w list m below refl refl refl) second) (all_bare l x.odts) (idle-room l (cleared x) refl)
+    with-list l v list (cleared x) h (subst IsDaq (cleared_twice v u w list m below refl refl refl) second) (all_bare l x.odts) (idle-room l (cleared x) (room-at l v list h below).stamp refl)
 
 -- the same for SET_DAQ_PTR
 pub set-pointer : (l : LayoutValue) (list odt entry : ℕ) (v : DaqValue) → IsLists l v → set_daq_ptr_refusal list odt entry v ≡ None → IsLists l (set_daq_ptr_after list odt entry v)
@@ -204,7 +206,7 @@ entry-written l size address v p layout h at still some small inside =
     let last = inside_last l address size layout inside in
     let lawful : IsDaq (with_list v p.list x) = lawful_entry v p.list p.odt p.entry e h.daq at.list at.odt still (some, omega (arith, layout.dto_most), omega arith) in
     let all : All (LiesWritten l) new = All-set (LiesWritten l) (odt_at v p.list p.odt) p.entry (Some e) (inside_lies l address size inside) (odt-entries l v p.list p.odt h at.list at.odt) in
-    let lists = with-list l v p.list x h lawful (all_set (LiesWritten l) (λ (y : List (Option Element)). y) os p.odt new (entries-at l v p.list h at.list) all) (idle-room l x still) in
+    let lists = with-list l v p.list x h lawful (all_set (LiesWritten l) (λ (y : List (Option Element)). y) os p.odt new (entries-at l v p.list h at.list) all) (idle-room l x (room-at l v p.list h at.list).stamp still) in
     with-pointer l (with_list v p.list x) (moved_on v p) lists (grows_entry v p e at)
 
 both_true : (a b : Bool) → not (a && b) ≡ false → (a ≡ true) × (b ≡ true)
@@ -242,10 +244,14 @@ read-daq l v h = read-by l v v.pointer h h.daq.pointer
 is_some : (n : ℕ) → (n == 0) ≡ false → 1 ≤ n
 is_some n h = grind (arith, nat_tests, h)
 
+asked-by : (l : LayoutValue) (none : Bool) → IsStampOf l (if none then Without else l.clock.stamp)
+asked-by l true = inl refl
+asked-by l false = inr refl
+
 -- the same for SET_DAQ_LIST_MODE as for WRITE_DAQ, where its prescaler and priority are at most 255
-pub set-mode : (l : LayoutValue) (mode list event prescaler priority : ℕ) (v : DaqValue) → IsLayout l → IsLists l v → prescaler ≤ 255 → priority ≤ 255 → set_daq_list_mode_refusal l mode list event prescaler v ≡ None → IsLists l (set_daq_list_mode_after list event prescaler priority v)
+pub set-mode : (l : LayoutValue) (mode list event prescaler priority : ℕ) (v : DaqValue) → IsLayout l → IsLists l v → prescaler ≤ 255 → priority ≤ 255 → set_daq_list_mode_refusal l mode list event prescaler v ≡ None → IsLists l (set_daq_list_mode_after l mode list event prescaler priority v)
 set-mode l mode list event prescaler priority v layout h p q r =
-    let a = none-holds ((not (mode == 0), ModeNotValid) ∷ (lacks_list v list, OutOfRange) ∷ ((list_at v list).running, DaqActive) ∷ (nat_le (length l.events) event, OutOfRange) ∷ (prescaler == 0, OutOfRange) ∷ []) r in
+    let a = none-holds ((not (is_mode l mode), ModeNotValid) ∷ (lacks_list v list, OutOfRange) ∷ ((list_at v list).running, DaqActive) ∷ (nat_le (length l.events) event, OutOfRange) ∷ (prescaler == 0, OutOfRange) ∷ []) r in
     let b = a.1 in
     let c = b.1 in
     let d = c.1 in
@@ -253,9 +259,9 @@ set-mode l mode list event prescaler priority v layout h p q r =
     let below : list < length v.lists = is_below _ _ b.0 in
     let few : event < length l.events = is_below _ _ d.0 in
     let x : DaqList = list_at v list in
-    let y : DaqList = record x { event = event; prescaler = prescaler; priority = priority } in
-    let lawful : IsList y = lawful_bound x (mode_of x) event prescaler priority refl (h.daq.each list no_list below) c.0 (omega (arith, layout.events_most)) (is_some prescaler e.0) p q in
-    with-list l v list y h (lawful_mode v list y h.daq below lawful refl) (entries-at l v list h below) (idle-room l y c.0)
+    let y : DaqList = record x { event = event; prescaler = prescaler; priority = priority; stamp = stamp_asked l mode } in
+    let lawful : IsList y = lawful_bound x (mode_of x) event prescaler priority (stamp_asked l mode) refl (h.daq.each list no_list below) c.0 (omega (arith, layout.events_most)) (is_some prescaler e.0) p q in
+    with-list l v list y h (lawful_mode v list y h.daq below lawful refl) (entries-at l v list h below) (idle-room l y (asked-by l (mode == 0)) c.0)
 
 none-at : {A : Type 0} (p : A → Bool) (xs : List A) (i : ℕ) (x : A) → list_any p xs ≡ false → i < length xs → (b : Bool) → p (get_or xs i x) ≡ b → b ≡ false
 none-at p xs i x h k true e = let some = list_any_at p xs i x k e in cc
@@ -267,10 +273,29 @@ room-of l odts layout none = λ k d below.
     (let small = at_most (odt_size (get_or odts k d)) (greatest_size l) (none-at (λ (odt : List (Option Element)). nat_lt (greatest_size l) (odt_size odt)) odts k d none below _ refl) in
     omega (arith, layout.dto_least))
 
-switch-by : (l : LayoutValue) (x : DaqList) → IsLayout l → IsList x → HasRoom l x → (stop start : Bool) → (stop ≡ false → any_large (greatest_size l) x.odts ≡ false) → IsList (if stop then stopped x else (if start then started x else selected x)) × HasRoom l (if stop then stopped x else (if start then started x else selected x))
-switch-by l x layout h room true start small = (lawful_stopped x (mode_of x) x.selected refl h, idle-room l (stopped x) refl)
-switch-by l x layout h room false true small = (lawful_started x (mode_of x) x.selected refl h (none_large (greatest_size l) x.odts (omega (arith, layout.dto_most)) (small refl)), record { fits = λ e. room-of l x.odts layout (small refl) })
-switch-by l x layout h room false false small = (lawful_selected x (mode_of x) true refl h, record { fits = room.fits })
+neither-of : (a b : Bool) → (a || b) ≡ false → (a ≡ false) × (b ≡ false)
+neither-of true b h = cc
+neither-of false b h = (refl, h)
+
+-- nor is the first one with the time stamp
+first-of : (l : LayoutValue) (x : DaqList) → IsLayout l → is_large (greatest_size l) x ≡ false → stamp_size x.stamp + first_size x.odts < l.max_dto
+first-of l x layout none =
+    let both = neither-of (any_large (greatest_size l) x.odts) (nat_lt (greatest_size l) (stamp_size x.stamp + first_size x.odts)) none in
+    let small = at_most (stamp_size x.stamp + first_size x.odts) (greatest_size l) both.1 in
+    omega (arith, layout.dto_least)
+
+-- a list that isn't large has room, running or not
+list-room : (l : LayoutValue) (x : DaqList) → IsLayout l → IsStampOf l x.stamp → is_large (greatest_size l) x ≡ false → (running selected : Bool) (since : ℕ) → HasRoom l (record x { running = running; selected = selected; since = since })
+list-room l x layout s none running selected since = record {
+  stamp = s;
+  fits = λ e. room-of l x.odts layout (neither-of (any_large (greatest_size l) x.odts) (nat_lt (greatest_size l) (stamp_size x.stamp + first_size x.odts)) none).0;
+  first = λ e. first-of l x layout none;
+}
+
+switch-by : (l : LayoutValue) (x : DaqList) → IsLayout l → IsList x → HasRoom l x → (stop start : Bool) → (stop ≡ false → is_large (greatest_size l) x ≡ false) → IsList (if stop then stopped x else (if start then started x else selected x)) × HasRoom l (if stop then stopped x else (if start then started x else selected x))
+switch-by l x layout h room true start small = (lawful_stopped x (mode_of x) x.selected refl h, idle-room l (stopped x) room.stamp refl)
+switch-by l x layout h room false true small = (lawful_started x (mode_of x) x.selected refl h (room_of (greatest_size l) x (omega (arith, layout.dto_most)) (small refl)), list-room l x layout room.stamp (small refl) true x.selected 0)
+switch-by l x layout h room false false small = (lawful_selected x (mode_of x) true refl h, record { stamp = room.stamp; fits = room.fits; first = room.first })
 
 switched_odts_by : (x : DaqList) (stop start : Bool) → (if stop then stopped x else (if start then started x else selected x)).odts ≡ x.odts
 switched_odts_by x true start = refl
@@ -307,11 +332,11 @@ mapped l g v same each h = record {
       subst (HasRoom l) (sym (get_or-map g v.lists k no_list d short)) (each k short).1);
 }
 
-synchronised-room : (l : LayoutValue) (x : DaqList) → IsLayout l → HasRoom l x → (stop chosen start : Bool) → (start ≡ true → chosen ≡ true → any_large (greatest_size l) x.odts ≡ false) → HasRoom l (record (if stop then stopped x else (if not chosen then x else (if start then started x else stopped x))) { selected = false })
-synchronised-room l x layout room true chosen start small = record { fits = λ e. cc }
-synchronised-room l x layout room false false start small = record { fits = room.fits }
-synchronised-room l x layout room false true true small = record { fits = λ e. room-of l x.odts layout (small refl refl) }
-synchronised-room l x layout room false true false small = record { fits = λ e. cc }
+synchronised-room : (l : LayoutValue) (x : DaqList) → IsLayout l → HasRoom l x → (stop chosen start : Bool) → (start ≡ true → chosen ≡ true → is_large (greatest_size l) x ≡ false) → HasRoom l (record (if stop then stopped x else (if not chosen then x else (if start then started x else stopped x))) { selected = false })
+synchronised-room l x layout room true chosen start small = record { stamp = room.stamp; fits = λ e. cc; first = λ e. cc }
+synchronised-room l x layout room false false start small = record { stamp = room.stamp; fits = room.fits; first = room.first }
+synchronised-room l x layout room false true true small = list-room l x layout room.stamp (small refl refl) true false 0
+synchronised-room l x layout room false true false small = record { stamp = room.stamp; fits = λ e. cc; first = λ e. cc }
 
 not_both : (a b : Bool) → (a && b) ≡ false → a ≡ true → b ≡ false
 not_both true b h e = h
@@ -323,17 +348,17 @@ synch l mode v layout h r =
     let a = none-holds ((nat_lt 2 mode, ModeNotValid) ∷ ((mode == 1) && list_any (λ x. x.selected && has_large_odt l x) v.lists, DaqConfig) ∷ []) r in
     let b = a.1 in
     let p : DaqList → Bool = λ x. x.selected && has_large_odt l x in
-    let small : (mode == 1) ≡ true → (i : ℕ) → i < length v.lists → (list_at v i).selected ≡ true → any_large (greatest_size l) (list_at v i).odts ≡ false =
+    let small : (mode == 1) ≡ true → (i : ℕ) → i < length v.lists → (list_at v i).selected ≡ true → is_large (greatest_size l) (list_at v i) ≡ false =
     λ e i below s. not_both (list_at v i).selected (has_large_odt l (list_at v i)) (none-at p v.lists i no_list (not_both (mode == 1) (list_any p v.lists) b.0 e) below (p (list_at v i)) refl) s in
     mapped l (λ x. record (synchronised mode x) { selected = false }) v (synchronised_odts mode)
     (λ i below. (
-      lawful_synchronised mode (list_at v i) (h.daq.each i no_list below) (λ e s. none_large (greatest_size l) (list_at v i).odts (omega (arith, layout.dto_most)) (small (grind (arith, nat_tests, e)) i below s)),
+      lawful_synchronised mode (list_at v i) (h.daq.each i no_list below) (λ e s. room_of (greatest_size l) (list_at v i) (omega (arith, layout.dto_most)) (small (grind (arith, nat_tests, e)) i below s)),
       synchronised-room l (list_at v i) layout (room-at l v i h below) (mode == 0) (list_at v i).selected (mode == 1) (λ e s. small e i below s),
     ))
     h
 
 counted-room : (l : LayoutValue) (x : DaqList) (n : ℕ) → HasRoom l x → (b : Bool) → HasRoom l (if b then record x { since = n } else x)
-counted-room l x n h true = record { fits = h.fits }
+counted-room l x n h true = record { stamp = h.stamp; fits = h.fits; first = h.first }
 counted-room l x n h false = h
 
 -- the DAQ lists stay lawful when they have counted an event

@@ -34,7 +34,7 @@ use Rattle.xcp_slave.specs.Outcomes.{Answer}
 use Rattle.xcp_slave.specs.declared.exchange.Exchange.{Exchange}
 use Rattle.xcp_slave.specs.SlaveValue.{SlaveValue, layout_of, noblock, ended}
 use Rattle.xcp_slave.specs.Rows.{row}
-use Rattle.xcp_slave.specs.Step.{Answers, Heeds, Drains, found_by, is_connect}
+use Rattle.xcp_slave.specs.Step.{Answers, Heeds, Drains, found_by, is_connect, at_time}
 use Rattle.xcp_slave.specs.Run.{Run}
 use Rattle.xcp_slave.specs.SlaveInvariant.{IsSlave}
 use Rattle.xcp_slave.specs.AcceptedCommands.{Accepts}
@@ -224,6 +224,7 @@ reads-step v (requests.Event channel signals) a w q k = absurd q
 reads-step v requests.Drain a w q k = drains-reads v.outbox v a w k
 reads-step v requests.FinishStore a w q k = absurd q
 reads-step v requests.Hangup a w q k = led-same v (ended v) w k.1 (same-memory v.transfer.pages)
+reads-step v (requests.Time time) a w q k = led-same v (at_time time v) w k.1 (same-memory v.transfer.pages)
 
 -- a run that writes, switches and copies nothing, with no event and no FinishStore, leaves the memory as it was
 pub reads-run : (v : SlaveValue) (xs : List Exchange) (w : SlaveValue) → All (λ (x : Exchange). IsReading x.request) xs → Run v xs w → SameMemory v.transfer.pages w.transfer.pages

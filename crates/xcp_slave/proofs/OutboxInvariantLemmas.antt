@@ -4,11 +4,14 @@ use Rattle.std.specs.Prelude.{◌==◌, if◌then◌else◌}
 use Rattle.std.specs.List.{flat_map, enumerate_from}
 use Rattle.std.proofs.lemmas.List.Elements.{All-append}
 use Rattle.arrayvec.specs.ArrayVec.{ArrayVec}
+use Rattle.xcp_packet.specs.declared.Stamp.{Stamp}
+use Rattle.xcp_packet.specs.TimeStamps.{stamp_size}
+use Rattle.xcp_packet.proofs.TimeStampLaws.{length_stamp}
 use Rattle.xcp_memory.specs.Layout.{LayoutValue}
 use Rattle.xcp_memory.specs.Pages.{PagesValue}
 use Rattle.xcp_daq.specs.declared.element.Element.{Element}
-use Rattle.xcp_daq.specs.DaqLists.{DaqValue, DaqList, all_odts, odt_size, first_pid}
-use Rattle.xcp_daq.specs.Sample.{due, odt_bytes, packet_of, odt_packets, packets_from, list_packets, sampled}
+use Rattle.xcp_daq.specs.DaqLists.{DaqValue, DaqList, all_odts, odt_size, first_size, first_pid}
+use Rattle.xcp_daq.specs.Sample.{due, odt_bytes, packet_of, stamped_packet, odt_packets, packets_from, stamped_packets, stamp_of, list_packets, sampled}
 use Rattle.xcp_daq.proofs.DueListLemmas.{first_true}
 use Rattle.xcp_daq.proofs.SampleLemmas.{short_odt}
 use Rattle.xcp_slave.specs.Step.{store_event}
@@ -33,6 +36,21 @@ packets l pages first (o ∷ odts) h k =
     (packet l first (odt_bytes pages o) (omega arith) (omega (arith, short_odt pages o)))
     (packets l pages (first + 1) odts (omega arith) (λ j d below. k (suc j) d (omega arith)))
 
+-- with a time stamp
+stamped : (l : LayoutValue) (pid : ℕ) (stamp bytes : List ℕ) → pid < 64 → length stamp + length bytes < l.max_dto → All (IsDataPacket l) (stamped_packet pid stamp bytes)
+stamped l pid stamp [] h k = none (IsDataPacket l)
+stamped l pid stamp (b ∷ bytes) h k =
+    let long = length-append stamp (b ∷ bytes) in
+    one (IsDataPacket l) (record { items = pid ∷ (stamp ++ b ∷ bytes) }) (record { pid = h; least = omega arith; most = omega arith })
+
+-- the packets of a list
+list-packets : (l : LayoutValue) (pages : PagesValue) (first : ℕ) (stamp : Stamp) (bytes : List ℕ) (odts : List (List (Option Element))) → first + length odts ≤ 64 → length bytes ≡ stamp_size stamp → All (λ odt. odt_size odt < l.max_dto) odts → stamp_size stamp + first_size odts < l.max_dto → All (IsDataPacket l) (stamped_packets pages first bytes odts)
+list-packets l pages first stamp bytes [] h e k m = none (IsDataPacket l)
+list-packets l pages first stamp bytes (o ∷ odts) h e k m =
+    All-append (IsDataPacket l) (stamped_packet first bytes (odt_bytes pages o)) (packets_from pages (first + 1) odts)
+    (stamped l first bytes (odt_bytes pages o) (omega arith) (omega (arith, short_odt pages o)))
+    (packets l pages (first + 1) odts (omega arith) (λ j d below. k (suc j) d (omega arith)))
+
 -- the ODTs of a list and of those before it
 pid_room : (lists : List DaqList) (i : ℕ) (d : DaqList) → i < length lists → length (all_odts (take i lists)) + length (get_or lists i d).odts ≤ length (all_odts lists)
 pid_room [] i d h = absurd (omega arith)
@@ -43,22 +61,23 @@ by_due : (l : LayoutValue) (b : Bool) (ps : List (ArrayVec ℕ)) → (b ≡ true
 by_due l true ps h = h refl
 by_due l false ps h = none (IsDataPacket l)
 
-from : (l : LayoutValue) (channel : ℕ) (pages : PagesValue) (v : DaqValue) (i : ℕ) (lists : List DaqList) → ((k : ℕ) (d : DaqList) → k < length lists → HasRoom l (get_or lists k d) × (length (all_odts (take (i + k) v.lists)) + length (get_or lists k d).odts ≤ 64)) → All (IsDataPacket l) (flat_map (list_packets channel pages v) (enumerate_from i lists))
-from l channel pages v i [] h = none (IsDataPacket l)
-from l channel pages v i (x ∷ lists) h =
+from : (l : LayoutValue) (channel time : ℕ) (pages : PagesValue) (v : DaqValue) (i : ℕ) (lists : List DaqList) → ((k : ℕ) (d : DaqList) → k < length lists → HasRoom l (get_or lists k d) × (length (all_odts (take (i + k) v.lists)) + length (get_or lists k d).odts ≤ 64)) → All (IsDataPacket l) (flat_map (list_packets channel time pages v) (enumerate_from i lists))
+from l channel time pages v i [] h = none (IsDataPacket l)
+from l channel time pages v i (x ∷ lists) h =
     let here = h zero x (omega arith) in
     let pid : first_pid i v + length x.odts ≤ 64 = subst (λ (n : ℕ). length (all_odts (take n v.lists)) + length x.odts ≤ 64) (omega arith) here.1 in
-    All-append (IsDataPacket l) (list_packets channel pages v (i, x)) (flat_map (list_packets channel pages v) (enumerate_from (i + 1) lists))
-    (by_due l (due channel x) (packets_from pages (first_pid i v) x.odts) (λ e. packets l pages (first_pid i v) x.odts pid (here.0.fits (first_true x.running (x.event == channel) (x.since == 0) e))))
-    (from l channel pages v (i + 1) lists (λ k d below. (
+    All-append (IsDataPacket l) (list_packets channel time pages v (i, x)) (flat_map (list_packets channel time pages v) (enumerate_from (i + 1) lists))
+    (by_due l (due channel x) (stamped_packets pages (first_pid i v) (stamp_of pages time x) x.odts)
+    (λ e. (let runs = first_true x.running (x.event == channel) (x.since == 0) e in list-packets l pages (first_pid i v) x.stamp (stamp_of pages time x) x.odts pid (length_stamp pages.layout.order x.stamp time) (here.0.fits runs) (here.0.first runs))))
+    (from l channel time pages v (i + 1) lists (λ k d below. (
       (h (suc k) d (omega arith)).0,
       subst (λ (n : ℕ). length (all_odts (take n v.lists)) + length (get_or lists k d).odts ≤ 64) (omega arith) (h (suc k) d (omega arith)).1,
     )))
 
 -- the packets of an event are data packets
-pub sample : (l : LayoutValue) (channel : ℕ) (pages : PagesValue) (v : DaqValue) → IsLists l v → All (IsDataPacket l) (sampled channel pages v)
-sample l channel pages v h =
-    from l channel pages v 0 v.lists (λ k d below.
+pub sample : (l : LayoutValue) (channel time : ℕ) (pages : PagesValue) (v : DaqValue) → IsLists l v → All (IsDataPacket l) (sampled channel time pages v)
+sample l channel time pages v h =
+    from l channel time pages v 0 v.lists (λ k d below.
     (let fact : length (all_odts (take k v.lists)) + length (get_or v.lists k d).odts ≤ 64 = omega (arith, pid_room v.lists k d below, h.daq.odts) in
     let same : k ≡ 0 + k = omega arith in
     (h.room k d below, subst (λ (n : ℕ). length (all_odts (take n v.lists)) + length (get_or v.lists k d).odts ≤ 64) same fact)))

@@ -16,7 +16,7 @@ use Rattle.xcp_slave.specs.declared.exchange.Exchange.{Exchange}
 use Rattle.xcp_slave.specs.SlaveValue.{SlaveValue, layout_of}
 use Rattle.xcp_slave.specs.Rows.{row}
 use Rattle.xcp_slave.specs.Run.{Run}
-use Rattle.xcp_slave.specs.Step.{Answers, Drains, Fires, outbox_size, store_event, stored, with_event, with_signals, found_by}
+use Rattle.xcp_slave.specs.Step.{Answers, Drains, Fires, outbox_size, store_event, stored, with_event, with_signals, found_by, at_time}
 use Rattle.xcp_slave.specs.PacketQueue.{IsWithin, PutsIn, all_taken, event_packets, put_in, taken_out}
 use Rattle.xcp_slave.proofs.StepLaws.{either}
 use Rattle.xcp_slave.proofs.SlaveInvariantLaws.{either-test}
@@ -113,6 +113,7 @@ step-queues v (requests.Event channel signals) a w h k = fires-queue v channel s
 step-queues v requests.Drain a w h k = drains-queue v.outbox v a w refl k
 step-queues v requests.FinishStore a w h k = stores-queue v a w k
 step-queues v requests.Hangup a w h k = absurd h
+step-queues v (requests.Time time) a w h k = as-these v (requests.Time time) answers.Silent a (at_time time v) w k.0 k.1 (nothing-put v)
 
 -- runs
 

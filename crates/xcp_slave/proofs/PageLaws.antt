@@ -254,6 +254,7 @@ step-store v (requests.Event channel signals) a w h k = inl (fires-store channel
 step-store v requests.Drain a w h k = inl (drains-store v.outbox v a w h k)
 step-store v requests.FinishStore a w h k = either v.store _ _ _ k (λ m. either (v.connected && nat_le outbox_size (length v.outbox)) _ _ _ m (λ n. inl (same-store v w h n.1)) (λ n. inr n.0)) (λ m. inl (same-store v w h m.1))
 step-store v requests.Hangup a w h k = inl (ap (λ (x : SlaveValue). x.store) k.1 ∙ h)
+step-store v (requests.Time time) a w h k = inl (ap (λ (x : SlaveValue). x.store) k.1 ∙ h)
 
 done-by : (v : SlaveValue) (a : Answer) (w : SlaveValue) → StoreDone v a w → w.store ≡ false → a ≡ answers.Stored (frozen_count v.transfer.pages)
 unfolding StoreDone

@@ -96,6 +96,7 @@ mode-kept v (requests.Event channel signals) a w i b k = fires-part (λ x. (segm
 mode-kept v requests.Drain a w i b k = drains-part (λ x. (segment_at x.transfer.pages i).freeze) v.outbox v a w (λ o. refl) k
 mode-kept v requests.FinishStore a w i b k = stores-part (λ x. (segment_at x.transfer.pages i).freeze) v a w (frozen-part (λ s. s.freeze) freeze-beside v.transfer.pages i) k
 mode-kept v requests.Hangup a w i b k = ap (λ (x : SlaveValue). (segment_at x.transfer.pages i).freeze) k.1
+mode-kept v (requests.Time time) a w i b k = ap (λ (x : SlaveValue). (segment_at x.transfer.pages i).freeze) k.1
 
 -- page numbers
 
@@ -120,6 +121,7 @@ ecu-number v (requests.Event channel signals) a w i b k = fires-part (λ x. (seg
 ecu-number v requests.Drain a w i b k = drains-part (λ x. (segment_at x.transfer.pages i).ecu) v.outbox v a w (λ o. refl) k
 ecu-number v requests.FinishStore a w i b k = stores-part (λ x. (segment_at x.transfer.pages i).ecu) v a w (frozen-part (λ s. s.ecu) ecu-beside v.transfer.pages i) k
 ecu-number v requests.Hangup a w i b k = ap (λ (x : SlaveValue). (segment_at x.transfer.pages i).ecu) k.1
+ecu-number v (requests.Time time) a w i b k = ap (λ (x : SlaveValue). (segment_at x.transfer.pages i).ecu) k.1
 
 xcp-beside : Beside (λ s. s.xcp)
 unfolding Beside
@@ -142,6 +144,7 @@ xcp-number v (requests.Event channel signals) a w i b k = fires-part (λ x. (seg
 xcp-number v requests.Drain a w i b k = drains-part (λ x. (segment_at x.transfer.pages i).xcp) v.outbox v a w (λ o. refl) k
 xcp-number v requests.FinishStore a w i b k = stores-part (λ x. (segment_at x.transfer.pages i).xcp) v a w (frozen-part (λ s. s.xcp) xcp-beside v.transfer.pages i) k
 xcp-number v requests.Hangup a w i b k = ap (λ (x : SlaveValue). (segment_at x.transfer.pages i).xcp) k.1
+xcp-number v (requests.Time time) a w i b k = ap (λ (x : SlaveValue). (segment_at x.transfer.pages i).xcp) k.1
 
 -- a request that is no SET_CAL_PAGE keeps each segment's page numbers, of the controller and of the tool
 pub numbers-kept : (v : SlaveValue) (q : Request) (a : Answer) (w : SlaveValue) (i : ℕ) → IsBeside switch_codes q → Answers v q a w → ((segment_at w.transfer.pages i).ecu ≡ (segment_at v.transfer.pages i).ecu) × ((segment_at w.transfer.pages i).xcp ≡ (segment_at v.transfer.pages i).xcp)
@@ -181,6 +184,7 @@ signals-kept v (requests.Event channel signals) a w e k = absurd e
 signals-kept v requests.Drain a w e k = drains-part (λ x. x.transfer.pages.signals) v.outbox v a w (λ o. refl) k
 signals-kept v requests.FinishStore a w e k = stores-part (λ x. x.transfer.pages.signals) v a w refl k
 signals-kept v requests.Hangup a w e k = ap (λ (x : SlaveValue). x.transfer.pages.signals) k.1
+signals-kept v (requests.Time time) a w e k = ap (λ (x : SlaveValue). x.transfer.pages.signals) k.1
 
 -- SET_SEGMENT_MODE
 

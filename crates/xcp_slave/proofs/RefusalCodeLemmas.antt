@@ -29,7 +29,7 @@ use Rattle.xcp_transfer.specs.Downloads.{next_row}
 use Rattle.xcp_daq.specs.declared.Allocation.TheVariants.{AllocDaq, AllocOdt, AllocOdtEntry}
 use Rattle.xcp_daq.specs.DaqLists.{list_at, all_odts, all_entries, any_running, lacks_list, lacks_odt, lacks_entry, has_large_odt}
 use Rattle.xcp_daq.specs.AllocationSequence.{may_follow}
-use Rattle.xcp_daq.specs.Configuring.{has_no_pointer, pointed_list_runs, element_rows}
+use Rattle.xcp_daq.specs.Configuring.{has_no_pointer, pointed_list_runs, element_rows, is_mode}
 use Rattle.xcp_slave.specs.SlaveValue.{SlaveValue, layout_of}
 use Rattle.xcp_slave.specs.RefusalCodes.{codes_of, is_code_of}
 use Rattle.xcp_slave.specs.RefusingAnswers.{is_refusal_code}
@@ -118,12 +118,13 @@ row-errors (commands.SetDaqPtr list odt entry) v = first (is_code_of (commands.S
 row-errors (commands.WriteDaq offset size extension address) v =
     first (is_code_of (commands.WriteDaq offset size extension address)) ((has_no_pointer v.daq.pointer, DaqConfig) ∷ (pointed_list_runs v.daq.pointer v.daq, DaqActive) ∷ element_rows (layout_of v) offset size extension address) refl
 row-errors (commands.SetDaqListMode mode list event prescaler priority) v =
-    first (is_code_of (commands.SetDaqListMode mode list event prescaler priority)) ((not (mode == 0), ModeNotValid) ∷ (lacks_list v.daq list, OutOfRange) ∷ ((list_at v.daq list).running, DaqActive) ∷ (nat_le (length (layout_of v).events) event, OutOfRange) ∷ (prescaler == 0, OutOfRange) ∷ []) refl
+    first (is_code_of (commands.SetDaqListMode mode list event prescaler priority)) ((not (is_mode (layout_of v) mode), ModeNotValid) ∷ (lacks_list v.daq list, OutOfRange) ∷ ((list_at v.daq list).running, DaqActive) ∷ (nat_le (length (layout_of v).events) event, OutOfRange) ∷ (prescaler == 0, OutOfRange) ∷ []) refl
 row-errors (commands.GetDaqListMode list) v = first (is_code_of (commands.GetDaqListMode list)) ((lacks_list v.daq list, OutOfRange) ∷ []) refl
 row-errors (commands.StartStopDaqList mode list) v =
     first (is_code_of (commands.StartStopDaqList mode list)) ((nat_lt 2 mode, ModeNotValid) ∷ (lacks_list v.daq list, OutOfRange) ∷ (not (mode == 0) && has_large_odt (layout_of v) (list_at v.daq list), DaqConfig) ∷ []) refl
 row-errors (commands.StartStopSynch mode) v =
     first (is_code_of (commands.StartStopSynch mode)) ((nat_lt 2 mode, ModeNotValid) ∷ ((mode == 1) && list_any (λ x. x.selected && has_large_odt (layout_of v) x) v.daq.lists, DaqConfig) ∷ []) refl
+row-errors commands.GetDaqClock v = refl
 row-errors commands.ReadDaq v = first (is_code_of commands.ReadDaq) ((has_no_pointer v.daq.pointer, DaqConfig) ∷ []) refl
 row-errors (commands.GetDaqEventInfo channel) v = first (is_code_of (commands.GetDaqEventInfo channel)) ((nat_le (length (layout_of v).events) channel, OutOfRange) ∷ []) refl
 row-errors (commands.AllocDaq count) v =
@@ -183,6 +184,7 @@ codes-refuse (commands.SetDaqListMode mode list event prescaler priority) = refl
 codes-refuse (commands.GetDaqListMode list) = refl
 codes-refuse (commands.StartStopDaqList mode list) = refl
 codes-refuse (commands.StartStopSynch mode) = refl
+codes-refuse commands.GetDaqClock = refl
 codes-refuse commands.ReadDaq = refl
 codes-refuse (commands.GetDaqEventInfo channel) = refl
 codes-refuse (commands.AllocDaq count) = refl

@@ -143,3 +143,4 @@ refusal-leaves v (requests.Event channel signals) a w h r = fires-refusal channe
 refusal-leaves v requests.Drain a w h r = drains-refusal v.outbox v a w h r
 refusal-leaves v requests.FinishStore a w h r = either v.store _ _ _ h (λ k. stores-refusal v a w k r) (λ k. k.1)
 refusal-leaves v requests.Hangup a w h r = absurd (subst IsRefusal h.0 r)
+refusal-leaves v (requests.Time time) a w h r = absurd (subst IsRefusal h.0 r)

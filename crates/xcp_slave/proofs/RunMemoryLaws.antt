@@ -24,7 +24,7 @@ use Rattle.xcp_slave.specs.Outcomes.{Answer}
 use Rattle.xcp_slave.specs.declared.exchange.Exchange.{Exchange}
 use Rattle.xcp_slave.specs.SlaveValue.{SlaveValue, layout_of, noblock, ended, opening}
 use Rattle.xcp_slave.specs.Rows.{row}
-use Rattle.xcp_slave.specs.Step.{Answers, Heeds, Drains, Samples, Fires, outbox_size, with_signals, found_by, is_connect}
+use Rattle.xcp_slave.specs.Step.{Answers, Heeds, Drains, Samples, Fires, outbox_size, with_signals, found_by, is_connect, at_time}
 use Rattle.xcp_slave.specs.Run.{Run}
 use Rattle.xcp_slave.specs.SlaveInvariant.{IsSlave, IsOfBytes}
 use Rattle.xcp_slave.specs.MemoryEffects.{IsSteady, IsEventless, SameMemory, Write, Puts, Follows, byte_of, last_at, IsLeft}
@@ -97,6 +97,7 @@ first-step v (requests.Event channel signals) a w n h k = led-first v w w refl (
 first-step v requests.Drain a w n h k = led-first v w w refl (drains-segments v.outbox v a w k)
 first-step v requests.FinishStore a w n h k = absurd (n refl)
 first-step v requests.Hangup a w n h k = led-first v (ended v) w k.1 refl
+first-step v (requests.Time time) a w n h k = led-first v (at_time time v) w k.1 refl
 
 -- no step but FinishStore changes a reference page
 pub reference-step : (v : SlaveValue) (q : Request) (a : Answer) (w : SlaveValue) (i : ℕ) → q ≢ requests.FinishStore → IsSlave v → Answers v q a w → get_or (segment_at w.transfer.pages i).pages 0 [] ≡ get_or (segment_at v.transfer.pages i).pages 0 []
@@ -148,6 +149,7 @@ page-step v (requests.Event channel signals) a w i k s h apart r = page-segments
 page-step v requests.Drain a w i k s h apart r = page-segments v.transfer.pages w.transfer.pages i k (drains-segments v.outbox v a w r)
 page-step v requests.FinishStore a w i k s h apart r = absurd s
 page-step v requests.Hangup a w i k s h apart r = page-segments v.transfer.pages w.transfer.pages i k (ap (λ (y : SlaveValue). y.transfer.pages.segments) r.1)
+page-step v (requests.Time time) a w i k s h apart r = page-segments v.transfer.pages w.transfer.pages i k (ap (λ (y : SlaveValue). y.transfer.pages.segments) r.1)
 
 steady-run : (v : SlaveValue) (xs : List Exchange) (w : SlaveValue) (i k : ℕ) → IsSlave v → All (λ (x : Exchange). IsOfBytes x.request) xs → All (λ (x : Exchange). IsSteady x.request) xs → Run v xs w → k ≢ (segment_at v.transfer.pages i).xcp → KeepsPage v.transfer.pages w.transfer.pages i k
 steady-run v [] w i k h b s r apart = page-segments v.transfer.pages w.transfer.pages i k (ap (λ (y : SlaveValue). y.transfer.pages.segments) r)

@@ -15,12 +15,12 @@ use Rattle.xcp_transfer.specs.Laws.{IsLawful}
 use Rattle.xcp_daq.specs.declared.element.Element.{Element}
 use Rattle.xcp_daq.specs.DaqLists.{DaqValue, DaqList, first_pid}
 use Rattle.xcp_daq.specs.Pools.{joined}
-use Rattle.xcp_daq.specs.Sample.{due, element_bytes, odt_bytes, list_packets, packets_from}
+use Rattle.xcp_daq.specs.Sample.{due, element_bytes, odt_bytes, list_packets, packets_from, stamped_packets, stamp_of}
 use Rattle.xcp_daq.proofs.DaqInvariantLemmas.{all_left, all_right, entries_by_list}
 use Rattle.xcp_slave.specs.declared.request.Request.TheVariants as requests
 use Rattle.xcp_slave.specs.declared.outcome.Outcome.TheVariants as answers
 use Rattle.xcp_slave.specs.PacketQueue.{event_packets}
-use Rattle.xcp_slave.specs.SampledBytes.{ReadsOdt, OdtPackets, DuePackets}
+use Rattle.xcp_slave.specs.SampledBytes.{ReadsOdt, OdtPackets, ListPackets, DuePackets}
 use Rattle.xcp_slave.specs.SlaveInvariant.{LiesWritten, IsSlave}
 use Rattle.xcp_slave.specs.SlaveValue.{SlaveValue, layout_of}
 use Rattle.xcp_slave.specs.Step.{Answers, Fires, with_signals}
@@ -46,18 +46,24 @@ odts-packets pages pid [] l f h = refl
 odts-packets pages pid (odt ∷ odts) l f h =
     (odt_bytes pages odt, packets_from pages (pid + 1) odts, odt-gathers pages odt l f (all_left (LiesWritten pages.layout) odt (joined odts) h), odts-packets pages (pid + 1) odts l f (all_right (LiesWritten pages.layout) odt (joined odts) h), refl)
 
-by-due : (b : Bool) (pages : PagesValue) (pid : ℕ) (odts : List (List (Option Element))) → OdtPackets pages pid odts (packets_from pages pid odts) → MatchBool b (OdtPackets pages pid odts (if b then packets_from pages pid odts else [])) ((if b then packets_from pages pid odts else []) ≡ [])
-by-due true pages pid odts h = h
-by-due false pages pid odts h = refl
+stamped-packets : (pages : PagesValue) (pid : ℕ) (stamp : List ℕ) (odts : List (List (Option Element))) → IsLayout pages.layout → IsPages pages → All (LiesWritten pages.layout) (joined odts) → ListPackets pages pid stamp odts (stamped_packets pages pid stamp odts)
+stamped-packets pages pid stamp [] l f h = refl
+stamped-packets pages pid stamp (odt ∷ odts) l f h =
+    (odt_bytes pages odt, packets_from pages (pid + 1) odts, odt-gathers pages odt l f (all_left (LiesWritten pages.layout) odt (joined odts) h), odts-packets pages (pid + 1) odts l f (all_right (LiesWritten pages.layout) odt (joined odts) h), refl)
 
-lists-packets : (channel : ℕ) (pages : PagesValue) (v : DaqValue) (i : ℕ) (lists : List DaqList) → IsLayout pages.layout → IsPages pages → All (LiesWritten pages.layout) (flat_map (λ (x : DaqList). joined x.odts) lists) → DuePackets channel pages v i lists (flat_map (list_packets channel pages v) (enumerate_from i lists))
-lists-packets channel pages v i [] l f h = refl
-lists-packets channel pages v i (x ∷ lists) l f h =
-    let rest = flat_map (λ (y : DaqList). joined y.odts) lists in (
-      list_packets channel pages v (i, x),
-      flat_map (list_packets channel pages v) (enumerate_from (i + 1) lists),
-      by-due (due channel x) pages (first_pid i v) x.odts (odts-packets pages (first_pid i v) x.odts l f (all_left (LiesWritten pages.layout) (joined x.odts) rest h)),
-      lists-packets channel pages v (i + 1) lists l f (all_right (LiesWritten pages.layout) (joined x.odts) rest h),
+by-due : (b : Bool) (pages : PagesValue) (pid : ℕ) (stamp : List ℕ) (odts : List (List (Option Element))) → ListPackets pages pid stamp odts (stamped_packets pages pid stamp odts) → MatchBool b (ListPackets pages pid stamp odts (if b then stamped_packets pages pid stamp odts else [])) ((if b then stamped_packets pages pid stamp odts else []) ≡ [])
+by-due true pages pid stamp odts h = h
+by-due false pages pid stamp odts h = refl
+
+lists-packets : (channel time : ℕ) (pages : PagesValue) (v : DaqValue) (i : ℕ) (lists : List DaqList) → IsLayout pages.layout → IsPages pages → All (LiesWritten pages.layout) (flat_map (λ (x : DaqList). joined x.odts) lists) → DuePackets channel time pages v i lists (flat_map (list_packets channel time pages v) (enumerate_from i lists))
+lists-packets channel time pages v i [] l f h = refl
+lists-packets channel time pages v i (x ∷ lists) l f h =
+    let rest = flat_map (λ (y : DaqList). joined y.odts) lists in
+    let stamp : List ℕ = stamp_of pages time x in (
+      list_packets channel time pages v (i, x),
+      flat_map (list_packets channel time pages v) (enumerate_from (i + 1) lists),
+      by-due (due channel x) pages (first_pid i v) stamp x.odts (stamped-packets pages (first_pid i v) stamp x.odts l f (all_left (LiesWritten pages.layout) (joined x.odts) rest h)),
+      lists-packets channel time pages v (i + 1) lists l f (all_right (LiesWritten pages.layout) (joined x.odts) rest h),
       refl,
     )
 
@@ -69,10 +75,10 @@ signals-long v channel n signals w k =
     (λ m. absurd (let e = m.0 in cc))
 
 -- an event that is sampled puts the packets of the lists that are due, with the bytes that the controller reads
-pub event-reads : (v : SlaveValue) (channel n : ℕ) (signals : ArrayVec ℕ) (w : SlaveValue) → IsSlave v → Answers v (requests.Event channel signals) (answers.Sampled n) w → (packets : List (ArrayVec ℕ)) × DuePackets channel (with_signals signals.items v).transfer.pages v.daq 0 v.daq.lists packets × (w.outbox ≡ v.outbox ++ packets)
+pub event-reads : (v : SlaveValue) (channel n : ℕ) (signals : ArrayVec ℕ) (w : SlaveValue) → IsSlave v → Answers v (requests.Event channel signals) (answers.Sampled n) w → (packets : List (ArrayVec ℕ)) × DuePackets channel v.time (with_signals signals.items v).transfer.pages v.daq 0 v.daq.lists packets × (w.outbox ≡ v.outbox ++ packets)
 event-reads v channel n signals w h k =
     let lawful : IsLawful (with_signals signals.items v).transfer = transfers.signals-kept v.transfer signals.items h.transfer (signals-long v channel n signals w k) in (
       event_packets v channel signals.items,
-      lists-packets channel (with_signals signals.items v).transfer.pages v.daq 0 v.daq.lists lawful.layout lawful.pages (subst (All (LiesWritten (layout_of v))) (entries_by_list v.daq.lists) h.lists.inside),
+      lists-packets channel v.time (with_signals signals.items v).transfer.pages v.daq 0 v.daq.lists lawful.layout lawful.pages (subst (All (LiesWritten (layout_of v))) (entries_by_list v.daq.lists) h.lists.inside),
       (event-whole v channel n signals w k).1,
     )

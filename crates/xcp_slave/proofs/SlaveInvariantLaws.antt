@@ -33,7 +33,7 @@ use Rattle.xcp_slave.specs.Outcomes.{Answer}
 use Rattle.xcp_slave.specs.declared.exchange.Exchange.{Exchange}
 use Rattle.xcp_slave.specs.SlaveValue.{SlaveValue, layout_of, noblock, ended, opening}
 use Rattle.xcp_slave.specs.Rows.{row}
-use Rattle.xcp_slave.specs.Step.{Answers, Heeds, Drains, Stores, Samples, Fires, outbox_size, stored, store_event, with_event, with_signals, found_by, is_connect}
+use Rattle.xcp_slave.specs.Step.{Answers, Heeds, Drains, Stores, Samples, Fires, outbox_size, stored, store_event, with_event, with_signals, found_by, is_connect, at_time}
 use Rattle.xcp_slave.specs.Run.{Run}
 use Rattle.xcp_slave.specs.SlaveInvariant.{IsLists, IsWaiting, IsSlave, IsOfBytes}
 use Rattle.xcp_slave.proofs.StepLaws.{either}
@@ -203,23 +203,23 @@ event-kept channel v h = record { transfer = h.transfer; lists = lists.event (la
 
 -- with the packets of an event
 sampled-by : ℕ → SlaveValue → SlaveValue
-sampled-by channel v = record (with_event channel v) { outbox = v.outbox ++ sampled channel v.transfer.pages v.daq }
+sampled-by channel v = record (with_event channel v) { outbox = v.outbox ++ sampled channel v.time v.transfer.pages v.daq }
 
 sampled-idle : (channel : ℕ) (v : SlaveValue) → v ≡ ended v → sampled-by channel v ≡ ended (sampled-by channel v)
 unfolding sampled-by
 sampled-idle channel v e = moved-idle (sampled-by channel) v (λ x. refl) e
 
-samples-kept : (channel : ℕ) (v : SlaveValue) (a : Answer) (w : SlaveValue) → IsSlave v → Samples channel (sampled channel v.transfer.pages v.daq) v a w → IsSlave w
+samples-kept : (channel : ℕ) (v : SlaveValue) (a : Answer) (w : SlaveValue) → IsSlave v → Samples channel (sampled channel v.time v.transfer.pages v.daq) v a w → IsSlave w
 unfolding sampled-by
 samples-kept channel v a w h k =
-    let new : List (ArrayVec ℕ) = sampled channel v.transfer.pages v.daq in
+    let new : List (ArrayVec ℕ) = sampled channel v.time v.transfer.pages v.daq in
     let after = event-kept channel v h in
     either-test (nat_le (length v.outbox + length new) outbox_size) _ _ _
     (λ room m. same-kept (sampled-by channel v) w (record {
       transfer = h.transfer;
       lists = after.lists;
       few = (let long = length-append v.outbox new in let fits : length v.outbox + length new ≤ 64 = grind (arith, nat_tests, room) in omega arith);
-      waiting = data-waits (layout_of v) v.outbox new h.waiting (sample (layout_of v) channel v.transfer.pages v.daq h.lists);
+      waiting = data-waits (layout_of v) v.outbox new h.waiting (sample (layout_of v) channel v.time v.transfer.pages v.daq h.lists);
       idle = λ off. sampled-idle channel v (h.idle off);
     }) m.1)
     (λ full m. same-kept (with_event channel v) w after m.1)
@@ -234,6 +234,9 @@ fires-kept channel signals v a w h k =
     m)
     (λ m. same-kept v w h m.1)
 
+time-kept : (time : ℕ) (v : SlaveValue) → IsSlave v → IsSlave (at_time time v)
+time-kept time v h = record { transfer = h.transfer; lists = h.lists; few = h.few; waiting = h.waiting; idle = λ off. moved-idle (at_time time) v (λ x. refl) (h.idle off) }
+
 ended-kept : (v : SlaveValue) → IsSlave v → IsSlave (ended v)
 ended-kept v h = record { transfer = transfers.nowhere v.transfer h.transfer; lists = lists.no-lists (layout_of v) None; few = omega arith; waiting = λ k d below. absurd (omega arith); idle = λ off. refl }
 
@@ -247,6 +250,7 @@ answers-kept v (requests.Event channel signals) a w b h k = fires-kept channel s
 answers-kept v requests.Drain a w b h k = drains-kept v.outbox v a w refl h k
 answers-kept v requests.FinishStore a w b h k = either v.store _ _ _ k (stores-kept v a w h) (λ m. same-kept v w h m.1)
 answers-kept v requests.Hangup a w b h k = same-kept (ended v) w (ended-kept v h) k.1
+answers-kept v (requests.Time time) a w b h k = same-kept (at_time time v) w (time-kept time v h) k.1
 
 -- a slave at its opening is within its limits, where its layout is
 pub opening-slave : (l : LayoutValue) → IsLayout l → IsSlave (opening l)

@@ -21,7 +21,7 @@ use Rattle.xcp_slave.specs.Outcomes.{Answer}
 use Rattle.xcp_slave.specs.declared.outcome.Outcome.TheVariants as answers
 use Rattle.xcp_slave.specs.SlaveValue.{SlaveValue, layout_of, noblock, ended}
 use Rattle.xcp_slave.specs.Rows.{row}
-use Rattle.xcp_slave.specs.Step.{Answers, Heeds, Executes, Ignores, Refuses, Drains, Stores, Samples, Fires, outbox_size, stored, with_event, with_signals, answer_of, sent_reply, found_by, is_connect}
+use Rattle.xcp_slave.specs.Step.{Answers, Heeds, Executes, Ignores, Refuses, Drains, Stores, Samples, Fires, outbox_size, stored, with_event, with_signals, answer_of, sent_reply, found_by, is_connect, at_time}
 
 -- whichever way a test goes
 pub either : (t : Bool) (P Q R : Type 0) → MatchBool t P Q → (P → R) → (Q → R) → R
@@ -123,7 +123,7 @@ samples-some channel packets v =
 
 -- the sample of an event with its signals in place
 abbrev event_packets : ℕ → List ℕ → SlaveValue → List (ArrayVec ℕ)
-event_packets channel signals v = sampled channel (with_signals signals v).transfer.pages v.daq
+event_packets channel signals v = sampled channel v.time (with_signals signals v).transfer.pages v.daq
 
 fires-single : (channel : ℕ) (signals : List ℕ) (v : SlaveValue) (a b : Answer) (w u : SlaveValue) → Fires channel signals v a w → Fires channel signals v b u → (a ≡ b) × (w ≡ u)
 fires-single channel signals v a b w u h k =
@@ -150,6 +150,7 @@ answers-single v (requests.Event channel signals) a b w u h k = fires-single cha
 answers-single v requests.Drain a b w u h k = drains-single v.outbox v a b w u h k
 answers-single v requests.FinishStore a b w u h k = both v.store _ _ _ _ _ h k (stores-single v a b w u) (settled answers.NoStore v a b w u)
 answers-single v requests.Hangup a b w u h k = settled answers.Silent (ended v) a b w u h k
+answers-single v (requests.Time time) a b w u h k = settled answers.Silent (at_time time v) a b w u h k
 
 -- and there are an answer and a slave after it
 pub answers-some : (v : SlaveValue) (q : Request) → (a : Answer) × (w : SlaveValue) × Answers v q a w
@@ -161,3 +162,4 @@ answers-some v (requests.Event channel signals) = fires-some channel signals.ite
 answers-some v requests.Drain = drains-some v.outbox v
 answers-some v requests.FinishStore = one_of v.store (Stores v) (λ a w. (a ≡ answers.NoStore) × (w ≡ v)) (stores-some v) (answers.NoStore, v, (refl, refl))
 answers-some v requests.Hangup = (answers.Silent, ended v, (refl, refl))
+answers-some v (requests.Time time) = (answers.Silent, at_time time v, (refl, refl))

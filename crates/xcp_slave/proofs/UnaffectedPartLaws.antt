@@ -90,6 +90,7 @@ mta-kept v (requests.Event channel signals) a w b n k = fires-part (λ x. x.tran
 mta-kept v requests.Drain a w b n k = drains-part (λ x. x.transfer.mta) v.outbox v a w (λ o. refl) k
 mta-kept v requests.FinishStore a w b n k = stores-part (λ x. x.transfer.mta) v a w refl k
 mta-kept v requests.Hangup a w b n k = absurd (n refl)
+mta-kept v (requests.Time time) a w b n k = ap (λ (x : SlaveValue). x.transfer.mta) k.1
 
 -- whether a tool is connected
 
@@ -105,6 +106,7 @@ session-kept v (requests.Event channel signals) a w b n k = fires-part (λ x. x.
 session-kept v requests.Drain a w b n k = drains-part (λ x. x.connected) v.outbox v a w (λ o. refl) k
 session-kept v requests.FinishStore a w b n k = stores-part (λ x. x.connected) v a w refl k
 session-kept v requests.Hangup a w b n k = absurd (n refl)
+session-kept v (requests.Time time) a w b n k = ap (λ (x : SlaveValue). x.connected) k.1
 
 -- the DAQ lists
 
@@ -130,6 +132,7 @@ lists-kept v (requests.Event channel signals) a w b e n k = absurd e
 lists-kept v requests.Drain a w b e n k = drains-part (λ x. x.daq) v.outbox v a w (λ o. refl) k
 lists-kept v requests.FinishStore a w b e n k = stores-part (λ x. x.daq) v a w refl k
 lists-kept v requests.Hangup a w b e n k = absurd (n refl)
+lists-kept v (requests.Time time) a w b e n k = ap (λ (x : SlaveValue). x.daq) k.1
 
 -- the store request
 
@@ -144,6 +147,7 @@ store-kept v (requests.Event channel signals) a w b n k = fires-part (λ x. x.st
 store-kept v requests.Drain a w b n k = drains-part (λ x. x.store) v.outbox v a w (λ o. refl) k
 store-kept v requests.FinishStore a w b n k = absurd (n refl)
 store-kept v requests.Hangup a w b n k = ap (λ (x : SlaveValue). x.store) k.1
+store-kept v (requests.Time time) a w b n k = ap (λ (x : SlaveValue). x.store) k.1
 
 -- what a command changes, and nothing else
 

@@ -40,7 +40,7 @@ use Rattle.xcp_slave.specs.Outcomes.{Answer}
 use Rattle.xcp_slave.specs.declared.outcome.Outcome.TheVariants as answers
 use Rattle.xcp_slave.specs.SlaveValue.{SlaveValue, layout_of, noblock, ended}
 use Rattle.xcp_slave.specs.Rows.{row}
-use Rattle.xcp_slave.specs.Step.{Answers, Heeds, Executes, Drains, answer_of, sent_reply, found_by, is_connect}
+use Rattle.xcp_slave.specs.Step.{Answers, Heeds, Executes, Drains, answer_of, sent_reply, found_by, is_connect, at_time}
 use Rattle.xcp_slave.specs.SlaveInvariant.{IsSlave}
 use Rattle.xcp_slave.specs.MemoryEffects.{IsEventless, SameMemory, Write, PutBy, IsPut, IsStill, IsWrite}
 use Rattle.xcp_slave.proofs.StepLaws.{either}
@@ -277,6 +277,7 @@ eventless-steps v (requests.Event channel signals) a w q h k = absurd q
 eventless-steps v requests.Drain a w q h k = inl (drains-still v.outbox v a w k)
 eventless-steps v requests.FinishStore a w q h k = absurd q
 eventless-steps v requests.Hangup a w q h k = inl (still v (ended v) w k.1 refl)
+eventless-steps v (requests.Time time) a w q h k = inl (still v (at_time time v) w k.1 refl)
 
 -- a step without a switch, a copy, a store and an event leaves the memory as it was, or does one write
 pub eventless-touches : (v : SlaveValue) (q : Request) (a : Answer) (w : SlaveValue) → IsEventless q → IsSlave v → Answers v q a w → Touches v.transfer.pages w.transfer.pages

@@ -12,6 +12,7 @@ request_asked (asks.Event channel signals) = requests.Event channel (record { it
 request_asked asks.Drain = requests.Drain
 request_asked asks.FinishStore = requests.FinishStore
 request_asked asks.Hangup = requests.Hangup
+request_asked (asks.Time time) = requests.Time time
 
 -- a command packet has at most 255 bytes, and an event at most 64 of signals
 abbrev pub IsShort : Asked → Type 0

@@ -1,16 +1,18 @@
 -- The rows of the commands of data acquisition (DAQ).
-use Rattle.std.specs.Prelude.{ℕ, Option, Some, None}
+use Rattle.std.specs.Prelude.{ℕ, ◌%◌, not, [], ◌∷◌, Option, Some, None}
 use Rattle.xcp_packet.specs.declared.Reply.{Reply}
 use Rattle.xcp_packet.specs.declared.Reply.TheVariants as replies
 use Rattle.xcp_packet.specs.declared.Code.{Code}
+use Rattle.xcp_packet.specs.declared.Code.TheVariants.{CmdUnknown}
 use Rattle.xcp_transfer.specs.declared.Mta.TheVariants.{Text}
 use Rattle.xcp_transfer.specs.declared.TextId.TheVariants.{Name}
 use Rattle.xcp_packet.specs.Rows.{Row, refused}
 use Rattle.xcp_daq.specs.declared.Element.{Element}
 use Rattle.xcp_daq.specs.declared.ListMode.{ListMode}
 use Rattle.xcp_daq.specs.declared.ProcessorInfo.{ProcessorInfo}
+use Rattle.xcp_daq.specs.declared.ResolutionInfo.{ResolutionInfo}
 use Rattle.xcp_daq.specs.declared.EventInfo.{EventInfo}
-use Rattle.xcp_daq.specs.DaqLists.{DaqValue}
+use Rattle.xcp_daq.specs.DaqLists.{DaqValue, has_stamp}
 use Rattle.xcp_daq.specs.DaqInfo.{event_info_refusal, event_info_reply}
 use Rattle.xcp_slave.specs.SlaveValue.{SlaveValue, layout_of, noblock}
 
@@ -38,11 +40,24 @@ mode_reply m = replies.DaqListMode m.mode m.event m.prescaler m.priority
 
 -- (ASAM MCD-1 XCP, protocol layer, description of commands: GET_DAQ_PROCESSOR_INFO.)
 abbrev pub info_reply : ProcessorInfo → Reply
-info_reply i = replies.DaqInfo i.lists i.events
+info_reply i = replies.DaqInfo i.properties i.lists i.events
+
+-- (ASAM MCD-1 XCP, protocol layer, description of commands: GET_DAQ_RESOLUTION_INFO.)
+abbrev pub resolution_reply : ResolutionInfo → Reply
+resolution_reply i = replies.DaqResolution i.greatest i.mode i.ticks
 
 -- (ASAM MCD-1 XCP, protocol layer, description of commands: GET_DAQ_EVENT_INFO.)
 abbrev pub event_reply : EventInfo → Reply
 event_reply e = replies.EventInfo e.name_length e.cycle e.unit e.priority
+
+-- GET_DAQ_CLOCK tells the time, its lowest four bytes; a slave whose layout has no clock doesn't know the command.
+-- (ASAM MCD-1 XCP, protocol layer, description of commands: GET_DAQ_CLOCK.)
+abbrev pub get_daq_clock_row : SlaveValue → Row SlaveValue
+get_daq_clock_row v = record {
+  refusals = (not (has_stamp (layout_of v).clock.stamp), replies.Error CmdUnknown) ∷ [];
+  reply = Some (replies.DaqClock (v.time % 0x1_0000_0000));
+  after = noblock v;
+}
 
 -- GET_DAQ_EVENT_INFO tells of an event channel, and leaves the MTA at the first byte of its name.
 abbrev pub get_daq_event_info_row : ℕ → SlaveValue → Row SlaveValue

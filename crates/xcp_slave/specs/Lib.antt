@@ -17,4 +17,5 @@ pub mod SampledBytes
 pub mod BlockDownload
 pub mod CodesByEffect
 pub mod DueLists
+pub mod SlaveClock
 pub mod private

@@ -13,7 +13,7 @@ use Rattle.xcp_slave.specs.Step.{Answers, store_event, with_signals}
 
 -- the packets of an event of this channel with these signals: its sample, once the signals are in their place
 abbrev pub event_packets : SlaveValue → ℕ → List ℕ → List (ArrayVec ℕ)
-event_packets v channel signals = sampled channel (with_signals signals v).transfer.pages v.daq
+event_packets v channel signals = sampled channel v.time (with_signals signals v).transfer.pages v.daq
 
 -- The packets that a step puts behind those that wait: an event that is sampled all of its own, a finished store the
 -- event packet that tells of it, where a tool is connected; any other step none.

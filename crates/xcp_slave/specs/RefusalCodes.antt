@@ -6,7 +6,7 @@ use Rattle.std.specs.List.{list_any}
 use Rattle.xcp_packet.specs.declared.Command.{Command}
 use Rattle.xcp_packet.specs.declared.Command.TheVariants as commands
 
--- 11 ERR_DAQ_ACTIVE, 21 ERR_CMD_SYNTAX, 22 ERR_OUT_OF_RANGE, 23 ERR_WRITE_PROTECTED, 24 ERR_ACCESS_DENIED,
+-- 11 ERR_DAQ_ACTIVE, 20 ERR_CMD_UNKNOWN, 21 ERR_CMD_SYNTAX, 22 ERR_OUT_OF_RANGE, 23 ERR_WRITE_PROTECTED, 24 ERR_ACCESS_DENIED,
 -- 26 ERR_PAGE_NOT_VALID, 27 ERR_MODE_NOT_VALID, 28 ERR_SEGMENT_NOT_VALID, 29 ERR_SEQUENCE, 2A ERR_DAQ_CONFIG,
 -- 30 ERR_MEMORY_OVERFLOW
 abbrev pub codes_of : Command → List ℕ
@@ -34,6 +34,7 @@ codes_of (commands.SetDaqListMode mode list event prescaler priority) = 0x11 ∷
 codes_of (commands.GetDaqListMode list) = 0x22 ∷ []
 codes_of (commands.StartStopDaqList mode list) = 0x22 ∷ 0x27 ∷ 0x2A ∷ []
 codes_of (commands.StartStopSynch mode) = 0x27 ∷ 0x2A ∷ []
+codes_of commands.GetDaqClock = 0x20 ∷ []
 codes_of commands.ReadDaq = 0x2A ∷ []
 codes_of (commands.GetDaqEventInfo channel) = 0x22 ∷ []
 codes_of (commands.AllocDaq count) = 0x11 ∷ 0x22 ∷ 0x29 ∷ 0x30 ∷ []

@@ -11,14 +11,14 @@ use Rattle.xcp_transfer.specs.TransferValue.{TransferValue}
 use Rattle.xcp_packet.specs.Rows.{Row, row_within}
 use Rattle.xcp_transfer.specs.Uploads.{upload_row, short_upload_row, build_checksum_row, get_id_row}
 use Rattle.xcp_transfer.specs.Downloads.{download_row, download_next_row, download_max_row, short_download_row, modify_bits_row}
-use Rattle.xcp_daq.specs.DaqLists.{any_running, first_pid, greatest_size}
+use Rattle.xcp_daq.specs.DaqLists.{any_running, first_pid}
 use Rattle.xcp_daq.specs.Allocating.{free_daq_after, alloc_daq_refusal, alloc_daq_after, alloc_odt_refusal, alloc_odt_after, alloc_odt_entry_refusal, alloc_odt_entry_after}
 use Rattle.xcp_daq.specs.Configuring.{clear_daq_list_refusal, clear_daq_list_after, set_daq_ptr_refusal, set_daq_ptr_after, write_daq_refusal, write_daq_after, read_daq_refusal, read_daq_reply, read_daq_after, set_daq_list_mode_refusal, set_daq_list_mode_after}
 use Rattle.xcp_daq.specs.Starting.{start_stop_daq_list_refusal, start_stop_daq_list_after, start_stop_synch_refusal, start_stop_synch_after}
-use Rattle.xcp_daq.specs.DaqInfo.{daq_list_mode_refusal, daq_list_mode_reply, processor_info_reply}
+use Rattle.xcp_daq.specs.DaqInfo.{daq_list_mode_refusal, daq_list_mode_reply, processor_info_reply, resolution_info_reply}
 use Rattle.xcp_slave.specs.SlaveValue.{SlaveValue, layout_of, ended}
 use Rattle.xcp_slave.specs.PageRows.{set_cal_page_row, get_cal_page_row, get_pag_processor_info_row, get_segment_info_row, get_page_info_row, set_segment_mode_row, get_segment_mode_row, copy_cal_page_row, set_request_row}
-use Rattle.xcp_slave.specs.DaqRows.{daq_row, query_row, entry_reply, mode_reply, info_reply, get_daq_event_info_row}
+use Rattle.xcp_slave.specs.DaqRows.{daq_row, query_row, entry_reply, mode_reply, info_reply, resolution_reply, get_daq_clock_row, get_daq_event_info_row}
 
 -- a row of transfers as one of the slave: nothing but what transfers go by changes
 abbrev pub of_transfer : SlaveValue → Row TransferValue → Row SlaveValue
@@ -83,13 +83,14 @@ row (commands.SetRequest mode id) v = set_request_row mode v
 row (commands.ClearDaqList list) v = daq_row (clear_daq_list_refusal list v.daq) replies.Done (clear_daq_list_after list v.daq) v
 row (commands.SetDaqPtr list odt entry) v = daq_row (set_daq_ptr_refusal list odt entry v.daq) replies.Done (set_daq_ptr_after list odt entry v.daq) v
 row (commands.WriteDaq offset size extension address) v = daq_row (write_daq_refusal (layout_of v) offset size extension address v.daq) replies.Done (write_daq_after size address v.daq) v
-row (commands.SetDaqListMode mode list event prescaler priority) v = daq_row (set_daq_list_mode_refusal (layout_of v) mode list event prescaler v.daq) replies.Done (set_daq_list_mode_after list event prescaler priority v.daq) v
+row (commands.SetDaqListMode mode list event prescaler priority) v = daq_row (set_daq_list_mode_refusal (layout_of v) mode list event prescaler v.daq) replies.Done (set_daq_list_mode_after (layout_of v) mode list event prescaler priority v.daq) v
 row (commands.GetDaqListMode list) v = query_row (daq_list_mode_refusal list v.daq) (mode_reply (daq_list_mode_reply list v.daq)) v
 row (commands.StartStopDaqList mode list) v = daq_row (start_stop_daq_list_refusal (layout_of v) mode list v.daq) (replies.FirstPid (first_pid list v.daq)) (start_stop_daq_list_after mode list v.daq) v
 row (commands.StartStopSynch mode) v = daq_row (start_stop_synch_refusal (layout_of v) mode v.daq) replies.Done (start_stop_synch_after mode v.daq) v
+row commands.GetDaqClock v = get_daq_clock_row v
 row commands.ReadDaq v = daq_row (read_daq_refusal v.daq) (entry_reply (read_daq_reply v.daq)) (read_daq_after v.daq) v
 row commands.GetDaqProcessorInfo v = query_row None (info_reply (processor_info_reply (layout_of v) v.daq)) v
-row commands.GetDaqResolutionInfo v = query_row None (replies.DaqResolution (greatest_size (layout_of v))) v
+row commands.GetDaqResolutionInfo v = query_row None (resolution_reply (resolution_info_reply (layout_of v))) v
 row (commands.GetDaqEventInfo channel) v = get_daq_event_info_row channel v
 row commands.FreeDaq v = daq_row None replies.Done free_daq_after v
 row (commands.AllocDaq count) v = daq_row (alloc_daq_refusal count v.daq) replies.Done (alloc_daq_after count v.daq) v

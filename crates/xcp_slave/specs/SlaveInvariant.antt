@@ -1,11 +1,14 @@
 -- What is true of a slave at any time.
-use Rattle.std.specs.Prelude.{◌≡◌, ℕ, ◌<◌, ◌≤◌, ◌⊎◌, true, false, length, slice_index, Option, Some, None, All}
+use Rattle.std.specs.Prelude.{◌≡◌, ℕ, ◌+◌, ◌<◌, ◌≤◌, ◌⊎◌, true, false, length, slice_index, Option, Some, None, All}
 use Rattle.arrayvec.specs.ArrayVec.{ArrayVec}
+use Rattle.xcp_packet.specs.declared.Stamp.{Stamp}
+use Rattle.xcp_packet.specs.declared.Stamp.TheVariants.{Without}
+use Rattle.xcp_packet.specs.TimeStamps.{stamp_size}
 use Rattle.xcp_memory.specs.Layout.{LayoutValue}
 use Rattle.xcp_memory.specs.Memory.{LiesInside}
 use Rattle.xcp_transfer.specs.Laws.{IsLawful}
 use Rattle.xcp_daq.specs.declared.Element.{Element}
-use Rattle.xcp_daq.specs.DaqLists.{DaqValue, DaqList, all_entries, odt_size}
+use Rattle.xcp_daq.specs.DaqLists.{DaqValue, DaqList, all_entries, odt_size, first_size}
 use Rattle.xcp_daq.specs.DaqInvariant.{IsDaq}
 use Rattle.xcp_slave.specs.declared.request.Request.{Request}
 use Rattle.xcp_slave.specs.declared.request.Request.TheVariants as requests
@@ -17,9 +20,15 @@ abbrev pub LiesWritten : LayoutValue → Option Element → Type 0
 LiesWritten l None = Unit {0}
 LiesWritten l (Some e) = LiesInside l e.address e.size
 
--- while a list runs, each of its ODTs has at most MAX_DTO - 1 bytes
+-- a list has no time stamps, or those of the layout's clock
+abbrev pub IsStampOf : LayoutValue → Stamp → Type 0
+IsStampOf l stamp = (stamp ≡ Without) ⊎ (stamp ≡ l.clock.stamp)
+
+-- the time stamps of a list are the clock's; while a list runs, each of its ODTs has at most MAX_DTO - 1 bytes, the first one with the time stamp
 pub record HasRoom (l : LayoutValue) (x : DaqList) : Type 0 where
+  pub stamp : IsStampOf l x.stamp
   pub fits : x.running ≡ true → All (λ odt. odt_size odt < l.max_dto) x.odts
+  pub first : x.running ≡ true → stamp_size x.stamp + first_size x.odts < l.max_dto
 
 -- the lists of a slave with this layout
 pub record IsLists (l : LayoutValue) (v : DaqValue) : Type 0 where

@@ -9,22 +9,23 @@ use Rattle.xcp_daq.specs.DaqLists.{DaqValue, opening_daq}
 
 -- The slave's value: whether a tool is connected; what its transfers go by: the pages (and with them the layout and the
 -- signals), the memory transfer address, and the block under way; the DAQ lists; the packets that wait to be sent, in order;
--- and whether a store of the pages is requested.
+-- whether a store of the pages is requested; and the time, in ticks of the layout's clock: the last that it was told.
 pub record SlaveValue : Type 0 where
   pub connected : Bool
   pub transfer : TransferValue
   pub daq : DaqValue
   pub outbox : List (ArrayVec ℕ)
   pub store : Bool
+  pub time : ℕ
 
 -- the layout of a slave
 abbrev pub layout_of : SlaveValue → LayoutValue
 layout_of v = v.transfer.pages.layout
 
 -- The opening: a slave that has just been made. Nobody is connected, the pages are as laid out, there is no DAQ list, no packet
--- waits, and no store is requested.
+-- waits, no store is requested, and the time is 0.
 abbrev pub opening : LayoutValue → SlaveValue
-opening l = record { connected = false; transfer = opening_transfer (opening_pages l); daq = opening_daq; outbox = []; store = false }
+opening l = record { connected = false; transfer = opening_transfer (opening_pages l); daq = opening_daq; outbox = []; store = false; time = 0 }
 
 -- The slave without the block that is under way. A refusal leaves this.
 abbrev pub noblock : SlaveValue → SlaveValue
@@ -35,6 +36,6 @@ abbrev pub with_pages : SlaveValue → PagesValue → SlaveValue
 with_pages v pages = record v { transfer = record v.transfer { pages = pages; block = None } }
 
 -- The end of a session: nobody is connected, the memory transfer address and a block under way are gone, and so are the DAQ
--- lists and the packets that wait. Pages, their numbers and modes, the signals and a store request stay.
+-- lists and the packets that wait. Pages, their numbers and modes, the signals, a store request and the time stay.
 abbrev pub ended : SlaveValue → SlaveValue
 ended v = record v { connected = false; transfer = record v.transfer { mta = Nowhere; block = None }; daq = opening_daq; outbox = [] }

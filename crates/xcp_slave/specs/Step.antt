@@ -123,9 +123,18 @@ abbrev pub Fires : ℕ → List ℕ → SlaveValue → Answer → SlaveValue →
 Fires channel signals v a w =
     MatchBool (nat_lt channel (length (layout_of v).events))
     (MatchBool (length signals == (layout_of v).signals_length)
-    (Samples channel (sampled channel (with_signals signals v).transfer.pages v.daq) (with_signals signals v) a w)
+    (Samples channel (sampled channel v.time (with_signals signals v).transfer.pages v.daq) (with_signals signals v) a w)
     ((a ≡ answers.BadSignals) × (w ≡ v)))
     ((a ≡ answers.NoChannel) × (w ≡ v))
+
+-- the later of two times
+abbrev pub later : ℕ → ℕ → ℕ
+later now time = if nat_lt now time then time else now
+
+-- The slave at a time that it is told. Its time never goes back: told an earlier one, it keeps its own.
+-- (ASAM MCD-1 XCP, protocol layer: time stamps; description of commands: GET_DAQ_CLOCK.)
+abbrev pub at_time : ℕ → SlaveValue → SlaveValue
+at_time time v = record v { time = later v.time time }
 
 -- The slave v answers a to the request and is then w. A hangup ends the session.
 abbrev pub Answers : SlaveValue → Request → Answer → SlaveValue → Type 0
@@ -134,3 +143,4 @@ Answers v (requests.Event channel signals) a w = Fires channel signals.items v a
 Answers v requests.Drain a w = Drains v.outbox v a w
 Answers v requests.FinishStore a w = MatchBool v.store (Stores v a w) ((a ≡ answers.NoStore) × (w ≡ v))
 Answers v requests.Hangup a w = (a ≡ answers.Silent) × (w ≡ ended v)
+Answers v (requests.Time time) a w = (a ≡ answers.Silent) × (w ≡ at_time time v)

@@ -18,6 +18,8 @@ pub enum Asked<'a> {
     FinishStore,
     /// The tool's connection is gone: the session ends.
     Hangup,
+    /// The clock stands at this time, in ticks of the layout's clock.
+    Time(u64),
 }
 
 impl Asked<'_> {
@@ -32,6 +34,7 @@ impl Asked<'_> {
             Asked::Drain => Request::Drain,
             Asked::FinishStore => Request::FinishStore,
             Asked::Hangup => Request::Hangup,
+            Asked::Time(time) => Request::Time(time),
         }
     }
 }

@@ -8,6 +8,7 @@ mod accepting;
 mod asked;
 mod beside;
 mod blocks;
+mod clock;
 mod exchange;
 mod law;
 mod outbox;
@@ -32,6 +33,10 @@ pub use beside::{
     requests_beside_change_their_own, sessions_begin_and_end,
 };
 pub use blocks::a_block_is_written_at_its_end;
+pub use clock::{
+    a_layout_without_a_clock_has_no_time_stamps, a_list_without_time_stamps_has_none,
+    the_time_never_goes_back,
+};
 pub use exchange::Exchange;
 pub use law::{
     each_request_has_one_answer, each_run_has_one_outcome, no_reply_is_longer_than_max_cto,

@@ -122,14 +122,14 @@ impl Outbox {
         self.row.push_reserved(packet);
     }
 
-    /// Counts an event of a channel in the lists, and puts their data packets behind the others: they are sampled where they wait.
-    pub(crate) fn sample(&mut self, daq: &mut Daq, channel: u16, pages: &Pages)
-        requires { length self.old + length (sampled channel pages.now daq.old) ≤ 64 }
-        ensures packets { self.new ≡ self.old ++ sampled channel pages.now daq.old }
+    /// Counts an event of a channel in the lists at a time, and puts their data packets behind the others: they are sampled where they wait.
+    pub(crate) fn sample(&mut self, daq: &mut Daq, channel: u16, time: u64, pages: &Pages)
+        requires { length self.old + length (sampled channel time pages.now daq.old) ≤ 64 }
+        ensures packets { self.new ≡ self.old ++ sampled channel time pages.now daq.old }
         ensures lists { daq.new ≡ after_event channel daq.old }
     {
         self.taken = shorten(&mut self.row, self.taken);
-        daq.sample(channel, pages, &mut self.row);
+        daq.sample(channel, time, pages, &mut self.row);
     }
 
     /// Takes the first packet out, if there is one, into a packet that is lent.

@@ -37,10 +37,10 @@ pub fn an_event_waits_whole()
 {}
 
 /// An event that is sampled puts the packets of the lists that are due, in order: for each ODT its PID,
-/// and behind it, entry by entry, the bytes that the controller reads there once the event's signals
+/// with the first ODT of a list the time stamp that the list's mode asks for, and behind it, entry by entry, the bytes that the controller reads there once the event's signals
 /// are in their place.
 pub fn a_sample_has_the_controllers_bytes()
-    ensures { (v : SlaveValue) (channel n : ℕ) (signals : ArrayVec ℕ) (w : SlaveValue) → IsSlave v → Answers v (Request.Event channel signals) (Outcome.Sampled n) w → (packets : List (ArrayVec ℕ)) × DuePackets channel (with_signals signals.items v).transfer.pages v.daq 0 v.daq.lists packets × (w.outbox ≡ v.outbox ++ packets) }
+    ensures { (v : SlaveValue) (channel n : ℕ) (signals : ArrayVec ℕ) (w : SlaveValue) → IsSlave v → Answers v (Request.Event channel signals) (Outcome.Sampled n) w → (packets : List (ArrayVec ℕ)) × DuePackets channel v.time (with_signals signals.items v).transfer.pages v.daq 0 v.daq.lists packets × (w.outbox ≡ v.outbox ++ packets) }
 {}
 
 /// A list that was started is due at the first event of its channel behind the start, and then at each

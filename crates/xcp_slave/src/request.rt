@@ -7,7 +7,7 @@ use crate::packet::copied;
 use arrayvec::ArrayVec;
 use xcp_packet::Packet;
 
-/// A request to a slave: a command packet of the tool, or one of the four things that the
+/// A request to a slave: a command packet of the tool, or one of the five things that the
 /// controller and the transport ask of it.
 #[derive(Debug, PartialEq, Eq, Drop)]
 pub enum Request {
@@ -21,6 +21,8 @@ pub enum Request {
     FinishStore,
     /// The tool's connection is gone: the session ends.
     Hangup,
+    /// The clock stands at this time, in ticks of the layout's clock.
+    Time(u64),
 }
 
 impl Request {
@@ -35,6 +37,7 @@ impl Request {
             Request::Drain => Asked::Drain,
             Request::FinishStore => Asked::FinishStore,
             Request::Hangup => Asked::Hangup,
+            Request::Time(time) => Asked::Time(*time),
         }
     }
 
@@ -48,6 +51,7 @@ impl Request {
             Request::Drain => Request::Drain,
             Request::FinishStore => Request::FinishStore,
             Request::Hangup => Request::Hangup,
+            Request::Time(time) => Request::Time(*time),
         }
     }
 }

@@ -8,7 +8,7 @@ ghost use Rattle.xcp_packet.specs.ReplyInBytes.{IsPlain, reply_packets, sent_pac
 ghost use Rattle.xcp_packet.specs.ByteOrder.{byte_at};
 ghost use Rattle.xcp_packet.specs.private.DecodeByCode.{coded, readings};
 ghost use Rattle.xcp_slave.specs.private.ExecuteByCode.{TellsCoded, found_at, heeded};
-ghost use Rattle.xcp_slave.specs.Step.{Answers, AnswersPacket};
+ghost use Rattle.xcp_slave.specs.Step.{Answers, AnswersPacket, at_time};
 ghost use Rattle.xcp_slave.specs.AnswerInBytes.{answer_in};
 ghost use Rattle.xcp_slave.specs.AskedRequest.{IsShort, request_asked};
 ghost use Rattle.xcp_slave.specs.SlaveValue.{ended, layout_of, noblock, opening};
@@ -52,6 +52,7 @@ pub struct Slave {
     daq: Daq,
     outbox: Outbox,
     store: bool,
+    time: u64,
 }
 
 impl Model for Slave {
@@ -59,7 +60,7 @@ impl Model for Slave {
 
     ghost Value = { SlaveValue };
 
-    ghost view = { λ s. record { connected = s.connected; transfer = s.transfer; daq = s.daq; outbox = s.outbox; store = s.store } };
+    ghost view = { λ s. record { connected = s.connected; transfer = s.transfer; daq = s.daq; outbox = s.outbox; store = s.store; time = s.time } };
 }
 
 /// The bytes from a place on.
@@ -102,6 +103,7 @@ impl Slave {
             daq: Daq::new(),
             outbox,
             store: false,
+            time: 0,
         })
     }
 
@@ -117,6 +119,7 @@ impl Slave {
             daq: self.daq.copy(),
             outbox,
             store: self.store,
+            time: self.time,
         })
     }
 
@@ -126,6 +129,7 @@ impl Slave {
     {
         self.connected == other.connected
             && self.store == other.store
+            && self.time == other.time
             && self.daq.same(&other.daq)
             && self.outbox.same(&other.outbox)
             && self.transfer.same(&other.transfer)
@@ -212,6 +216,10 @@ impl Slave {
                 self.end_session();
                 Told::Silent
             }
+            Asked::Time(time) => {
+                self.tick(time);
+                Told::Silent
+            }
         }
     }
 
@@ -283,6 +291,15 @@ impl Slave {
     {
         write_done(packet);
         Sent::Lent
+    }
+
+    /// The time goes on, and never back.
+    fn tick(&mut self, time: u64)
+        ensures { self.new ≡ at_time time self.old }
+    {
+        if self.time < time {
+            self.time = time;
+        }
     }
 
     fn end_session(&mut self)

@@ -13,12 +13,12 @@ use Rattle.xcp_service.specs.Keeping.{AreKeptSettled, AreOnce, KeeperValue, call
 use Rattle.xcp_service.specs.Losing.{lost_in}
 use Rattle.xcp_service.specs.Parcels.{AreNumbered, HasAllReceipts, IsHandedOver, given_in}
 use Rattle.xcp_stay.specs.Stay.{AreAllMembers, IsClosed, IsKept, IsMismatch, IsOnce, LeavesKept}
-use Rattle.xcp_stay.specs.Team.{HaveServed}
+use Rattle.xcp_stay.specs.Team.{HaveAllServed, timekeepers}
 use Rattle.xcp_stay.specs.declared.staying.Report.{Report}
 use Rattle.xcp_stay.specs.declared.unstayed.StayError.{StayError}
 
 pub kept_as : (l : LayoutValue) (callers tools tasks : ℕ) (wrote : List Given → Type 0) (k : KeeperValue) (cs : List CallerValue) (n m : ℕ) (v : SlaveValue) (r : Report) → r.chapters ≡ n → r.calls ≡ m → r.lost ≡ min (lost_in k.chapters) (2 ^ 64 - 1)
-    → AreJoined l k.chapters n m v → 0 < n → AreKeptSettled k → AreAllMembers (tools + tools + tasks) k cs → wrote (given_in k.chapters) → HaveServed l callers tools tasks cs → IsKept l callers tools tasks wrote r
+    → AreJoined l k.chapters n m v → 0 < n → AreKeptSettled k → AreAllMembers (tools + tools + tasks + timekeepers l) k cs → wrote (given_in k.chapters) → HaveAllServed l callers tools tasks cs → IsKept l callers tools tasks wrote r
 kept_as l callers tools tasks wrote k cs n m v r chapters calls lost joined some settled all written served = record {
   keeper = k;
   last = v;
@@ -33,14 +33,14 @@ kept_as l callers tools tasks wrote k cs n m v r chapters calls lost joined some
 }
 
 -- the same is left where layout, scribe, keeper, slave and members are the same
-pub left_as : {S : Type 0} (wrote : S → List Given → Type 0) (count : ℕ) (l l' : LayoutValue) (s s' : S) (k k' : KeeperValue) (v v' : LockedValue) (cs cs' : List CallerValue) → l ≡ l' → s ≡ s' → k ≡ k' → v ≡ v' → cs ≡ cs'
-    → LeavesKept l count (wrote s) k v cs → LeavesKept l' count (wrote s') k' v' cs'
+pub left_as : {S : Type 0} (wrote : S → List Given → Type 0) (count : LayoutValue → ℕ) (l l' : LayoutValue) (s s' : S) (k k' : KeeperValue) (v v' : LockedValue) (cs cs' : List CallerValue) → l ≡ l' → s ≡ s' → k ≡ k' → v ≡ v' → cs ≡ cs'
+    → LeavesKept l (count l) (wrote s) k v cs → LeavesKept l' (count l') (wrote s') k' v' cs'
 left_as wrote count l l' s s' k k' v v' cs cs' layout scribe keeper locked members h =
-    subst (λ x. LeavesKept x count (wrote s') k' v' cs') layout
-    (subst (λ x. LeavesKept l count (wrote x) k' v' cs') scribe
-    (subst (λ x. LeavesKept l count (wrote s) x v' cs') keeper
-    (subst (λ x. LeavesKept l count (wrote s) k x cs') locked
-    (subst (λ x. LeavesKept l count (wrote s) k v x) members h))))
+    subst (λ x. LeavesKept x (count x) (wrote s') k' v' cs') layout
+    (subst (λ x. LeavesKept l (count l) (wrote x) k' v' cs') scribe
+    (subst (λ x. LeavesKept l (count l) (wrote s) x v' cs') keeper
+    (subst (λ x. LeavesKept l (count l) (wrote s) k x cs') locked
+    (subst (λ x. LeavesKept l (count l) (wrote s) k v x) members h))))
 
 -- each accepted call of each caller stands in the chapters once, where these have each caller's calls once
 pub once_of : (k : KeeperValue) (cs : List CallerValue) → AreOnce k → AllByRecursion (IsHandedOver k) cs → AllByRecursion HasAllReceipts cs → AllByRecursion (λ (c : CallerValue). c.number < caller_limit) cs → AllByRecursion (IsOnce k.chapters) cs

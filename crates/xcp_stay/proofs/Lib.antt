@@ -3,3 +3,4 @@ pub mod CrossingLemmas
 pub mod KeptLemmas
 pub mod NumberLemmas
 pub mod TeamLemmas
+pub mod TimekeeperLemmas

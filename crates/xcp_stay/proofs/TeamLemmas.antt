@@ -98,11 +98,6 @@ have_served layout callers tools tasks limit tool pump member ls ds former one t
   ticked = ticked;
 }
 
--- the same of the same layout, number of callers and members
-pub served_as : (layout layout' : LayoutValue) (callers callers' tools tasks : ℕ) (former former' : List CallerValue) → layout ≡ layout' → callers ≡ callers' → former ≡ former' → HaveServed layout callers tools tasks former → HaveServed layout' callers' tools tasks former'
-served_as layout layout' callers callers' tools tasks former former' one two three h =
-    subst (λ x. HaveServed x callers' tools tasks former') one (subst (λ x. HaveServed layout x tools tasks former') two (subst (λ x. HaveServed layout callers tools tasks x) three h))
-
 -- a list that was lent, and came back as it was
 pub written_back : {X : Type 0} (items lent back : List X) (n : ℕ) → lent ≡ items → length lent ≡ n → back ≡ lent → take n (back ++ drop (length back) items) ≡ items
 written_back items lent back n is count same = written back items n (ap length (same ∙ is)) (sym count ∙ ap length is) ∙ (same ∙ is)

@@ -21,7 +21,7 @@ use Rattle.xcp_stay.specs.declared.unstayed.StayError.TheVariants as errors
 use Rattle.xcp_stay.specs.declared.unstayed.Unstayed.{Unstayed}
 use Rattle.xcp_stay.specs.declared.unstayed.Unstayed.TheVariants as ends
 use Rattle.xcp_stay.specs.declared.staying.Report.{Report}
-use Rattle.xcp_stay.specs.Team.{HaveServed}
+use Rattle.xcp_stay.specs.Team.{HaveAllServed, timekeepers}
 use Rattle.xcp_stay.specs.Unmet.{UnmetValue}
 
 -- why a server ends whose keeper goes no further
@@ -63,7 +63,7 @@ pub record AreAllMembers (count : ℕ) (k : KeeperValue) (members : List CallerV
 -- What is told of a server that stayed: so many chapters, at least one, one behind another from the opening of the layout, with so many calls, are one
 -- run of the slave, and each is settled by all callers, with all receipts that the members ever had; so many of them were events
 -- that found no room. The scribe was given just these chapters, in order. The members are the callers with which so many seats and so many
--- tasks did all that they did.
+-- tasks did all that they did, and the one that told the time, where the layout has a clock.
 pub record IsKept (layout : LayoutValue) (callers tools tasks : ℕ) (wrote : List Given → Type 0) (r : Report) : Type 0 where
   pub keeper : KeeperValue
   pub last : SlaveValue
@@ -71,8 +71,8 @@ pub record IsKept (layout : LayoutValue) (callers tools tasks : ℕ) (wrote : Li
   pub some : 0 < r.chapters
   pub settled : AreKeptSettled keeper
   pub members : List CallerValue
-  pub all : AreAllMembers (tools + tools + tasks) keeper members
-  pub served : HaveServed layout callers tools tasks members
+  pub all : AreAllMembers (tools + tools + tasks + timekeepers layout) keeper members
+  pub served : HaveAllServed layout callers tools tasks members
   pub lost : r.lost ≡ min (lost_in keeper.chapters) (2 ^ 64 - 1)
   pub written : wrote (given_in keeper.chapters)
 

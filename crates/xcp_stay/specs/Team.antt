@@ -1,10 +1,11 @@
 -- What the seats and tasks of a server that stayed did with the callers that they were dealt.
-use Rattle.std.specs.Prelude.{◌≡◌, ◌+◌, ℕ, List, [], ◌∷◌, ◌++◌, All, length, map}
-use Rattle.std.specs.List.{AllZip}
+use Rattle.std.specs.Prelude.{◌≡◌, ◌+◌, ℕ, List, [], ◌∷◌, ◌++◌, All, length, map, if◌then◌else◌}
+use Rattle.std.specs.List.{AllByRecursion, AllZip}
 use Rattle.xcp_memory.specs.Layout.{LayoutValue}
 use Rattle.xcp_locked.specs.Caller.{CallerValue, callers_of}
 use Rattle.xcp_seats.specs.Seating.{Pair, Sat, SeatValue, pair}
 use Rattle.xcp_seats.specs.Ticking.{TaskValue, Ticks}
+use Rattle.xcp_service.specs.Telling.{IsTime, has_clock}
 
 -- tasks are numbered from k on
 abbrev pub TasksFrom : ℕ → List TaskValue → Type 0
@@ -53,3 +54,20 @@ pub record HaveServed (layout : LayoutValue) (callers tools tasks : ℕ) (former
   pub gathered : former ≡ map (λ p. p.tool) left ++ (rested ++ map (λ p. p.pump) left)
   pub seats : SeatsServed layout.max_cto for_tools for_pumps left
   pub ticked : TasksServed layout for_tasks rested
+
+-- how many callers tell the time: one where the layout has a clock
+abbrev pub timekeepers : LayoutValue → ℕ
+timekeepers layout = if has_clock layout then 1 else 0
+
+-- the last of so many callers, with all receipts that it ever had: they are of times alone
+abbrev pub ToldTimes : ℕ → CallerValue → Type 0
+ToldTimes callers c = (c.number + 1 ≡ callers) × AllByRecursion IsTime c.receipts
+
+-- The callers of seats and tasks served so, and behind them stands the one that told the time, where the layout has a clock.
+pub record HaveAllServed (layout : LayoutValue) (callers tools tasks : ℕ) (former : List CallerValue) : Type 0 where
+  pub team : List CallerValue
+  pub told : List CallerValue
+  pub gathered : former ≡ team ++ told
+  pub served : HaveServed layout callers tools tasks team
+  pub counted : length told ≡ timekeepers layout
+  pub times : AllByRecursion (ToldTimes callers) told

@@ -1,5 +1,5 @@
 //! Members and readers are dealt to seats and tasks.
-ghost use Rattle.std.specs.Prelude.{◌≡◌, ◌≤◌, ◌+◌, ◌++◌, All, IfOk, List, length, map, vec_len};
+ghost use Rattle.std.specs.Prelude.{◌≡◌, ◌≤◌, ◌+◌, ◌++◌, All, IfOk, List, if◌then◌else◌, length, map, true, vec_len};
 ghost use Rattle.std.specs.Vec.Iter.{into_iter_items};
 ghost use Rattle.xcp_stay.specs.Team.{SeatsFrom, TasksFrom};
 
@@ -33,6 +33,13 @@ pub(crate) struct Crew<N: Name, M: Route, S: Scribe> {
     pub collector: Collector<N, M, S>,
 }
 
+/// Members that were dealt out, and behind those of the crew the one that tells the time, if one does.
+#[derive(Drop)]
+pub(crate) struct Dealt<N: Name, M: Route, S: Scribe> {
+    pub crew: Crew<N, M, S>,
+    pub timekeepers: Vec<Member<N, M>>,
+}
+
 /// A door for each seat.
 pub(crate) fn make_doors(alloc: Global, count: u8) -> Result<Vec<Door>, AllocError>
     ensures { IfOk result (λ ds. vec_len ds ≡ count) }
@@ -44,22 +51,26 @@ pub(crate) fn make_doors(alloc: Global, count: u8) -> Result<Vec<Door>, AllocErr
     Ok(doors)
 }
 
-/// Deals members out: the first to the seats, for their tools, the next to so many tasks, and the next to the seats, for their pumps.
+/// Deals members out: the first to the seats, for their tools, the next to so many tasks, and the next to the seats, for their pumps. The
+/// one behind them tells the time, if one does.
 pub(crate) fn deal<N: Name, M: Route, S: Scribe>(
     alloc: Global,
     members: Vec<Member<N, M>>,
     readers: [Reader<N>; 6],
     collector: Collector<N, M, S>,
     plan: Plan,
-) -> Result<Crew<N, M, S>, AllocError>
+    has_clock: bool,
+) -> Result<Dealt<N, M, S>, AllocError>
     requires callers { plan.tools + plan.tools + plan.tasks ≤ length members.items }
-    ensures tools { IfOk result (λ c. vec_len c.tools ≡ plan.tools) }
-    ensures hired { IfOk result (λ c. vec_len c.hired ≡ plan.tasks) }
-    ensures pumps { IfOk result (λ c. vec_len c.pumps ≡ plan.tools) }
-    ensures readers { IfOk result (λ c. vec_len c.readers ≡ 6) }
-    ensures members { IfOk result (λ c. (spare : List _)
-        × (members.items ≡ c.tools.items ++ (c.hired.items ++ (c.pumps.items ++ spare)))) }
-    ensures all_readers { IfOk result (λ c. c.readers.items ≡ readers) }
+    requires clock { has_clock ≡ true → plan.tools + plan.tools + plan.tasks + 1 ≡ length members.items }
+    ensures tools { IfOk result (λ d. vec_len d.crew.tools ≡ plan.tools) }
+    ensures hired { IfOk result (λ d. vec_len d.crew.hired ≡ plan.tasks) }
+    ensures pumps { IfOk result (λ d. vec_len d.crew.pumps ≡ plan.tools) }
+    ensures timekeepers { IfOk result (λ d. vec_len d.timekeepers ≡ (if has_clock then 1 else 0)) }
+    ensures readers { IfOk result (λ d. vec_len d.crew.readers ≡ 6) }
+    ensures members { IfOk result (λ d. (spare : List _)
+        × (members.items ≡ d.crew.tools.items ++ (d.crew.hired.items ++ (d.crew.pumps.items ++ (d.timekeepers.items ++ spare))))) }
+    ensures all_readers { IfOk result (λ d. d.crew.readers.items ≡ readers) }
 {
     let Ok(readers) = Vec::from_array(alloc, readers) else {
         return Err(AllocError);
@@ -68,13 +79,15 @@ pub(crate) fn deal<N: Name, M: Route, S: Scribe>(
     let tools = next_members(alloc, &mut members, plan.tools as usize)?;
     let hired = next_members(alloc, &mut members, plan.tasks as usize)?;
     let pumps = next_members(alloc, &mut members, plan.tools as usize)?;
-    Ok(Crew {
+    let timekeepers = next_members(alloc, &mut members, usize::from(has_clock))?;
+    let crew = Crew {
         tools,
         hired,
         pumps,
         readers,
         collector,
-    })
+    };
+    Ok(Dealt { crew, timekeepers })
 }
 
 /// So many of the next members.

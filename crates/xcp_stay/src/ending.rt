@@ -1,5 +1,5 @@
 //! How a server that stays ends.
-ghost use Rattle.std.specs.Prelude.{◌≡◌, ◌++◌, IfOk, length, map, true};
+ghost use Rattle.std.specs.Prelude.{◌≡◌, ◌++◌, IfOk, length, map, option_to_list, true};
 ghost use Rattle.xcp_slave.specs.SlaveValue.{opening};
 ghost use Rattle.xcp_locked.specs.Chapters.{entries_of};
 ghost use Rattle.xcp_locked.specs.Journal.{exchanges};
@@ -16,7 +16,8 @@ use xcp_locked::{Locked, Name};
 use xcp_scribe::Scribe;
 use xcp_seats::{Left, Rested};
 use xcp_service::{
-    Collector, Former, Keeper, Member, Post, Resident, Resigned, Route, Unkept, resign_all,
+    Collector, Former, Keeper, Member, Post, Resident, Resigned, Route, Timekeeper, Unkept,
+    resign_all,
 };
 
 /// What is left of a server that stayed: its keeper, which took all chapters, the scribe that wrote them down, the slave, and its callers.
@@ -27,7 +28,7 @@ pub struct Stayed<N: Name, S: Scribe> {
     pub scribe: S,
     pub locked: Locked<N>,
     /// The callers of seats and tasks, in the order of their numbers: those of the seats' tools, then those of the tasks, then those of
-    /// the seats' pumps.
+    /// the seats' pumps. The one that told the time stands behind them, where the layout has a clock.
     pub members: Vec<Former<N>>,
     /// How many cycles tasks didn't have, since they were late by a period or more.
     pub late: u64,
@@ -43,7 +44,7 @@ fn late_among<N: Name, M: Route>(rested: &[Rested<N, M>]) -> u64 {
 }
 
 /// The members of a team: those of the seats' tools, then those of the tasks, then those of the seats' pumps.
-fn gather<N: Name, M: Route>(
+fn gather_team<N: Name, M: Route>(
     alloc: Global,
     left: Vec<Left<N, M>>,
     rested: Vec<Rested<N, M>>,
@@ -62,6 +63,23 @@ fn gather<N: Name, M: Route>(
     }
     for pump in pumps {
         members.push(pump)?;
+    }
+    Ok(members)
+}
+
+/// The members of a team, and behind them the caller that tells the time, if one does.
+fn gather<N: Name, M: Route>(
+    alloc: Global,
+    left: Vec<Left<N, M>>,
+    rested: Vec<Rested<N, M>>,
+    timekeeper: Option<Timekeeper<N, M>>,
+) -> Result<Vec<Member<N, M>>, AllocError>
+    ensures { IfOk result (λ ms. ms.items ≡ (map (λ l. l.tool) left.items
+        ++ (map (λ r. r.member) rested.items ++ map (λ l. l.pump) left.items)) ++ option_to_list timekeeper) }
+{
+    let mut members = gather_team(alloc, left, rested)?;
+    if let Some(timekeeper) = timekeeper {
+        members.push(timekeeper.into_member())?;
     }
     Ok(members)
 }
@@ -110,19 +128,20 @@ pub(crate) fn conclude<N: Name, M: Route, S: Scribe, R: Wait>(
     alloc: Global,
     resident: Resident<N, M>,
     post: &Post<N, M>,
+    timekeeper: Option<Timekeeper<N, M>>,
     ended: Ended<N, M, S>,
 ) -> Result<Stayed<N, S>, Unstayed<N>>
-    requires numbered { AreNumbered 0 (map (λ l. l.tool) ended.left.items
-        ++ (map (λ d. d.member) ended.rested.items ++ map (λ l. l.pump) ended.left.items)) }
+    requires numbered { AreNumbered 0 ((map (λ l. l.tool) ended.left.items
+        ++ (map (λ d. d.member) ended.rested.items ++ map (λ l. l.pump) ended.left.items)) ++ option_to_list timekeeper) }
     ensures { IfOk result (λ s. LeavesKept N.layout (length s.members.items) (S.wrote s.scribe)
         s.keeper s.locked s.members.items
-        × (s.members.items ≡ map (λ l. l.tool) ended.left.items
-        ++ (map (λ d. d.member) ended.rested.items ++ map (λ l. l.pump) ended.left.items))) }
+        × (s.members.items ≡ (map (λ l. l.tool) ended.left.items
+        ++ (map (λ d. d.member) ended.rested.items ++ map (λ l. l.pump) ended.left.items)) ++ option_to_list timekeeper)) }
 {
     let Ended { left, rested, kept } = ended;
     let collector = kept?;
     let late = late_among(&rested);
-    let mut members = gather(alloc, left, rested)?;
+    let mut members = gather(alloc, left, rested, timekeeper)?;
     let (locked, collector) = take_rest(rt, alloc, resident, post, collector, &mut members)?;
     settle(alloc, locked, post, collector, members, late)
 }

@@ -259,7 +259,7 @@ fn start_seats<
     N: Name + Send + Sync + 's,
     M: Route + Send + Sync + 's,
     W: Watcher + Sync + 's,
-    R: Threads + Wait + Sync + 's,
+    R: Threads + Wait + Clock + Sync + 's,
 >(
     scope: &'s Scope<'s, E>,
     rt: &'s R,

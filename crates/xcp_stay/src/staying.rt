@@ -1,13 +1,15 @@
 //! A server that stays.
-ghost use Rattle.std.specs.Prelude.{◌≡◌, ◌≤◌, ◌+◌, ◌-◌, ◌^◌, min, [], IfErr, IfOk, length};
+ghost use Rattle.std.specs.Prelude.{◌≡◌, ◌≤◌, ◌+◌, ◌-◌, ◌^◌, min, [], IfErr, IfOk, IfSome, is_some, length, nat_lt, true};
+ghost use Rattle.std.specs.List.{AllByRecursion};
 ghost use Rattle.xcp_locked.specs.Caller.{callers_of};
 ghost use Rattle.xcp_service.specs.Losing.{lost_in};
 ghost use Rattle.xcp_service.specs.Residents.{IsUncut};
+ghost use Rattle.xcp_service.specs.Telling.{has_clock};
 ghost use Rattle.xcp_stay.specs.Stay.{IsKept, IsMismatch, LeavesKept};
-ghost use Rattle.xcp_stay.specs.Team.{HaveServed};
+ghost use Rattle.xcp_stay.specs.Team.{HaveAllServed, ToldTimes, timekeepers};
 
 use crate::boxed::Boxed;
-use crate::dealing::{deal, make_doors};
+use crate::dealing::{Dealt, deal, make_doors};
 use crate::ending::{Stayed, conclude};
 use crate::running::run;
 use crate::unstayed::{StayError, Unstayed};
@@ -17,11 +19,12 @@ use std::marker::Brand;
 use std::net::TcpListener;
 use std::sync::{Mutex, Wait};
 use std::thread::Threads;
-use std::time::Clock;
+use std::time;
 use xcp_locked::{Locked, Name, Opening, Unnamed};
+use xcp_memory::{Clock, Layout};
 use xcp_scribe::Scribe;
 use xcp_seats::{Hall, Halt, Lobby, Losses, Times, Watcher};
-use xcp_service::{Posting, Route, Shared, Unrouted};
+use xcp_service::{Member, Posting, Route, Shared, Timekeeper, Unrouted};
 
 /// How a server stays.
 #[derive(Clone, Copy, Debug)]
@@ -55,23 +58,33 @@ pub struct Report {
     pub late: u64,
 }
 
-/// A slave and a post that are open, and MAX_CTO of the slave.
+/// How many callers tell the time of a slave of this layout: one where it has a clock, and else none.
+pub fn timekeepers(layout: &Layout) -> u8
+    ensures value { result ≡ timekeepers layout.now }
+    ensures most { result ≤ 1 }
+{
+    u8::from(layout.clock().stamp.size() > 0)
+}
+
+/// A slave and a post that are open, with MAX_CTO and the clock of the slave.
 #[derive(Drop)]
 struct Ready<N: Name> {
     opening: Opening<N>,
     unrouted: Unrouted<N>,
     max_cto: u8,
+    clock: Clock,
 }
 
 /// Opens a slave, and serves tools that come to the listener, so many at a time, one behind another, and runs so many tasks meanwhile,
 /// until somebody asks it to end; each chapter of its journal is settled and dropped when its callers have handed their receipts
 /// over. A tool that finds no seat and no place in the queue is turned away. It closes the connections then, lets the tasks end their cycle, settles what is left, and tells how many chapters and calls
 /// there were. The first callers are those of the seats' tools, the next those of the tasks, which also have the first readers, and the
-/// next those of the seats' pumps.
+/// next those of the seats' pumps. Where the layout has a clock, one caller more, the last, tells the time from the opening on, before each
+/// event of a task and each GET_DAQ_CLOCK, under the same hold.
 ///
 /// Where a chapter or a caller's receipts aren't as they must be it ends at once, with `Discord`. `Memory` and `Listener` come before
 /// anybody has begun; `Memory` comes also where the keeper has none, or a caller that hands over what it has at last.
-pub fn stay<S: Scribe + Send, W: Watcher + Sync, R: Threads + Wait + Clock + Sync>(
+pub fn stay<S: Scribe + Send, W: Watcher + Sync, R: Threads + Wait + time::Clock + Sync>(
     rt: &R,
     alloc: Global,
     unnamed: Unnamed,
@@ -82,6 +95,7 @@ pub fn stay<S: Scribe + Send, W: Watcher + Sync, R: Threads + Wait + Clock + Syn
     watcher: &W,
 ) -> Result<(Report, S), StayError>
     requires callers { plan.tools + plan.tools + plan.tasks ≤ unnamed.callers }
+    requires clock { has_clock unnamed.layout ≡ true → plan.tools + plan.tools + plan.tasks + 1 ≡ unnamed.callers }
     requires readers { plan.tasks ≤ 6 }
     requires scribe { S.wrote scribe [] }
     ensures kept { IfOk result (λ r. IsKept unnamed.layout unnamed.callers plan.tools plan.tasks
@@ -96,7 +110,7 @@ fn stay_and_tell<
     N: Name + Send + Sync,
     S: Scribe + Send,
     W: Watcher + Sync,
-    R: Threads + Wait + Clock + Sync,
+    R: Threads + Wait + time::Clock + Sync,
 >(
     rt: &R,
     alloc: Global,
@@ -110,6 +124,7 @@ fn stay_and_tell<
     requires name { (unnamed.name ≡ N.name) × (unnamed.callers ≡ N.parts)
         × (unnamed.layout ≡ N.layout) × (unnamed.bank ≡ N.bank) }
     requires callers { plan.tools + plan.tools + plan.tasks ≤ unnamed.callers }
+    requires clock { has_clock unnamed.layout ≡ true → plan.tools + plan.tools + plan.tasks + 1 ≡ unnamed.callers }
     requires readers { plan.tasks ≤ 6 }
     requires scribe { S.wrote scribe [] }
     ensures kept { IfOk result (λ r. IsKept unnamed.layout unnamed.callers plan.tools plan.tasks
@@ -149,7 +164,7 @@ pub fn stay_named<
     N: Name + Send + Sync,
     S: Scribe + Send,
     W: Watcher + Sync,
-    R: Threads + Wait + Clock + Sync,
+    R: Threads + Wait + time::Clock + Sync,
 >(
     rt: &R,
     alloc: Global,
@@ -163,11 +178,12 @@ pub fn stay_named<
     requires name { (unnamed.name ≡ N.name) × (unnamed.callers ≡ N.parts)
         × (unnamed.layout ≡ N.layout) × (unnamed.bank ≡ N.bank) }
     requires callers { plan.tools + plan.tools + plan.tasks ≤ unnamed.callers }
+    requires clock { has_clock unnamed.layout ≡ true → plan.tools + plan.tools + plan.tasks + 1 ≡ unnamed.callers }
     requires readers { plan.tasks ≤ 6 }
     requires scribe { S.wrote scribe [] }
-    ensures leaves { IfOk result (λ s. LeavesKept unnamed.layout (plan.tools + plan.tools + plan.tasks)
+    ensures leaves { IfOk result (λ s. LeavesKept unnamed.layout (plan.tools + plan.tools + plan.tasks + timekeepers unnamed.layout)
         (S.wrote s.scribe) s.keeper s.locked s.members.items) }
-    ensures served { IfOk result (λ s. HaveServed unnamed.layout unnamed.callers plan.tools plan.tasks s.members.items) }
+    ensures served { IfOk result (λ s. HaveAllServed unnamed.layout unnamed.callers plan.tools plan.tasks s.members.items) }
 {
     let Ok(scribe) = Box::new(alloc, scribe) else {
         return Err(Unstayed::Memory);
@@ -187,14 +203,17 @@ fn make_ready<N: Name>(alloc: Global, unnamed: Unnamed) -> Result<Ready<N>, Allo
     ensures first { IfOk result (λ r. IsUncut N.layout r.opening.locked) }
     ensures callers { IfOk result (λ r. r.opening.callers.items ≡ callers_of unnamed.layout unnamed.callers) }
     ensures limit { IfOk result (λ r. r.max_cto ≡ unnamed.layout.max_cto) }
+    ensures clock { IfOk result (λ r. (r.clock ≡ unnamed.layout.clock) × (r.clock.unit ≤ 12)) }
 {
     let max_cto = unnamed.max_cto();
+    let clock = unnamed.clock();
     let unrouted = Unrouted::new(alloc)?;
     let opening = Locked::<N>::new(alloc, unnamed)?;
     Ok(Ready {
         opening,
         unrouted,
         max_cto,
+        clock,
     })
 }
 
@@ -225,7 +244,7 @@ fn stay_by_post<
     M: Route + Send + Sync,
     S: Scribe + Send,
     W: Watcher + Sync,
-    R: Threads + Wait + Clock + Sync,
+    R: Threads + Wait + time::Clock + Sync,
 >(
     rt: &R,
     alloc: Global,
@@ -240,17 +259,20 @@ fn stay_by_post<
     requires first { IsUncut N.layout ready.opening.locked }
     requires opened { ready.opening.callers.items ≡ callers_of N.layout N.parts }
     requires limit { ready.max_cto ≡ N.layout.max_cto }
+    requires ticks { (ready.clock ≡ N.layout.clock) × (ready.clock.unit ≤ 12) }
     requires callers { plan.tools + plan.tools + plan.tasks ≤ length ready.opening.callers.items }
+    requires clock { has_clock N.layout ≡ true → plan.tools + plan.tools + plan.tasks + 1 ≡ N.parts }
     requires readers { plan.tasks ≤ 6 }
     requires scribe { S.wrote scribe.scribe.value [] }
-    ensures leaves { IfOk result (λ s. LeavesKept N.layout (plan.tools + plan.tools + plan.tasks)
+    ensures leaves { IfOk result (λ s. LeavesKept N.layout (plan.tools + plan.tools + plan.tasks + timekeepers N.layout)
         (S.wrote s.scribe.scribe.value) s.keeper s.locked s.members.items) }
-    ensures served { IfOk result (λ s. HaveServed N.layout N.parts plan.tools plan.tasks s.members.items) }
+    ensures served { IfOk result (λ s. HaveAllServed N.layout N.parts plan.tools plan.tasks s.members.items) }
 {
     let Ready {
         opening,
         unrouted,
         max_cto,
+        clock,
     } = ready;
     let doors = make_doors(alloc, plan.tools)?;
     let Opening {
@@ -264,14 +286,17 @@ fn stay_by_post<
         members,
         collector,
     } = unrouted.open::<M, Boxed<S>>(alloc, locked, callers, scribe, plan.each_store)?;
-    let shared = Shared {
-        lock: Mutex::new(resident),
-        post,
-    };
     let hall = Hall::new();
     let lobby = Lobby::new(alloc, plan.tools, plan.queue);
     let losses = Losses::new();
-    let crew = deal(alloc, members, readers, collector, plan)?;
+    let has_clock = clock.stamp.size() > 0;
+    let dealt = deal(alloc, members, readers, collector, plan, has_clock)?;
+    let Dealt { crew, timekeepers } = dealt;
+    let shared = Shared {
+        lock: Mutex::new(resident),
+        post,
+        timekeeper: hire(rt, clock, timekeepers),
+    };
     let ended = run(
         rt,
         alloc,
@@ -287,6 +312,44 @@ fn stay_by_post<
         max_cto,
         plan,
     )?;
-    let Shared { lock, post } = shared;
-    conclude(rt, alloc, lock.into_inner(), &post, ended)
+    let Shared {
+        lock,
+        post,
+        timekeeper,
+    } = shared;
+    conclude(
+        rt,
+        alloc,
+        lock.into_inner(),
+        &post,
+        dismiss(timekeeper),
+        ended,
+    )
+}
+
+/// The first of these members tells the time from now on, under a lock of its own.
+fn hire<N: Name, M: Route>(
+    rt: &impl time::Clock,
+    clock: Clock,
+    members: Vec<Member<N, M>>,
+) -> Option<Mutex<Timekeeper<N, M>>>
+    requires clock { (clock ≡ N.layout.clock) × (clock.unit ≤ 12) }
+    requires last { AllByRecursion (λ c. c.number + 1 ≡ N.parts) members.items }
+    requires fresh { AllByRecursion (λ c. c.receipts ≡ []) members.items }
+    ensures { is_some result ≡ nat_lt 0 (length members.items) }
+{
+    let member = members.into_iter().next()?;
+    Some(Mutex::new(Timekeeper::new(rt, clock, member)))
+}
+
+/// Who told the time, if one did, with all receipts that it ever had.
+fn dismiss<N: Name, M: Route>(
+    timekeeper: Option<Mutex<Timekeeper<N, M>>>,
+) -> Option<Timekeeper<N, M>>
+    ensures same { is_some result ≡ is_some timekeeper }
+    ensures told { IfSome result (ToldTimes N.parts) }
+{
+    let timekeeper = timekeeper?.into_inner();
+    timekeeper.audit();
+    Some(timekeeper)
 }

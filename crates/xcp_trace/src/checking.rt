@@ -4,7 +4,7 @@ ghost use Rattle.xcp_trace.specs.EntrySpelling.{IsEntryString};
 ghost use Rattle.xcp_trace.specs.Tape.{framed};
 
 use crate::journal::CALLER_BYTES;
-use crate::spelling::HEAD_BYTES;
+use crate::spelling::{HEAD_BYTES, TIME_BYTES};
 use crate::tape::LENGTH_BYTES;
 
 /// The string of an entry at the head of the bytes, behind its length, and the bytes behind it; none
@@ -30,6 +30,9 @@ pub(crate) fn first_string(bytes: &[u8]) -> Option<(&[u8], &[u8])>
     Some((string, others))
 }
 
+/// The last tag of a request that is no time.
+const TAG_OF_HANGUP: u8 = 4;
+
 /// Whether a string spells an entry.
 fn spells_entry(string: &[u8]) -> bool
     ensures { IsTrue result ↔ IsEntryString string.now }
@@ -38,6 +41,9 @@ fn spells_entry(string: &[u8]) -> bool
         return false;
     }
     let asked = string[6] as usize;
+    if string[1] > TAG_OF_HANGUP && asked != TIME_BYTES {
+        return false;
+    }
     let head = CALLER_BYTES + HEAD_BYTES + asked;
     head <= string.len()
         && string.len() <= head + 255

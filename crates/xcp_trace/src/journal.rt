@@ -5,7 +5,7 @@ ghost use Rattle.xcp_slave.specs.AskedRequest.{IsShort, request_asked};
 ghost use Rattle.xcp_trace.specs.EntryBytes.{SpellEntries};
 ghost use Rattle.xcp_trace.specs.EntrySpelling.{IsEntryString, entry_in, room_for_any_entry};
 
-use crate::spelling::{EXCHANGE_BYTES, read_exchange, spell};
+use crate::spelling::{EXCHANGE_BYTES, TIME_BYTES, read_exchange, spell};
 use crate::{LentEntry, Strings, Tape};
 use std::alloc::{AllocError, Global};
 use std::marker::Model;
@@ -84,7 +84,8 @@ impl Journal {
           exchange = record { request = request_asked asked.entry; answer = answer_in told.now packet.now };
         } ∷ [] }
     {
-        let parts = spell(asked, told, packet);
+        let mut clock = [0; TIME_BYTES];
+        let parts = spell(asked, told, packet, &mut clock);
         self.tape
             .push(&[caller], &parts.head, parts.asked, parts.told);
     }

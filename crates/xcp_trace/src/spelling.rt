@@ -3,10 +3,10 @@ ghost use Rattle.std.specs.Prelude.{◌≡◌, ◌≤◌, ◌<◌, ◌++◌, len
 ghost use Rattle.xcp_slave.specs.Outcomes.{Answer};
 ghost use Rattle.xcp_slave.specs.AnswerInBytes.{answer_in};
 ghost use Rattle.xcp_slave.specs.AskedRequest.{IsShort, request_asked};
-ghost use Rattle.xcp_trace.specs.ExchangeSpelling.{IsExchangeString, answer_of, exchange_in, request_bytes, request_channel, request_of, request_tag};
+ghost use Rattle.xcp_trace.specs.ExchangeSpelling.{IsExchangeString, IsSpelt, time_bytes, time_in, answer_of, exchange_in, request_bytes, request_channel, request_of, request_tag};
 
 use arrayvec::ArrayVec;
-use xcp_packet::{Packet, Train, Width};
+use xcp_packet::{Order, Packet, Train, Width};
 use xcp_slave::{Answer, Asked, Cut, Exchange, Outcome, Request, Told};
 
 /// The bytes of a head: the request's tag and its channel, the answer's tag and its number, and the
@@ -18,6 +18,9 @@ const PACKET_BYTES: usize = 255;
 
 /// The most bytes of an exchange's string: its head, a command and a packet.
 pub(crate) const EXCHANGE_BYTES: usize = HEAD_BYTES + PACKET_BYTES + PACKET_BYTES;
+
+/// How many bytes a time has.
+pub(crate) const TIME_BYTES: usize = 8;
 
 /// The tag of an answer that says that an event's packets found no room.
 pub(crate) const OVERRUN: u8 = 3;
@@ -33,8 +36,14 @@ pub(crate) struct Spelled<'a> {
     pub(crate) told: &'a [u8],
 }
 
-/// The string of an exchange, from its request and from what was told beside a lent packet.
-pub(crate) fn spell<'a>(asked: Asked<'a>, told: &Told, packet: &'a Packet) -> Spelled<'a>
+/// The string of an exchange, from its request and from what was told beside a lent packet. The bytes of a time stand in
+/// those that are lent for it.
+pub(crate) fn spell<'a>(
+    asked: Asked<'a>,
+    told: &Told,
+    packet: &'a Packet,
+    clock: &'a mut [u8; TIME_BYTES],
+) -> Spelled<'a>
     requires { IsShort asked }
     ensures string { exchange_in (result.head ++ result.asked.now ++ result.told.now)
         ≡ record { request = request_asked asked.entry; answer = answer_in told.now packet.now } }
@@ -43,11 +52,17 @@ pub(crate) fn spell<'a>(asked: Asked<'a>, told: &Told, packet: &'a Packet) -> Sp
     ensures told { length result.told.now ≤ PACKET_BYTES }
 {
     let (kind, count, bytes) = answer_parts(told, packet);
-    spell_parts(asked, kind, count, bytes)
+    spell_parts(asked, kind, count, bytes, clock)
 }
 
 /// The string of an exchange, from its request and the parts of its answer.
-fn spell_parts<'a>(request: Asked<'a>, kind: u8, count: u8, told: &'a [u8]) -> Spelled<'a>
+fn spell_parts<'a>(
+    request: Asked<'a>,
+    kind: u8,
+    count: u8,
+    told: &'a [u8],
+    clock: &'a mut [u8; TIME_BYTES],
+) -> Spelled<'a>
     requires asked { IsShort request }
     requires short { length told.now ≤ PACKET_BYTES }
     requires width { 9 < kind → (7 ≤ count) × (count ≤ 254) }
@@ -57,7 +72,7 @@ fn spell_parts<'a>(request: Asked<'a>, kind: u8, count: u8, told: &'a [u8]) -> S
     ensures asked { length result.asked.now ≤ PACKET_BYTES }
     ensures told { length result.told.now ≤ PACKET_BYTES }
 {
-    let (tag, channel, asked) = request_parts(request);
+    let (tag, channel, asked) = request_parts(request, clock);
     let channel = channel.to_le_bytes();
     Spelled {
         head: [tag, channel[0], channel[1], kind, count, asked.len() as u8],
@@ -80,7 +95,7 @@ pub(crate) fn read_exchange(string: &[u8]) -> Exchange
 }
 
 /// The tag of a request, its channel and its bytes.
-fn request_parts(request: Asked<'_>) -> (u8, u16, &[u8])
+fn request_parts<'a>(request: Asked<'a>, clock: &'a mut [u8; TIME_BYTES]) -> (u8, u16, &'a [u8])
     requires { IsShort request }
     ensures tag { result.0 ≡ request_tag (request_asked request.entry) }
     ensures channel { result.1 ≡ request_channel (request_asked request.entry) }
@@ -88,6 +103,8 @@ fn request_parts(request: Asked<'_>) -> (u8, u16, &[u8])
     ensures bytes { result.2.now ≡ request_bytes (request_asked request.entry) }
     ensures short { length result.2.now ≤ 255 }
     ensures signals { result.0 ≡ 1 → length result.2.now ≤ 64 }
+    ensures time { 4 < result.0 → length result.2.now ≡ 8 }
+    ensures spelt { IsSpelt (request_asked request.entry) }
 {
     match request {
         Asked::Command(packet) => (0, 0, packet),
@@ -95,7 +112,32 @@ fn request_parts(request: Asked<'_>) -> (u8, u16, &[u8])
         Asked::Drain => (2, 0, &[]),
         Asked::FinishStore => (3, 0, &[]),
         Asked::Hangup => (4, 0, &[]),
+        Asked::Time(time) => {
+            *clock = bytes_of_time(time);
+            (5, 0, clock.as_slice())
+        }
     }
+}
+
+/// The bytes of a time.
+fn bytes_of_time(time: u64) -> [u8; TIME_BYTES]
+    ensures { result ≡ time_bytes time }
+{
+    let low = Order::Intel.double_bytes((time % 0x1_0000_0000) as u32);
+    let high = Order::Intel.double_bytes((time / 0x1_0000_0000) as u32);
+    [
+        low[0], low[1], low[2], low[3], high[0], high[1], high[2], high[3],
+    ]
+}
+
+/// The time of these bytes.
+fn time_of(bytes: &[u8]) -> u64
+    requires { length bytes.now ≡ 8 }
+    ensures { result ≡ time_in bytes.now }
+{
+    let low = Order::Intel.double_at(bytes, 0);
+    let high = Order::Intel.double_at(bytes, 4);
+    u64::from(low) + u64::from(high) * 0x1_0000_0000
 }
 
 /// The tag of an answer that was told beside a lent packet, its number and its bytes.
@@ -123,6 +165,7 @@ fn answer_parts<'a>(told: &Told, packet: &'a Packet) -> (u8, u8, &'a [u8])
 fn request_of(tag: u8, channel: u16, bytes: &[u8]) -> Request
     requires short { length bytes.now ≤ 255 }
     requires signals { tag ≡ 1 → length bytes.now ≤ 64 }
+    requires time { 4 < tag → length bytes.now ≡ 8 }
     ensures { result ≡ request_of tag channel bytes.now }
 {
     match tag {
@@ -130,7 +173,8 @@ fn request_of(tag: u8, channel: u16, bytes: &[u8]) -> Request
         1 => Request::Event(channel, taken(bytes)),
         2 => Request::Drain,
         3 => Request::FinishStore,
-        _ => Request::Hangup,
+        4 => Request::Hangup,
+        _ => Request::Time(time_of(bytes)),
     }
 }
 

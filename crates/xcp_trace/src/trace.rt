@@ -4,7 +4,7 @@ ghost use Rattle.xcp_slave.specs.AnswerInBytes.{answer_in};
 ghost use Rattle.xcp_slave.specs.AskedRequest.{IsShort, request_asked};
 ghost use Rattle.xcp_trace.specs.ExchangeSpelling.{room_for_any};
 
-use crate::spelling::{EXCHANGE_BYTES, read_exchange, spell};
+use crate::spelling::{EXCHANGE_BYTES, TIME_BYTES, read_exchange, spell};
 use crate::{LentExchange, Strings, Tape};
 use std::alloc::{AllocError, Global};
 use std::marker::Model;
@@ -63,7 +63,8 @@ impl Trace {
         ensures { self.new.exchanges ≡ self.old.exchanges
             ++ record { request = request_asked asked.entry; answer = answer_in told.now packet.now } ∷ [] }
     {
-        let spelled = spell(asked, told, packet);
+        let mut clock = [0; TIME_BYTES];
+        let spelled = spell(asked, told, packet, &mut clock);
         self.tape
             .push(&[], &spelled.head, spelled.asked, spelled.told);
     }

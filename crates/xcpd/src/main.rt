@@ -35,7 +35,8 @@ use xcp_describe::{DescribeError, Findings, check, describe};
 use xcp_framing::Watched;
 use xcp_locked::Unnamed;
 use xcp_program::{
-    Fault, Options, Unasked, asked, periods_of, read_text, read_whole, read_words, replay,
+    Fault, Options, Unasked, asked, periods_of, read_text, read_whole, read_words, refuse_clock,
+    replay,
 };
 use xcp_scribe::Both;
 use xcp_server::{Report, Tools, accept_tools, serve_ends};
@@ -153,6 +154,7 @@ fn admit<'a, R: Wait>(
 {
     let text = text_of(rt, path)?;
     let (layout, kept) = begin_with(rt, text.as_str(), flash, Teller::new(rt, handle, None))?;
+    refuse_clock(&layout)?;
     let periods = periods_of(&layout, pace, period);
     let Ok(unnamed) = Unnamed::new(rt.alloc(), layout, tools + tasks + tools) else {
         return Err(Fault::Memory);

@@ -20,7 +20,7 @@ use xcp_memory::Layout;
 use xcp_program::{Fault, Staying, periods_of};
 use xcp_scribe::Both;
 use xcp_seats::{Halt, Times};
-use xcp_stay::{Plan, Report, StayError, stay, wait_for_stop};
+use xcp_stay::{Plan, Report, StayError, stay, timekeepers, wait_for_stop};
 
 /// The plan of a server that is asked to stay so, on a slave of this layout.
 fn plan_of(staying: Staying, layout: &Layout) -> Plan
@@ -96,7 +96,8 @@ fn stay_with<R: Threads + Wait + Clock + Copy + Send + Sync + 'static>(
         Teller::new(rt, handle, Some(&**lines)),
     )?;
     let plan = plan_of(staying, &layout);
-    let Ok(unnamed) = Unnamed::new(rt.alloc(), layout, plan.tools + plan.tools + plan.tasks) else {
+    let callers = plan.tools + plan.tools + plan.tasks + timekeepers(&layout);
+    let Ok(unnamed) = Unnamed::new(rt.alloc(), layout, callers) else {
         return Err(Fault::Memory);
     };
     let listener = listen(rt, host, port)?;

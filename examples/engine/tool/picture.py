@@ -13,7 +13,7 @@ class Plot:
     title: str
     legend: str
     color: str
-    points: list  # (seconds, value), rising in time
+    points: list  # (milliseconds, value), rising in time
     low: float
     high: float
     step: float  # between two marks of the axis
@@ -23,15 +23,16 @@ class Plot:
 @dataclass
 class Picture:
     title: str
-    seconds: float  # the time axis goes from 0 to there
+    time_title: str
+    end: float  # milliseconds: the time axis goes from 0 to there
     plots: list
-    marks: list  # (seconds, text)
+    marks: list  # (milliseconds, text)
     mark_legend: str
     bands: list  # (from, to, text, whether it's shaded)
     band_legend: str
 
-    def x(self, seconds):
-        return LEFT + (WIDTH - LEFT - RIGHT) * seconds / self.seconds
+    def x(self, time):
+        return LEFT + (WIDTH - LEFT - RIGHT) * time / self.end
 
     def svg(self):
         height = TOP + len(self.plots) * (HEIGHT + GAP) - GAP + BOTTOM
@@ -57,9 +58,9 @@ class Picture:
             value = plot.low + number * plot.step
             yield line(LEFT, y(value), WIDTH - RIGHT, y(value), GRID)
             yield text(LEFT - 8, y(value) + 4, plot.form.format(value), anchor="end")
-        for seconds, _ in self.marks:
-            yield line(self.x(seconds), top, self.x(seconds), top + HEIGHT, PALE, DASHES)
-        points = " ".join(f"{self.x(seconds):.1f},{y(value):.1f}" for seconds, value in plot.points)
+        for time, _ in self.marks:
+            yield line(self.x(time), top, self.x(time), top + HEIGHT, PALE, DASHES)
+        points = " ".join(f"{self.x(time):.1f},{y(value):.1f}" for time, value in plot.points)
         yield f'<polyline points="{points}" fill="none" stroke="{plot.color}" stroke-width="2" stroke-linejoin="round"/>'
         yield frame(LEFT, top, WIDTH - LEFT - RIGHT, HEIGHT, "none", PALE)
         middle = top + HEIGHT / 2
@@ -72,15 +73,15 @@ class Picture:
     def named_marks(self):
         """Below each plot but the last, what happened at each mark."""
         for number in range(1, len(self.plots)):
-            for seconds, name in self.marks:
-                yield text(self.x(seconds), TOP + number * (HEIGHT + GAP) - GAP / 2 + 4, name, anchor="middle", color=PALE)
+            for time, name in self.marks:
+                yield text(self.x(time), TOP + number * (HEIGHT + GAP) - GAP / 2 + 4, name, anchor="middle", color=PALE)
 
     def time_axis(self, y):
-        step = next(step for step in (0.5, 1, 2, 5, 10, 20, 60, 600) if self.seconds / step <= 15)
-        for number in range(int(self.seconds / step) + 1):
+        step = next(step for step in (500, 1000, 2000, 5000, 10000, 20000, 60000, 600000) if self.end / step <= 15)
+        for number in range(int(self.end / step) + 1):
             yield line(self.x(number * step), y, self.x(number * step), y + 5, PALE)
-            yield text(self.x(number * step), y + 19, f"{number * step:g}", anchor="middle")
-        yield text((LEFT + WIDTH - RIGHT) / 2, y + 36, "time, s", size=13, weight="bold", anchor="middle")
+            yield text(self.x(number * step), y + 19, f"{number * step:,}", anchor="middle")
+        yield text((LEFT + WIDTH - RIGHT) / 2, y + 36, self.time_title, size=13, weight="bold", anchor="middle")
 
     def legend(self, y):
         """Each plot's line, a mark, and a shaded band."""

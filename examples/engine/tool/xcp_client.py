@@ -24,6 +24,8 @@ class Command(enum.IntEnum):
     SET_DAQ_LIST_MODE = 0xE0
     START_STOP_DAQ_LIST = 0xDE
     START_STOP_SYNCH = 0xDD
+    GET_DAQ_CLOCK = 0xDC
+    GET_DAQ_RESOLUTION_INFO = 0xD9
     FREE_DAQ = 0xD6
     ALLOC_DAQ = 0xD5
     ALLOC_ODT = 0xD4
@@ -52,6 +54,8 @@ EV_STORE_CAL = 0x03
 ECU, XCP = 0x01, 0x02  # whose page: the controller's, the tool's
 STORE_CAL, FREEZE = 0x01, 0x01
 STOP_ALL, START_SELECTED, SELECT = 0, 1, 2
+TIMESTAMP = 0x10  # the bit of a list's mode
+UNITS = [1e-9, 1e-8, 1e-7, 1e-6, 1e-5, 1e-4, 1e-3, 1e-2, 1e-1, 1.0, 1e-12, 1e-11, 1e-10]  # seconds, by their codes
 
 
 class XcpError(Exception):
@@ -196,9 +200,9 @@ class Client:
 
     # Acquisition lists
 
-    def allocate(self, lists):
-        """Makes lists of one ODT each, by their event channels, and the addresses and sizes of their entries; selects them, and
-        gives their PIDs."""
+    def allocate(self, lists, mode=0):
+        """Makes lists of one ODT each, by their event channels, and the addresses and sizes of their entries, in this mode; selects
+        them, and gives their PIDs."""
         self.ask(Command.FREE_DAQ)
         self.ask(Command.ALLOC_DAQ, "xH", len(lists))
         for number in range(len(lists)):
@@ -209,8 +213,17 @@ class Client:
             self.ask(Command.SET_DAQ_PTR, "xHBB", number, 0, 0)
             for address, size in entries:
                 self.ask(Command.WRITE_DAQ, "BBBI", 0xFF, size, 0, address)
-            self.ask(Command.SET_DAQ_LIST_MODE, "BHHBB", 0, number, channel, 1, 0)
+            self.ask(Command.SET_DAQ_LIST_MODE, "BHHBB", mode, number, channel, 1, 0)
         return [self.ask(Command.START_STOP_DAQ_LIST, "BH", SELECT, number)[1] for number in range(len(lists))]
+
+    def clock_resolution(self):
+        """How many bytes a time stamp has, and how many seconds a tick: 0 and 0 where the slave has no clock."""
+        mode, ticks = struct.unpack_from("<BH", self.ask(Command.GET_DAQ_RESOLUTION_INFO), 5)
+        return mode & 7, (ticks * UNITS[mode >> 4] if mode & 7 else 0)
+
+    def clock(self):
+        """The lowest four bytes of the slave's time, in ticks."""
+        return struct.unpack_from("<I", self.ask(Command.GET_DAQ_CLOCK), 4)[0]
 
     def start_selected(self):
         self.ask(Command.START_STOP_SYNCH, "B", START_SELECTED)

@@ -2,7 +2,7 @@
 ghost use Rattle.std.specs.Prelude.{◌≡◌, ◌<◌, ◌≤◌, length, map, None, Some, OnOk, IfOk, IfErr, false};
 ghost use Rattle.xcp_memory.specs.FirstRefusal.{Checks};
 ghost use Rattle.xcp_daq.specs.DaqLists.{list_at, with_list};
-ghost use Rattle.xcp_daq.specs.Configuring.{clear_daq_list_refusal, clear_daq_list_after, set_daq_ptr_refusal, set_daq_ptr_after, write_daq_refusal, write_daq_after, written_at, moved_on, read_daq_refusal, read_daq_reply, read_daq_after, set_daq_list_mode_refusal, set_daq_list_mode_after};
+ghost use Rattle.xcp_daq.specs.Configuring.{clear_daq_list_refusal, clear_daq_list_after, set_daq_ptr_refusal, set_daq_ptr_after, write_daq_refusal, write_daq_after, written_at, moved_on, read_daq_refusal, read_daq_reply, read_daq_after, is_mode, stamp_asked, set_daq_list_mode_refusal, set_daq_list_mode_after};
 ghost use Rattle.xcp_daq.specs.private.ElementRefusal.{element_refusal};
 
 use super::Daq;
@@ -10,10 +10,13 @@ use crate::element::lies_inside;
 use crate::mode::Mode;
 use crate::{Element, Pointer};
 use xcp_memory::Layout;
-use xcp_packet::Code;
+use xcp_packet::{Code, Stamp};
 
 /// The bit offset of an element that is no bit.
 const NO_BIT_OFFSET: u8 = 0xFF;
+
+/// The bit of a list's mode that asks for time stamps.
+const TIMESTAMP: u8 = 0x10;
 
 impl Daq {
     /// Stops and deselects a list, and makes its entries unwritten; its event channel, prescaler and priority and the DAQ
@@ -83,7 +86,8 @@ impl Daq {
         Ok(entry)
     }
 
-    /// Binds a list to an event channel, with a prescaler and a priority. `ModeNotValid` at a mode that isn't 0;
+    /// Binds a list to an event channel, with a prescaler and a priority, and with time stamps where bit 4 of the mode is set.
+    /// `ModeNotValid` where another bit is set, or bit 4 and the layout has no clock;
     /// `OutOfRange` where there is no such list; `DaqActive` while it runs; `OutOfRange` where the layout has no such event
     /// channel, then at a prescaler of 0. A refusal changes nothing.
     ///
@@ -97,11 +101,12 @@ impl Daq {
         prescaler: u8,
         priority: u8,
     ) -> Result<(), Code>
-        ensures ok { OnOk result ((set_daq_list_mode_refusal layout.now mode list event prescaler self.old ≡ None) × (self.new ≡ set_daq_list_mode_after list event prescaler priority self.old)) }
+        ensures ok { OnOk result ((set_daq_list_mode_refusal layout.now mode list event prescaler self.old ≡ None) × (self.new ≡ set_daq_list_mode_after layout.now mode list event prescaler priority self.old)) }
         ensures refused { IfErr result (λ code. (set_daq_list_mode_refusal layout.now mode list event prescaler self.old ≡ Some code) × (self.new ≡ self.old)) }
     {
         self.check_set_daq_list_mode(layout, mode, list, event, prescaler)?;
-        self.bind(list as usize, event, prescaler, priority);
+        let stamp = stamp_asked(layout, mode);
+        self.bind(list as usize, event, prescaler, priority, stamp);
         Ok(())
     }
 
@@ -153,7 +158,7 @@ impl Daq {
         ensures { Checks (set_daq_list_mode_refusal layout.now mode list event prescaler self.now) result }
     {
         let i = list as usize;
-        if mode != 0 {
+        if !is_mode(layout, mode) {
             return Err(Code::ModeNotValid);
         }
         if i >= self.list_count() {
@@ -248,20 +253,39 @@ impl Daq {
         self.pointer = self.behind(pointer);
     }
 
-    fn bind(&mut self, i: usize, event: u16, prescaler: u8, priority: u8)
+    fn bind(&mut self, i: usize, event: u16, prescaler: u8, priority: u8, stamp: Stamp)
         requires list { i < length self.old.lists }
         requires still { (list_at self.old i).running ≡ false }
         requires prescaler { 1 ≤ prescaler }
-        ensures { self.new ≡ set_daq_list_mode_after i event prescaler priority self.old }
+        ensures { self.new ≡ with_list self.old i (record (list_at self.old i) { event = event; prescaler = prescaler; priority = priority; stamp = stamp }) }
     {
         self.audit();
         let mode = Mode {
             event,
             prescaler,
             priority,
+            stamp,
             ..self.mode(i)
         };
         self.set_mode(i, mode);
+    }
+}
+
+/// Whether this is a mode of lists.
+fn is_mode(layout: &Layout, mode: u8) -> bool
+    ensures { result ≡ is_mode layout.now mode }
+{
+    mode == 0 || (mode == TIMESTAMP && layout.clock().stamp.size() > 0)
+}
+
+/// The time stamp that a mode asks for.
+fn stamp_asked(layout: &Layout, mode: u8) -> Stamp
+    ensures { result ≡ stamp_asked layout.now mode }
+{
+    if mode == 0 {
+        Stamp::Without
+    } else {
+        layout.clock().stamp
     }
 }
 

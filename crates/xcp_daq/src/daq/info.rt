@@ -1,12 +1,12 @@
 //! The commands that only ask.
-ghost use Rattle.std.specs.Prelude.{◌≡◌, ◌-◌, ◌<◌, length, None, Some, IfOk, IfErr};
-ghost use Rattle.xcp_daq.specs.DaqLists.{greatest_size};
-ghost use Rattle.xcp_daq.specs.DaqInfo.{daq_list_mode_refusal, daq_list_mode_reply, processor_info_reply, event_info_refusal, event_info_reply};
+ghost use Rattle.std.specs.Prelude.{◌≡◌, ◌≤◌, ◌<◌, length, None, Some, IfOk, IfErr};
+ghost use Rattle.xcp_daq.specs.DaqLists.{has_stamp};
+ghost use Rattle.xcp_daq.specs.DaqInfo.{daq_list_mode_refusal, daq_list_mode_reply, processor_info_reply, resolution_info_reply, daq_properties, timestamp_mode, timestamp_ticks, event_info_refusal, event_info_reply};
 
 use super::Daq;
 use crate::list_flags::ListFlags;
-use crate::{EventInfo, ListMode, ProcessorInfo};
-use xcp_memory::Layout;
+use crate::{EventInfo, ListMode, ProcessorInfo, ResolutionInfo};
+use xcp_memory::{Clock, Layout};
 use xcp_packet::Code;
 
 impl Daq {
@@ -24,25 +24,31 @@ impl Daq {
         Ok(self.list_mode(i))
     }
 
-    /// How many lists and event channels there are.
+    /// The properties, and how many lists and event channels there are.
     ///
     /// ASAM MCD-1 XCP, protocol layer, description of commands: GET_DAQ_PROCESSOR_INFO.
     pub fn processor_info(&self, layout: &Layout) -> ProcessorInfo
         ensures { result ≡ processor_info_reply layout.now self.now }
     {
         ProcessorInfo {
+            properties: properties(layout),
             lists: self.list_count() as u16,
             events: layout.event_count() as u16,
         }
     }
 
-    /// How many bytes an ODT entry has at most: MAX_DTO - 1.
+    /// How many bytes an ODT entry has at most, MAX_DTO - 1, and the clock.
     ///
     /// ASAM MCD-1 XCP, protocol layer, description of commands: GET_DAQ_RESOLUTION_INFO.
-    pub fn resolution_info(layout: &Layout) -> u8
-        ensures { result ≡ greatest_size layout.now }
+    pub fn resolution_info(layout: &Layout) -> ResolutionInfo
+        ensures { result ≡ resolution_info_reply layout.now }
     {
-        layout.max_dto() - 1
+        let clock = layout.clock();
+        ResolutionInfo {
+            greatest: layout.max_dto() - 1,
+            mode: mode_of(clock),
+            ticks: ticks_of(clock),
+        }
     }
 
     /// An event channel. `OutOfRange` where the layout has none of this number.
@@ -70,10 +76,50 @@ impl Daq {
     {
         let mode = self.mode(i);
         ListMode {
-            mode: ListFlags::bits_of(mode.selected, mode.running),
+            mode: ListFlags::bits_of(mode.selected, mode.stamp.size() > 0, mode.running),
             event: mode.event,
             prescaler: mode.prescaler,
             priority: mode.priority,
         }
+    }
+}
+
+/// DAQ_PROPERTIES, but for time stamps: lists are allocated, and have prescalers.
+const PROPERTIES: u8 = 0x03;
+
+/// TIMESTAMP_SUPPORTED of DAQ_PROPERTIES.
+const TIMESTAMP_SUPPORTED: u8 = 0x10;
+
+fn properties(layout: &Layout) -> u8
+    ensures { result ≡ daq_properties layout.now }
+{
+    if layout.clock().stamp.size() > 0 {
+        PROPERTIES + TIMESTAMP_SUPPORTED
+    } else {
+        PROPERTIES
+    }
+}
+
+/// TIMESTAMP_MODE.
+fn mode_of(clock: Clock) -> u8
+    requires { clock.unit ≤ 12 }
+    ensures { result ≡ timestamp_mode clock }
+{
+    let size = clock.stamp.size();
+    if size > 0 {
+        size + 0x10 * clock.unit
+    } else {
+        0
+    }
+}
+
+/// TIMESTAMP_TICKS.
+fn ticks_of(clock: Clock) -> u16
+    ensures { result ≡ timestamp_ticks clock }
+{
+    if clock.stamp.size() > 0 {
+        clock.ticks
+    } else {
+        0
     }
 }

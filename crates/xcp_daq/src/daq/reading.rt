@@ -1,6 +1,7 @@
 //! What the commands ask of the lists.
-ghost use Rattle.std.specs.Prelude.{◌≡◌, ◌<◌, ◌≤◌, length};
-ghost use Rattle.xcp_daq.specs.DaqLists.{list_at, odt_at, all_odts, all_entries, any_large, first_pid, with_list};
+ghost use Rattle.std.specs.Prelude.{◌≡◌, ◌+◌, ◌<◌, ◌≤◌, length};
+ghost use Rattle.xcp_packet.specs.TimeStamps.{stamp_size};
+ghost use Rattle.xcp_daq.specs.DaqLists.{list_at, odt_at, all_odts, all_entries, is_large, first_pid, first_size, with_list};
 ghost use Rattle.xcp_daq.specs.DaqInvariant.{IsList};
 ghost use Rattle.xcp_daq.specs.Pools.{list_of};
 
@@ -67,12 +68,20 @@ impl Daq {
         self.mode(i).running
     }
 
-    /// Whether an ODT of a list has more bytes.
+    /// Whether an ODT of a list has more bytes, or the first one has with the time stamp before them.
     pub(super) fn has_large(&self, i: usize, greatest: u8) -> bool
         requires { i < length self.now.lists }
-        ensures { result ≡ any_large greatest (list_at self.now i).odts }
+        ensures { result ≡ is_large greatest (list_at self.now i) }
     {
-        self.odts.has_large(i, greatest)
+        self.odts.has_large(i, greatest) || self.first_size(i) > u32::from(greatest)
+    }
+
+    /// How many bytes the first ODT of a list has, with the time stamp before them.
+    fn first_size(&self, i: usize) -> u32
+        requires { i < length self.now.lists }
+        ensures { result ≡ stamp_size (list_at self.now i).stamp + first_size (list_at self.now i).odts }
+    {
+        u32::from(self.mode(i).stamp.size()) + self.odts.first_size(i)
     }
 
     /// FIRST_PID of a list.

@@ -1,5 +1,5 @@
 //! The sample of an event.
-ghost use Rattle.std.specs.Prelude.{◌≡◌, ◌≤◌, ◌<◌, All, ◌+◌, ◌++◌, [], length, map, take, None, slice_index_or as get_or, vec_len, vec_capacity};
+ghost use Rattle.std.specs.Prelude.{◌≡◌, ℕ, ◌≤◌, ◌<◌, All, ◌+◌, ◌++◌, [], length, map, take, None, slice_index_or as get_or, vec_len, vec_capacity};
 ghost use Rattle.xcp_daq.specs.DaqInvariant.{IsEntry, IsList};
 ghost use Rattle.xcp_daq.specs.Sample.{sampled, list_packets, after_event};
 ghost use Rattle.xcp_daq.specs.Pools.{joined, list_of, lists_of};
@@ -14,22 +14,22 @@ use xcp_packet::Packet;
 impl Daq {
     /// How many data packets `sample` would give at an event of a channel, at most 64. No byte of the memory is read.
     pub fn sample_len(&self, channel: u16, pages: &Pages) -> usize
-        ensures value { result ≡ length (sampled channel pages.now self.now) }
+        ensures value { (time : ℕ) → result ≡ length (sampled channel time pages.now self.now) }
         ensures bound { result ≤ 64 }
     {
         count_due(&self.modes, &self.odts, channel, pages)
     }
 
-    /// Counts an event of a channel, and gives the data packets of the lists that are due: for each ODT with bytes its PID
-    /// and then what the controller has at its elements. They are put behind the packets of `out`, which needs room for 64
+    /// Counts an event of a channel at a time, and gives the data packets of the lists that are due: for each ODT with bytes its
+    /// PID, of the list's first ODT the time stamp that its mode asks for, and then what the controller has at its elements. They are put behind the packets of `out`, which needs room for 64
     /// more, however few `sample_len` says: no memory is taken.
-    pub fn sample(&mut self, channel: u16, pages: &Pages, out: &mut Vec<Packet>)
+    pub fn sample(&mut self, channel: u16, time: u64, pages: &Pages, out: &mut Vec<Packet>)
         requires { vec_len out.old + 64 ≤ vec_capacity out.old }
-        ensures packets { out.new.items ≡ out.old.items ++ sampled channel pages.now self.old }
+        ensures packets { out.new.items ≡ out.old.items ++ sampled channel time pages.now self.old }
         ensures capacity { vec_capacity out.new ≡ vec_capacity out.old }
         ensures value { self.new ≡ after_event channel self.old }
     {
-        sample_due(&self.modes, &self.odts, channel, pages, out);
+        sample_due(&self.modes, &self.odts, channel, time, pages, out);
         self.count_event(channel);
     }
 
@@ -46,8 +46,8 @@ impl Daq {
 fn count_due(modes: &[Mode], odts: &Odts, channel: u16, pages: &Pages) -> usize
     requires same { length modes.now ≡ length odts.now }
     requires written { All IsEntry (joined (joined odts.now)) }
-    requires few { length (sampled channel pages.now (record { lists = lists_of modes.now odts.now; pointer = None; last = None })) ≤ 64 }
-    ensures { result ≡ length (sampled channel pages.now (record { lists = lists_of modes.now odts.now; pointer = None; last = None })) }
+    requires few { length (sampled channel 0 pages.now (record { lists = lists_of modes.now odts.now; pointer = None; last = None })) ≤ 64 }
+    ensures { result ≡ length (sampled channel 0 pages.now (record { lists = lists_of modes.now odts.now; pointer = None; last = None })) }
 {
     let mut n = 0;
     for i in 0..modes.len() {
@@ -61,7 +61,7 @@ fn count_list(modes: &[Mode], odts: &Odts, i: usize, channel: u16, pages: &Pages
     requires place { i < length modes.now }
     requires same { length modes.now ≡ length odts.now }
     requires written { All IsEntry (joined (joined odts.now)) }
-    ensures { result ≡ length (list_packets channel pages.now (record { lists = lists_of modes.now odts.now; pointer = None; last = None }) (i, list_of (get_or modes.now i NEW_LIST) (get_or odts.now i []))) }
+    ensures { result ≡ length (list_packets channel 0 pages.now (record { lists = lists_of modes.now odts.now; pointer = None; last = None }) (i, list_of (get_or modes.now i NEW_LIST) (get_or odts.now i []))) }
 {
     if modes[i].is_due(channel) {
         odts.sample_len(i, pages)
@@ -71,16 +71,23 @@ fn count_list(modes: &[Mode], odts: &Odts, i: usize, channel: u16, pages: &Pages
 }
 
 /// Appends the packets of the lists that are due.
-fn sample_due(modes: &[Mode], odts: &Odts, channel: u16, pages: &Pages, out: &mut Vec<Packet>)
+fn sample_due(
+    modes: &[Mode],
+    odts: &Odts,
+    channel: u16,
+    time: u64,
+    pages: &Pages,
+    out: &mut Vec<Packet>,
+)
     requires same { length modes.now ≡ length odts.now }
     requires lists { All IsList (lists_of modes.now odts.now) }
     requires written { All IsEntry (joined (joined odts.now)) }
     requires room { vec_len out.old + 64 ≤ vec_capacity out.old }
     ensures capacity { vec_capacity out.new ≡ vec_capacity out.old }
-    ensures items { out.new.items ≡ out.old.items ++ sampled channel pages.now (record { lists = lists_of modes.now odts.now; pointer = None; last = None }) }
+    ensures items { out.new.items ≡ out.old.items ++ sampled channel time pages.now (record { lists = lists_of modes.now odts.now; pointer = None; last = None }) }
 {
     for i in 0..modes.len() {
-        sample_list(modes, odts, i, channel, pages, out);
+        sample_list(modes, odts, i, channel, time, pages, out);
     }
 }
 
@@ -90,6 +97,7 @@ fn sample_list(
     odts: &Odts,
     i: usize,
     channel: u16,
+    time: u64,
     pages: &Pages,
     out: &mut Vec<Packet>,
 )
@@ -98,12 +106,16 @@ fn sample_list(
     requires lists { All IsList (lists_of modes.now odts.now) }
     requires written { All IsEntry (joined (joined odts.now)) }
     requires room { vec_len out.old + 64 ≤ vec_capacity out.old + length (joined (take i odts.now)) }
-    ensures items { out.new.items ≡ out.old.items ++ list_packets channel pages.now (record { lists = lists_of modes.now odts.now; pointer = None; last = None }) (i, list_of (get_or modes.now i NEW_LIST) (get_or odts.now i [])) }
+    ensures items { out.new.items ≡ out.old.items ++ list_packets channel time pages.now (record { lists = lists_of modes.now odts.now; pointer = None; last = None }) (i, list_of (get_or modes.now i NEW_LIST) (get_or odts.now i [])) }
     ensures room { vec_len out.new + 64 ≤ vec_capacity out.new + length (joined (take (i + 1) odts.now)) }
     ensures capacity { vec_capacity out.new ≡ vec_capacity out.old }
 {
     if modes[i].is_due(channel) {
-        odts.sample(i, pages, out);
+        let mut stamp = Packet::new();
+        modes[i]
+            .stamp
+            .append(&mut stamp, time, pages.layout().order());
+        odts.sample(i, &stamp, pages, out);
     }
 }
 

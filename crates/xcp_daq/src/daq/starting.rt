@@ -2,7 +2,8 @@
 ghost use Rattle.std.specs.Prelude.{◌≡◌, ◌<◌, ◌≤◌, ◌&&◌, All, length, map, None, Some, OnOk, IfOk, IfErr, true};
 ghost use Rattle.std.specs.List.{list_any};
 ghost use Rattle.xcp_memory.specs.FirstRefusal.{Checks};
-ghost use Rattle.xcp_daq.specs.DaqLists.{first_pid, list_at, any_large, odt_size};
+ghost use Rattle.xcp_daq.specs.DaqLists.{first_pid, list_at, is_large};
+ghost use Rattle.xcp_daq.specs.DaqInvariant.{FitsPackets};
 ghost use Rattle.xcp_daq.specs.private.SplicedPools.{synchronised_mode};
 ghost use Rattle.xcp_daq.specs.Starting.{start_stop_daq_list_refusal, start_stop_daq_list_after, start_stop_synch_refusal, start_stop_synch_after};
 
@@ -49,7 +50,7 @@ impl Daq {
 
     fn check_start_stop_daq_list(&self, layout: &Layout, mode: u8, list: u16) -> Result<(), Code>
         ensures refusal { Checks (start_stop_daq_list_refusal layout.now mode list self.now) result }
-        ensures fits { OnOk result (mode ≡ 1 → All (λ odt. odt_size odt ≤ 254) (list_at self.now list).odts) }
+        ensures fits { OnOk result (mode ≡ 1 → FitsPackets (list_at self.now list).stamp (list_at self.now list).odts) }
     {
         let i = list as usize;
         if mode > SELECT {
@@ -66,7 +67,7 @@ impl Daq {
 
     fn switch_list(&mut self, mode: u8, i: usize)
         requires list { i < length self.old.lists }
-        requires fits { mode ≡ 1 → All (λ odt. odt_size odt ≤ 254) (list_at self.old i).odts }
+        requires fits { mode ≡ 1 → FitsPackets (list_at self.old i).stamp (list_at self.old i).odts }
         ensures { self.new ≡ start_stop_daq_list_after mode i self.old }
     {
         self.audit();
@@ -81,7 +82,7 @@ impl Daq {
 
     fn check_start_stop_synch(&self, layout: &Layout, mode: u8) -> Result<(), Code>
         ensures refusal { Checks (start_stop_synch_refusal layout.now mode self.now) result }
-        ensures fits { OnOk result (mode ≡ 1 → All (λ l. l.selected ≡ true → All (λ odt. odt_size odt ≤ 254) l.odts) self.now.lists) }
+        ensures fits { OnOk result (mode ≡ 1 → All (λ l. l.selected ≡ true → FitsPackets l.stamp l.odts) self.now.lists) }
     {
         if mode > SELECT {
             return Err(Code::ModeNotValid);
@@ -94,7 +95,7 @@ impl Daq {
 
     /// Whether a selected list has an ODT of more bytes.
     fn selects_large(&self, greatest: u8) -> bool
-        ensures { result ≡ list_any (λ l. l.selected && any_large greatest l.odts) self.now.lists }
+        ensures { result ≡ list_any (λ l. l.selected && is_large greatest l) self.now.lists }
     {
         for i in 0..self.list_count() {
             if self.mode(i).selected && self.has_large(i, greatest) {
@@ -105,7 +106,7 @@ impl Daq {
     }
 
     fn synchronise(&mut self, mode: u8)
-        requires { mode ≡ 1 → All (λ l. l.selected ≡ true → All (λ odt. odt_size odt ≤ 254) l.odts) self.old.lists }
+        requires { mode ≡ 1 → All (λ l. l.selected ≡ true → FitsPackets l.stamp l.odts) self.old.lists }
         ensures { self.new ≡ start_stop_synch_after mode self.old }
     {
         synchronise_each(&mut self.modes, mode);

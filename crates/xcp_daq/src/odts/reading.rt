@@ -1,6 +1,6 @@
 //! What is asked of the ODTs.
 ghost use Rattle.std.specs.Prelude.{◌≡◌, ℕ, ◌<◌, ◌≤◌, ◌+◌, [], None, length, take, drop, slice_index_or as get_or};
-ghost use Rattle.xcp_daq.specs.DaqLists.{any_large, odt_size};
+ghost use Rattle.xcp_daq.specs.DaqLists.{any_large, first_size, odt_size};
 ghost use Rattle.xcp_daq.specs.Pools.{joined, parts};
 ghost use Rattle.xcp_daq.specs.private.SplicedPools.{total};
 
@@ -87,6 +87,16 @@ impl Odts {
         (cut(&self.entry_counts, first, n), rest(&self.entries, from))
     }
 
+    /// The size of the first ODT of a list, 0 where it has none.
+    pub(crate) fn first_size(&self, i: usize) -> u32
+        requires { i < length self.now }
+        ensures value { result ≡ first_size (get_or self.now i []) }
+        ensures bound { result ≤ 65_280 }
+    {
+        let (counts, entries) = self.list(i);
+        first_size(counts, entries)
+    }
+
     /// Whether an ODT of a list has more bytes.
     pub(crate) fn has_large(&self, i: usize, greatest: u8) -> bool
         requires { i < length self.now }
@@ -114,10 +124,24 @@ fn any_large(counts: &[u16], entries: &[Option<Element>], greatest: u8) -> bool
     false
 }
 
+/// The size of the first of the ODTs with so many entries each.
+fn first_size(counts: &[u16], entries: &[Option<Element>]) -> u32
+    requires cut { total counts.now ≤ length entries.now }
+    requires few { length entries.now ≤ 256 }
+    ensures value { result ≡ first_size (parts counts.now entries.now) }
+    ensures bound { result ≤ 65_280 }
+{
+    match counts.first() {
+        Some(count) => size_of_odt(cut(entries, 0, *count as usize)),
+        None => 0,
+    }
+}
+
 /// The size of an ODT.
 fn size_of_odt(entries: &[Option<Element>]) -> u32
     requires { length entries.now ≤ 256 }
-    ensures { result ≡ odt_size entries.now }
+    ensures value { result ≡ odt_size entries.now }
+    ensures bound { result ≤ 65_280 }
 {
     let mut size = 0;
     for entry in entries {

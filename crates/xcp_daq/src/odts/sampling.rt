@@ -2,15 +2,15 @@
 ghost use Rattle.std.specs.Prelude.{◌≡◌, ◌<◌, ◌≤◌, ◌+◌, ◌++◌, ◌∷◌, [], ◌^◌, All, length, take, slice_index_or as get_or, vec_len, vec_capacity, OnOk, OnErr, true, false, nat_lt};
 ghost use Rattle.xcp_memory.specs.ComputedAccess.{lies_inside, controller_bytes};
 ghost use Rattle.arrayvec.specs.ArrayVec.{array_vec_len};
-ghost use Rattle.xcp_daq.specs.DaqLists.{entry_size, odt_size};
+ghost use Rattle.xcp_daq.specs.DaqLists.{entry_size, first_size, odt_size};
 ghost use Rattle.xcp_daq.specs.DaqInvariant.{IsEntry};
 ghost use Rattle.xcp_daq.specs.Pools.{joined, parts};
 ghost use Rattle.xcp_daq.specs.private.SplicedPools.{total};
-ghost use Rattle.xcp_daq.specs.Sample.{element_bytes, entry_bytes, odt_bytes, packet_of, packets_from};
+ghost use Rattle.xcp_daq.specs.Sample.{element_bytes, entry_bytes, odt_bytes, packet_of, packets_from, stamped_packet, stamped_packets};
 
 use super::Odts;
 use crate::element::{Element, lies_inside};
-use crate::pools::cut;
+use crate::pools::{cut, rest};
 use xcp_memory::{Pages, controller_is_read};
 use xcp_packet::{Code, Packet};
 
@@ -28,20 +28,21 @@ impl Odts {
         count_packets(counts, entries, pages)
     }
 
-    /// Appends the packets of a list.
-    pub(crate) fn sample(&self, i: usize, pages: &Pages, out: &mut Vec<Packet>)
+    /// Appends the packets of a list, the first ODT's with a time stamp.
+    pub(crate) fn sample(&self, i: usize, stamp: &[u8], pages: &Pages, out: &mut Vec<Packet>)
         requires list { i < length self.now }
         requires fits { All (λ odt. odt_size odt ≤ 254) (get_or self.now i []) }
+        requires first { length stamp.now + first_size (get_or self.now i []) ≤ 254 }
         requires written { All IsEntry (joined (joined self.now)) }
         requires room { vec_len out.old + 64 ≤ vec_capacity out.old + length (joined (take i self.now)) }
-        ensures items { out.new.items ≡ out.old.items ++ packets_from pages.now (length (joined (take i self.now))) (get_or self.now i []) }
+        ensures items { out.new.items ≡ out.old.items ++ stamped_packets pages.now (length (joined (take i self.now))) stamp.now (get_or self.now i []) }
         ensures room { vec_len out.new + 64 ≤ vec_capacity out.new + length (joined (take (i + 1) self.now)) }
         ensures capacity { vec_capacity out.new ≡ vec_capacity out.old }
     {
         let _odts = self.odt_count();
         let first = self.first_pid(i);
         let (counts, entries) = self.list(i);
-        sample_odts(counts, entries, first as u8, pages, out);
+        sample_stamped(counts, entries, first as u8, stamp, pages, out);
     }
 }
 
@@ -96,6 +97,36 @@ fn has_bytes(element: &Element, pages: &Pages) -> bool
     lies_inside(pages.layout(), element.address, element.size)
 }
 
+/// Appends the packets of ODTs with so many entries each; the first ODT has this PID, and its packet this time stamp.
+fn sample_stamped(
+    counts: &[u16],
+    entries: &[Option<Element>],
+    first: u8,
+    stamp: &[u8],
+    pages: &Pages,
+    out: &mut Vec<Packet>,
+)
+    requires cut { total counts.now ≤ length entries.now }
+    requires few { length entries.now ≤ 256 }
+    requires room { vec_len out.old + length counts.now ≤ vec_capacity out.old }
+    requires pids { first + length counts.now ≤ 64 }
+    requires written { All IsEntry entries.now }
+    requires fits { All (λ odt. odt_size odt ≤ 254) (parts counts.now entries.now) }
+    requires first { length stamp.now + first_size (parts counts.now entries.now) ≤ 254 }
+    ensures items { out.new.items ≡ out.old.items ++ stamped_packets pages.now first stamp.now (parts counts.now entries.now) }
+    ensures len { vec_len out.new ≤ vec_len out.old + length counts.now }
+    ensures capacity { vec_capacity out.new ≡ vec_capacity out.old }
+{
+    if counts.is_empty() {
+        return;
+    }
+    let n = counts[0] as usize;
+    push_packet(first, stamp, cut(entries, 0, n), pages, out);
+    let others = rest(counts, 1);
+    let behind = rest(entries, n);
+    sample_odts(others, behind, first + 1, pages, out);
+}
+
 /// Appends the packets of ODTs with so many entries each; the first ODT has this PID.
 fn sample_odts(
     counts: &[u16],
@@ -117,36 +148,43 @@ fn sample_odts(
     let mut at = 0;
     for j in 0..counts.len() {
         let n = counts[j] as usize;
-        push_packet(first + j as u8, cut(entries, at, n), pages, out);
+        push_packet(first + j as u8, &[], cut(entries, at, n), pages, out);
         at += n;
     }
 }
 
-/// Appends the packet of an ODT, if it has bytes.
-fn push_packet(pid: u8, entries: &[Option<Element>], pages: &Pages, out: &mut Vec<Packet>)
+/// Appends the packet of an ODT with a time stamp before its bytes, if it has bytes.
+fn push_packet(
+    pid: u8,
+    stamp: &[u8],
+    entries: &[Option<Element>],
+    pages: &Pages,
+    out: &mut Vec<Packet>,
+)
     requires room { vec_len out.old < vec_capacity out.old }
     requires written { All IsEntry entries.now }
-    requires fits { odt_size entries.now ≤ 254 }
-    ensures items { out.new.items ≡ out.old.items ++ packet_of pid (odt_bytes pages.now entries.now) }
+    requires fits { length stamp.now + odt_size entries.now ≤ 254 }
+    ensures items { out.new.items ≡ out.old.items ++ stamped_packet pid stamp.now (odt_bytes pages.now entries.now) }
     ensures len { vec_len out.new ≤ vec_len out.old + 1 }
     ensures capacity { vec_capacity out.new ≡ vec_capacity out.old }
 {
     let place = out.len();
     out.push_reserved(Packet::new());
-    fill(&mut out[place], pid, entries, pages);
-    if out[place].len() == 1 {
+    fill(&mut out[place], pid, stamp, entries, pages);
+    if out[place].len() == 1 + stamp.len() {
         out.pop();
     }
 }
 
-/// Writes a PID and the bytes of an ODT into an empty packet.
-fn fill(packet: &mut Packet, pid: u8, entries: &[Option<Element>], pages: &Pages)
+/// Writes a PID, a time stamp and the bytes of an ODT into an empty packet.
+fn fill(packet: &mut Packet, pid: u8, stamp: &[u8], entries: &[Option<Element>], pages: &Pages)
     requires empty { packet.old.items ≡ [] }
     requires written { All IsEntry entries.now }
-    requires fits { odt_size entries.now ≤ 254 }
-    ensures { packet.new.items ≡ pid ∷ odt_bytes pages.now entries.now }
+    requires fits { length stamp.now + odt_size entries.now ≤ 254 }
+    ensures { packet.new.items ≡ pid ∷ (stamp.now ++ odt_bytes pages.now entries.now) }
 {
     packet.push(pid);
+    let _ = packet.try_extend_from_slice(stamp);
     for entry in entries {
         append_entry(packet, entry, pages);
     }

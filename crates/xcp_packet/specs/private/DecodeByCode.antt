@@ -5,7 +5,7 @@ use Rattle.xcp_packet.specs.CommandForms.{code, least}
 use Rattle.xcp_packet.specs.CommandSpelling.{spells}
 use Rattle.xcp_packet.specs.declared.order.Order.{Order}
 use Rattle.xcp_packet.specs.declared.command.Command.{Command}
-use Rattle.xcp_packet.specs.declared.command.Command.TheVariants.{Connect, Disconnect, GetStatus, Synch, GetCommModeInfo, GetId, SetRequest, SetMta, Upload, ShortUpload, BuildChecksum, Download, DownloadNext, DownloadMax, ShortDownload, ModifyBits, SetCalPage, GetCalPage, GetPagProcessorInfo, GetSegmentInfo, GetPageInfo, SetSegmentMode, GetSegmentMode, CopyCalPage, ClearDaqList, SetDaqPtr, WriteDaq, SetDaqListMode, GetDaqListMode, StartStopDaqList, StartStopSynch, ReadDaq, GetDaqProcessorInfo, GetDaqResolutionInfo, GetDaqEventInfo, FreeDaq, AllocDaq, AllocOdt, AllocOdtEntry}
+use Rattle.xcp_packet.specs.declared.command.Command.TheVariants.{Connect, Disconnect, GetStatus, Synch, GetCommModeInfo, GetId, SetRequest, SetMta, Upload, ShortUpload, BuildChecksum, Download, DownloadNext, DownloadMax, ShortDownload, ModifyBits, SetCalPage, GetCalPage, GetPagProcessorInfo, GetSegmentInfo, GetPageInfo, SetSegmentMode, GetSegmentMode, CopyCalPage, ClearDaqList, SetDaqPtr, WriteDaq, SetDaqListMode, GetDaqListMode, StartStopDaqList, StartStopSynch, GetDaqClock, ReadDaq, GetDaqProcessorInfo, GetDaqResolutionInfo, GetDaqEventInfo, FreeDaq, AllocDaq, AllocOdt, AllocOdtEntry}
 use Rattle.xcp_packet.specs.declared.refuse.Refuse.{Refuse}
 use Rattle.xcp_packet.specs.declared.refuse.Refuse.TheVariants.{Empty, Unknown, Short}
 
@@ -43,6 +43,7 @@ readings order p =
     GetDaqListMode (word_at order 2 p) ∷
     StartStopDaqList (byte_at 1 p) (word_at order 2 p) ∷
     StartStopSynch (byte_at 1 p) ∷
+    GetDaqClock ∷
     ReadDaq ∷
     GetDaqProcessorInfo ∷
     GetDaqResolutionInfo ∷

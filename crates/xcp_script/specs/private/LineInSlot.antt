@@ -17,6 +17,7 @@ line_in (parseds.Event channel) command signals = lines.Ask (requests.Event chan
 line_in parseds.Drain command signals = lines.Ask requests.Drain
 line_in parseds.FinishStore command signals = lines.Ask requests.FinishStore
 line_in parseds.Hangup command signals = lines.Ask requests.Hangup
+line_in (parseds.Time time) command signals = lines.Ask (requests.Time time)
 line_in parseds.Faulty command signals = lines.Faulty
 
 -- what a line says that isn't faulty, with the request that it asks, if any

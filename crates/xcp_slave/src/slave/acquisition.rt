@@ -5,7 +5,7 @@ ghost use Rattle.xcp_slave.specs.private.TellsRow.{TellsRow};
 
 use super::{Handled, Slave};
 use xcp_daq::Daq;
-use xcp_packet::{Command, Fault, Packet, Reply};
+use xcp_packet::{Code, Command, Fault, Packet, Reply};
 use xcp_transfer::{Mta, TextId};
 
 impl Slave {
@@ -127,6 +127,7 @@ impl Slave {
         self.transfer.give_up_block();
         let told = self.daq.processor_info(self.transfer.pages().layout());
         let reply = Reply::DaqInfo {
+            properties: told.properties,
             lists: told.lists,
             events: told.events,
         };
@@ -137,8 +138,24 @@ impl Slave {
         ensures { TellsRow Command.GetDaqResolutionInfo self.old result packet.new.items self.new }
     {
         self.transfer.give_up_block();
-        let greatest = Daq::resolution_info(self.layout());
-        Ok(self.tell(&Reply::DaqResolution { greatest }, packet))
+        let told = Daq::resolution_info(self.layout());
+        let reply = Reply::DaqResolution {
+            greatest: told.greatest,
+            mode: told.mode,
+            ticks: told.ticks,
+        };
+        Ok(self.tell(&reply, packet))
+    }
+
+    pub(super) fn get_daq_clock(&mut self, packet: &mut Packet) -> Handled
+        ensures { TellsRow Command.GetDaqClock self.old result packet.new.items self.new }
+    {
+        self.transfer.give_up_block();
+        if self.layout().clock().stamp.size() == 0 {
+            return Err(Fault::Code(Code::CmdUnknown));
+        }
+        let time = (self.time % 0x1_0000_0000) as u32;
+        Ok(self.tell(&Reply::DaqClock(time), packet))
     }
 
     pub(super) fn get_daq_event_info(&mut self, channel: u16, packet: &mut Packet) -> Handled

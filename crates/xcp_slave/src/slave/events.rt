@@ -32,7 +32,7 @@ impl Slave {
 
     /// All packets of a sample wait, or none: without room for them the event is counted alone, and nothing is sampled.
     fn sample(&mut self, channel: u16) -> Told
-        ensures { (packet : ArrayVec ℕ) → Samples channel (sampled channel self.old.transfer.pages self.old.daq) self.old (answer_in result packet) self.new }
+        ensures { (packet : ArrayVec ℕ) → Samples channel (sampled channel self.old.time self.old.transfer.pages self.old.daq) self.old (answer_in result packet) self.new }
     {
         let pages = self.transfer.pages();
         let count = self.daq.sample_len(channel, pages);
@@ -40,7 +40,7 @@ impl Slave {
             self.daq.count_event(channel);
             return Told::Overrun;
         }
-        self.outbox.sample(&mut self.daq, channel, pages);
+        self.outbox.sample(&mut self.daq, channel, self.time, pages);
         Told::Sampled(count as u8)
     }
 

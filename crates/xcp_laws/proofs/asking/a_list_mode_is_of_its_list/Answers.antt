@@ -1,4 +1,4 @@
-use Rattle.xcp_laws.proofs.ToldValues.{mode-selected, mode-running, mode-rest, mode-there}
+use Rattle.xcp_laws.proofs.ToldValues.{mode-selected, mode-stamped, mode-running, mode-rest, mode-there}
 use Rattle.xcp_laws.proofs.asking.a_list_mode_is_of_its_list.Goals as goal
 
 pub returns-clause-selected : goal.returns-clause-selected
@@ -12,3 +12,6 @@ returns-clause-rest c = mode-rest
 
 pub returns-clause-there : goal.returns-clause-there
 returns-clause-there c = mode-there
+
+pub returns-clause-stamped : goal.returns-clause-stamped
+returns-clause-stamped c = mode-stamped

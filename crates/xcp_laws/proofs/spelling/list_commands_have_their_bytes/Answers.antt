@@ -1,4 +1,4 @@
-use Rattle.xcp_laws.proofs.SpeltCommands.{clear-daq-list, set-daq-ptr, write-daq, set-daq-list-mode, get-daq-list-mode, start-stop-daq-list, start-stop-synch, read-daq, get-daq-processor-info, get-daq-resolution-info, get-daq-event-info, free-daq, alloc-daq, alloc-odt, alloc-odt-entry}
+use Rattle.xcp_laws.proofs.SpeltCommands.{clear-daq-list, set-daq-ptr, write-daq, set-daq-list-mode, get-daq-list-mode, start-stop-daq-list, start-stop-synch, get-daq-clock, read-daq, get-daq-processor-info, get-daq-resolution-info, get-daq-event-info, free-daq, alloc-daq, alloc-odt, alloc-odt-entry}
 use Rattle.xcp_laws.proofs.spelling.list_commands_have_their_bytes.Goals as goal
 
 pub returns-clause-clear_daq_list : goal.returns-clause-clear_daq_list
@@ -21,6 +21,9 @@ returns-clause-start_stop_daq_list c = start-stop-daq-list
 
 pub returns-clause-start_stop_synch : goal.returns-clause-start_stop_synch
 returns-clause-start_stop_synch c = start-stop-synch
+
+pub returns-clause-get_daq_clock : goal.returns-clause-get_daq_clock
+returns-clause-get_daq_clock c = get-daq-clock
 
 pub returns-clause-read_daq : goal.returns-clause-read_daq
 returns-clause-read_daq c = read-daq

@@ -1,6 +1,5 @@
-use Rattle.std.proofs.Common.{◌≡◌, ◌≢◌, ◌∙◌, ap, sym, MatchBool, Bool, true, false, List, ℕ, Option}
-use Rattle.xcp_daq.specs.declared.element.Element.{Element}
-use Rattle.xcp_daq.specs.DaqLists.{DaqList, DaqValue}
+use Rattle.std.proofs.Common.{◌≡◌, ◌≢◌, ◌∙◌, ap, sym, MatchBool, Bool, true, false}
+use Rattle.xcp_daq.specs.DaqLists.{DaqValue}
 use Rattle.xcp_daq.specs.Pools.{lists_of}
 use Rattle.xcp_daq.proofs.SameListLemmas.{same_modes, same_odts}
 use Rattle.xcp_daq.proofs.daq.Daq.same_lists.Goals as goal

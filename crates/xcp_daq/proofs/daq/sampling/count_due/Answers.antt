@@ -9,14 +9,14 @@ use Rattle.xcp_daq.proofs.DueListLemmas.{count_more, count_most}
 use Rattle.xcp_daq.proofs.daq.sampling.count_due.Goals as goal
 
 pub overflow_add-n : goal.overflow_add-n
-overflow_add-n c = omega (arith, c.requires.few, count_most (list_packets c.args.channel c.args.pages.now (daq_of c.args.modes.now c.args.odts.now None None)) c.args.modes.now c.args.odts.now c.loop-i.i c.loop-i.n c.count_list-n.result c.requires.same c.loop-i-test.true c.loop-i.invariant c.count_list-n.ensures)
+overflow_add-n c = omega (arith, c.requires.few, count_most (list_packets c.args.channel 0 c.args.pages.now (daq_of c.args.modes.now c.args.odts.now None None)) c.args.modes.now c.args.odts.now c.loop-i.i c.loop-i.n c.count_list-n.result c.requires.same c.loop-i-test.true c.loop-i.invariant c.count_list-n.ensures)
 
 pub loop-i-preserved : goal.loop-i-preserved
-loop-i-preserved c = count_more (list_packets c.args.channel c.args.pages.now (daq_of c.args.modes.now c.args.odts.now None None)) c.args.modes.now c.args.odts.now c.loop-i.i c.loop-i.n c.count_list-n.result c.requires.same c.loop-i-test.true c.loop-i.invariant c.count_list-n.ensures
+loop-i-preserved c = count_more (list_packets c.args.channel 0 c.args.pages.now (daq_of c.args.modes.now c.args.odts.now None None)) c.args.modes.now c.args.odts.now c.loop-i.i c.loop-i.n c.count_list-n.result c.requires.same c.loop-i-test.true c.loop-i.invariant c.count_list-n.ensures
 
 pub returns : goal.returns
 returns c =
     let ms = c.args.modes.now in
     let os = c.args.odts.now in
-    let f = list_packets c.args.channel c.args.pages.now (daq_of ms os None None) in
+    let f = list_packets c.args.channel 0 c.args.pages.now (daq_of ms os None None) in
     c.loop-i.invariant ∙ ap (λ ls. length (flat_map f ls)) (take_all c.loop-i.i (enumerate_from 0 (lists_of ms os)) (omega (arith, c.loop-i-test.false, length-lists ms os c.requires.same, length-enumerate_from 0 (lists_of ms os))))

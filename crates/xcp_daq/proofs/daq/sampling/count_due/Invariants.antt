@@ -5,4 +5,4 @@ use Rattle.xcp_daq.specs.Sample.{list_packets}
 use Rattle.xcp_daq.proofs.daq.sampling.count_due.Given as goal
 
 abbrev pub invariant-loop-i : goal.invariant-loop-i
-invariant-loop-i l = l.n ≡ length (flat_map (list_packets l.channel l.pages (record { lists = lists_of l.modes l.odts; pointer = None; last = None })) (take l.i (enumerate_from 0 (lists_of l.modes l.odts))))
+invariant-loop-i l = l.n ≡ length (flat_map (list_packets l.channel 0 l.pages (record { lists = lists_of l.modes l.odts; pointer = None; last = None })) (take l.i (enumerate_from 0 (lists_of l.modes l.odts))))

@@ -10,7 +10,7 @@ use Rattle.xcp_daq.proofs.daq.sampling.sample_due.Goals as goal
 
 pub loop-i-preserved : goal.loop-i-preserved
 loop-i-preserved c = record {
-  items = due_more (list_packets c.args.channel c.args.pages.now (daq_of c.args.modes.now c.args.odts.now None None)) c.args.modes.now c.args.odts.now c.loop-i.i c.args.out.now.items c.loop-i.out.items c.sample_list.new.out.items c.requires.same c.loop-i-test.true c.loop-i.invariant.items c.sample_list.ensures.items;
+  items = due_more (list_packets c.args.channel c.args.time c.args.pages.now (daq_of c.args.modes.now c.args.odts.now None None)) c.args.modes.now c.args.odts.now c.loop-i.i c.args.out.now.items c.loop-i.out.items c.sample_list.new.out.items c.requires.same c.loop-i-test.true c.loop-i.invariant.items c.sample_list.ensures.items;
   room = c.sample_list.ensures.room;
   capacity = c.sample_list.ensures.capacity ∙ c.loop-i.invariant.capacity;
 }
@@ -19,5 +19,5 @@ pub returns-clause-items : goal.returns-clause-items
 returns-clause-items c =
     let ms = c.args.modes.now in
     let os = c.args.odts.now in
-    let f = list_packets c.args.channel c.args.pages.now (daq_of ms os None None) in
+    let f = list_packets c.args.channel c.args.time c.args.pages.now (daq_of ms os None None) in
     c.loop-i.invariant.items ∙ ap (λ xs. c.args.out.now.items ++ flat_map f xs) (take_all c.loop-i.i (enumerate_from 0 (lists_of ms os)) (omega (arith, c.loop-i-test.false, length-lists ms os c.requires.same, length-enumerate_from 0 (lists_of ms os))))

@@ -1,6 +1,4 @@
-use Rattle.std.proofs.Common.{◌≡◌, ◌≢◌, ◌∙◌, ap, sym, MatchBool, Bool, true, false, List, ℕ, Option}
-use Rattle.xcp_daq.specs.declared.element.Element.{Element}
-use Rattle.xcp_daq.specs.Pools.{parts}
+use Rattle.std.proofs.Common.{◌≡◌, ◌≢◌, ◌∙◌, sym, MatchBool, Bool, true, false}
 use Rattle.xcp_daq.proofs.OdtLemmas.{tree}
 use Rattle.xcp_daq.proofs.SameListLemmas.{same_pools}
 use Rattle.xcp_daq.proofs.odts.Odts.same.Goals as goal

@@ -1,4 +1,4 @@
-use Rattle.std.proofs.Common.{◌≤◌, ◌+◌, ◌-◌, ◌++◌, length, take, drop, arith, ◌∙◌, ap, None, List, refl}
+use Rattle.std.proofs.Common.{◌≤◌, ◌-◌, ◌++◌, length, take, drop, arith, ◌∙◌, ap, None, List, refl}
 use Rattle.std.specs.Prelude.{replicate, Option}
 use Rattle.xcp_daq.specs.declared.element.Element.{Element}
 use Rattle.xcp_daq.proofs.ListLoopLemmas.{refilled}

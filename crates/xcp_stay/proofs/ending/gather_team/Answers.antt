@@ -1,7 +1,7 @@
 use Rattle.std.proofs.Common.{length, ap, arith}
 use Rattle.xcp_locked.proofs.PairedListLemmas.{finish, map_behind, map_more, turn}
 use Rattle.xcp_stay.proofs.TeamLemmas.{gathered, one_behind}
-use Rattle.xcp_stay.proofs.ending.gather.Goals as goal
+use Rattle.xcp_stay.proofs.ending.gather_team.Goals as goal
 
 pub loop-tool-preserved : goal.loop-tool-preserved
 loop-tool-preserved g c =

@@ -1,6 +1,6 @@
 use Rattle.std.specs.Prelude.{◌≡◌, ◌++◌, map, length}
 use Rattle.std.specs.Vec.Iter.{into_iter_items, into_iter_len}
-use Rattle.xcp_stay.proofs.ending.gather.Given as goal
+use Rattle.xcp_stay.proofs.ending.gather_team.Given as goal
 
 abbrev pub invariant-loop-tool : goal.invariant-loop-tool
 invariant-loop-tool g l =
