@@ -41,6 +41,17 @@ class Layout:
         self.channels = len(table["event"])
         self.sum = SUMS[table.get("checksum", "ADD_14")]
         self.connected = struct.pack("<BBBBHBB", 0xFF, 5, 0xC0, self.max_cto, self.max_dto, 1, 1)
+        clock = table.get("clock")
+        self.stamp = clock.get("size", 4) if clock is not None else 0  # bytes of a time stamp, if there are any
+        self.tick = clock.get("ticks", 1) * 10 ** (clock.get("unit", 3) - 9) if self.stamp else 0.0  # seconds
+        mode, ticks = (self.stamp + 16 * clock.get("unit", 3), clock.get("ticks", 1)) if self.stamp else (0, 0)
+        self.resolution = struct.pack("<BBBBBBH", 0xFF, 1, self.max_dto - 1, 1, 0, mode, ticks)
+
+    def since(self, later, earlier):
+        """How many ticks of a time stamp's bytes there are from one to another, which may be behind it: then fewer than 0."""
+        whole = 1 << 8 * self.stamp
+        ticks = (later - earlier) % whole
+        return ticks if ticks < whole // 2 else ticks - whole
 
 
 class Calibrator:
@@ -52,6 +63,7 @@ class Calibrator:
         self.sampled = self.segments[-1]  # its first two bytes, on the controller's page, are in each data packet
         self.contents = deque(maxlen=500)  # what these were
         self.running, self.tool = False, None
+        self.stamps, self.clocks, self.last_stamp, self.last_clock = 0, 0, None, None
         self.since = time.monotonic()  # when the lists were set up before the last time
         # How often each step is taken, and whether it uses the MTA.
         self.steps = [
@@ -60,9 +72,12 @@ class Calibrator:
             (30, True, self.upload), (30, True, self.download), (10, True, self.add_up), (3, True, self.identify),
             (5, True, self.modify_bits),
         ]  # fmt: skip
+        if self.layout.stamp:
+            self.steps.append((10, False, self.ask_clock))
 
     def join(self):
         self.tool = Tool(self)
+        self.last_stamp = None
         self.joins += 1
         self.tool.expect(b"\xff\x00", self.layout.connected)
         self.set_lists_up()
@@ -104,11 +119,39 @@ class Calibrator:
             self.contents.append(now)
 
     def check_data(self, packet, _):
-        signals = self.soak.check_shape(packet, self.since)
-        if packet[1 + signals :] not in self.contents:
-            raise Fault(f"a data packet has {packet[1 + signals:].hex(' ')} of the controller's page, which had no such bytes lately")
+        stamp = self.soak.check_shape(packet, self.since)
+        if packet[-2:] not in self.contents:
+            raise Fault(f"a data packet has {packet[-2:].hex(' ')} of the controller's page, which had no such bytes lately")
+        if stamp is not None:
+            self.look_at_stamp(stamp)
+
+    def look_at_stamp(self, stamp):
+        """Time stamps of one connection never go back."""
+        if self.last_stamp is not None and self.layout.since(stamp, self.last_stamp) < 0:
+            raise Fault(f"a time stamp of {stamp} comes behind one of {self.last_stamp}")
+        self.last_stamp = stamp
+        self.stamps += 1
 
     # Steps that leave the MTA alone, or give an address of their own
+
+    def ask_clock(self):
+        """GET_DAQ_CLOCK: not before a time stamp that came before, and as far behind the last answer as this machine's clock says."""
+        stamp, sent = self.last_stamp, time.monotonic()
+        answer = self.tool.ask_for(b"\xdc")
+        came = time.monotonic()
+        self.trips += 1
+        if not answer or answer[:4] != b"\xff\0\0\0" or len(answer) != 8:
+            raise Fault(f"GET_DAQ_CLOCK is answered {answer}")
+        clock = int.from_bytes(answer[4:], "little")
+        if stamp is not None and self.layout.since(clock % (1 << 8 * self.layout.stamp), stamp) < 0:
+            raise Fault(f"the clock says {clock}, where a time stamp said {stamp} before")
+        if self.last_clock is not None:
+            was, was_sent, was_came = self.last_clock
+            seconds = (clock - was) % (1 << 32) * self.layout.tick
+            if not sent - was_came - 0.001 <= seconds <= came - was_sent + 0.001:
+                raise Fault(f"the clock went on by {seconds:.6f} s in {sent - was_came:.6f} to {came - was_sent:.6f} s")
+        self.last_clock = (clock, sent, came)
+        self.clocks += 1
 
     def ask_status(self):
         self.tool.expect(b"\xfd", bytes([0xFF, 0x40 if self.running else 0, 0, 0, 0, 0]))
@@ -241,7 +284,9 @@ class Calibrator:
                 expect(struct.pack("<BxHBB", 0xD3, number, odt, 2), DONE)
         if self.soak.settings:
             self.since = self.soak.settings[-1][0]
-        self.soak.settings.append((time.monotonic(), [signals for odts in lists for signals in odts]))
+        stamped = [self.random.random() < 0.5 and self.layout.stamp > 0 for _ in lists]
+        shapes = [(signals, has and not odt) for has, odts in zip(stamped, lists) for odt, signals in enumerate(odts)]
+        self.soak.settings.append((time.monotonic(), shapes))
         self.note()
         pid = 0
         for number, odts in enumerate(lists):
@@ -250,7 +295,7 @@ class Calibrator:
                 expect(struct.pack("<BBBBI", 0xE1, 0xFF, signals, 0, self.layout.signals), DONE)
                 expect(struct.pack("<BBBBI", 0xE1, 0xFF, 2, 0, self.sampled.address), DONE)
             channel, prescaler = self.random.randrange(self.layout.channels), self.random.randint(50, 255)
-            expect(struct.pack("<BBHHBB", 0xE0, 0, number, channel, prescaler, 0), DONE)
+            expect(struct.pack("<BBHHBB", 0xE0, 0x10 * stamped[number], number, channel, prescaler, 0), DONE)
             expect(struct.pack("<BBH", 0xDE, 2, number), bytes([0xFF, pid]))
             pid += len(odts)
         expect(b"\xdd\x01", DONE)

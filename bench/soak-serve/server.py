@@ -17,7 +17,7 @@ class Log:
     """What the server says on standard error: which tool has which seat, and how each connection ended."""
 
     LOST = re.compile(r"xcpd: lost \d+")
-    LINE = re.compile(r"xcpd: seat (\d): (127\.0\.0\.1:\d+) (?:(connected)|disconnected(?:: (.+))?)")
+    LINE = re.compile(r"xcpd: tool (\d): (127\.0\.0\.1:\d+) (?:(connected)|disconnected(?:: (.+))?)")
 
     def __init__(self, stream):
         self.present, self.ended, self.strange = {}, {}, []

@@ -48,7 +48,7 @@ class Visitor:
         with self.soak.mta:
             tool.expect(b"\xfb", b"\xff\x00\x01\x00\x08\x00\x00\x10")
             tool.expect(b"\xe9", bytes([0xFF, len(self.layout.segments), 1]))
-            tool.expect(b"\xd9", bytes([0xFF, 1, self.layout.max_dto - 1, 1, 0, 0, 0, 0]))
+            tool.expect(b"\xd9", self.layout.resolution)
             for number, segment in enumerate(self.layout.segments):
                 tool.expect(bytes([0xE8, 0, number, 0, 0]), struct.pack("<BxxxI", 0xFF, segment.address))
             tool.expect(b"\xfc", b"\xfe\x00")

@@ -39,7 +39,7 @@ module _ (first : List ℕ) where
   idle_start : (r : ℕ) → reader s r ≡ newcomer
   idle_start r = alike 6 newcomer r
 
-  pub opening_lawful : 0 < length first → length first ≤ 256 → Lawful (length first) (opening first)
+  pub opening_lawful : 0 < length first → length first ≤ 131073 → Lawful (length first) (opening first)
   opening_lawful some few =
       let none : holders 0 s.readers ≡ 0 = none_there 6 0 in
       record {

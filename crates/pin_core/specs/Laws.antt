@@ -8,9 +8,9 @@ use Rattle.pin_core.specs.State.{PinState, reader, words_of, published, publicat
 use Rattle.pin_core.specs.Steps.{IsEnabled, Steps, Runs}
 use Rattle.pin_core.specs.StateInvariant.{holders, Lawful, IsIdle}
 
--- The opening state of 1 to 256 words is lawful.
+-- The opening state of 1 to 131,073 words is lawful.
 abbrev pub OpensLawful : Type 0
-OpensLawful = (first : List ℕ) → 0 < length first → length first ≤ 256 → Lawful (length first) (opening first)
+OpensLawful = (first : List ℕ) → 0 < length first → length first ≤ 131073 → Lawful (length first) (opening first)
 
 -- Each run from a lawful state ends in a lawful state; so does each beginning of a run, so all states on the way are lawful.
 abbrev pub RunsStayLawful : Type 0

@@ -18,10 +18,10 @@ left_for_good x = if x.gone then 1 else 0
 abbrev pub departed : List Reader → ℕ
 departed rs = sum_by left_for_good rs
 
--- Eight buffers of W words, 1 to 256, with their counters, and six readers.
+-- Eight buffers of W words, 1 to 131,073 (an image of 1 MiB and a number), with their counters, and six readers.
 pub record Sizes (W : ℕ) (s : PinState) : Type 0 where
   pub some_words : 0 < W
-  pub few_words : W ≤ 256
+  pub few_words : W ≤ 131073
   pub buffers : length s.words ≡ 8
   pub counters : length s.leavings ≡ 8
   pub starts : length s.writer.started ≡ 8

@@ -13,13 +13,13 @@ pub enum Event {
     /// Reader `r` takes hold of the current buffer. Answered by its `Index`.
     Pin(u8),
     /// Reader `r` reads word `k` of the buffer that it holds. Answered by `Word`.
-    Read(u8, u16),
+    Read(u8, usize),
     /// The writer looks how many have left buffer `b`. Answered by `Leavings`.
     Scan(u8),
     /// The writer takes the quiet buffer `b` to build the next image in it. Answered by `Done`.
     Reset(u8),
     /// The writer writes the next word, number `k`, of the buffer that is being built. Answered by `Done`.
-    Write(u16, u64),
+    Write(usize, u64),
     /// The buffer that was built becomes the current one. Answered by `Done`.
     Publish,
 }

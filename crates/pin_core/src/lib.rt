@@ -24,5 +24,5 @@ pub const READERS: usize = 6;
 /// The buffers of a core, numbered from 0: one more than the readers and the current one can hold.
 pub const BUFFERS: usize = 8;
 
-/// The most words that a buffer may have; the least is 1.
-pub const MAX_WORDS: usize = 256;
+/// The most words that a buffer may have: those of an image of 1 MiB, and one more. The least is 1.
+pub const MAX_WORDS: usize = 131_073;

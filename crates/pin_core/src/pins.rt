@@ -53,7 +53,7 @@ impl Model for Core {
 }
 
 impl Core {
-    /// A core whose buffer 0 is current with the first image, of 1 to 256 words. All its buffers are made here.
+    /// A core whose buffer 0 is current with the first image, of 1 to 131,073 words. All its buffers are made here.
     pub fn new(alloc: Global, first: &[u64]) -> Result<Core, AllocError>
         requires some_words { 0 < length first.now }
         requires few_words { length first.now ≤ MAX_WORDS }

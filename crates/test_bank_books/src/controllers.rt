@@ -28,7 +28,7 @@ impl Controlled {
 
 /// What is held, whole, if something is.
 fn held(reader: &mut Reader) -> Option<[u8; IMAGE_BYTES]> {
-    if !reader.holds() {
+    if !reader.holds() || reader.size() != IMAGE_BYTES {
         return None;
     }
     let mut image = [0xEE; IMAGE_BYTES];
@@ -40,7 +40,9 @@ fn held(reader: &mut Reader) -> Option<[u8; IMAGE_BYTES]> {
 fn takes(alloc: Global, reader: &mut Reader) -> Result<String, AllocError> {
     let taken = taken_text(reader.acquire());
     let mut image = [0xEE; IMAGE_BYTES];
-    reader.read(0, &mut image);
+    if reader.size() == IMAGE_BYTES {
+        reader.read(0, &mut image);
+    }
     let number = reader.number();
     let image = image_text(alloc, &image)?;
     format!(in alloc; "{taken} {number} {image}")

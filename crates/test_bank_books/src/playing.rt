@@ -5,6 +5,7 @@ use crate::ends::{Banked, Ends};
 use crate::locked::play_locked;
 use std::alloc::{AllocError, Global};
 use test_playing::{Player, Row, Section, Trouble};
+use xcp_bank::IMAGE_BYTES;
 use xcp_controller::Controller;
 use xcp_program::layout_of;
 
@@ -36,6 +37,17 @@ pub fn each_told<S: Subject>(
     Ok(told)
 }
 
+/// The byte of which a bank's first image is made, and how many bytes it has: 2,040 if the line doesn't say.
+fn first_image(section: &Section<'_>) -> Result<(u8, usize), Trouble> {
+    let (byte, bytes) = words(section.words);
+    let byte = section.wanted(byte.parse().ok(), "no byte stands in this line")?;
+    if bytes.is_empty() {
+        return Ok((byte, IMAGE_BYTES));
+    }
+    let bytes = section.wanted(bytes.parse().ok(), "no width stands in this line")?;
+    Ok((byte, bytes))
+}
+
 /// Plays calls over a bank whose first image is of one byte only; and the events behind blanks over a core whose image is that byte
 /// and the image's number.
 fn play_calls(
@@ -43,8 +55,8 @@ fn play_calls(
     section: &Section<'_>,
     rows: &[Row<'_>],
 ) -> Result<Vec<String>, Trouble> {
-    let byte = section.number()?;
-    let ends = Ends::new(alloc, byte)?;
+    let (byte, bytes) = first_image(section)?;
+    let ends = section.wanted(Ends::new(alloc, byte, bytes)?, "no image is so wide")?;
     let cores = Cores::new(alloc, &[u64::from(byte), 0])?;
     let mut banked = Banked { ends, cores };
     let mut told = each_told(alloc, &mut banked, rows)?;

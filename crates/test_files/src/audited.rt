@@ -4,7 +4,7 @@ use arrayvec::ArrayVec;
 use sha2::{Digest, Sha256};
 use std::alloc::{AllocError, Global};
 use xcp_program::layout_of;
-use xcp_record::Recorder;
+use xcp_record::{Recorder, Roster};
 use xcp_slave::{Request, Slave};
 use xcp_trace::Journal;
 
@@ -54,24 +54,32 @@ fn request(number: usize) -> Request {
 /// How many requests there are.
 const REQUESTS: usize = 13;
 
+/// One caller of each kind: 0 is a tool, 1 a task, 2 a pump and 3 the clock.
+const ROSTER: Roster = Roster {
+    tools: 1,
+    tasks: 1,
+    pumps: 1,
+    clocks: 1,
+};
+
 /// The callers of the requests.
 static CALLERS: [u8; REQUESTS] = [0, 0, 0, 0, 9, 10, 99, 1, 100, 0, 255, 3, 2];
 
 /// The lines of the calls.
 pub(crate) static LINES: [&str; REQUESTS] = [
-    "0\tFF00\tFF05C00840000101\n",
-    "0\tF600000000100000\tFF\n",
-    "0\tF510\tFF00010203040506 FF0708090A0B0C0D FF0E0F\n",
-    "0\t\t-\n",
-    "9\tevent 0 AB04\tsampled 0\n",
-    "10\tevent 65535 0102\tno channel\n",
-    "99\tevent 0 01\tbad signals\n",
-    "1\tdrain\tnothing\n",
-    "100\tstore\tno store\n",
-    "0\tF9010000\tFF\n",
-    "255\tstore\tstored 0\n",
-    "3\ttime 18446744073709551615\t-\n",
-    "2\thangup\t-\n",
+    "tool 0\tFF00\tFF05C00840000101\n",
+    "tool 0\tF600000000100000\tFF\n",
+    "tool 0\tF510\tFF00010203040506 FF0708090A0B0C0D FF0E0F\n",
+    "tool 0\t\t-\n",
+    "caller 9\tevent 0 AB04\tsampled 0\n",
+    "caller 10\tevent 65535 0102\tno channel\n",
+    "caller 99\tevent 0 01\tbad signals\n",
+    "task 0\tdrain\tnothing\n",
+    "caller 100\tstore\tno store\n",
+    "tool 0\tF9010000\tFF\n",
+    "caller 255\tstore\tstored 0\n",
+    "clock 0\ttime 18446744073709551615\t-\n",
+    "pump 0\thangup\t-\n",
 ];
 
 /// The slave of the layout file; none where memory is lacking.
@@ -112,7 +120,7 @@ fn journal(
 /// The file of two chapters and an end mark.
 fn written(alloc: Global, first: &Journal, second: &Journal) -> Option<Vec<u8>> {
     let digest = Sha256::digest(CONFIG.as_bytes());
-    let mut recorder = Recorder::new(alloc, Vec::new(alloc), &digest).ok()?;
+    let mut recorder = Recorder::new(alloc, Vec::new(alloc), &digest, ROSTER).ok()?;
     let both = append(&mut recorder, 0, first) && append(&mut recorder, 1, second);
     if both && recorder.end().is_ok() {
         return Some(recorder.into_stream());

@@ -49,7 +49,7 @@ fn printed(alloc: Global, file: &[u8], lines: bool, good: usize, room: usize) ->
 }
 
 /// After how many bytes a reader fails.
-static GOOD: [usize; 6] = [0, 37, 60, 289, 300, 345];
+static GOOD: [usize; 8] = [0, 37, 38, 41, 60, 289, 300, 345];
 
 /// Whether that is told of each such reader.
 fn are_misread(alloc: Global, file: &[u8]) -> bool {

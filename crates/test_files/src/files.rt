@@ -2,14 +2,14 @@
 
 use crate::hearing::{Counting, counted};
 use crate::slaves::{chapters, journal_of, slave};
-use crate::streams::{LAYOUT, Pieces, append, recorder};
+use crate::streams::{LAYOUT, Pieces, ROSTER, append, recorder};
 use std::alloc::Global;
 use xcp_framing::Watched;
 use xcp_record::{AuditFault, Ending, RecordFault, Settled, audit};
 use xcp_trace::Journal;
 
 /// The bytes of a file's head.
-const HEAD: usize = 38;
+const HEAD: usize = 42;
 
 /// What a writer holds, how many calls the recorder says, and what it said of the last chapter that was appended.
 type Written = (Vec<u8>, u64, Result<(), RecordFault>);
@@ -34,6 +34,7 @@ fn audited(alloc: Global, bytes: &[u8]) -> Option<Result<Settled, AuditFault>> {
     let slave = slave(alloc)?;
     let mut reader = Watched::new(Pieces { text: bytes });
     let mut witness = Counting {
+        roster: Some(ROSTER),
         calls: 0,
         in_order: true,
     };

@@ -1,7 +1,7 @@
 //! Chapters that are given to a scribe.
 
 use crate::slaves::{chapters, slave};
-use crate::streams::{LAYOUT, Narrow, Pieces};
+use crate::streams::{LAYOUT, Narrow, Pieces, ROSTER};
 use std::alloc::Global;
 use xcp_framing::Watched;
 use xcp_record::{AuditFault, Ending, RecordFault, Settled, Silent, audit};
@@ -15,7 +15,7 @@ fn recording(alloc: Global, room: usize) -> Result<Recording<Narrow>, RecordFaul
         bytes: Vec::new(alloc),
         room,
     };
-    match Recording::new(alloc, stream, LAYOUT) {
+    match Recording::new(alloc, stream, LAYOUT, ROSTER) {
         Ok(recording) => Ok(recording),
         Err(unbegun) => Err(unbegun.fault),
     }
@@ -127,7 +127,7 @@ fn a_full_disk_ends_a_recording_inside_a_chapter(rt: HostRuntime) {
 
 #[test]
 fn a_disk_without_room_has_no_recording(rt: HostRuntime) {
-    assert!(rt; recording(rt.alloc(), 37).err() == Some(RecordFault::Write));
+    assert!(rt; recording(rt.alloc(), 41).err() == Some(RecordFault::Write));
 }
 
 #[test]

@@ -2,7 +2,7 @@
 
 use std::alloc::Global;
 use std::io::{self, Read, Write};
-use xcp_record::{RecordFault, Recorder};
+use xcp_record::{RecordFault, Recorder, Roster};
 use xcp_trace::Journal;
 
 /// Takes seven bytes a call, until it is full: then each write fails.
@@ -44,13 +44,21 @@ impl Read for Pieces<'_> {
 /// The SHA-256 of the layout's file.
 pub(crate) const LAYOUT: [u8; 32] = [7; 32];
 
+/// The callers of the files: one tool, one task and one pump.
+pub(crate) const ROSTER: Roster = Roster {
+    tools: 1,
+    tasks: 1,
+    pumps: 1,
+    clocks: 0,
+};
+
 /// A recorder to a writer of so much room; none where there isn't as much as a head wants.
 pub(crate) fn recorder(alloc: Global, room: usize) -> Option<Recorder<Narrow>> {
     let narrow = Narrow {
         bytes: Vec::new(alloc),
         room,
     };
-    Recorder::new(alloc, narrow, &LAYOUT).ok()
+    Recorder::new(alloc, narrow, &LAYOUT, ROSTER).ok()
 }
 
 /// Appends a chapter of these calls, which are at most as many as a chapter may have.

@@ -31,7 +31,9 @@ fn held(reader: &mut Reader) -> Seen
     ensures { Holds reader.new }
 {
     let mut image = [0xEE; IMAGE_BYTES];
-    reader.read(0, &mut image);
+    if reader.size() == IMAGE_BYTES {
+        reader.read(0, &mut image);
+    }
     Seen {
         number: reader.number(),
         image,

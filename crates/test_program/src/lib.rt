@@ -1,5 +1,5 @@
 //! Tests of the program but for its `main`, by public calls alone: files of many sizes, faults and their texts, turns, want of memory,
-//! writers that take no more, and layouts with a clock.
+//! writers that take no more, layouts with a clock, and what servers print and end with.
 #![tactic(auto)]
 
 #[cfg(test)]
@@ -12,6 +12,8 @@ mod faults;
 mod layouts;
 #[cfg(test)]
 mod replays;
+#[cfg(test)]
+mod servers;
 #[cfg(test)]
 mod sources;
 #[cfg(test)]

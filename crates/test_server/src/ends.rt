@@ -10,6 +10,7 @@ use test_ground::{Hole, Pieces};
 use xcp_framing::Watched;
 use xcp_locked::Entry;
 use xcp_program::Fault;
+use xcp_record::Roster;
 use xcp_scribe::Recording;
 use xcp_server::{Ending, Report, serve_ends};
 use xcp_slave::Request;
@@ -42,7 +43,13 @@ fn ended<R: Threads + Wait + Clock + Sync>(
     let unnamed = small(alloc, 2 + tasks).ok_or("a slave")?;
     let writer: Vec<u8> = Vec::new(alloc);
     let ends = Vec::from_array(alloc, [(Watched::new(sent), Watched::new(writer))])?;
-    let written: Written = Recording::new(alloc, Vec::new(alloc), [7; 32])?;
+    let roster = Roster {
+        tools: 1,
+        tasks,
+        pumps: 1,
+        clocks: 0,
+    };
+    let written: Written = Recording::new(alloc, Vec::new(alloc), [7; 32], roster)?;
     let ending = serve_ends(
         rt, alloc, unnamed, ends, tasks, cycles, chapter, false, periods, written,
     )

@@ -10,6 +10,7 @@ use std::test::Fail;
 use test_ground::unnamed;
 use xcp_locked::{Discord, Locked, Name, Opening, Unnamed, Unsettled};
 use xcp_packet::Packet;
+use xcp_record::Roster;
 use xcp_scribe::Recording;
 use xcp_service::{
     Collector, Member, Post, Posting, Resident, Resigned, Route, Unkept, Unrouted, call, resign_all,
@@ -109,7 +110,13 @@ pub fn opened<N: Name, M: Route>(
     requires first { IsUncut N.layout opening.locked }
     requires opened { AreOpened N.parts opening.callers.items }
 {
-    let written: Written = Recording::new(alloc, Vec::new(alloc), [7; 32])?;
+    let roster = Roster {
+        tools: 1,
+        tasks: 1,
+        pumps: 0,
+        clocks: 0,
+    };
+    let written: Written = Recording::new(alloc, Vec::new(alloc), [7; 32], roster)?;
     let Opening {
         locked,
         callers,

@@ -29,6 +29,8 @@ mod serves;
 #[cfg(test)]
 mod shelf;
 #[cfg(test)]
+mod standing;
+#[cfg(test)]
 mod stations;
 #[cfg(test)]
 mod texts;

@@ -5,7 +5,7 @@ use crate::fakes::desk;
 use crate::shelf::Shelf;
 use std::alloc::Global;
 use std::io::{Read, Write};
-use xcp_framing::{Batch, Desk, ServeError, Served, Station, Watched, serve, serve_by};
+use xcp_framing::{Batch, Desk, ServeError, Served, Station, Watched, Whole, serve, serve_by};
 use xcp_script::{ReplayError, replay_on};
 
 /// A stream whose answers are written.
@@ -47,7 +47,15 @@ pub fn put<S: Station + Drop, R: Read + Drop>(
         batches: Vec::new(alloc),
         good,
     };
-    let result = serve_by(alloc, &mut reader, &mut shelf, &mut station, max_cto, turns);
+    let result = serve_by(
+        alloc,
+        &mut reader,
+        &Whole,
+        &mut shelf,
+        &mut station,
+        max_cto,
+        turns,
+    );
     (result, reader.into_inner(), shelf.batches)
 }
 

@@ -7,7 +7,7 @@ use std::alloc::Global;
 use std::sync::atomic::AtomicBool;
 use std::test::Fail;
 use test_ground::none_is_wrong;
-use xcp_framing::{Desk, ServeError, Station, StationError, Watched, pump, serve_by};
+use xcp_framing::{Desk, ServeError, Station, StationError, Watched, Whole, pump, serve_by};
 use xcp_slave::Request;
 
 /// CONNECT, and a DAQ list of one ODT with the first byte of the signals, on event channel 0, which
@@ -37,7 +37,15 @@ fn sampled(alloc: Global) -> Option<Desk> {
     let mut desk = desk(alloc)?;
     let mut reader = Watched::new(ACQUISITION);
     let mut replies = shelf(alloc, 1000);
-    let _ = serve_by(alloc, &mut reader, &mut replies, &mut desk, 32, 1000);
+    let _ = serve_by(
+        alloc,
+        &mut reader,
+        &Whole,
+        &mut replies,
+        &mut desk,
+        32,
+        1000,
+    );
     for first in &[7, 9] {
         let mut signals = ArrayVec::from([0; 64]);
         signals.truncate(8);

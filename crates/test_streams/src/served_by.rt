@@ -8,7 +8,7 @@ use std::alloc::Global;
 use std::io::Read;
 use std::test::Fail;
 use test_ground::none_is_wrong;
-use xcp_framing::{Batch, ServeError, Served, StationError, Watched, serve_by};
+use xcp_framing::{Batch, ServeError, Served, StationError, Watched, Whole, serve_by};
 
 /// CONNECT, a command that is unknown, SYNCH, a second CONNECT, SET_MTA, an UPLOAD of 16 bytes, and SYNCH.
 const COMMANDS: &[u8] = &[
@@ -109,7 +109,7 @@ fn served_with_room(alloc: Global) -> Option<Came> {
         good: 1000,
     };
     let mut reader = Watched::new(by_bytes());
-    let result = serve_by(alloc, &mut reader, &mut shelf, &mut desk, 8, 1000);
+    let result = serve_by(alloc, &mut reader, &Whole, &mut shelf, &mut desk, 8, 1000);
     Some((result, shelf.batches))
 }
 
@@ -234,7 +234,15 @@ fn undrained(alloc: Global) -> (Result<Served, ServeError>, usize, u32) {
         batches: Vec::new(alloc),
         good: 1000,
     };
-    let result = serve_by(alloc, &mut reader, &mut shelf, &mut station, 32, 1000);
+    let result = serve_by(
+        alloc,
+        &mut reader,
+        &Whole,
+        &mut shelf,
+        &mut station,
+        32,
+        1000,
+    );
     (result, station.exchanges.len(), station.packets)
 }
 

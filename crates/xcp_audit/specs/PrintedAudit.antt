@@ -10,6 +10,7 @@ use Rattle.xcp_record.specs.declared.Ending.TheVariants as endings
 use Rattle.xcp_record.specs.declared.Settled.{Settled}
 use Rattle.xcp_record.specs.declared.AuditFault.{AuditFault}
 use Rattle.xcp_record.specs.declared.AuditFault.TheVariants as found
+use Rattle.xcp_record.specs.declared.Roster.{Roster}
 use Rattle.xcp_record.specs.Audit.{Audits, Hears, HoldsRun, SaysSettled}
 use Rattle.xcp_program.specs.declared.Fault.{Fault}
 use Rattle.xcp_program.specs.declared.Fault.TheVariants as faults
@@ -60,15 +61,16 @@ pub record ReadsTo (old new : Reading) (said : Result Settled AuditFault) : Type
   pub unfailed : said ≢ Err found.Read → new.failures ≡ old.failures
 
 -- An audit of a file by a new slave of this layout, whose file has these bytes. What it says is printed, and where lines are wanted the
--- lines of its calls before that; then it is answered.
+-- lines of its calls before that, with the names of their callers by the roster of the file, if it has one; then it is answered.
 pub record PrintsAudit (config : List ℕ) (layout : LayoutValue) (before after : Reading) (lines : Bool) (old new : Stand) (result : Result (Unit {0}) Fault) : Type 0 where
   pub said : Result Settled AuditFault
   pub read : List ℕ
   pub consumed : Consumes before.left after.left read
-  pub audits : Audits (sha256 config) (opening layout) (IsAtEnd after.left) read said
-  pub settles : IfSome before.left (λ all. (n : ℕ) (ending : Ending) → HoldsRun (sha256 config) (opening layout) all n ending → SaysSettled n ending said)
+  pub roster : Option Roster
+  pub audits : Audits roster (sha256 config) (opening layout) (IsAtEnd after.left) read said
+  pub settles : IfSome before.left (λ all. (r : Option Roster) (n : ℕ) (ending : Ending) → HoldsRun r (sha256 config) (opening layout) all n ending → SaysSettled n ending said)
   pub reads : ReadsTo before after said
   pub calls : List Entry
-  pub hears : Hears (sha256 config) read said calls
-  pub printed : Prints old new ((if lines then lines_of calls else []) ++ end_of said)
+  pub hears : Hears roster (sha256 config) read said calls
+  pub printed : Prints old new ((if lines then lines_of roster calls else []) ++ end_of said)
   pub answered : result ≡ answer_after new.trouble said

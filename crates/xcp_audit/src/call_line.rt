@@ -1,27 +1,65 @@
-//! The line of a call.
-ghost use Rattle.std.specs.Prelude.{◌≡◌, ◌++◌, OnOk, codes, decimal};
+//! The line of a call, and the name of its caller.
+ghost use Rattle.std.specs.Prelude.{◌≡◌, ◌++◌, IfOk, OnOk, Some, codes, decimal, string_bytes};
 ghost use Rattle.hex.specs.Hex.{encode_upper};
-ghost use Rattle.xcp_audit.specs.CallLine.{line_of, words_asked};
+ghost use Rattle.xcp_audit.specs.CallLine.{caller_name, line_of, words_asked};
 
-use std::alloc::AllocError;
+use std::alloc::{AllocError, Global};
 use xcp_packet::Packet;
+use xcp_record::Roster;
 use xcp_script::push_text;
 use xcp_slave::Request;
 use xcp_trace::Entry;
 
-/// Appends a call's line. After an `Err` a front of it may have been appended.
-pub(crate) fn push_line(text: &mut Vec<u8>, call: &Entry) -> Result<(), AllocError>
-    ensures { OnOk result (text.new.items ≡ text.old.items ++ line_of call.now) }
+/// Appends the line of a call of a file with this roster or none. After an `Err` a front of it may have been appended.
+pub(crate) fn push_line(
+    text: &mut Vec<u8>,
+    roster: Option<Roster>,
+    call: &Entry,
+) -> Result<(), AllocError>
+    ensures { OnOk result (text.new.items ≡ text.old.items ++ line_of roster call.now) }
 {
-    let alloc = *text.allocator();
-    let caller = call.caller;
-    let caller = format!(in alloc; "{caller}\t")?;
-    text.extend_from_slice(caller.as_bytes())?;
+    push_caller(text, roster, call.caller)?;
+    text.push(b'\t')?;
     push_request(text, &call.exchange.request)?;
     text.push(b'\t')?;
     let mut packet = Packet::new();
     let told = call.exchange.answer.lay(&mut packet);
     push_text(text, told, &packet)
+}
+
+/// Appends a caller's name.
+fn push_caller(text: &mut Vec<u8>, roster: Option<Roster>, caller: u8) -> Result<(), AllocError>
+    ensures { OnOk result (text.new.items ≡ text.old.items ++ caller_name roster caller) }
+{
+    let alloc = *text.allocator();
+    let name = match roster {
+        Some(roster) => name_by(alloc, &roster, caller)?,
+        None => format!(in alloc; "{caller}")?,
+    };
+    text.extend_from_slice(name.as_bytes())
+}
+
+/// A caller's name by this roster.
+fn name_by(alloc: Global, roster: &Roster, caller: u8) -> Result<String, AllocError>
+    ensures { IfOk result (λ name. string_bytes name ≡ caller_name (Some roster.now) caller) }
+{
+    let mut number = caller;
+    if number < roster.tools {
+        return format!(in alloc; "tool {number}");
+    }
+    number -= roster.tools;
+    if number < roster.tasks {
+        return format!(in alloc; "task {number}");
+    }
+    number -= roster.tasks;
+    if number < roster.pumps {
+        return format!(in alloc; "pump {number}");
+    }
+    number -= roster.pumps;
+    if number < roster.clocks {
+        return format!(in alloc; "clock {number}");
+    }
+    format!(in alloc; "caller {caller}")
 }
 
 /// Appends the words of a request.

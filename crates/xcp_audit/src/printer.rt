@@ -7,7 +7,7 @@ use std::alloc::Global;
 use std::io::Write;
 use thiserror::Error;
 use xcp_framing::Watched;
-use xcp_record::Witness;
+use xcp_record::{Roster, Witness};
 use xcp_trace::Entry;
 
 /// Why a printer prints nothing more.
@@ -85,18 +85,18 @@ impl<W: Write> Witness for Printer<W> {
     ghost use Rattle.xcp_audit.specs.Printing.{Prints, stand_of};
     ghost use Rattle.xcp_audit.specs.private.PrintingLaws.{lines_more, prints_none};
 
-    ghost hears = { λ x calls y. Prints (stand_of W.contents x) (stand_of W.contents y) (lines_of calls) };
+    ghost hears = { λ x roster calls y. Prints (stand_of W.contents x) (stand_of W.contents y) (lines_of roster calls) };
 
-    fn told(&mut self, call: &Entry) {
+    fn told(&mut self, roster: Option<Roster>, call: &Entry) {
         let mut line = Vec::new(self.alloc);
-        match push_line(&mut line, call) {
+        match push_line(&mut line, roster, call) {
             Ok(()) => self.print(&line),
             Err(_) => self.lose(),
         }
     }
 
-    ghost hears_none = { λ x. prints_none (stand_of W.contents x) };
+    ghost hears_none = { λ x r. prints_none (stand_of W.contents x) };
 
-    ghost hears_more = { λ x y z a b p q.
-        lines_more (stand_of W.contents x) (stand_of W.contents y) (stand_of W.contents z) a b p q };
+    ghost hears_more = { λ x y z r a b p q.
+        lines_more (stand_of W.contents x) (stand_of W.contents y) (stand_of W.contents z) r a b p q };
 }

@@ -6,6 +6,7 @@ ghost use Rattle.xcp_trace.specs.declared.Entry.{Entry};
 ghost use Rattle.xcp_program.specs.Beginning.{Begins};
 ghost use Rattle.xcp_record.specs.Audit.{Audits, Hears, HoldsRun, SaysSettled};
 ghost use Rattle.xcp_record.specs.declared.Ending.{Ending};
+ghost use Rattle.xcp_record.specs.declared.Roster.{Roster};
 ghost use Rattle.xcp_audit.specs.CallLine.{lines_of};
 ghost use Rattle.xcp_audit.specs.Printing.{Prints, stand_of};
 ghost use Rattle.xcp_audit.specs.PrintedAudit.{PrintsAudit, ReadsTo, answer_after, end_of, settled_in, verdict_of};
@@ -22,7 +23,8 @@ use xcp_slave::Slave;
 
 /// Executes the calls of a journal's file again, on a new slave of this layout, which the text of the layout file describes,
 /// with the stored pages of a file or with its own, and prints what came of it: `calls N`, `settled`, and `ended` or `open`, or `calls N`
-/// where the file isn't whole behind so many good calls; before that each call as a line, where lines are wanted.
+/// where the file isn't whole behind so many good calls; before that each call as a line, where lines are wanted, which begins with the
+/// caller's name by the roster of the file, or with its number in a file without a roster.
 ///
 /// Faults: `Stream(2)` where a write failed; `Memory` at any place; `MismatchedCall`; `Journal`, 1 and 3 to 6.
 pub fn print_audit<R: Read, W: Write>(
@@ -65,15 +67,15 @@ fn audited<R: Read, W: Write>(
 ) -> Result<Settled, AuditFault>
     ensures audits { (read : List ℕ)
         × Consumes (R.remaining reader.old.inner) (R.remaining reader.new.inner) read
-        × Audits layout.now slave (IsAtEnd (R.remaining reader.new.inner)) read result
+        × (roster : Option Roster) × Audits roster layout.now slave (IsAtEnd (R.remaining reader.new.inner)) read result
         × (calls : List Entry)
         × Prints (stand_of W.contents printer.old) (stand_of W.contents printer.new)
-        (if lines then lines_of calls else [])
-        × Hears layout.now read result calls }
+        (if lines then lines_of roster calls else [])
+        × Hears roster layout.now read result calls }
     ensures unfailed { result ≢ Err AuditFault.Read → reader.new.failures ≡ reader.old.failures }
     ensures failed { result ≡ Err AuditFault.Read → reader.old.failures < reader.new.failures }
-    ensures settles { IfSome (R.remaining reader.old.inner) (λ all. (n : ℕ) (ending : Ending)
-        → HoldsRun layout.now slave all n ending → SaysSettled n ending result) }
+    ensures settles { IfSome (R.remaining reader.old.inner) (λ all. (roster : Option Roster) (n : ℕ) (ending : Ending)
+        → HoldsRun roster layout.now slave all n ending → SaysSettled n ending result) }
 {
     if lines {
         audit(alloc, slave, layout, reader, printer)

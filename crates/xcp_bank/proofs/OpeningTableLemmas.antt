@@ -13,7 +13,7 @@ use Rattle.xcp_bank.specs.SeatKnowledge.{Writing, Known, beginning}
 use Rattle.xcp_bank.specs.private.Everybody.{waiting, everybody}
 use Rattle.xcp_bank.specs.TableRule.{RecordsAll, IsNumbered, StandsForAll, Leads, Banked}
 
-module _ (W : ℕ) (image ws : List ℕ) (wide : length image ≡ W) (more : 0 < W) (few : W ≤ 256) (last : get_or image (W - 1) 0 ≡ 0) (size : length ws ≡ 9 + 8 * W)
+module _ (W : ℕ) (image ws : List ℕ) (wide : length image ≡ W) (more : 0 < W) (few : W ≤ 131073) (last : get_or image (W - 1) 0 ≡ 0) (size : length ws ≡ 9 + 8 * W)
     (front : (i : ℕ) → i < 9 → get_or ws i 0 ≡ 0) (words : (k : ℕ) → k < W → get_or ws (9 + k) 0 ≡ get_or image k 0) (rest : (i : ℕ) → 9 + W ≤ i → get_or ws i 0 ≡ 0) where
   abbrev s : PinState
   s = opening image
@@ -32,8 +32,8 @@ module _ (W : ℕ) (image ws : List ℕ) (wide : length image ≡ W) (more : 0 <
   wait zero le = tt
   wait (suc n) le = (record { inside = omega arith; mine = refl; pins = alike 6 newcomer n; list = refl; past = tt }, wait n (omega arith))
 
-  pub opening_banked : Banked W (table_opening ws [] (everybody 6 image))
-  opening_banked = record {
+  pub opening_banked : (slots : List (Unit {0})) → Banked W (table_opening ws slots (everybody 6 image))
+  opening_banked slots = record {
     core = s;
     own = λ _. 0;
     writer_seat = 0;
@@ -81,6 +81,7 @@ module _ (W : ℕ) (image ws : List ℕ) (wide : length image ≡ W) (more : 0 <
         subst (Leads s) (same_Some (beginning image) w (ap (λ (u : Known). u.writer) (some-injective (everybody 6 image) v e) ∙ is)) record {
           pins = refl;
           current = refl;
+          words = refl;
           idle = omega arith;
           apart = (λ h. omega arith);
           unheld = none_there 6 1;

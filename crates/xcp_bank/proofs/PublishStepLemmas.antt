@@ -1,11 +1,16 @@
 -- What several steps of the writer come to.
-use Rattle.std.proofs.Common.{◌≡◌, ◌≢◌, ℕ, ◌+◌, ◌<◌, ◌≤◌, Bool, true, cond, eqb, eq-eqb, suc, List, [], ◌∷◌, ◌++◌, append_assoc, length, take, set, get_or, sym, refl, ap, ◌∙◌, subst, arith, Some, None}
+use Rattle.std.proofs.Common.{◌≡◌, ◌≢◌, ℕ, zero, ◌+◌, ◌-◌, ◌<◌, ◌≤◌, Bool, true, cond, eqb, eq-eqb, suc, List, [], ◌∷◌, ◌++◌, append_assoc, length, take, set, get_or, sym, refl, ap, ◌∙◌, subst, arith, Some, None}
 use Rattle.std.proofs.lemmas.List.{take_more, length_push, length-take-le}
 use Rattle.xcp_bank.specs.PinHistory.{Deed, Grows, has_scanned, has_reset, has_written, has_published, writes_of}
 use Rattle.xcp_bank.proofs.HistoryLemmas.{grows_none, grows_again, grows_act, scans_more}
-use Rattle.xcp_bank.specs.SeatKnowledge.{Writing}
-use Rattle.xcp_bank.specs.private.WriterSteps.{Scanned, WasReset, Written, Published, writing_after_scan, writing_after_reset, writing_after_publish}
-use Rattle.xcp_bank.specs.private.SeatSteps.{Rests, Searched, FoundQuiet, scanned_to, filled, Publishes}
+use Rattle.atomic_table.specs.Seated.{TableId}
+use Rattle.atomic_table.specs.declared.shared.Seat.{Seat as Token}
+use mathlib.Core.Logic.{dite}
+use native.Mathlib.Decide.{ℕ_discrete}
+use Rattle.xcp_bank.specs.SeatKnowledge.{Writing, Known}
+use Rattle.xcp_bank.proofs.WriterRuleLemmas.{again_keeps}
+use Rattle.xcp_bank.specs.private.WriterSteps.{Scanned, WasReset, Written, WrittenAgain, standing, word_there, Published, writing_after_scan, writing_after_reset, writing_after_publish}
+use Rattle.xcp_bank.specs.private.SeatSteps.{IsWriterSeat, HasWords, WrittenSoFar, Rests, Searched, FoundQuiet, scanned_to, filled, Publishes}
 
 -- before the first Scan no buffer has been searched, and the writer is as it was
 pub searched_none : (w : Writing) → Searched 0 w w
@@ -18,7 +23,7 @@ module _ (w : Writing) (current : ℕ) (started : List ℕ) (rests : Rests curre
       let ne : b ≢ w.idle = λ e. a (sym e ∙ (is ∙ sym c)) in
       record { quiet = s.quiet; history = s.history; is = s.is; scans = s.scans; grows = s.grows; only = s.only; most = omega arith; fewer = (λ l. omega arith); not_yet = omega arith }
 
-  module _ (apart : b ≢ current) (low : b < 8) (n : ℕ) (v : Writing) (g : Scanned 256 b u n v) where
+  module _ (apart : b ≢ current) (low : b < 8) (W n : ℕ) (v : Writing) (g : Scanned W b u n v) where
     scanned : v ≡ scanned_to (cond (eqb (get_or w.pins.started b 0) n) (Some b) None) (g.before ++ has_scanned b n ∷ []) w
     scanned = g.is ∙ ap (writing_after_scan b n g.before) s.is
 
@@ -62,15 +67,15 @@ module _ (w : Writing) (current : ℕ) (started : List ℕ) (rests : Rests curre
   pub never : 8 ≤ b → ⊥
   never l = let i = rests.idle in let n = s.not_yet in omega arith
 
-module _ (words : List ℕ) (w v : Writing) (k : ℕ) (h : List Deed) (long : length words ≡ 256) (low : k < 256) (g : Written (get_or words k 0) (filled (take k words) h w) (get_or words k 0) v) where
+module _ (words : List ℕ) (w v : Writing) (k : ℕ) (all : List (List ℕ)) (h : List Deed) (W : ℕ) (long : length words ≡ W) (low : k < W) (g : Written (get_or words k 0) (filled (take k words) all h w) (get_or words k 0) v) where
   inside : k < length words
   inside = omega arith
 
   place : length (take k words) ≡ k
   place = let l = inside in length-take-le k words (omega arith)
 
-  pub filled_more : v ≡ filled (take (k + 1) words) (g.before ++ has_written k (get_or words k 0) ∷ []) w
-  filled_more = g.is ∙ (λ i. filled (sym (take_more words k 0 inside) i) (g.before ++ has_written (place i) (get_or words k 0) ∷ []) w)
+  pub filled_more : v ≡ filled (take (k + 1) words) v.words (g.before ++ has_written k (get_or words k 0) ∷ []) w
+  filled_more = g.is ∙ (λ i. filled (sym (take_more words k 0 inside) i) (sym (ap (λ (z : Writing). z.words) g.is) i) (g.before ++ has_written (place i) (get_or words k 0) ∷ []) w)
 
   pub writes_more : Grows 0 w.history h (writes_of words k) → Grows 0 w.history (g.before ++ has_written k (get_or words k 0) ∷ []) (writes_of words (k + 1))
   writes_more d =
@@ -78,12 +83,88 @@ module _ (words : List ℕ) (w v : Writing) (k : ℕ) (h : List Deed) (long : le
       subst (λ (m : ℕ). Grows 0 w.history (g.before ++ has_written k (get_or words k 0) ∷ []) (writes_of words m)) next
       (grows_act 0 w.history h g.before (writes_of words k) (has_written k (get_or words k 0)) refl d g.grows)
 
-module _ (w : Writing) (current : ℕ) (started : List ℕ) (rests : Rests current started w) (b : ℕ) (words : List ℕ) (u1 u2 u4 : Writing) (h3 : List Deed) (n pins : ℕ)
-    (f : FoundQuiet b w u1) (r : WasReset b u1 0 u2) (g3 : Grows 0 u2.history h3 (writes_of words (length words))) (p : Published 256 b (filled words h3 u2) n u4) (told : pins ≡ p.count) where
-  whole : u4 ≡ writing_after_publish b p.count p.idle p.before (filled words h3 (writing_after_reset b r.before (scanned_to (Some b) f.history w)))
-  whole = p.is ∙ ap (λ (z : Writing). writing_after_publish b p.count p.idle p.before (filled words h3 z)) (r.is ∙ ap (writing_after_reset b r.before) f.is)
+-- Words are written to the buffer b.
+module _ (bank : TableId) (b : ℕ) (words : List ℕ) (W : ℕ) (long : length words ≡ W) (w : Writing) where
+  -- before the first
+  pub so_far_none : (seat : Token (Unit {0}) Known) → IsWriterSeat seat bank w → w.pins.written ≡ [] → WrittenSoFar bank seat b 0 words w
+  so_far_none seat d none = record {
+    done = 0;
+    low = omega arith;
+    history = w.history;
+    all = w.words;
+    sits = subst (IsWriterSeat seat bank) (λ i. filled (none i) w.words w.history w) d;
+    grows = grows_none 0 w.history;
+    there = (λ j from below. absurd (omega arith));
+  }
 
-  same_current : (filled words h3 u2).current ≡ w.current
+  -- the next word stands there already
+  pub so_far_more : (seat seat' : Token (Unit {0}) Known) (k : ℕ) (s : WrittenSoFar bank seat b k words w) → IsWriterSeat seat' bank (filled (take s.done words) s.all s.history w)
+      → get_or (get_or s.all b []) k 0 ≡ get_or words k 0 → WrittenSoFar bank seat' b (k + 1) words w
+  so_far_more seat seat' k s d same = let low = s.low in record {
+    done = s.done;
+    low = omega arith;
+    history = s.history;
+    all = s.all;
+    sits = d;
+    grows = s.grows;
+    there = (λ j from below. dite (ℕ_discrete j k)
+        (λ e. subst (λ (m : ℕ). get_or (get_or s.all b []) m 0 ≡ get_or words m 0) (sym e) same)
+        (λ ne. s.there j from (omega arith)));
+  }
+
+  -- n words that stand there already are written
+  again_fills : (n d : ℕ) (all : List (List ℕ)) (h : List Deed) (u : Writing) → w.pins.building ≡ Some b → d + n ≤ W → HasWords b d (d + n) words all → Grows 0 w.history h (writes_of words d)
+      → WrittenAgain n (filled (take d words) all h w) u → (h' : List Deed) × (u ≡ filled (take (d + n) words) all h' w) × Grows 0 w.history h' (writes_of words (d + n))
+  again_fills zero d all h u building room there grows e =
+      let same : d ≡ d + 0 = omega arith in
+      (h, e ∙ ap (λ (m : ℕ). filled (take m words) all h w) same, subst (λ (m : ℕ). Grows 0 w.history h (writes_of words m)) same grows)
+  again_fills (suc n) d all h u building room there grows (v, before, last) =
+      let r = room in
+      let i = again_fills n d all h v building (omega arith) (λ j from below. there j from (omega arith)) grows before in
+      let k : ℕ = d + n in
+      let next : k + 1 ≡ d + suc n = omega arith in
+      let low : k < W = omega arith in
+      let place : length (take k words) ≡ k = length-take-le k words (omega arith) in
+      let x : standing (filled (take k words) all i.0 w) ≡ get_or words k 0 = (λ j. word_there (building j) (place j) all) ∙ there k (omega arith) (omega arith) in
+      let g' : Written (standing (filled (take k words) all i.0 w)) (filled (take k words) all i.0 w) (standing (filled (take k words) all i.0 w)) u = subst (λ (z : Writing). Written (standing z) z (standing z) u) i.1 last in
+      let g : Written (get_or words k 0) (filled (take k words) all i.0 w) (get_or words k 0) u = subst (λ (z : ℕ). Written z (filled (take k words) all i.0 w) z u) x g' in
+      let kept : u.words ≡ all = (again_keeps 1 (filled (take k words) all i.0 w) u (filled (take k words) all i.0 w, refl, g')).2 in
+      let h' = g.before ++ has_written k (get_or words k 0) ∷ [] in (
+        h',
+        filled_more words w u k all i.0 W long low g ∙ (λ j. filled (take (next j) words) (kept j) h' w),
+        subst (λ (m : ℕ). Grows 0 w.history h' (writes_of words m)) next (writes_more words w u k all i.0 W long low g i.2),
+      )
+
+  -- so all words below k are written
+  pub kept_up : (seat : Token (Unit {0}) Known) (k n : ℕ) (s : WrittenSoFar bank seat b k words w) (u : Writing) → w.pins.building ≡ Some b → k ≤ W → n ≡ k - length (take s.done words)
+      → WrittenAgain n (filled (take s.done words) s.all s.history w) u → (h : List Deed) × (u ≡ filled (take k words) s.all h w) × Grows 0 w.history h (writes_of words k)
+  kept_up seat k n s u building room e again =
+      let low = s.low in
+      let place : length (take s.done words) ≡ s.done = length-take-le s.done words (omega arith) in
+      let all : s.done + n ≡ k = omega arith in
+      let i = again_fills n s.done s.all s.history u building (omega arith) (λ j from below. s.there j from (omega arith)) s.grows again in
+      (i.0, subst (λ (m : ℕ). u ≡ filled (take m words) s.all i.0 w) all i.1, subst (λ (m : ℕ). Grows 0 w.history i.0 (writes_of words m)) all i.2)
+
+  -- and then the word k is
+  pub put_then : (seat : Token (Unit {0}) Known) (k x : ℕ) (all : List (List ℕ)) (h : List Deed) (v : Writing) → k < W → x ≡ get_or words k 0 → IsWriterSeat seat bank v → Written x (filled (take k words) all h w) x v → Grows 0 w.history h (writes_of words k)
+      → (h' : List Deed) × (all' : List (List ℕ)) × IsWriterSeat seat bank (filled (take (k + 1) words) all' h' w) × Grows 0 w.history h' (writes_of words (k + 1))
+  put_then seat k x all h v low is d put grows =
+      let g : Written (get_or words k 0) (filled (take k words) all h w) (get_or words k 0) v = subst (λ (z : ℕ). Written z (filled (take k words) all h w) z v) is put in (
+        g.before ++ has_written k (get_or words k 0) ∷ [],
+        v.words,
+        subst (IsWriterSeat seat bank) (filled_more words w v k all h W long low g) d,
+        writes_more words w v k all h W long low g grows,
+      )
+
+  pub so_far_put : (seat : Token (Unit {0}) Known) (k : ℕ) (h : List Deed) (all : List (List ℕ)) → IsWriterSeat seat bank (filled (take (k + 1) words) all h w) → Grows 0 w.history h (writes_of words (k + 1)) → WrittenSoFar bank seat b (k + 1) words w
+  so_far_put seat k h all d grows = record { done = k + 1; low = omega arith; history = h; all = all; sits = d; grows = grows; there = (λ j from below. absurd (omega arith)) }
+
+module _ (w : Writing) (current : ℕ) (started : List ℕ) (rests : Rests current started w) (b : ℕ) (words : List ℕ) (u1 u2 u4 : Writing) (all3 : List (List ℕ)) (h3 : List Deed) (W n pins : ℕ)
+    (f : FoundQuiet b w u1) (r : WasReset b u1 0 u2) (g3 : Grows 0 u2.history h3 (writes_of words (length words))) (p : Published W b (filled words all3 h3 u2) n u4) (told : pins ≡ p.count) where
+  whole : u4 ≡ writing_after_publish b p.count p.idle p.before (filled words all3 h3 (writing_after_reset b r.before (scanned_to (Some b) f.history w)))
+  whole = p.is ∙ ap (λ (z : Writing). writing_after_publish b p.count p.idle p.before (filled words all3 h3 z)) (r.is ∙ ap (writing_after_reset b r.before) f.is)
+
+  same_current : (filled words all3 h3 u2).current ≡ w.current
   same_current = ap (λ (z : Writing). z.current) (r.is ∙ ap (writing_after_reset b r.before) f.is)
 
   reset_then : Grows 0 w.history (r.before ++ has_reset b ∷ []) (f.scans ++ has_reset b ∷ [])
@@ -108,7 +189,7 @@ module _ (w : Writing) (current : ℕ) (started : List ℕ) (rests : Rests curre
     apart = (λ e. p.apart (sym (ap (λ (z : Writing). z.idle) whole) ∙ (e ∙ ap (λ (z : Writing). z.current) whole)));
   }
 
-  pub published_now : Publishes words w u4
+  pub published_now : Publishes words W w u4
   published_now = record {
     list = ap (λ (z : Writing). z.pins.publications) whole;
     scans = f.scans;

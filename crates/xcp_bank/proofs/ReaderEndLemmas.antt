@@ -1,5 +1,5 @@
 -- What a reader's steps come to, as contracts see the reader.
-use Rattle.std.proofs.Common.{◌≡◌, ◌↔◌, ℕ, zero, suc, ◌-◌, ◌<◌, List, [], ◌∷◌, length, map, get_or, replicate, sym, refl, ap, ◌∙◌, subst, arith, append_assoc, Option, Some, Bool, true, false, ◌||◌}
+use Rattle.std.proofs.Common.{◌≡◌, ◌↔◌, ℕ, zero, suc, ◌-◌, ◌*◌, ◌<◌, List, [], ◌∷◌, length, map, get_or, replicate, sym, refl, ap, ◌∙◌, subst, arith, append_assoc, Option, Some, Bool, true, false, ◌||◌}
 use Rattle.std.proofs.lemmas.List.{length-map, map-append, append-nil, get_or_past}
 use mathlib.Core.Logic.{dite}
 use native.Mathlib.Decide.{dec_le}
@@ -18,7 +18,7 @@ use mathlib.Core.List.{IsPrefix}
 use Rattle.xcp_bank.specs.SeatKnowledge.{AllBegin, Reading, Writing, Known, starting}
 use Rattle.xcp_bank.specs.private.SeatSplits.{when_joined, when_parted}
 use Rattle.xcp_bank.specs.PinHistory.{looked_at}
-use Rattle.xcp_bank.specs.private.SeatSteps.{IsReaderSeat, Acquired, HasRead, buffer_of}
+use Rattle.xcp_bank.specs.private.SeatSteps.{IsWide, IsReaderSeat, Acquired, HasRead, buffer_of}
 use Rattle.xcp_bank.specs.BankEnds.{ReaderEnd, reader_end, WriterEnd, writer_end, HoldsNumber, image_at, image_held, IsRun, AcquireDoes, FollowsTold, KnowsMore, ReadDoes, ReaderDoes, GivesBack, TellsTaken}
 use Rattle.xcp_bank.specs.EndFields.{reader_in, shown_reader}
 use Rattle.xcp_bank.specs.private.KeptEnds.{ReaderKept}
@@ -39,16 +39,16 @@ pub shown_is : (token : Token (Unit {0}) Known) (bank : TableId) (r : ℕ) (y : 
 shown_is token bank r y s = ap (λ (z : ℕ × Reading). reader_end bank z.0 z.1) (reader_is token bank r y s)
 
 -- who knows all of the state that its history ends in knows what it holds there
-pub follows_up_to_date : (r : ℕ) (y : Reading) → UpToDate 256 r y → Follows 256 r y
-follows_up_to_date r y k = record { state = k.state; ran = k.ran; held = ap (λ (z : Reader). z.held) k.pins; gone = ap (λ (z : Reader). z.gone) k.pins }
+pub follows_up_to_date : (W r : ℕ) (y : Reading) → UpToDate W r y → Follows W r y
+follows_up_to_date W r y k = record { state = k.state; ran = k.ran; held = ap (λ (z : Reader). z.held) k.pins; gone = ap (λ (z : Reader). z.gone) k.pins }
 
 -- a reader's history that is a run to a state in which it holds what it says is that for contracts, too
-pub run_of : (bank : TableId) (r : ℕ) (y : Reading) → Follows 256 r y → IsRun (reader_end bank r y)
+pub run_of : (bank : TableId) (r : ℕ) (y : Reading) → Follows bank.slots r y → IsRun (reader_end bank r y)
 run_of bank r y k = record { state = k.state; ran = k.ran; holds = k.held }
 
 -- and who has made no step
-pub follows_starting : (words : List ℕ) (r : ℕ) → length words ≡ 256 → Follows 256 r (starting words)
-follows_starting words r size = record { state = opening words; ran = (words, size, (refl, refl)); held = ap (λ (z : Reader). z.held) (newcomers 6 r); gone = ap (λ (z : Reader). z.gone) (newcomers 6 r) }
+pub follows_starting : (W : ℕ) (words : List ℕ) (r : ℕ) → length words ≡ W → Follows W r (starting words)
+follows_starting W words r size = record { state = opening words; ran = (words, size, (refl, refl)); held = ap (λ (z : Reader). z.held) (newcomers 6 r); gone = ap (λ (z : Reader). z.gone) (newcomers 6 r) }
   where
     newcomers : (n q : ℕ) → get_or (replicate n newcomer) q newcomer ≡ newcomer
     newcomers zero q = refl
@@ -56,8 +56,8 @@ follows_starting words r size = record { state = opening words; ran = (words, si
     newcomers (suc n) (suc q) = newcomers n q
 
 -- what is kept once a reader has acquired
-pub acquired_kept : (token : Token (Unit {0}) Known) (bank : TableId) (r b : ℕ) (x y : Reading) (taken : Taken) → IsReaderSeat token bank r y → Acquired taken b r x y → ReaderKept bank (Some b) (Some token)
-acquired_kept token bank r b x y taken s a = kept_by token bank r y (Some b) s (follows_up_to_date r y a.up_to_date) a.here (sym (ap buffer_of a.held)) (λ c e. subst (λ (n : ℕ). n < 8) (same_Some b c e) a.low)
+pub acquired_kept : (token : Token (Unit {0}) Known) (bank : TableId) (r b : ℕ) (x y : Reading) (taken : Taken) → IsReaderSeat token bank r y → Acquired taken b bank.slots r x y → ReaderKept bank (Some b) (Some token)
+acquired_kept token bank r b x y taken s a = kept_by token bank r y (Some b) s (follows_up_to_date bank.slots r y a.up_to_date) a.here (sym (ap buffer_of a.held)) (λ c e. subst (λ (n : ℕ). n < 8) (same_Some b c e) a.low)
 
 -- What `acquire` says.
 pub record AcquiredEnd (taken : Taken) (old new : ReaderEnd) : Type 0 where
@@ -75,15 +75,15 @@ module _ (bank : TableId) (r : ℕ) (x y : Reading) where
   abbrev new : ReaderEnd
   new = reader_end bank r y
 
-  same_where : (taken : Taken) (b : ℕ) → Acquired taken b r x y → taken ≡ Same ↔ HoldsNumber old (length y.list - 1)
+  same_where : (taken : Taken) (b : ℕ) → Acquired taken b bank.slots r x y → taken ≡ Same ↔ HoldsNumber old (length y.list - 1)
   same_where Same b a = ((λ _. (b, a.same refl)), λ _. refl)
   same_where Newer b a = ((λ e. absurd (same≢newer (sym e))), λ h. (let n = a.newer refl h.0 (length y.list - 1) h.1 in let s = a.some in absurd (omega arith)))
 
-  newer_where : (taken : Taken) (b : ℕ) → Acquired taken b r x y → taken ≡ Newer ↔ ((c p : ℕ) → x.pins.held ≡ Some (c, p) → p < length y.list - 1)
+  newer_where : (taken : Taken) (b : ℕ) → Acquired taken b bank.slots r x y → taken ≡ Newer ↔ ((c p : ℕ) → x.pins.held ≡ Some (c, p) → p < length y.list - 1)
   newer_where Same b a = ((λ e. absurd (same≢newer e)), λ h. (let n = h b (length y.list - 1) (a.same refl) in absurd (omega arith)))
   newer_where Newer b a = ((λ _ c p e. (let n = a.newer refl c p e in omega arith)), λ _. refl)
 
-  pub acquired_end : (taken : Taken) (b : ℕ) → Acquired taken b r x y → AcquiredEnd taken (reader_end bank r x) (reader_end bank r y)
+  pub acquired_end : (taken : Taken) (b : ℕ) → Acquired taken b bank.slots r x y → AcquiredEnd taken (reader_end bank r x) (reader_end bank r y)
   acquired_end taken b a =
       let long : length y.list ≡ length (images y.list) = sym (length-map y.list image_of) in
       let some = a.some in
@@ -116,7 +116,7 @@ holding bank bank' held seat k token buffer is at same =
     (sits_at token (reader_in seat).0 (reader_in seat).1 (sym same) (sits_here bank held seat k token is), h.0, h.1)
 
 -- a reader's seat after some Reads
-pub reads_kept : (bank : TableId) (held : Option ℕ) (seat : Option (Token (Unit {0}) Known)) → ReaderKept bank held seat → (token : Token (Unit {0}) Known) (k n p : ℕ) (y : Reading) → IsReaderSeat token bank (reader_in seat).0 y → HasRead k n p (reader_in seat).0 (reader_in seat).1 y → ReaderKept bank held (Some token)
+pub reads_kept : (bank : TableId) (held : Option ℕ) (seat : Option (Token (Unit {0}) Known)) → ReaderKept bank held seat → (token : Token (Unit {0}) Known) (k n p : ℕ) (y : Reading) → IsReaderSeat token bank (reader_in seat).0 y → HasRead k n p bank.slots (reader_in seat).0 (reader_in seat).1 y → ReaderKept bank held (Some token)
 reads_kept bank held seat k token from n p y s g = kept_by token bank (reader_in seat).0 y held s (g.follows k.follows) (ap (λ (z : Reader). z.gone) g.pins ∙ k.here) (k.held_is ∙ ap (λ (z : Reader). buffer_of z.held) (sym g.pins)) k.low
 
 -- What `read` and `number` say of the reader, with n words from word k on.
@@ -128,15 +128,15 @@ pub record ReadEnd (k n : ℕ) (old new : ReaderEnd) : Type 0 where
   pub follows : 0 < n → FollowsTold old new
   pub known : 0 < n → (b p : ℕ) → old.held ≡ Some (b, p) → p < length new.seen
 
--- who has a publication of 256 words has it among those that it has
-there : (l : List (List ℕ)) (p : ℕ) → length (get_or l p []) ≡ 256 → p < length l
-there l p size = dite (dec_le (length l) p)
+-- who has a publication of some words has it among those that it has
+there : (l : List (List ℕ)) (p : ℕ) → 0 < length (get_or l p []) → p < length l
+there l p some = dite (dec_le (length l) p)
     (λ past. (let z : length (get_or l p []) ≡ 0 = ap length (get_or_past l p [] past) in absurd (omega arith)))
     (λ below. omega arith)
 
 -- n Reads from word k on of a held image leave the reader as `read` and `number` say, if its history was a run
-pub read_end : (bank : TableId) (r k n b p : ℕ) (x y : Reading) → x.pins.held ≡ Some (b, p) → Follows 256 r x → HasRead k n p r x y → ReadEnd k n (reader_end bank r x) (reader_end bank r y)
-read_end bank r k n b p x y holds follows g =
+pub read_end : (bank : TableId) → IsWide bank → (r k n b p : ℕ) (x y : Reading) → x.pins.held ≡ Some (b, p) → Follows bank.slots r x → HasRead k n p bank.slots r x y → ReadEnd k n (reader_end bank r x) (reader_end bank r y)
+read_end bank wide r k n b p x y holds follows g =
     let seen : images y.list ≡ images x.list = ap images g.list in
     record {
       same_reader = (refl, refl);
@@ -151,19 +151,19 @@ read_end bank r k n b p x y holds follows g =
       follows = λ some. record {
         past = subst (λ (l : List (List ℕ)). AllBegin (map images x.past) l) (sym seen) (images_all x.past x.list (g.pasts some));
         heard = g.heard some;
-        whole = subst (λ (l : List ℕ). length l ≡ 2040) (sym (image_held_is bank r x b p holds)) (image_length (get_or x.list p []) (g.numbered some).size);
+        whole = subst (λ (l : List ℕ). length l ≡ 8 * (bank.slots - 1)) (sym (image_held_is bank r x b p holds)) (image_length bank.slots (get_or x.list p []) (g.numbered some).size);
       };
       known = λ some c q e. (
           let long : length (images y.list) ≡ length x.list = ap length seen ∙ length-map x.list image_of in
-          let below : p < length x.list = there x.list p (g.numbered some).size in
+          let below : p < length x.list = there x.list p (let size = (g.numbered some).size in let w = wide.some in omega arith) in
           let q_is : p ≡ q = ap (λ (h : ℕ × ℕ). h.1) (same_Some (b, p) (c, q) (sym holds ∙ e)) in
           omega arith
           );
     }
 
 -- what a reader is told leaves what it holds
-pub follows_told : (r : ℕ) (x : Reading) (w : Writing) → Follows 256 r x → Follows 256 r (when_parted w r (when_joined w r x))
-follows_told r x w k = record { state = k.state; ran = k.ran; held = k.held; gone = k.gone }
+pub follows_told : (W r : ℕ) (x : Reading) (w : Writing) → Follows W r x → Follows W r (when_parted w r (when_joined w r x))
+follows_told W r x w k = record { state = k.state; ran = k.ran; held = k.held; gone = k.gone }
 
 -- What `tell` says.
 pub record ToldEnd (writer : WriterEnd) (old new : ReaderEnd) : Type 0 where
@@ -190,7 +190,7 @@ told_end bank bank' r x w = record {
 }
 
 -- What `leave` says where something is held.
-pub left_end : (bank : TableId) (r : ℕ) (x y : Reading) → GivesUp 256 true r x y → GivesBack (reader_end bank r x) (reader_end bank r y)
+pub left_end : (bank : TableId) (r : ℕ) (x y : Reading) → GivesUp bank.slots true r x y → GivesBack (reader_end bank r x) (reader_end bank r y)
 left_end bank r x y u = record {
   before = u.before;
   did = u.reaches.grows;

@@ -15,7 +15,7 @@ use Rattle.pin_core.proofs.HolderCountLemmas.{same_sum, at_other}
 use Rattle.pin_core.proofs.ReaderStepLemmas.{look_keeps, pin_keeps, unpin_keeps}
 use mathlib.Core.List.{IsPrefix}
 use Rattle.xcp_bank.specs.SeatKnowledge.{Reading, Known, one_reader}
-use Rattle.xcp_bank.specs.TableRule.{Shows, IsNumbered, Stands, Records, Banked}
+use Rattle.xcp_bank.specs.TableRule.{Shows, IsNumbered, Stands, Records, Banked, IsBank}
 use Rattle.xcp_bank.specs.private.ReaderSteps.{Seat, reader_plays, Finds, Pinned, reading_after_pin, Looked, reading_after_look, Unpinned, GivesUp, reading_after_unpin, ReadAt, reading_after_read}
 use Rattle.xcp_bank.proofs.PrefixLemmas.{all_again}
 use Rattle.xcp_bank.proofs.OtherSeatLemmas.{seat_step}
@@ -101,6 +101,7 @@ module _ (W : ℕ) (t : State (Unit {0}) Known) (b : Banked W t) where
       (λ other w k. record {
         pins = k.pins;
         current = k.current;
+        words = k.words;
         idle = k.idle;
         apart = k.apart;
         unheld = same_sum (λ (u : Reader). at_buffer w.idle u.held) s.readers r z inside
@@ -164,7 +165,7 @@ module _ (W : ℕ) (t : State (Unit {0}) Known) (b : Banked W t) where
       }
 
 -- who makes a step of a reader's seat owes this of each state
-module _ (W slots id : ℕ) (r : ℕ) (x : Reading) (i : ℕ) (f : ℕ → ℕ) (after : ℕ → Reading → ℕ → Reading → Type 0) where
+module _ (W id : ℕ) (r : ℕ) (x : Reading) (i : ℕ) (f : ℕ → ℕ) (after : ℕ → Reading → ℕ → Reading → Type 0) where
   abbrev pub Makes : Type 0
   Makes = (t : State (Unit {0}) Known) (b : Banked W t) → get_elem? t.views id ≡ some (one_reader r x)
       → (y : Reading) × Banked W record { words = set t.words i (f (get_or t.words i 0)); homes = t.homes; views = set t.views id (one_reader r y) } × after r x (get_or t.words i 0) y
@@ -172,24 +173,24 @@ module _ (W slots id : ℕ) (r : ℕ) (x : Reading) (i : ℕ) (f : ℕ → ℕ) 
   one_reader_is : (q : ℕ) (u : Reading) → one_reader r x ≡ one_reader q u → ◌≡◌ {A = ℕ × Reading} (r, x) (q, u)
   one_reader_is q u e = let l : ◌≡◌ {A = List (ℕ × Reading)} ((r, x) ∷ []) ((q, u) ∷ []) = ap (λ (v : Known). v.readers) e in cc
 
-  fits_one : (c : List (ℕ × Unit {0})) → Makes → (st : Step (Unit {0})) → Allows (Banked W) slots id (one_reader r x, c) i f (reader_plays after st (one_reader r x, c))
+  fits_one : (c : List (ℕ × Unit {0})) → Makes → (st : Step (Unit {0})) → Allows IsBank W id (one_reader r x, c) i f (reader_plays after st (one_reader r x, c))
   fits_one c make st t b homes at fits =
-      let m = make t b at in (
+      let m = make t (subst (λ (n : ℕ). Banked n t) homes b) at in (
         one_reader r m.0,
         keeps,
         tt,
-        m.1,
+        subst (λ (n : ℕ). Banked n record { words = set t.words i (f (get_or t.words i 0)); homes = t.homes; views = set t.views id (one_reader r m.0) }) (sym homes) m.1,
         λ q u e. let same = one_reader_is q u e in
             (m.0, ap (λ (z : ℕ × Reading). (one_reader z.0 m.0, c)) same, subst (λ (z : ℕ × Reading). after z.0 z.1 (get_or t.words i 0) m.0) same m.2),
       )
 
-  pub allowed : (me : Seat) → me.0 ≡ one_reader r x → Makes → (st : Step (Unit {0})) → Allows (Banked W) slots id me i f (reader_plays after st me)
-  allowed me is make st = subst (λ (v : Known). Allows (Banked W) slots id (v, me.1) i f (reader_plays after st (v, me.1))) (sym is) (fits_one me.1 make st)
+  pub allowed : (me : Seat) → me.0 ≡ one_reader r x → Makes → (st : Step (Unit {0})) → Allows IsBank W id me i f (reader_plays after st me)
+  allowed me is make st = subst (λ (v : Known). Allows IsBank W id (v, me.1) i f (reader_plays after st (v, me.1))) (sym is) (fits_one me.1 make st)
 
 -- the rule allows a Pin, one more in word 0, to a reader that isn't gone and holds nothing
-pub pin_allowed : (W slots id r : ℕ) (x : Reading) (me : Seat) → me.0 ≡ one_reader r x → x.pins.gone ≡ false → x.pins.held ≡ None → (st : Step (Unit {0}))
-    → Allows (Banked W) slots id me 0 (λ n. (n + 1) % 18446744073709551616) (reader_plays (Pinned W) st me)
-pin_allowed W slots id r x me is here free st = allowed W slots id r x 0 (λ n. (n + 1) % 18446744073709551616) (Pinned W) me is
+pub pin_allowed : (W id r : ℕ) (x : Reading) (me : Seat) → me.0 ≡ one_reader r x → x.pins.gone ≡ false → x.pins.held ≡ None → (st : Step (Unit {0}))
+    → Allows IsBank W id me 0 (λ n. (n + 1) % 18446744073709551616) (reader_plays (Pinned W) st me)
+pin_allowed W id r x me is here free st = allowed W id r x 0 (λ n. (n + 1) % 18446744073709551616) (Pinned W) me is
     (λ t b at. (
       reading_after_pin r x b.core.index b.core.writer.publications b.history,
       pin_step W t b id r x at here free,
@@ -209,10 +210,10 @@ module _ (W : ℕ) (t : State (Unit {0}) Known) (b : Banked W t) (id r : ℕ) (x
   -- a step that changes no word, and of the reader neither what it holds nor whether it is gone
   pub plain_step : (i : ℕ) (y : Reading) (u : PinState) → Lawful W u → Shows W t.words u
       → Stands u b.own id r y
-      → ((q : ℕ) → q ≢ r → reader u q ≡ reader b.core q) → u.writer ≡ b.core.writer → u.index ≡ b.core.index → ((c : ℕ) → holders c u.readers ≡ holders c b.core.readers)
+      → ((q : ℕ) → q ≢ r → reader u q ≡ reader b.core q) → u.writer ≡ b.core.writer → u.index ≡ b.core.index → u.words ≡ b.core.words → ((c : ℕ) → holders c u.readers ≡ holders c b.core.readers)
       → (d : Deed) → Steps W b.core d.0 d.1 u → Records (b.history ++ d ∷ []) r y → doer d.0 ≡ suc r
       → Banked W record { words = set t.words i (get_or t.words i 0); homes = t.homes; views = set t.views id (one_reader r y) }
-  plain_step i y u law shows stands others same index held d step records doer_is =
+  plain_step i y u law shows stands others same index words held d step records doer_is =
       seat_step W t b id (one_reader r y) (set t.words i (get_or t.words i 0)) u law
       (subst (λ (ws : List ℕ). Shows W ws u) (sym (set-get_or t.words i 0)) shows)
       (λ p l. subst (λ (z : Writer). IsNumbered W p (get_or z.publications p [])) (sym same) (b.numbered p (subst (λ (z : Writer). p < length z.publications) same l)))
@@ -220,7 +221,7 @@ module _ (W : ℕ) (t : State (Unit {0}) Known) (b : Banked W t) (id r : ℕ) (x
       (λ w e. absurd (none-some w e))
       (λ q other. others q (λ e. other (ap b.own e ∙ mine.mine)))
       (λ n l. ap (λ (z : Writer). take n z.publications) same)
-      (λ other w k. record { pins = same ∙ k.pins; current = index ∙ k.current; idle = k.idle; apart = k.apart; unheld = held w.idle ∙ k.unheld })
+      (λ other w k. record { pins = same ∙ k.pins; current = index ∙ k.current; words = words ∙ k.words; idle = k.idle; apart = k.apart; unheld = held w.idle ∙ k.unheld })
       d step (records, tt) (λ q other e. other (ap b.own (same_suc q r (e ∙ doer_is)) ∙ mine.mine))
       (λ w e. absurd (none-some w e)) (λ _ e. writes_none r (e ∙ doer_is))
 
@@ -239,7 +240,7 @@ module _ (W : ℕ) (t : State (Unit {0}) Known) (b : Banked W t) (id r : ℕ) (x
         past = tt;
       }
       (λ q ne. get_or-set_other s.readers r q z newcomer ne)
-      refl refl
+      refl refl refl
       (λ c. same_sum (λ (u : Reader). at_buffer c u.held) s.readers r z inside refl)
       (looked_at r s.index) ((mine.inside, ap (λ (y : Reader). y.gone) mine.pins ∙ here), refl, refl)
       (records_next W t b id r x at (looked_at r s.index) (reading_after_look r x s.index s.writer.publications b.history) refl refl refl) refl
@@ -264,7 +265,7 @@ module _ (W : ℕ) (t : State (Unit {0}) Known) (b : Banked W t) (id r : ℕ) (x
 
   -- a step that reads
   pub read_step : (i c p k : ℕ) → x.pins.held ≡ Some (c, p) → k < W → i ≡ 9 + (c * W + k) → Banked W record { words = set t.words i (get_or t.words i 0); homes = t.homes; views = set t.views id (one_reader r (reading_after_read r k (get_or t.words i 0) b.history x)) }
-  read_step i c p k holds low place = plain_step i (reading_after_read r k (get_or t.words i 0) b.history x) s b.lawful b.shows record { inside = mine.inside; mine = mine.mine; pins = mine.pins; list = mine.list; past = mine.past } (λ q ne. refl) refl refl (λ c. refl)
+  read_step i c p k holds low place = plain_step i (reading_after_read r k (get_or t.words i 0) b.history x) s b.lawful b.shows record { inside = mine.inside; mine = mine.mine; pins = mine.pins; list = mine.list; past = mine.past } (λ q ne. refl) refl refl refl (λ c. refl)
       (has_read r k (get_or t.words i 0)) (c, p, (mine.inside, ap (λ (y : Reader). y.held) mine.pins ∙ holds, low), ap an.Word (shown i c p k holds low place), refl)
       (records_next W t b id r x at (has_read r k (get_or t.words i 0)) (reading_after_read r k (get_or t.words i 0) b.history x) refl refl refl) refl
 
@@ -294,13 +295,13 @@ module _ (W : ℕ) (t : State (Unit {0}) Known) (b : Banked W t) (id r : ℕ) (x
   }
 
 -- the rule allows a Look, which leaves word 0, to a reader that isn't gone
-pub look_allowed : (W slots id r : ℕ) (x : Reading) (me : Seat) → me.0 ≡ one_reader r x → x.pins.gone ≡ false → (st : Step (Unit {0})) → Allows (Banked W) slots id me 0 (λ n. n) (reader_plays (Looked W) st me)
-look_allowed W slots id r x me is here st = allowed W slots id r x 0 (λ n. n) (Looked W) me is
+pub look_allowed : (W id r : ℕ) (x : Reading) (me : Seat) → me.0 ≡ one_reader r x → x.pins.gone ≡ false → (st : Step (Unit {0})) → Allows IsBank W id me 0 (λ n. n) (reader_plays (Looked W) st me)
+look_allowed W id r x me is here st = allowed W id r x 0 (λ n. n) (Looked W) me is
     (λ t b at. (reading_after_look r x b.core.index b.core.writer.publications b.history, look_step W t b id r x at here, look_tells W t b id r x at here)) st
 
 -- the rule allows a Read, which leaves the word, of any word of the buffer that a reader holds
-pub read_allowed : (W slots id r : ℕ) (x : Reading) (me : Seat) (i c p k : ℕ) → x.pins.held ≡ Some (c, p) → k < W → i ≡ 9 + (c * W + k) → me.0 ≡ one_reader r x → (st : Step (Unit {0})) → Allows (Banked W) slots id me i (λ n. n) (reader_plays (ReadAt W i) st me)
-read_allowed W slots id r x me i c p k holds low place is st = allowed W slots id r x i (λ n. n) (ReadAt W i) me is
+pub read_allowed : (W id r : ℕ) (x : Reading) (me : Seat) (i c p k : ℕ) → x.pins.held ≡ Some (c, p) → k < W → i ≡ 9 + (c * W + k) → me.0 ≡ one_reader r x → (st : Step (Unit {0})) → Allows IsBank W id me i (λ n. n) (reader_plays (ReadAt W i) st me)
+read_allowed W id r x me i c p k holds low place is st = allowed W id r x i (λ n. n) (ReadAt W i) me is
     (λ t b at. (reading_after_read r k (get_or t.words i 0) b.history x, read_step W t b id r x at i c p k holds low place, read_tells W t b id r x at i c p k holds low place)) st
 
 module _ (W : ℕ) (t : State (Unit {0}) Known) (b : Banked W t) (id r : ℕ) (x : Reading) (at : get_elem? t.views id ≡ some (one_reader r x)) where
@@ -353,6 +354,7 @@ module _ (W : ℕ) (t : State (Unit {0}) Known) (b : Banked W t) (id r : ℕ) (x
       (λ other w k. record {
         pins = k.pins;
         current = k.current;
+        words = k.words;
         idle = k.idle;
         apart = k.apart;
         unheld = (let u = k.unheld in let v = sum_by-set (λ (y : Reader). at_buffer w.idle y.held) s.readers r z newcomer l in let none_now : at_buffer w.idle z.held ≡ 0 = refl in omega arith);
@@ -376,9 +378,9 @@ module _ (W : ℕ) (t : State (Unit {0}) Known) (b : Banked W t) (id r : ℕ) (x
       }
 
 -- the rule allows an Unpin, one more in the leavings, to a holder that saw another buffer current or leaves for good
-pub unpin_allowed : (W slots id r : ℕ) (x : Reading) (me : Seat) (c p : ℕ) (last : Bool) → me.0 ≡ one_reader r x → x.pins.held ≡ Some (c, p) → (x.pins.looked ≢ c) ⊎ (last ≡ true) → (st : Step (Unit {0}))
-    → Allows (Banked W) slots id me (1 + c) (λ n. (n + 1) % 18446744073709551616) (reader_plays (Unpinned W last) st me)
-unpin_allowed W slots id r x me c p last is holds may st = allowed W slots id r x (1 + c) (λ n. (n + 1) % 18446744073709551616) (Unpinned W last) me is
+pub unpin_allowed : (W id r : ℕ) (x : Reading) (me : Seat) (c p : ℕ) (last : Bool) → me.0 ≡ one_reader r x → x.pins.held ≡ Some (c, p) → (x.pins.looked ≢ c) ⊎ (last ≡ true) → (st : Step (Unit {0}))
+    → Allows IsBank W id me (1 + c) (λ n. (n + 1) % 18446744073709551616) (reader_plays (Unpinned W last) st me)
+unpin_allowed W id r x me c p last is holds may st = allowed W id r x (1 + c) (λ n. (n + 1) % 18446744073709551616) (Unpinned W last) me is
     (λ t b at. (
       reading_after_unpin r last b.history x,
       unpin_step W t b id r x at c p last holds may,

@@ -48,10 +48,10 @@ pub same≢newer : Same ≢ Newer
 same≢newer e = subst IsSame e tt
 
 -- nothing was held: a Pin
-pub acquired_first : (r : ℕ) (x y : Reading) (buffer : ℕ) → x.pins.gone ≡ false → x.pins.held ≡ None → PinnedAt buffer r x y → Acquired Newer buffer r x y
-acquired_first r x y buffer here free p =
+pub acquired_first : (W r : ℕ) (x y : Reading) (buffer : ℕ) → x.pins.gone ≡ false → x.pins.held ≡ None → PinnedAt buffer W r x y → Acquired Newer buffer W r x y
+acquired_first W r x y buffer here free p =
     let k = p.1 in let some = k.finds.some in
-    subst (λ (i : ℕ). Acquired Newer i r x y) (sym p.2) (subst (Acquired Newer k.index r x) (sym k.is) record {
+    subst (λ (i : ℕ). Acquired Newer i W r x y) (sym p.2) (subst (Acquired Newer k.index W r x) (sym k.is) record {
       low = k.finds.buffer;
       some = some;
       begins = k.finds.begins;
@@ -63,7 +63,7 @@ acquired_first r x y buffer here free p =
       placed = refl;
       heard_is = refl;
       heard = begins_more x.heard k.before (pinned_at r k.index) k.finds.reaches.heard;
-      up_to_date = subst (UpToDate 256 r) k.is k.up_to_date;
+      up_to_date = subst (UpToDate W r) k.is k.up_to_date;
       deeds = pinned_at r k.index ∷ [];
       did = does_step (suc r) x.history x.pending k.before (pinned_at r k.index) refl k.finds.reaches.grows;
       once = λ e. absurd (same≢newer (sym e));
@@ -75,13 +75,13 @@ acquired_first r x y buffer here free p =
     })
 
 -- what was held is current: a Look
-pub acquired_same : (r : ℕ) (x y : Reading) (buffer p : ℕ) → x.pins.gone ≡ false → x.pins.held ≡ Some (buffer, p) → LookedAt buffer r x y → Acquired Same buffer r x y
-acquired_same r x y buffer p here holds l =
+pub acquired_same : (W r : ℕ) (x y : Reading) (buffer p : ℕ) → x.pins.gone ≡ false → x.pins.held ≡ Some (buffer, p) → LookedAt buffer W r x y → Acquired Same buffer W r x y
+acquired_same W r x y buffer p here holds l =
     let k = l.1 in let at : buffer ≡ k.index = l.2 in
     let newest = k.current buffer p holds at in
     let number : p ≡ length k.list - 1 = omega arith in
     let low = k.finds.buffer in
-    subst (Acquired Same buffer r x) (sym k.is) record {
+    subst (Acquired Same buffer W r x) (sym k.is) record {
       low = omega arith;
       some = k.finds.some;
       begins = k.finds.begins;
@@ -93,7 +93,7 @@ acquired_same r x y buffer p here holds l =
       placed = refl;
       heard_is = refl;
       heard = begins_more x.heard k.before (looked_at r k.index) k.finds.reaches.heard;
-      up_to_date = subst (UpToDate 256 r) k.is k.up_to_date;
+      up_to_date = subst (UpToDate W r) k.is k.up_to_date;
       deeds = looked_at r k.index ∷ [];
       did = does_step (suc r) x.history x.pending k.before (looked_at r k.index) refl k.finds.reaches.grows;
       once = λ _. (ap (λ (i : ℕ). looked_at r i ∷ []) (sym at), (k.before, ap (λ (i : ℕ). k.before ++ looked_at r i ∷ []) (sym at)));
@@ -105,10 +105,10 @@ acquired_same r x y buffer p here holds l =
     }
 
 -- another buffer is current: a Look, an Unpin and a Pin
-pub acquired_other : (r : ℕ) (x y z u : Reading) (other old buffer p : ℕ) → x.pins.gone ≡ false → x.pins.held ≡ Some (old, p) → LookedAt other r x y → old ≢ other → GivesUp 256 false r y z → PinnedAt buffer r z u → Acquired Newer buffer r x u
-acquired_other r x y z u other old buffer p here holds l ne v m =
+pub acquired_other : (W r : ℕ) (x y z u : Reading) (other old buffer p : ℕ) → x.pins.gone ≡ false → x.pins.held ≡ Some (old, p) → LookedAt other W r x y → old ≢ other → GivesUp W false r y z → PinnedAt buffer W r z u → Acquired Newer buffer W r x u
+acquired_other W r x y z u other old buffer p here holds l ne v m =
     let g = l.1 in
-    let m' : PinnedAt buffer r (reading_after_unpin r false v.before y) u = subst (λ (a : Reading). PinnedAt buffer r a u) v.is m in
+    let m' : PinnedAt buffer W r (reading_after_unpin r false v.before y) u = subst (λ (a : Reading). PinnedAt buffer W r a u) v.is m in
     let k = m'.1 in
     let apart : old ≢ g.index = λ e. ne (e ∙ sym l.2) in
     let known = g.known old p holds in
@@ -125,7 +125,7 @@ acquired_other r x y z u other old buffer p here holds l ne v m =
     let did_both = does_again (suc r) x.history x.pending h [] (v.before ++ given_up r false ∷ []) [] (looked_at r g.index ∷ []) (given_up r false ∷ []) did_look did_unpin in
     let gone_is : y.pins.gone ≡ x.pins.gone = ap (λ (v : Reading). v.pins.gone) g.is in
     let heard_is : y.heard ≡ x.heard = ap (λ (v : Reading). v.heard) g.is in
-    subst (λ (i : ℕ). Acquired Newer i r x u) (sym m'.2) (subst (Acquired Newer k.index r x) (sym k.is) record {
+    subst (λ (i : ℕ). Acquired Newer i W r x u) (sym m'.2) (subst (Acquired Newer k.index W r x) (sym k.is) record {
       low = k.finds.buffer;
       some = some;
       begins = begins_again x.list g.list k.list g.finds.begins begins;
@@ -137,7 +137,7 @@ acquired_other r x y z u other old buffer p here holds l ne v m =
       placed = refl;
       heard_is = heard_is;
       heard = subst (λ (l : List Deed). IsPrefix l (k.before ++ pinned_at r k.index ∷ [])) heard_is (begins_more y.heard k.before (pinned_at r k.index) k.finds.reaches.heard);
-      up_to_date = subst (UpToDate 256 r) k.is k.up_to_date;
+      up_to_date = subst (UpToDate W r) k.is k.up_to_date;
       deeds = looked_at r g.index ∷ given_up r false ∷ pinned_at r k.index ∷ [];
       did = does_again (suc r) x.history x.pending (v.before ++ given_up r false ∷ []) [] (k.before ++ pinned_at r k.index ∷ []) [] (looked_at r g.index ∷ given_up r false ∷ []) (pinned_at r k.index ∷ []) did_both did_pin;
       once = λ e. absurd (same≢newer (sym e));
@@ -151,8 +151,8 @@ acquired_other r x y z u other old buffer p here holds l ne v m =
 -- Reads
 
 -- a reader that stays as it was has read no words
-pub read_none : (r : ℕ) (x : Reading) (from n p : ℕ) → n ≡ 0 → HasRead from n p r x x
-read_none r x from n p e = record {
+pub read_none : (W r : ℕ) (x : Reading) (from n p : ℕ) → n ≡ 0 → HasRead from n p W r x x
+read_none W r x from n p e = record {
   pins = refl;
   list = refl;
   past = refl;
@@ -165,18 +165,18 @@ read_none r x from n p e = record {
 }
 
 -- n Reads from a word on and a Read of the next word, of one publication, are n + 1 Reads from there on
-pub read_more : (r : ℕ) (x y z : Reading) (from n m p k v : ℕ) → HasRead from n p r x y → WordRead k p v r y z → from + n ≡ k → suc n ≡ m → HasRead from m p r x z
-read_more r x y z from n m p k v g w at next =
+pub read_more : (W r : ℕ) (x y z : Reading) (from n m p k v : ℕ) → HasRead from n p W r x y → WordRead k p v W r y z → from + n ≡ k → suc n ≡ m → HasRead from m p W r x z
+read_more W r x y z from n m p k v g w at next =
     let words : List ℕ = get_or x.list p [] in
     let value : v ≡ get_or words k 0 = w.value ∙ ap (λ (l : List (List ℕ)). get_or (get_or l p []) k 0) g.list in
     let h : List Deed = w.before ++ has_read r k v ∷ [] in
-    subst (HasRead from m p r x) (sym w.is) record {
+    subst (HasRead from m p W r x) (sym w.is) record {
       pins = g.pins;
       list = g.list;
       past = g.past;
       heard_is = g.heard_is;
-      follows = λ _. subst (Follows 256 r) w.is w.follows;
-      numbered = λ _. subst (λ (l : List (List ℕ)). IsNumbered 256 p (get_or l p [])) g.list w.numbered;
+      follows = λ _. subst (Follows W r) w.is w.follows;
+      numbered = λ _. subst (λ (l : List (List ℕ)). IsNumbered W p (get_or l p [])) g.list w.numbered;
       pasts = λ _. subst (λ (l : List (List ℕ)). AllBegin x.past l) g.list (subst (λ (ls : List (List (List ℕ))). AllBegin ls y.list) g.past w.pasts);
       heard = λ _. subst (λ (l : List Deed). IsPrefix l h) g.heard_is (begins_more y.heard w.before (has_read r k v) w.reaches.heard);
       did = subst (λ (j : ℕ). Does (suc r) x.history x.pending h [] (reads_of r words from j)) next

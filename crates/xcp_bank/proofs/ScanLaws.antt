@@ -1,5 +1,5 @@
 -- What a Scan tells of its buffer's holders.
-use Rattle.std.proofs.Common.{◌≡◌, ◌≢◌, ◌+◌, ℕ, List, [], ◌∷◌, ◌++◌, length, sym, ap, ◌∙◌, subst, arith}
+use Rattle.std.proofs.Common.{◌≡◌, ◌≢◌, ◌+◌, ◌<◌, ◌≤◌, ℕ, List, [], ◌∷◌, ◌++◌, length, sym, ap, ◌∙◌, subst, arith}
 use Rattle.pin_core.specs.declared.events.Event.{Event}
 use Rattle.pin_core.specs.declared.events.Event.TheVariants as ev
 use Rattle.pin_core.specs.declared.events.Seen.{Seen}
@@ -33,14 +33,15 @@ scan_tells W u s b n law st =
     let left : leavings_of s b ≡ n = ap (λ (z : PinState). leavings_of z b) st.2 ∙ sym (ap left_in st.1) in
     (apart, (law.others b st.0.0 apart).exact ∙ ap (λ (m : ℕ). m + holders b s.readers) left)
 
-lawful_then : (history : List Deed) (s : PinState) → Ran 256 history s → Lawful 256 s
-lawful_then history s r =
-    let wide : length r.0 ≡ 256 = r.1 in
-    let opens : Lawful 256 (opening r.0) = subst (λ (n : ℕ). Lawful n (opening r.0)) wide (opening_lawful r.0 (omega arith) (omega arith)) in
-    run_keeps 256 (opening r.0) s (events_of history) (answers_of history) opens r.2
+module _ (W : ℕ) (some : 0 < W) (few : W ≤ 131073) where
+  lawful_then : (history : List Deed) (s : PinState) → Ran W history s → Lawful W s
+  lawful_then history s r =
+      let wide : length r.0 ≡ W = r.1 in
+      let opens : Lawful W (opening r.0) = subst (λ (n : ℕ). Lawful n (opening r.0)) wide (opening_lawful r.0 (omega arith) (omega arith)) in
+      run_keeps W (opening r.0) s (events_of history) (answers_of history) opens r.2
 
--- right after a Scan that told n its buffer isn't current, and its started count is n plus the number of its holders
-pub scans_tell : (front : List Deed) (b n : ℕ) (s : PinState) → Ran 256 (front ++ has_scanned b n ∷ []) s → (b ≢ s.index) × (started_of s b ≡ n + holders b s.readers)
-scans_tell front b n s r =
-    let last = runs_split 256 (opening r.0) s front (has_scanned b n ∷ []) r.2 in
-    scan_tells 256 last.0 s b n (lawful_then (front ++ has_scanned b n ∷ []) s r) (one_step 256 last.0 s (ev.Scan b) (an.Leavings n) last.1)
+  -- right after a Scan that told n its buffer isn't current, and its started count is n plus the number of its holders
+  pub scans_tell : (front : List Deed) (b n : ℕ) (s : PinState) → Ran W (front ++ has_scanned b n ∷ []) s → (b ≢ s.index) × (started_of s b ≡ n + holders b s.readers)
+  scans_tell front b n s r =
+      let last = runs_split W (opening r.0) s front (has_scanned b n ∷ []) r.2 in
+      scan_tells W last.0 s b n (lawful_then (front ++ has_scanned b n ∷ []) s r) (one_step W last.0 s (ev.Scan b) (an.Leavings n) last.1)

@@ -13,7 +13,7 @@ use Rattle.pin_core.proofs.ReaderStepLemmas.{look_keeps}
 use mathlib.Core.List.{IsPrefix}
 use Rattle.xcp_bank.specs.SeatKnowledge.{AllBegin, Reading, Writing, Known, one_reader, nobody}
 use Rattle.xcp_bank.specs.private.Everybody.{the_writer}
-use Rattle.xcp_bank.specs.TableRule.{Shows, Stands, StandsForAll, Leads, Banked}
+use Rattle.xcp_bank.specs.TableRule.{Shows, Stands, StandsForAll, Leads, Banked, IsBank}
 use Rattle.xcp_bank.specs.private.SeatSplits.{when_joined, when_parted, together, writer_alone, readers_apart, both_of}
 use Rattle.xcp_bank.proofs.PrefixLemmas.{all_again}
 use Rattle.xcp_bank.proofs.ReaderRuleLemmas.{stands_begins, same_suc, writes_none}
@@ -78,6 +78,7 @@ module _ (W : ℕ) (t : State (Unit {0}) Known) (b : Banked W t) (id r m : ℕ) 
   lead_still v k = record {
     pins = k.pins;
     current = k.current;
+    words = k.words;
     idle = k.idle;
     apart = k.apart;
     unheld = same_sum (λ (u : Reader). at_buffer v.idle u.held) s.readers r (looking s.index (published s) (reader s r)) inside refl ∙ k.unheld;
@@ -187,10 +188,10 @@ tell_splits W id r x w here t b at =
     }
 
 -- a seat that stands for the writer may take in one that stands for a reader, if that reader isn't gone
-pub join_allowed : (W id other r : ℕ) (x : Reading) (w : Writing) (v u : Known) → v ≡ the_writer w → u ≡ one_reader r x → x.pins.gone ≡ false → Joins (Banked W) id v other u (together v u) nobody
-join_allowed W id other r x w v u is_w is_r here = subst (λ (z : Known). Joins (Banked W) id z other u (together z u) nobody) (sym is_w)
-    (subst (λ (z : Known). Joins (Banked W) id (the_writer w) other z (together (the_writer w) z) nobody) (sym is_r) (tell_joins W id other r x w here))
+pub join_allowed : (id other r : ℕ) (x : Reading) (w : Writing) (v u : Known) → v ≡ the_writer w → u ≡ one_reader r x → x.pins.gone ≡ false → Joins IsBank id v other u (together v u) nobody
+join_allowed id other r x w v u is_w is_r here = subst (λ (z : Known). Joins IsBank id z other u (together z u) nobody) (sym is_w)
+    (subst (λ (z : Known). Joins IsBank id (the_writer w) other z (together (the_writer w) z) nobody) (sym is_r) (λ t b at apart there. tell_joins (length t.homes) id other r x w here t b at apart there))
 
 -- a seat that stands for the writer and a reader may be cut into these two, if that reader isn't gone
-pub split_allowed : (W id r : ℕ) (x : Reading) (w : Writing) (v : Known) → v ≡ both_of w r x → x.pins.gone ≡ false → Splits (Banked W) id v (writer_alone v) (readers_apart v)
-split_allowed W id r x w v is here = subst (λ (z : Known). Splits (Banked W) id z (writer_alone z) (readers_apart z)) (sym is) (tell_splits W id r x w here)
+pub split_allowed : (id r : ℕ) (x : Reading) (w : Writing) (v : Known) → v ≡ both_of w r x → x.pins.gone ≡ false → Splits IsBank id v (writer_alone v) (readers_apart v)
+split_allowed id r x w v is here = subst (λ (z : Known). Splits IsBank id z (writer_alone z) (readers_apart z)) (sym is) (λ t b at. tell_splits (length t.homes) id r x w here t b at)

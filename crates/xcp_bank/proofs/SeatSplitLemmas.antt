@@ -8,7 +8,7 @@ use Rattle.atomic_table.proofs.Lists.{at_set}
 use Rattle.pin_core.specs.State.{PinState, reader, published}
 use Rattle.xcp_bank.specs.SeatKnowledge.{Writing, Known, one_reader, starting}
 use Rattle.xcp_bank.specs.private.Everybody.{waiting, everybody}
-use Rattle.xcp_bank.specs.TableRule.{RecordsAll, Stands, StandsForAll, Leads, Banked}
+use Rattle.xcp_bank.specs.TableRule.{RecordsAll, Stands, StandsForAll, Leads, Banked, IsBank}
 use Rattle.xcp_bank.specs.private.SeatSplits.{without_first, only_first}
 use Rattle.xcp_bank.proofs.OtherSeatLemmas.{stands_still, all_still}
 
@@ -94,5 +94,5 @@ cut_splits W id n words t b at =
     }
 
 -- the first seat may be cut into the last of its readers and the writer with the other readers
-pub cut_allowed : (W id n : ℕ) (words : List ℕ) (v : Known) → v ≡ everybody (suc n) words → Splits (Banked W) id v (without_first v) (only_first v)
-cut_allowed W id n words v is = subst (λ (u : Known). Splits (Banked W) id u (without_first u) (only_first u)) (sym is) (cut_splits W id n words)
+pub cut_allowed : (id n : ℕ) (words : List ℕ) (v : Known) → v ≡ everybody (suc n) words → Splits IsBank id v (without_first v) (only_first v)
+cut_allowed id n words v is = subst (λ (u : Known). Splits IsBank id u (without_first u) (only_first u)) (sym is) (λ t b at. cut_splits (length t.homes) id n words t b at)

@@ -8,7 +8,7 @@ use Rattle.atomic_table.specs.declared.shared.Seat.{Seat as Token}
 use Rattle.pin_core.specs.State.{Reader}
 use Rattle.xcp_bank.specs.SeatKnowledge.{Reading, Known}
 use Rattle.xcp_bank.specs.Images.{image_of}
-use Rattle.xcp_bank.specs.private.SeatSteps.{IsReaderSeat, HasRead, ReaderMoves, WordReadAt, ReadsOn}
+use Rattle.xcp_bank.specs.private.SeatSteps.{IsReaderSeat, HasRead, ReaderMoves, WordReadAt, ReadsOn, bytes_in}
 use Rattle.std.proofs.lemmas.List.{length-take-le, length-drop, get_or-take, get_or-drop}
 use borrow.Rule.Slice.PartMut.{put_mid}
 use Rattle.xcp_bank.proofs.ImageLemmas.{image_byte}
@@ -22,13 +22,13 @@ module _ (bank : TableId) (buffer at : ℕ) where
     size = refl;
     elsewhere = (λ j o. refl);
     there = (λ r y p sits held j l from to. absurd (omega arith));
-    reads = (λ r x y p from m sits held h e. (let same : m ≡ m + 0 = omega arith in (y, sits, subst (λ (i : ℕ). HasRead from i p r x y) same h)));
+    reads = (λ r x y p from m sits held h e. (let same : m ≡ m + 0 = omega arith in (y, sits, subst (λ (i : ℕ). HasRead from i p bank.slots r x y) same h)));
   }
 
   -- one word
   pub reads_one : (k word : ℕ) (s t : Token (Unit {0}) Known) (a b : List ℕ) → ReaderMoves (WordReadAt buffer k word) s t bank → length b ≡ length a
       → ((j : ℕ) → j < length a → (at + j) / 8 ≡ k → get_or b j 0 ≡ get_or (to_le_bytes w64 word) ((at + j) % 8) 0)
-      → ((j : ℕ) → (at + j) / 8 ≢ k → get_or b j 0 ≡ get_or a j 0) → at + length a ≤ 2040 → ReadsOn bank buffer at k 1 s t a b
+      → ((j : ℕ) → (at + j) / 8 ≢ k → get_or b j 0 ≡ get_or a j 0) → at + length a ≤ bytes_in bank → ReadsOn bank buffer at k 1 s t a b
   reads_one k word s t a b moves size here other inside = record {
     size = size;
     elsewhere = (λ j o. other j (λ e. elim o [ inl l ↦ absurd (omega arith) | inr l ↦ absurd (omega arith) ]));
@@ -36,22 +36,22 @@ module _ (bank : TableId) (buffer at : ℕ) where
         (let w = (moves r y sits).2 p held in
         let words : List ℕ = get_or y.list p [] in
         let e : (at + j) / 8 ≡ k = omega arith in
-        here j l e ∙ (ap (λ (v : ℕ). get_or (to_le_bytes w64 v) ((at + j) % 8) 0) (w.value ∙ ap (λ (m : ℕ). get_or words m 0) (sym e)) ∙ sym (image_byte words (at + j) w.numbered.size (omega arith)))));
-    reads = (λ r x y p from m sits held h e. (let w = moves r y sits in (w.0, w.1, read_more r x y w.0 from m (m + 1) p k word h (w.2 p held) e (omega arith))));
+        here j l e ∙ (ap (λ (v : ℕ). get_or (to_le_bytes w64 v) ((at + j) % 8) 0) (w.value ∙ ap (λ (m : ℕ). get_or words m 0) (sym e)) ∙ sym (image_byte bank.slots words (at + j) w.numbered.size (omega arith)))));
+    reads = (λ r x y p from m sits held h e. (let w = moves r y sits in (w.0, w.1, read_more bank.slots r x y w.0 from m (m + 1) p k word h (w.2 p held) e (omega arith))));
   }
 
   -- the seat still holds what it held
   pub reads_hold : (k n : ℕ) (s t : Token (Unit {0}) Known) (a b : List ℕ) → ReadsOn bank buffer at k n s t a b
       → (r : ℕ) × (x : Reading) × IsReaderSeat s bank r x × (p : ℕ) × (x.pins.held ≡ Some (buffer, p)) → (r : ℕ) × (x : Reading) × IsReaderSeat t bank r x × (p : ℕ) × (x.pins.held ≡ Some (buffer, p))
   reads_hold k n s t a b f (r, x, sits, p, held) =
-      let i = f.reads r x x p k 0 sits held (read_none r x k 0 p refl) (omega arith) in
+      let i = f.reads r x x p k 0 sits held (read_none bank.slots r x k 0 p refl) (omega arith) in
       (r, i.0, i.1, p, ap (λ (z : Reader). z.held) i.2.pins ∙ held)
 
   -- words behind words
   pub reads_on : (k n m : ℕ) (s t u : Token (Unit {0}) Known) (a b c : List ℕ) → ReadsOn bank buffer at k n s t a b → ReadsOn bank buffer at (k + n) m t u b c → ReadsOn bank buffer at k (n + m) s u a c
   reads_on k n m s t u a b c f g =
-      let moved : (r : ℕ) (y : Reading) (p : ℕ) → IsReaderSeat s bank r y → y.pins.held ≡ Some (buffer, p) → (z : Reading) × IsReaderSeat t bank r z × HasRead k n p r y z
-      = λ r y p sits held. (let i = f.reads r y y p k 0 sits held (read_none r y k 0 p refl) (omega arith) in let same : 0 + n ≡ n = omega arith in (i.0, i.1, subst (λ (j : ℕ). HasRead k j p r y i.0) same i.2)) in
+      let moved : (r : ℕ) (y : Reading) (p : ℕ) → IsReaderSeat s bank r y → y.pins.held ≡ Some (buffer, p) → (z : Reading) × IsReaderSeat t bank r z × HasRead k n p bank.slots r y z
+      = λ r y p sits held. (let i = f.reads r y y p k 0 sits held (read_none bank.slots r y k 0 p refl) (omega arith) in let same : 0 + n ≡ n = omega arith in (i.0, i.1, subst (λ (j : ℕ). HasRead k j p bank.slots r y i.0) same i.2)) in
       record {
         size = g.size ∙ f.size;
         elsewhere = (λ j o. elim o [
@@ -70,7 +70,7 @@ module _ (bank : TableId) (buffer at : ℕ) where
             let still = ap (λ (z : Reader). z.held) (i.2.pins ∙ sym h.pins) ∙ held in
             let q = g.reads r x i.0 p from (l + n) i.1 still i.2 (omega arith) in
             let same : l + n + m ≡ l + (n + m) = omega arith in
-            (q.0, q.1, subst (λ (j : ℕ). HasRead from j p r x q.0) same q.2)));
+            (q.0, q.1, subst (λ (j : ℕ). HasRead from j p bank.slots r x q.0) same q.2)));
       }
 
   -- words into a part of what is read, which begins at the first of them

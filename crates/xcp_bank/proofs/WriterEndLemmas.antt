@@ -21,14 +21,14 @@ pub record PublishedEnd (image : List ℕ) (old new : WriterEnd) : Type 0 where
   pub does : (words : List ℕ) × (image_of words ≡ image) × PublishDoes words old new
 
 -- words that were published leave the writer as `publish` says, with their image behind its publications
-pub published_end : (bank : TableId) (image words : List ℕ) (w u : Writing) → image_of words ≡ image → Publishes words w u → PublishedEnd image (writer_end bank w) (writer_end bank u)
+pub published_end : (bank : TableId) (image words : List ℕ) (w u : Writing) → image_of words ≡ image → Publishes words bank.slots w u → PublishedEnd image (writer_end bank w) (writer_end bank u)
 published_end bank image words w u same k = record {
   appended = ap images k.list ∙ (map-append image_of w.pins.publications (words ∷ []) ∙ ap (λ (z : List ℕ). images w.pins.publications ++ z ∷ []) same);
   does = (words, same, record { scans = k.scans; buffer = k.buffer; only = k.only; most = k.most; did = k.grows; last = k.last; state = k.up_to_date.state; ran = k.up_to_date.ran; current = k.up_to_date.index; published = ap (λ (z : Writer). images z.publications) k.up_to_date.pins });
 }
 
 -- the number of publications, counted modulo 2^64
-pub counted_more : (words : List ℕ) (w u : Writing) (n : ℕ) → Publishes words w u → n ≡ length w.pins.publications % 18446744073709551616 → (n + 1) % 18446744073709551616 ≡ length u.pins.publications % 18446744073709551616
-counted_more words w u n k e =
+pub counted_more : (W : ℕ) (words : List ℕ) (w u : Writing) (n : ℕ) → Publishes words W w u → n ≡ length w.pins.publications % 18446744073709551616 → (n + 1) % 18446744073709551616 ≡ length u.pins.publications % 18446744073709551616
+counted_more W words w u n k e =
     let long : length u.pins.publications ≡ length w.pins.publications + 1 = ap length k.list ∙ length_push w.pins.publications words in
     omega arith

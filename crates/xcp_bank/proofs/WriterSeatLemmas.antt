@@ -11,7 +11,7 @@ use Rattle.xcp_bank.specs.private.WriterSteps.{writer_plays}
 use Rattle.xcp_bank.specs.private.SeatSteps.{IsWriterSeat, WriterMoves}
 
 module _ (after : Writing → ℕ → Writing → Type 0) (st : Step (Unit {0})) (a b : Token (Unit {0}) Known) (n : ℕ) (bank : TableId) where
-  pub desk_step : b.table_id ≡ a.table_id → writer_plays after st a.me n b.me → WriterMoves (λ w. after w n) a b bank
+  pub desk_step : b.table_id ≡ a.table_id → writer_plays after st a.me n b.me → WriterMoves (λ _ w. after w n) a b bank
   desk_step same plays w s =
       let p = plays w (ap (λ (m : Seat). m.0) s.me) in
       (p.0, record { bank_is = same ∙ s.bank_is; wide = s.wide; me = p.1 ∙ ap (λ (m : Seat). (the_writer p.0, m.1)) s.me }, p.2)

@@ -1,6 +1,6 @@
 -- The two ends of a bank, as contracts see them: in images, without a word or a seat.
 use Rattle.std.specs.Prelude.{◌≡◌, ◌≢◌, ◌↔◌, ℕ, suc, ◌+◌, ◌-◌, ◌/◌, ◌<◌, ◌≤◌, false, true, List, [], ◌∷◌, ◌++◌, length, map, sum_by, slice_index_or, Option, Some, None}
-use Rattle.xcp_bank.specs.BankId.{BankId, bank_of}
+use Rattle.xcp_bank.specs.BankId.{BankId, bank_of, buffer_words, image_bytes}
 use Rattle.atomic_table.specs.Seated.{TableId}
 use Rattle.xcp_bank.specs.PinHistory.{Deed, Grows, Does, Ran, Ends, AllScans, looked_at, pinned_at, given_up, has_reset, has_published, reads_of, writes_of}
 use Rattle.xcp_bank.specs.HeldBufferCount.{others, scanned_buffer, scan_of, unquiet}
@@ -125,7 +125,7 @@ pub record AcquireDoes (taken : Taken) (old new : ReaderEnd) : Type 0 where
   pub settled : new.pending ≡ []
   -- its history is a run to a state in which that buffer is current, what it has seen is all that is published, and it holds what it says
   pub state : PinState
-  pub ran : Ran 256 new.history state
+  pub ran : Ran (buffer_words new.bank) new.history state
   pub current : state.index ≡ buffer
   pub seen : images state.writer.publications ≡ new.seen
   pub holds : (reader state old.index).held ≡ new.held
@@ -139,7 +139,7 @@ pub record AcquireDoes (taken : Taken) (old new : ReaderEnd) : Type 0 where
 -- Its history is a run of the core to a state in which it holds what it says.
 pub record IsRun (x : ReaderEnd) : Type 0 where
   pub state : PinState
-  pub ran : Ran 256 x.history state
+  pub ran : Ran (buffer_words x.bank) x.history state
   pub holds : (reader state x.index).held ≡ x.held
 
 -- Reads of n words from word k on, of the image that it holds: nothing changes but the history.
@@ -153,7 +153,7 @@ pub record ReadDoes (k n : ℕ) (old new : ReaderEnd) : Type 0 where
 pub record FollowsTold (old new : ReaderEnd) : Type 0 where
   pub past : AllBegin old.past new.seen
   pub heard : IsPrefix old.heard new.history
-  pub whole : length (image_held old) ≡ 2040
+  pub whole : length (image_held old) ≡ image_bytes old.bank
 
 -- The reader has given back what it held by one last Unpin, after which the core has it as gone.
 pub record GivesBack (old new : ReaderEnd) : Type 0 where
@@ -162,7 +162,7 @@ pub record GivesBack (old new : ReaderEnd) : Type 0 where
   pub is : new ≡ record old { held = None; history = before ++ given_up old.index true ∷ []; pending = [] }
   pub heard : IsPrefix old.heard before
   pub state : PinState
-  pub ran : Ran 256 new.history state
+  pub ran : Ran (buffer_words new.bank) new.history state
   pub gone : (reader state old.index).gone ≡ true
 
 -- What leaving does: where nothing is held, nothing.
@@ -180,7 +180,7 @@ pub record PublishDoes (words : List ℕ) (old new : WriterEnd) : Type 0 where
   pub last : Ends new.history has_published
   -- its history is a run to a state in which its publications are all there are
   pub state : PinState
-  pub ran : Ran 256 new.history state
+  pub ran : Ran (buffer_words new.bank) new.history state
   pub current : state.index ≡ new.current
   pub published : images state.writer.publications ≡ new.publications
 
@@ -194,6 +194,6 @@ pub record HeldDoes (answer : ℕ) (old new : WriterEnd) : Type 0 where
   pub same : new ≡ record old { history = new.history }
   -- its history is a run to a state, in which each buffer has the pins by which these were or weren't quiet
   pub state : PinState
-  pub ran : Ran 256 new.history state
+  pub ran : Ran (buffer_words new.bank) new.history state
   pub current : state.index ≡ old.current
   pub answer_is : answer ≡ sum_by (unquiet state.writer.started) found

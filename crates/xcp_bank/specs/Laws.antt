@@ -1,5 +1,5 @@
 -- What the rule alone says of a step, whatever body makes it and whatever it leaves in words and view; and what a Scan tells.
-use Rattle.std.specs.Prelude.{◌≡◌, ◌≢◌, ℕ, suc, ◌+◌, List, [], ◌∷◌, ◌++◌, slice_set, Some}
+use Rattle.std.specs.Prelude.{◌≡◌, ◌≢◌, ℕ, suc, ◌+◌, ◌<◌, ◌≤◌, List, [], ◌∷◌, ◌++◌, slice_set, Some}
 use mathlib.Core.Option.{some}
 use lib.ListN.{get_elem?}
 use Rattle.atomic_table.specs.Table.{State}
@@ -26,5 +26,5 @@ NotedLooksLook = (W : ℕ) (t : State (Unit {0}) Known) → Banked W t
 -- A Scan tells who holds its buffer. Where it is the last deed of a history, as many pins of that buffer were started as it told were
 -- given back, and one more for each reader that holds the buffer then: so it is quiet exactly where nobody holds it.
 abbrev pub ScansTellHolders : Type 0
-ScansTellHolders = (before : List Deed) (b n : ℕ) (s : PinState) → Ran 256 (before ++ has_scanned b n ∷ []) s
+ScansTellHolders = (W : ℕ) → 0 < W → W ≤ 131073 → (before : List Deed) (b n : ℕ) (s : PinState) → Ran W (before ++ has_scanned b n ∷ []) s
     → (b ≢ s.index) × (started_of s b ≡ n + holders b s.readers)

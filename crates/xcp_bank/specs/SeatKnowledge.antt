@@ -30,6 +30,8 @@ pub record Writing : Type 0 where
   pub pins : Writer
   -- the current buffer
   pub current : ℕ
+  -- the words of each buffer
+  pub words : List (List ℕ)
   -- a buffer that the last publication left without a holder, not the current one. It stays so until the next publication.
   pub idle : ℕ
   -- all that happened in the core up to its own last step, this the last
@@ -56,6 +58,7 @@ abbrev pub beginning : List ℕ → Writing
 beginning words = record {
   pins = (opening words).writer;
   current = 0;
+  words = (opening words).words;
   idle = 1;
   history = [];
 }

@@ -35,10 +35,11 @@ abbrev pub StandsForAll : PinState → (ℕ → ℕ) → ℕ → List (ℕ × Re
 StandsForAll s own id [] = Unit {0}
 StandsForAll s own id (y ∷ ys) = Stands s own id y.0 y.1 × StandsForAll s own id ys
 
--- The writer is as w says, and the idle buffer is not current and has no holder.
+-- The writer is as w says, the buffers have the words that it knows, and the idle buffer is not current and has no holder.
 pub record Leads (s : PinState) (w : Writing) : Type 0 where
   pub pins : s.writer ≡ w.pins
   pub current : s.index ≡ w.current
+  pub words : s.words ≡ w.words
   pub idle : w.idle < 8
   pub apart : w.idle ≢ w.current
   pub unheld : holders w.idle s.readers ≡ 0
@@ -73,3 +74,7 @@ pub record Banked (W : ℕ) (t : State (Unit {0}) Known) : Type 0 where
   pub recorded : (id : ℕ) (v : Known) → get_elem? t.views id ≡ some v → RecordsAll history v.readers
   pub noted : (id : ℕ) (v : Known) (w : Writing) → get_elem? t.views id ≡ some v → v.writer ≡ Some w → Grows 0 w.history history []
   pub writer : (id : ℕ) (v : Known) (w : Writing) → get_elem? t.views id ≡ some v → v.writer ≡ Some w → (writer_seat ≡ id) × Leads core w
+
+-- The rule of a bank's table: its buffers have as many words as it has slots.
+abbrev pub IsBank : State (Unit {0}) Known → Type 0
+IsBank t = Banked (length t.homes) t

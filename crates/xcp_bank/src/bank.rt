@@ -1,13 +1,13 @@
 //! How a bank begins.
-ghost use Rattle.std.specs.Prelude.{◌≡◌, ℕ, suc, List, IfOk};
+ghost use Rattle.std.specs.Prelude.{◌≡◌, ℕ, suc, ◌%◌, ◌<◌, ◌≤◌, List, length, IfOk};
 ghost use Rattle.std.specs.Arc.{arc_value};
 ghost use Rattle.xcp_bank.specs.SeatKnowledge.{starting};
 ghost use Rattle.xcp_bank.specs.Images.{image_of};
 ghost use Rattle.xcp_bank.specs.private.SeatSteps.{IsFirstSeat};
-ghost use Rattle.xcp_bank.specs.BankId.{bank_of};
+ghost use Rattle.xcp_bank.specs.BankId.{bank_of, image_bytes};
 ghost use Rattle.xcp_bank.specs.BankEnds.{reader_end, six_readers, new_writer};
 
-use crate::IMAGE_BYTES;
+use crate::MAX_IMAGE_BYTES;
 use crate::reader::Reader;
 use crate::table::{Board, Token, cut, open};
 use crate::words::{table_words, words_of};
@@ -20,18 +20,22 @@ use std::sync::Arc;
 pub struct Bank;
 
 impl Bank {
-    /// The writer and the six readers of a new bank, in which this image is published already.
+    /// The writer and the six readers of a new bank, in which this image is published already: a whole
+    /// number of words of 8 bytes, up to 1 MiB. Each image of this bank has as many bytes.
     ///
-    /// All memory that a bank ever takes is taken here.
-    pub fn new(
-        alloc: Global,
-        image: &[u8; IMAGE_BYTES],
-    ) -> Result<(Writer, [Reader; READERS]), AllocError>
+    /// All memory that a bank ever takes is taken here: eight times the image's, and as much for the
+    /// words that it begins with, which is given back.
+    pub fn new(alloc: Global, image: &[u8]) -> Result<(Writer, [Reader; READERS]), AllocError>
+        requires some_bytes { 0 < length image.now }
+        requires whole_words { length image.now % 8 ≡ 0 }
+        requires few_bytes { length image.now ≤ MAX_IMAGE_BYTES }
+        ensures size { IfOk result (λ ends. image_bytes ends.0.bank ≡ length image.now) }
         ensures writer { IfOk result (λ ends. ends.0 ≡ new_writer ends.0.bank image.now) }
         ensures readers { IfOk result (λ ends. ends.1 ≡ six_readers ends.0.bank image.now) }
     {
-        let words = words_of(image, 0);
-        let (board, mut seat) = open(alloc, &words, &table_words(&words))?;
+        let words = words_of(alloc, image, 0)?;
+        let table = table_words(alloc, &words)?;
+        let (board, mut seat) = open(alloc, &words, &table)?;
         let readers = six(&board, &mut seat)?;
         Ok((Writer::new(board, seat), readers))
     }

@@ -13,7 +13,7 @@ pub(crate) fn count_held(
     started: &[u64; BUFFERS],
 ) -> u8
     requires { (w : Writing) × IsWriterSeat token.old board.now w × Rests current started.now w }
-    ensures { WriterMoves (λ w u. Counted 8 result w u) token.old token.new board.now }
+    ensures { WriterMoves (Counted 8 result) token.old token.new board.now }
 {
     let mut held = 0u8;
     for buffer in 0..BUFFERS {

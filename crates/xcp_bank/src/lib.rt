@@ -1,9 +1,13 @@
 //! The bank of images: one writer publishes images, and six readers take whole ones, without a lock and
 //! without waiting.
 //!
+//! All images of a bank are equally wide. A publication compares each word with the one that stands in the
+//! buffer, and stores it only where it differs.
+//!
 //! All share one table of words. Its rule says that they show a lawful state of the core of pins, and that
 //! there is one history: a run of the core to that state, of which each end knows the beginning up to its own
-//! last step. Each step of a writer or reader is one event of that run.
+//! last step. Each step of a writer or reader is one event of that run; only words that stand already are written
+//! together, by one load.
 #![tactic(auto)]
 
 mod acquiring;
@@ -26,5 +30,8 @@ pub use reader::Reader;
 pub use taken::Taken;
 pub use writer::Writer;
 
-/// The bytes of an image.
+/// The bytes of a slave's image. A bank's images may have any number of whole words of 8 bytes, up to 1 MiB.
 pub const IMAGE_BYTES: usize = 2040;
+
+/// The most bytes that a bank's images may have: 1 MiB. The least is 8.
+pub const MAX_IMAGE_BYTES: usize = 1_048_576;

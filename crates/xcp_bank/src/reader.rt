@@ -4,13 +4,13 @@ ghost use Rattle.std.specs.Arc.{arc_value};
 ghost use Rattle.xcp_bank.specs.PinHistory.{looked_at};
 ghost use Rattle.xcp_bank.specs.SeatKnowledge.{starting};
 ghost use Rattle.xcp_bank.specs.private.SeatSteps.{IsReaderSeat};
+ghost use Rattle.xcp_bank.specs.BankId.{buffer_words, image_bytes};
 ghost use Rattle.xcp_bank.specs.BankEnds.{AcquireDoes, FollowsTold, Holds, HoldsNumber, IsRun, KnowsMore, LeavesBy, ReadDoes, ReaderDoes, TellsTaken, image_held, reader_end, words_in};
 
-use crate::IMAGE_BYTES;
 use crate::acquiring::acquire_at;
 use crate::left::Left;
-use crate::reading::read_at;
-use crate::table::{Board, IMAGE_WORDS, Token, read_word, unpin_for_good};
+use crate::reading::{read_at, read_number};
+use crate::table::{Board, Token, image_size, unpin_for_good};
 use crate::taken::Taken;
 use crate::writer::Writer;
 use std::marker::Model;
@@ -43,7 +43,7 @@ impl Model for Reader {
 impl Reader {
     /// The reader for which this seat stands. It holds nothing.
     pub(crate) fn new(board: Arc<Board>, seat: Token) -> Reader
-        requires { (r : ℕ) × (words : List ℕ) × (length words ≡ 256) × IsReaderSeat seat (arc_value board) r (starting words) }
+        requires { (r : ℕ) × (words : List ℕ) × (length words ≡ (arc_value board).slots) × IsReaderSeat seat (arc_value board) r (starting words) }
         ensures { (r : ℕ) (words : List ℕ) → IsReaderSeat seat (arc_value board) r (starting words) → result ≡ reader_end (arc_value board) r (starting words) }
     {
         Reader {
@@ -80,13 +80,20 @@ impl Reader {
         self.held.is_some()
     }
 
+    /// How many bytes each image of its bank has.
+    pub fn size(&self) -> usize
+        ensures { result ≡ image_bytes self.now.bank }
+    {
+        image_size(&self.board)
+    }
+
     /// Reads the bytes of the held image from `at` on, as many as `out` has. What it holds and has seen stays.
     ///
-    /// One step for each word of 8 bytes that they lie in, so 255 for the whole image; for no bytes one step
-    /// where `at` is inside a word, and else none.
+    /// One step for each word of 8 bytes that they lie in; for no bytes one step where `at` is inside a word,
+    /// and else none.
     pub fn read(&mut self, at: usize, out: &mut [u8])
         requires holds { Holds self.old }
-        requires inside { at + length out.old ≤ IMAGE_BYTES }
+        requires inside { at + length out.old ≤ image_bytes self.old.bank }
         ensures bytes { out.new ≡ take (length out.old) (drop at (image_held self.old)) }
         ensures same_reader { (self.new.bank ≡ self.old.bank) × (self.new.index ≡ self.old.index) }
         ensures same { (self.new.held ≡ self.old.held) × (self.new.seen ≡ self.old.seen) }
@@ -109,7 +116,7 @@ impl Reader {
         ensures number { (b p : ℕ) → self.old.held ≡ Some (b, p) → result ≡ p % 18446744073709551616 }
         ensures same_reader { (self.new.bank ≡ self.old.bank) × (self.new.index ≡ self.old.index) }
         ensures same { (self.new.held ≡ self.old.held) × (self.new.seen ≡ self.old.seen) }
-        ensures does { ReadDoes 255 1 self.old self.new }
+        ensures does { ReadDoes (buffer_words self.old.bank - 1) 1 self.old self.new }
         ensures run { IsRun self.new }
         ensures follows { FollowsTold self.old self.new }
         ensures known { (b p : ℕ) → self.old.held ≡ Some (b, p) → p < length self.new.seen }
@@ -120,7 +127,7 @@ impl Reader {
         let Some(buffer) = self.held else {
             unreachable!()
         };
-        read_word(&self.board, seat, buffer, IMAGE_WORDS)
+        read_number(&self.board, seat, buffer)
     }
 
     /// Tells this reader all that was published: two steps, both Looks. What it holds stays.

@@ -1,18 +1,18 @@
 //! The table, the seats and the plays: how each step of the bank changes the words and what is known of them.
 //!
 //! Outside of this module nobody can make a step but by the functions here. Each is one call of the table
-//! on the word that its name says, and by its contract one deed in the history; only `tell_at` is two, and
-//! `open` and `cut` are none.
-ghost use Rattle.std.specs.Prelude.{◌≡◌, ◌≢◌, ℕ, suc, ◌%◌, ◌<◌, List, [], length, slice_index, Some, None, IfOk, true, false};
+//! on the word that its name says, and by its contract one deed in the history; only `tell_at` is two,
+//! `keep_words` is as many as it keeps, and `peek_word`, `open` and `cut` are none.
+ghost use Rattle.std.specs.Prelude.{◌≡◌, ◌≢◌, ℕ, suc, ◌+◌, ◌-◌, ◌*◌, ◌%◌, ◌<◌, ◌≤◌, List, [], length, slice_index, slice_index_or, Some, None, IfOk, true, false};
 ghost use Rattle.std.specs.Arc.{arc_value};
 ghost use Rattle.atomic_table.specs.Table.{opening};
 ghost use Rattle.xcp_bank.specs.SeatKnowledge.{Reading, Writing, starting};
 ghost use Rattle.xcp_bank.specs.private.Everybody.{everybody};
 ghost use Rattle.xcp_bank.specs.TableRule.{Banked};
 ghost use Rattle.xcp_bank.specs.private.ReaderSteps.{GivesUp};
-ghost use Rattle.xcp_bank.specs.private.WriterSteps.{Scanned, WasReset, Written, Published};
+ghost use Rattle.xcp_bank.specs.private.WriterSteps.{Scanned, WasReset, Written, WrittenAgain, Published};
 ghost use Rattle.xcp_bank.specs.private.SeatSplits.{when_joined, when_parted};
-ghost use Rattle.xcp_bank.specs.private.SeatSteps.{IsReaderSeat, IsFirstSeat, IsWriterSeat, ReaderMoves, WriterMoves, PinnedAt, LookedAt, WordReadAt};
+ghost use Rattle.xcp_bank.specs.private.SeatSteps.{IsWide, bytes_in, IsReaderSeat, IsFirstSeat, IsWriterSeat, ReaderMoves, WriterMoves, PinnedAt, LookedAt, WordReadAt};
 
 mod cuts;
 mod reader_steps;
@@ -21,8 +21,8 @@ mod telling;
 mod writer_steps;
 
 use atomic_table::{Seat, Table};
-use pin_core::BUFFERS;
-pub(crate) use rule::{BUFFER_WORDS, IMAGE_WORDS, TABLE_WORDS};
+use pin_core::{BUFFERS, MAX_WORDS};
+pub(crate) use rule::FRONT_WORDS;
 use rule::{PinTable, View};
 use std::alloc::{AllocError, Global};
 use std::marker::Model;
@@ -60,15 +60,29 @@ impl Model for Board {
 /// A new table, with the seat that stands for all.
 pub(crate) fn open(
     alloc: Global,
-    words: &[u64; BUFFER_WORDS],
-    table: &[u64; TABLE_WORDS],
+    words: &Vec<u64>,
+    table: &[u64],
 ) -> Result<(Arc<Board>, Token), AllocError>
-    requires { Banked 256 (opening table.now [] (everybody 6 words.now)) }
-    ensures { IfOk result (λ ends. IsFirstSeat ends.1 (arc_value ends.0) 6 words.now) }
+    requires some { 1 < length words.now.items }
+    requires few { length words.now.items ≤ MAX_WORDS }
+    requires size { length table.now ≡ 9 + 8 * length words.now.items }
+    requires rule { (slots : List (Unit {0})) → Banked (length words.now.items) (opening table.now slots (everybody 6 words.now.items)) }
+    ensures { IfOk result (λ ends. IsFirstSeat ends.1 (arc_value ends.0) 6 words.now.items) }
 {
-    let (table, seat) = Table::of_words(alloc, table, words)?;
+    // (The slots hold nothing and have no bytes. A step is told how many there are: as many as a buffer has words.)
+    let slots = vec![in alloc; (); words.len()]?;
+    let Ok((table, seat)) = Table::new(alloc, table, slots, words) else {
+        return Err(AllocError);
+    };
     let board = Arc::new(alloc, Board { table })?;
     Ok((board, Token { seat }))
+}
+
+/// How many words a buffer has.
+pub(crate) fn width(board: &Board) -> usize
+    ensures { result ≡ board.now.slots }
+{
+    board.table.slot_count()
 }
 
 /// Cuts off the seat of the last reader that the first seat stands for.
@@ -100,7 +114,7 @@ pub(crate) fn pin(board: &Board, token: &mut Token) -> usize
 pub(crate) fn unpin(board: &Board, token: &mut Token, buffer: usize)
     requires buffer { buffer < BUFFERS }
     requires seat { (r : ℕ) × (x : Reading) × IsReaderSeat token.old board.now r x × (p : ℕ) × (x.pins.held ≡ Some (buffer, p)) × (x.pins.looked ≢ buffer) }
-    ensures { ReaderMoves (GivesUp 256 false) token.old token.new board.now }
+    ensures { ReaderMoves (λ W. GivesUp W false) token.old token.new board.now }
 {
     reader_steps::unpin(&board.table.shared, &mut token.seat, buffer);
 }
@@ -109,26 +123,50 @@ pub(crate) fn unpin(board: &Board, token: &mut Token, buffer: usize)
 pub(crate) fn unpin_for_good(board: &Board, token: &mut Token, buffer: usize)
     requires buffer { buffer < BUFFERS }
     requires seat { (r : ℕ) × (x : Reading) × IsReaderSeat token.old board.now r x × (p : ℕ) × (x.pins.held ≡ Some (buffer, p)) }
-    ensures { ReaderMoves (GivesUp 256 true) token.old token.new board.now }
+    ensures { ReaderMoves (λ W. GivesUp W true) token.old token.new board.now }
 {
     reader_steps::unpin_for_good(&board.table.shared, &mut token.seat, buffer);
 }
 
-/// Read: word k of what the reader holds.
-pub(crate) fn read_word(board: &Board, token: &mut Token, buffer: usize, k: usize) -> u64
+/// How many bytes an image has.
+pub(crate) fn image_size(board: &Board) -> usize
+    requires { IsWide board.now }
+    ensures { result ≡ bytes_in board.now }
+{
+    8 * (width(board) - 1)
+}
+
+/// Where the words of a buffer begin in the table.
+pub(crate) fn buffer_at(board: &Board, buffer: usize) -> usize
     requires buffer { buffer < BUFFERS }
-    requires word { k < BUFFER_WORDS }
+    requires wide { IsWide board.now }
+    ensures { result ≡ 9 + buffer * board.now.slots }
+{
+    FRONT_WORDS + buffer * width(board)
+}
+
+/// Read: word k of what the reader holds, whose words begin at `base`.
+pub(crate) fn read_word(
+    board: &Board,
+    token: &mut Token,
+    buffer: usize,
+    base: usize,
+    k: usize,
+) -> u64
+    requires buffer { buffer < BUFFERS }
+    requires base { base ≡ 9 + buffer * board.now.slots }
+    requires word { k < board.now.slots }
     requires seat { (r : ℕ) × (x : Reading) × IsReaderSeat token.old board.now r x × (p : ℕ) × (x.pins.held ≡ Some (buffer, p)) }
     ensures { ReaderMoves (WordReadAt buffer k result) token.old token.new board.now }
 {
-    reader_steps::read_word(&board.table.shared, &mut token.seat, buffer, k)
+    reader_steps::read_word(&board.table.shared, &mut token.seat, buffer, base, k)
 }
 
 /// Scan: how many pins of a buffer were given back.
 pub(crate) fn scan(board: &Board, token: &mut Token, buffer: usize) -> u64
     requires buffer { buffer < BUFFERS }
     requires seat { (w : Writing) × IsWriterSeat token.old board.now w × (w.pins.building ≡ None) × (buffer ≢ w.current) }
-    ensures { WriterMoves (λ w u. Scanned 256 buffer w result u) token.old token.new board.now }
+    ensures { WriterMoves (λ W w u. Scanned W buffer w result u) token.old token.new board.now }
 {
     writer_steps::scan(&board.table.shared, &mut token.seat, buffer)
 }
@@ -137,26 +175,64 @@ pub(crate) fn scan(board: &Board, token: &mut Token, buffer: usize) -> u64
 pub(crate) fn reset(board: &Board, token: &mut Token, buffer: usize)
     requires buffer { buffer < BUFFERS }
     requires seat { (w : Writing) × IsWriterSeat token.old board.now w × (w.pins.quiet ≡ Some buffer) }
-    ensures { WriterMoves (λ w u. WasReset buffer w 0 u) token.old token.new board.now }
+    ensures { WriterMoves (λ _ w u. WasReset buffer w 0 u) token.old token.new board.now }
 {
     writer_steps::reset(&board.table.shared, &mut token.seat, buffer);
 }
 
-/// Write: the next word of the buffer that is built.
-pub(crate) fn put_word(board: &Board, token: &mut Token, buffer: usize, k: usize, word: u64)
+/// Write: the next word of the buffer that is built. A word of the image is written only where another one stands.
+pub(crate) fn put_word(
+    board: &Board,
+    token: &mut Token,
+    buffer: usize,
+    base: usize,
+    k: usize,
+    word: u64,
+)
     requires buffer { buffer < BUFFERS }
-    requires word { k < BUFFER_WORDS }
+    requires base { base ≡ 9 + buffer * board.now.slots }
+    requires word { k < board.now.slots }
+    requires differs { (w : Writing) → IsWriterSeat token.old board.now w → k + 1 < board.now.slots → slice_index (slice_index_or w.words buffer []) k ≢ word }
     requires seat { (w : Writing) × IsWriterSeat token.old board.now w × (w.pins.building ≡ Some buffer) × (length w.pins.written ≡ k) }
-    ensures { WriterMoves (λ w u. Written word w word u) token.old token.new board.now }
+    ensures { WriterMoves (λ _ w u. Written word w word u) token.old token.new board.now }
 {
-    writer_steps::put_word(&board.table.shared, &mut token.seat, buffer, k, word);
+    writer_steps::put_word(&board.table.shared, &mut token.seat, buffer, base, k, word);
+}
+
+/// The word k that stands in a buffer: a load that is no event, since nobody else writes words.
+pub(crate) fn peek_word(
+    board: &Board,
+    token: &mut Token,
+    buffer: usize,
+    base: usize,
+    k: usize,
+) -> u64
+    requires buffer { buffer < BUFFERS }
+    requires base { base ≡ 9 + buffer * board.now.slots }
+    requires word { k < board.now.slots }
+    requires seat { (w : Writing) × IsWriterSeat token.old board.now w }
+    ensures { WriterMoves (λ _ w u. (u ≡ w) × (result ≡ slice_index (slice_index_or w.words buffer []) k)) token.old token.new board.now }
+{
+    writer_steps::peek_word(&board.table.shared, &mut token.seat, buffer, base, k)
+}
+
+/// Writes of the next words, before word `to` of the buffer that is built, each of the word that stands there
+/// already. No word changes, so one load notes them all.
+pub(crate) fn keep_words(board: &Board, token: &mut Token, buffer: usize, base: usize, to: usize)
+    requires buffer { buffer < BUFFERS }
+    requires base { base ≡ 9 + buffer * board.now.slots }
+    requires word { to < board.now.slots }
+    requires seat { (w : Writing) × IsWriterSeat token.old board.now w × (w.pins.building ≡ Some buffer) × (length w.pins.written ≤ to) }
+    ensures { WriterMoves (λ _ w u. WrittenAgain (to - length w.pins.written) w u) token.old token.new board.now }
+{
+    writer_steps::keep_words(&board.table.shared, &mut token.seat, buffer, base, to);
 }
 
 /// Publish: the buffer that was built is current from now on. Answers how many pins the old current one got.
 pub(crate) fn swap_in(board: &Board, token: &mut Token, buffer: usize) -> u64
     requires buffer { buffer < BUFFERS }
-    requires seat { (w : Writing) × IsWriterSeat token.old board.now w × (w.pins.building ≡ Some buffer) × (length w.pins.written ≡ BUFFER_WORDS) × (slice_index w.pins.written 255 ≡ length w.pins.publications % 18446744073709551616) × (w.current < BUFFERS) }
-    ensures { WriterMoves (λ w u. (n : ℕ) × (p : Published 256 buffer w n u) × (result ≡ p.count)) token.old token.new board.now }
+    requires seat { (w : Writing) × IsWriterSeat token.old board.now w × (w.pins.building ≡ Some buffer) × (length w.pins.written ≡ board.now.slots) × (slice_index w.pins.written (board.now.slots - 1) ≡ length w.pins.publications % 18446744073709551616) × (w.current < BUFFERS) }
+    ensures { WriterMoves (λ W w u. (n : ℕ) × (p : Published W buffer w n u) × (result ≡ p.count)) token.old token.new board.now }
 {
     writer_steps::swap_in(&board.table.shared, &mut token.seat, buffer)
 }

@@ -4,14 +4,13 @@ ghost use Rattle.xcp_bank.specs.SeatKnowledge.{Reading, Writing, beginning};
 ghost use Rattle.std.specs.Arc.{arc_value};
 ghost use Rattle.xcp_bank.specs.private.SeatSplits.{when_joined, when_parted};
 ghost use Rattle.xcp_bank.specs.private.SeatSteps.{IsReaderSeat, IsWriterSeat};
+ghost use Rattle.xcp_bank.specs.BankId.{image_bytes};
 ghost use Rattle.xcp_bank.specs.Images.{image_of};
 ghost use Rattle.xcp_bank.specs.BankEnds.{writer_end, HeldDoes, PublishDoes};
 
-use crate::IMAGE_BYTES;
 use crate::holding::count_held;
 use crate::publishing::publish_at;
-use crate::table::{Board, Token, tell_at};
-use crate::words::words_of;
+use crate::table::{Board, Token, image_size, tell_at};
 use pin_core::BUFFERS;
 use std::marker::Model;
 use std::sync::Arc;
@@ -56,21 +55,23 @@ impl Writer {
         }
     }
 
-    /// Publishes an image: readers that acquire from now on take it.
+    /// Publishes an image: readers that acquire from now on take it. It has as many bytes as `size` tells.
     ///
-    /// One pass over its words, and at most nine steps beside, however many readers there are.
-    pub fn publish(&mut self, image: &[u8; IMAGE_BYTES])
+    /// One pass over its words: a load of the word that stands in the buffer; where it differs two steps more, of
+    /// which one stores the word. Beside them at most eleven steps, however many readers there are.
+    pub fn publish(&mut self, image: &[u8])
+        requires { length image.now ≡ image_bytes self.old.bank }
         ensures same_bank { self.new.bank ≡ self.old.bank }
         ensures appended { self.new.publications ≡ self.old.publications ++ image.now ∷ [] }
         ensures does { (words : List ℕ) × (image_of words ≡ image.now) × PublishDoes words self.old self.new }
     {
-        let words = words_of(image, self.count);
         publish_at(
             &self.board,
             &mut self.seat,
             &mut self.current,
             &mut self.started,
-            &words,
+            image,
+            self.count,
         );
         self.count = self.count.wrapping_add(1);
     }
@@ -93,6 +94,13 @@ impl Writer {
         ensures { result ≡ length self.now.publications % 18446744073709551616 }
     {
         self.count
+    }
+
+    /// How many bytes each image of this bank has.
+    pub fn size(&self) -> usize
+        ensures { result ≡ image_bytes self.now.bank }
+    {
+        image_size(&self.board)
     }
 
     /// Tells the reader for which this seat stands all that was published. Nothing changes for the writer.

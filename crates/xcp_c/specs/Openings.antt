@@ -1,6 +1,7 @@
 -- What a C program opens.
 use Rattle.std.specs.Str.{IsUtf8}
 use Rattle.std.specs.Prelude.{◌≡◌, ◌⊎◌, ℕ, List, [], ◌∷◌, ◌++◌, Option, Some, None}
+use Rattle.xcp_bank.specs.BankId.{image_bytes}
 use Rattle.xcp_bank.specs.BankEnds.{ReaderEnd, new_writer, six_readers}
 use Rattle.xcp_controller.specs.ControllerValue.{ControllerValue, image_of}
 use Rattle.xcp_config.specs.ConfigText.{HasFault, HasLayout, IsNoDocument}
@@ -10,12 +11,13 @@ use Rattle.xcp_memory.specs.Layout.{LayoutValue}
 use Rattle.xcp_slave.specs.SlaveValue.{opening}
 use Rattle.xcp_c.specs.Held.{IsOpen}
 
--- What an opening gives: a slave with this layout at its opening, whose image is published, and six readers to be taken, which
--- hold nothing.
+-- What an opening gives: a slave with this layout at its opening, whose image of 2,040 bytes is published, and six readers to be
+-- taken, which hold nothing.
 pub record IsOpening (l : LayoutValue) (slave : Option ControllerValue) : Type 0 where
   pub value : ControllerValue
   pub is : slave ≡ Some value
   pub opened : value.slave ≡ opening l
+  pub size : image_bytes value.writer.bank ≡ 2040
   pub writer : value.writer ≡ new_writer value.writer.bank (image_of (opening l))
   pub six : value.spare ≡ six_readers value.writer.bank (image_of (opening l))
 
@@ -38,13 +40,14 @@ OpensBy text n old new =
     ((n ≡ 0) × (old ≡ None) × IsOpened text new)
     ⊎ ((IsFaultOf text n ⊎ ((n ≡ 10) × IsOpen old)) × (new ≡ old))
 
--- This reader, which nobody had taken, is taken, and the slave is as it was.
+-- This reader of images of 2,040 bytes, which nobody had taken, is taken, and the slave is as it was.
 pub record Takes (old new : Option ControllerValue) (taken : ReaderEnd) : Type 0 where
   pub before : ControllerValue
   pub after : ControllerValue
   pub was : old ≡ Some before
   pub is : new ≡ Some after
   pub from : before.spare ≡ after.spare ++ taken ∷ []
+  pub size : image_bytes taken.bank ≡ 2040
   pub same : (after.slave ≡ before.slave) × (after.writer ≡ before.writer)
 
 -- a slave, each of whose readers was taken

@@ -1,5 +1,6 @@
 -- What a task in C does with a reader.
 use Rattle.std.specs.Prelude.{◌≡◌, ◌↔◌, ◌⊎◌, ℕ, ◌+◌, ◌-◌, ◌/◌, ◌%◌, ◌<◌, List, [], length, take, drop, Option, Some, None}
+use Rattle.xcp_bank.specs.BankId.{buffer_words, image_bytes}
 use Rattle.xcp_bank.specs.BankEnds.{AcquireDoes, FollowsTold, Holds, HoldsNumber, IsRun, KnowsMore, ReadDoes, ReaderEnd, TellsTaken, image_held, words_in}
 use mathlib.Core.List.{IsPrefix}
 use Rattle.xcp_bank.specs.SeatKnowledge.{AllBegin}
@@ -43,7 +44,7 @@ pub record Numbered (n : ℕ) (old new : Option ReaderEnd) : Type 0 where
   pub known : (b p : ℕ) → before.held ≡ Some (b, p) → p < length after.seen
   pub same_reader : (after.bank ≡ before.bank) × (after.index ≡ before.index)
   pub same : (after.held ≡ before.held) × (after.seen ≡ before.seen)
-  pub does : ReadDoes 255 1 before after
+  pub does : ReadDoes (buffer_words before.bank - 1) 1 before after
   pub run : IsRun after
   pub follows : FollowsTold before after
 
@@ -53,4 +54,4 @@ HoldsNothing reader = (reader ≡ None) ⊎ ((x : ReaderEnd) × (reader ≡ Some
 
 -- No reader, or one that holds nothing, or bytes that are not all in an image.
 abbrev pub CanNotRead : ℕ → ℕ → Option ReaderEnd → Type 0
-CanNotRead at n reader = (reader ≡ None) ⊎ ((x : ReaderEnd) × (reader ≡ Some x) × (¬ Holds x ⊎ (2040 < at + n)))
+CanNotRead at n reader = (reader ≡ None) ⊎ ((x : ReaderEnd) × (reader ≡ Some x) × (¬ Holds x ⊎ (image_bytes x.bank < at + n)))

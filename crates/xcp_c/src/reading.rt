@@ -1,5 +1,6 @@
 //! What a task in C calls of a reader, under no lock.
 ghost use Rattle.std.specs.Prelude.{◌≡◌, ◌+◌, ◌<◌, ◌≤◌, ◌⊎◌, IsTrue, None, false, length};
+ghost use Rattle.xcp_bank.specs.BankId.{image_bytes};
 ghost use Rattle.xcp_bank.specs.BankEnds.{Holds};
 ghost use Rattle.xcp_bank.specs.declared.taken.Taken.TheVariants.{Newer, Same};
 ghost use Rattle.xcp_c.specs.Readers.{Acquired, CanNotRead, HoldsNothing, Numbered, Reads};
@@ -7,7 +8,7 @@ ghost use Rattle.xcp_c.specs.Readers.{Acquired, CanNotRead, HoldsNothing, Number
 use crate::reader_handle::ReaderHandle;
 use std::alloc::Global;
 use std::mem;
-use xcp_bank::{IMAGE_BYTES, Reader, Taken};
+use xcp_bank::{Reader, Taken};
 
 /// Takes the current image, where the one held isn't current any more: true where it is a newer one, and
 /// false where it is the same, or where the handle owns no reader.
@@ -57,10 +58,10 @@ pub extern "C" fn xcp_read(
 
 /// Whether the reader holds an image that has this many bytes from `at` on.
 fn can_read(reader: &Reader, at: usize, count: usize) -> bool
-    ensures yes { IsTrue result → Holds reader.now × (at + count ≤ 2040) }
-    ensures no { result ≡ false → ¬ Holds reader.now ⊎ (2040 < at + count) }
+    ensures yes { IsTrue result → Holds reader.now × (at + count ≤ image_bytes reader.now.bank) }
+    ensures no { result ≡ false → ¬ Holds reader.now ⊎ (image_bytes reader.now.bank < at + count) }
 {
-    reader.holds() && at <= IMAGE_BYTES && count <= IMAGE_BYTES - at
+    reader.holds() && at <= reader.size() && count <= reader.size() - at
 }
 
 /// The number of the held publication, from 0, modulo 2^64: it tells which of two images is the newer.

@@ -22,7 +22,7 @@ pub struct Hearing<'a, N: Name, T: HasSlave<N>, S: Station + Drop, I: Read + Dro
     pub lock: &'a Mutex<T>,
     pub station: S,
     pub reader: Watched<I>,
-    /// Who knows whether the stream goes on where it has ended.
+    /// Who knows whether the stream goes on where it has ended, and tells the reader where it stands.
     pub passages: P,
     pub replies: ReplyEnd,
     pub stop: &'a AtomicBool,
@@ -129,7 +129,7 @@ fn hear<S: Station, I: Read, P: Passages<I>, R: Wait>(
     ensures side { replies.new.end.side ≡ replies.old.end.side }
 {
     for _passage in rt.forever() {
-        let outcome = hear_passage(alloc, reader, replies, station, max_cto, turns);
+        let outcome = hear_passage(alloc, reader, passages, replies, station, max_cto, turns);
         if outcome.is_err() {
             return outcome;
         }
@@ -141,9 +141,10 @@ fn hear<S: Station, I: Read, P: Passages<I>, R: Wait>(
 }
 
 /// Answers the frames of one passage.
-fn hear_passage<S: Station, I: Read, R: Wait>(
+fn hear_passage<S: Station, I: Read, P: Passages<I>, R: Wait>(
     alloc: Global,
     reader: &mut Watched<I>,
+    passages: &P,
     replies: &mut WaitingEnd<'_, Replies, R>,
     station: &mut S,
     max_cto: u8,
@@ -156,5 +157,5 @@ fn hear_passage<S: Station, I: Read, R: Wait>(
     ensures outlet { replies.new.end.outlet ≡ replies.old.end.outlet }
     ensures side { replies.new.end.side ≡ replies.old.end.side }
 {
-    serve_by(alloc, reader, replies, station, max_cto, turns)
+    serve_by(alloc, reader, passages, replies, station, max_cto, turns)
 }

@@ -1,1 +1,2 @@
 pub mod KeptImageLemmas
+pub mod SpareLemmas

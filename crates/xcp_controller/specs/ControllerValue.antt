@@ -1,6 +1,7 @@
 -- A slave and its bank's writer, as contracts see them.
 use Rattle.std.specs.Prelude.{◌≡◌, ◌≢◌, ◌⊎◌, ℕ, List, [], ◌∷◌, ◌++◌}
 use Rattle.arrayvec.specs.ArrayVec.{ArrayVec}
+use Rattle.xcp_bank.specs.BankId.{image_bytes}
 use Rattle.xcp_bank.specs.BankEnds.{ReaderEnd, WriterEnd}
 use Rattle.xcp_memory.specs.EcuImage.{ecu_image}
 use Rattle.xcp_slave.specs.SlaveValue.{SlaveValue}
@@ -12,6 +13,10 @@ pub record ControllerValue : Type 0 where
   pub spare : List ReaderEnd
   -- the packet that is lent to the slave
   pub lent : ArrayVec ℕ
+
+-- a reader of images of 2,040 bytes
+abbrev pub ReadsImages : ReaderEnd → Type 0
+ReadsImages r = image_bytes r.bank ≡ 2040
 
 -- the controller's image of a slave
 abbrev pub image_of : SlaveValue → List ℕ

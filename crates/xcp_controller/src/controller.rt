@@ -1,5 +1,6 @@
 //! A slave, and the bank in which its images are published.
 ghost use Rattle.std.specs.Prelude.{◌≡◌, ◌≤◌, [], ◌∷◌, ◌++◌, IfOk, IfSome, None, length};
+ghost use Rattle.xcp_bank.specs.BankId.{image_bytes};
 ghost use Rattle.xcp_bank.specs.BankEnds.{new_writer, six_readers, HeldDoes};
 ghost use Rattle.xcp_slave.specs.AnswerInBytes.{answer_in};
 ghost use Rattle.xcp_slave.specs.AskedRequest.{IsShort, request_asked};
@@ -33,21 +34,24 @@ pub struct Controller {
 }
 
 impl Model for Controller {
+    ghost use Rattle.std.specs.List.{AllByRecursion};
     ghost use Rattle.std.specs.Prelude.{◌≡◌, map};
-    ghost use Rattle.xcp_controller.specs.ControllerValue.{ControllerValue, IsPublished, image_of};
+    ghost use Rattle.xcp_bank.specs.BankId.{image_bytes};
+    ghost use Rattle.xcp_controller.specs.ControllerValue.{ControllerValue, IsPublished, ReadsImages, image_of};
 
     ghost Value = { ControllerValue };
 
     ghost view = { λ c. record { slave = c.slave; writer = c.writer; spare = map (λ b. b.value) c.spare.items; lent = c.lent } };
 
-    ghost invariant = { λ c. (c.last ≡ image_of c.slave) × IsPublished c.slave c.writer };
+    ghost invariant = { λ c. (c.last ≡ image_of c.slave) × IsPublished c.slave c.writer × (image_bytes c.writer.bank ≡ 2040) × AllByRecursion ReadsImages (map (λ b. b.value) c.spare.items) };
 }
 
 impl Controller {
-    /// A slave with this layout at its opening, whose image is published, with six readers to be taken,
-    /// which hold nothing.
+    /// A slave with this layout at its opening, whose image of 2,040 bytes is published, with six readers to
+    /// be taken, which hold nothing.
     pub fn open(alloc: Global, layout: Layout) -> Result<Controller, AllocError>
         ensures slave { IfOk result (λ c. c.slave ≡ opening layout) }
+        ensures size { IfOk result (λ c. image_bytes c.writer.bank ≡ IMAGE_BYTES) }
         ensures writer { IfOk result (λ c. c.writer
             ≡ new_writer c.writer.bank (image_of (opening layout))) }
         ensures spare { IfOk result (λ c. c.spare
@@ -67,9 +71,10 @@ impl Controller {
     }
 
     /// Takes one of the readers that nobody has taken yet, the last one first. There is none once six
-    /// were taken.
+    /// were taken. It reads images of 2,040 bytes.
     pub fn take_reader(&mut self) -> Option<Box<Reader>>
         ensures some { IfSome result (λ r. self.old.spare ≡ self.new.spare ++ r.value ∷ []) }
+        ensures size { IfSome result (λ r. image_bytes r.value.bank ≡ IMAGE_BYTES) }
         ensures none { result ≡ None → (self.old.spare ≡ []) × (self.new.spare ≡ []) }
         ensures same { (self.new.slave ≡ self.old.slave) × (self.new.writer ≡ self.old.writer) × (self.new.lent ≡ self.old.lent) }
     {
@@ -141,7 +146,8 @@ impl Controller {
 /// Publishes the image that the slave has after this request, if it isn't the one published last. A
 /// request that never changes the image costs nothing.
 fn publish(writer: &mut Writer, last: &mut [u8; IMAGE_BYTES], slave: &Slave, asked: Asked<'_>)
-    requires { (before : SlaveValue) × (answer : Answer)
+    requires size { image_bytes writer.old.bank ≡ IMAGE_BYTES }
+    requires last { (before : SlaveValue) × (answer : Answer)
         × Answers before (request_asked asked) answer slave.now × (last.old ≡ image_of before) }
     ensures { Offers (image_of slave.now) last.old last.new writer.old writer.new }
 {
@@ -155,6 +161,7 @@ fn publish(writer: &mut Writer, last: &mut [u8; IMAGE_BYTES], slave: &Slave, ask
 /// room for the image would then be part of each request's stack.
 #[inline(never)]
 fn offer(writer: &mut Writer, last: &mut [u8; IMAGE_BYTES], slave: &Slave)
+    requires { image_bytes writer.old.bank ≡ IMAGE_BYTES }
     ensures { Offers (image_of slave.now) last.old last.new writer.old writer.new }
 {
     let mut image = [0; IMAGE_BYTES];

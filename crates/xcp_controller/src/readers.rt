@@ -1,5 +1,6 @@
 //! The readers of a bank, each in a box of its own.
 ghost use Rattle.std.specs.Prelude.{◌≡◌, ◌++◌, map, IfOk};
+ghost use Rattle.xcp_bank.specs.BankId.{image_bytes};
 ghost use Rattle.xcp_bank.specs.BankEnds.{new_writer, six_readers};
 
 use std::alloc::{AllocError, Global};
@@ -11,7 +12,8 @@ pub(crate) fn boxed_bank(
     image: &[u8; IMAGE_BYTES],
 ) -> Result<(Writer, Vec<Box<Reader>>), AllocError>
     ensures { IfOk result (λ r. (r.0 ≡ new_writer r.0.bank image.now)
-        × (map (λ b. b.value) r.1.items ≡ six_readers r.0.bank image.now)) }
+        × (map (λ b. b.value) r.1.items ≡ six_readers r.0.bank image.now)
+        × (image_bytes r.0.bank ≡ IMAGE_BYTES)) }
 {
     let (writer, readers) = Bank::new(alloc, image)?;
     let spare = boxed(alloc, Vec::from_array(alloc, readers)?)?;

@@ -4,6 +4,7 @@ pub mod AnsweredStream
 pub mod FramesAnswered
 pub mod GrowingOutput
 pub mod HeldPump
+pub mod KnownPlace
 pub mod MissingBytes
 pub mod MostPackets
 pub mod PutOutput

@@ -1,15 +1,18 @@
 //! The packets of a stream, answered one after another, whatever answers them.
 ghost use Rattle.std.specs.Prelude.{◌≡◌, ◌<◌, ◌≤◌, ◌+◌, ◌*◌, ◌^◌, ◌++◌, [], ◌∷◌, ℕ, List, Result, OnOk, IfOk, IfErr, length, Ok, Err};
 ghost use Rattle.xcp_framing.specs.Frames.{frames, rest};
-ghost use Rattle.xcp_framing.specs.CountedCalls.{EachRead, place_of};
+ghost use Rattle.xcp_framing.specs.CountedCalls.{Counted, EachRead, Gives, is_failed_read, place_of};
 ghost use Rattle.xcp_framing.specs.Serve.{EndsReader, IsStreamRead, ReadsWithin};
 ghost use Rattle.xcp_framing.specs.ServeParts.{IsInterruption};
+ghost use Rattle.std.specs.Io.{ReadsAtMost};
+ghost use Rattle.std.specs.Io.KnownBytes.{ReadConsumes};
+ghost use Rattle.xcp_framing.specs.private.KnownPlace.{KnowsPlace};
 ghost use Rattle.xcp_framing.specs.private.MostPackets.{most_packets};
 ghost use Rattle.xcp_framing.specs.private.GrowingOutput.{EndsPiece};
 ghost use Rattle.xcp_framing.specs.private.AnsweredStream.{JoinsHandingOn, JoinsPackets, Stand, Streams, outcome};
 
-use crate::{Brought, Framer, ServeError, Served, Watched};
-use std::io::Read;
+use crate::{Brought, Framer, Passages, ServeError, Served, Watched};
+use std::io::{self, Read};
 use xcp_packet::Packet;
 
 /// The most bytes that one read takes.
@@ -99,11 +102,48 @@ fn answer_piece<A: Answerer<S, K, O>, S, K, O>(
     }
 }
 
+/// One read of a stream, by a reader that was told whether the read begins inside a frame: there, of what the framer holds, bytes are
+/// still to come.
+fn read_there<R: Read, P: Passages<R>>(
+    reader: &mut Watched<R>,
+    _framer: &Framer,
+    buffer: &mut [u8],
+) -> io::Result<usize>
+    requires knows { KnowsPlace P.Passages.knows reader.old.inner _framer.now.held }
+    ensures bound { ReadsAtMost result buffer.new }
+    ensures bytes { ReadConsumes
+        (R.remaining reader.old.inner) (R.remaining reader.new.inner) result buffer.new }
+    ensures counted { Counted reader.old reader.new (is_failed_read result) }
+    ensures gives { Gives result buffer.new reader.old reader.new }
+    ensures asked { reader.new.asked ≡ reader.old.asked ++ length buffer.old ∷ [] }
+{
+    reader.read(buffer)
+}
+
+/// The next read of a stream, whose reader is told where that begins.
+fn read_next<R: Read, P: Passages<R>>(
+    reader: &mut Watched<R>,
+    passages: &P,
+    framer: &Framer,
+    buffer: &mut [u8],
+) -> io::Result<usize>
+    ensures bound { ReadsAtMost result buffer.new }
+    ensures bytes { ReadConsumes
+        (R.remaining reader.old.inner) (R.remaining reader.new.inner) result buffer.new }
+    ensures counted { Counted reader.old reader.new (is_failed_read result) }
+    ensures gives { Gives result buffer.new reader.old reader.new }
+    ensures asked { reader.new.asked ≡ reader.old.asked ++ length buffer.old ∷ [] }
+{
+    reader.stand(passages, framer.inside());
+    read_there::<R, P>(reader, framer, buffer)
+}
+
 /// Answers a stream of frames, packet by packet, until the reader ends. Each turn is one read into
 /// the buffer that is lent, of at most `turns` turns. What is held back is handed on before the next
 /// read and before any return.
-pub(crate) fn answer_stream<A: Answerer<S, K, O>, S, K, O, R: Read>(
+pub(crate) fn answer_stream<A: Answerer<S, K, O>, S, K, O, R: Read, P: Passages<R>>(
     reader: &mut Watched<R>,
+    passages: &P,
     buffer: &mut [u8],
     station: &mut S,
     state: &mut K,
@@ -130,7 +170,7 @@ pub(crate) fn answer_stream<A: Answerer<S, K, O>, S, K, O, R: Read>(
     let mut command = Packet::new();
     let mut count = 0;
     for _turn in 0..turns {
-        let Ok(length) = reader.read(buffer) else {
+        let Ok(length) = read_next(reader, passages, &framer, buffer) else {
             return Err(ServeError::Read);
         };
         if length == 0 {

@@ -14,7 +14,7 @@ ghost use Rattle.xcp_framing.specs.private.GrowingOutput.{Grows, DrainsSoFar};
 
 use crate::frame_writer::FrameWriter;
 use crate::passage::{Answerer, READ_SIZE, answer_stream};
-use crate::{Station, StationError, Watched};
+use crate::{Station, StationError, Watched, Whole};
 use std::alloc::Global;
 use std::io::{Read, Write};
 use thiserror::Error;
@@ -328,8 +328,9 @@ pub fn serve<R: Read, W: Write, S: Station>(
         frames,
         packet: Packet::new(),
     };
-    answer_stream::<InFrames, S, Sending, Watched<W>, R>(
+    answer_stream::<InFrames, S, Sending, Watched<W>, R, Whole>(
         reader,
+        &Whole,
         &mut buffer,
         station,
         &mut state,

@@ -7,7 +7,7 @@ ghost use Rattle.xcp_framing.specs.ServeBy.{CommandNext, ServesBy};
 
 use crate::gathering::{gather_told, hand_on, make_room};
 use crate::passage::{Answerer, READ_SIZE, answer_stream};
-use crate::{Batch, End, ServeError, Served, Station, StationError, Watched};
+use crate::{Batch, End, Passages, ServeError, Served, Station, StationError, Watched};
 use std::alloc::Global;
 use std::io::Read;
 use xcp_packet::Packet;
@@ -61,14 +61,16 @@ impl<S: Station, E: End> Answerer<S, Putting, E> for ByCommand {
 /// Answers a stream of frames as `serve` does, but without `Drain`: the packets of the answers are
 /// put at an end, for another thread to send. They are gathered in a batch, which is put before the
 /// next read, before any return, and where it has no room for the packets of one more answer. Its
-/// memory is taken before anything is done, and that of the next one before a batch is put.
+/// memory is taken before anything is done, and that of the next one before a batch is put. Before
+/// each read the reader is told whether it begins inside a frame.
 ///
 /// `sent` counts the packets put. A batch that is handed back ends the call with `Write`. One that
 /// wants memory for its packets, or for its successor, ends it with `NoRoom`. Its packets weren't put,
 /// and none behind them.
-pub fn serve_by<R: Read, S: Station, E: End>(
+pub fn serve_by<R: Read, P: Passages<R>, S: Station, E: End>(
     alloc: Global,
     reader: &mut Watched<R>,
+    passages: &P,
     end: &mut E,
     station: &mut S,
     max_cto: u8,
@@ -98,8 +100,9 @@ pub fn serve_by<R: Read, S: Station, E: End>(
         return Err(ServeError::Memory);
     }
     let mut state = Putting { sent: 0, batch };
-    answer_stream::<ByCommand, S, Putting, E, R>(
+    answer_stream::<ByCommand, S, Putting, E, R, P>(
         reader,
+        passages,
         &mut buffer,
         station,
         &mut state,

@@ -64,6 +64,16 @@ impl<T> Watched<T> {
 }
 
 impl<R: Read> Watched<R> {
+    /// Tells the inner reader whether its next read begins inside a frame. That is no read.
+    pub fn stand<P: Passages<R>>(&mut self, passages: &P, inside: bool)
+        ensures place { place_of R.remaining self.new ≡ place_of R.remaining self.old }
+        ensures calls { (self.new.calls ≡ self.old.calls) × (self.new.failures ≡ self.old.failures) }
+        ensures asked { self.new.asked ≡ self.old.asked }
+        ensures knows { P.Passages.knows self.new.inner inside }
+    {
+        passages.stand(&mut self.inner, inside);
+    }
+
     /// Whether another passage of its stream begins behind the end that was just read. That is no read.
     pub fn begin_again<P: Passages<R>>(&mut self, passages: &P) -> bool
         ensures place { place_of R.remaining self.new ≡ place_of R.remaining self.old }

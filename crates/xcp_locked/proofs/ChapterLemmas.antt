@@ -71,6 +71,7 @@ kept_cut bank v w base xs none p q run k t empty is =
       few = omega arith;
       last = t.last ∙ k.last;
       named = ap (λ z. z.bank) t.writer ∙ k.named;
+      size = k.size;
     }
 
 -- a chapter publishes at most as often as it has calls

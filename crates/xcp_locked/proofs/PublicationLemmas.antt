@@ -1,7 +1,7 @@
 -- What is published of a run that is one exchange longer.
 use Rattle.std.proofs.Common.{◌≡◌, ◌≢◌, ℕ, suc, ◌+◌, inl, inr, List, [], ◌∷◌, ◌++◌, length, refl, sym, ap, ◌∙◌, subst, arith, length-append, append_assoc}
 use Rattle.std.proofs.lemmas.List.{length-map, map-append}
-use Rattle.xcp_bank.specs.BankId.{BankId}
+use Rattle.xcp_bank.specs.BankId.{BankId, image_bytes}
 use Rattle.xcp_bank.specs.BankEnds.{new_writer}
 use Rattle.xcp_slave.specs.declared.Exchange.{Exchange}
 use Rattle.xcp_slave.specs.declared.Request.{Request}
@@ -80,8 +80,8 @@ pub published_first : (v : SlaveValue) → Published v [] (publication 0 (image_
 published_first v = record { states = []; run = refl; changed = []; changes = refl; is = refl }
 
 -- before any call
-pub kept_first : (bank : BankId) (base : SlaveValue) (es : List Entry) (v : SlaveValue) (p : Publisher) → es ≡ [] → v ≡ base → p.writer ≡ new_writer bank (image_of v) → p.places.items ≡ 0 ∷ [] → p.last ≡ image_of v → p.first ≡ 0 → IsKept bank base (exchanges es) v p
-kept_first bank base es v p none is writer places last first = record {
+pub kept_first : (bank : BankId) (base : SlaveValue) (es : List Entry) (v : SlaveValue) (p : Publisher) → es ≡ [] → v ≡ base → p.writer ≡ new_writer bank (image_of v) → p.places.items ≡ 0 ∷ [] → p.last ≡ image_of v → p.first ≡ 0 → image_bytes bank ≡ 2040 → IsKept bank base (exchanges es) v p
+kept_first bank base es v p none is writer places last first size = record {
   list = publication 0 (image_of v) ∷ [];
   published = subst (λ (z : SlaveValue). Published z (exchanges es) (publication 0 (image_of v) ∷ [])) is (subst (λ (z : List Entry). Published v (exchanges z) (publication 0 (image_of v) ∷ [])) (sym none) (published_first v));
   front = [];
@@ -91,6 +91,7 @@ kept_first bank base es v p none is writer places last first = record {
   few = omega arith;
   last = last;
   named = ap (λ z. z.bank) writer;
+  size = size;
 }
 
 -- a journal has as many exchanges as entries
@@ -117,6 +118,7 @@ kept_on bank v xs w x u n p q r run a is writer places last same o k =
         few = omega (arith, few, more);
         last = o.last;
         named = named;
+        size = k.size;
       }
       | inr s ↦ record {
         list = k.list ++ publication n (image_of u) ∷ [];
@@ -128,6 +130,7 @@ kept_on bank v xs w x u n p q r run a is writer places last same o k =
         few = (let l = length-append k.list (publication n (image_of u) ∷ []) in omega (arith, few, more, l));
         last = o.last;
         named = named;
+        size = k.size;
       }
     ]
 

@@ -1,5 +1,6 @@
 //! What lies under the lock: a slave and its journal.
 ghost use Rattle.std.specs.Prelude.{◌≡◌, ◌≢◌, ◌↔◌, ◌⊎◌, ◌+◌, ◌*◌, ◌<◌, ◌≤◌, IfErr, [], ◌∷◌, ◌++◌, length, OnErr, OnOk, IfOk, Err, vec_capacity, vec_len};
+ghost use Rattle.xcp_bank.specs.BankId.{image_bytes};
 ghost use Rattle.xcp_memory.specs.EcuImage.{ecu_image};
 ghost use Rattle.xcp_slave.specs.Run.{Run};
 ghost use Rattle.xcp_slave.specs.Step.{Answers};
@@ -310,6 +311,7 @@ fn execute(
     requires short { IsShort asked }
     requires room { room_for_any_entry ≤ journal.old.room }
     requires room_for_place { vec_len publisher.old.places < vec_capacity publisher.old.places }
+    requires size { image_bytes publisher.old.writer.bank ≡ 2040 }
     requires last { publisher.old.last ≡ image_of slave.old }
     ensures answers { Answers slave.old (request_asked asked.entry) (answer_in result packet.new) slave.new }
     ensures journal { journal.new.entries ≡ journal.old.entries
@@ -326,6 +328,7 @@ fn execute(
 /// request that never changes the image costs nothing.
 fn publish(publisher: &mut Publisher, slave: &Slave, asked: Asked<'_>, place: u64)
     requires room { vec_len publisher.old.places < vec_capacity publisher.old.places }
+    requires size { image_bytes publisher.old.writer.bank ≡ 2040 }
     requires last { (before : SlaveValue) × (answer : Answer)
         × Answers before (request_asked asked) answer slave.now × (publisher.old.last ≡ image_of before) }
     ensures { Offers place (image_of slave.now) publisher.old publisher.new }

@@ -6,6 +6,7 @@ ghost use Rattle.xcp_bank.specs.BankEnds.{new_writer, six_readers};
 ghost use Rattle.xcp_slave.specs.SlaveValue.{layout_of, opening};
 ghost use Rattle.xcp_locked.specs.Caller.{callers_of, fresh_caller};
 ghost use Rattle.xcp_locked.specs.Publications.{image_of};
+ghost use Rattle.xcp_locked.specs.private.OfferedImages.{IsOwnBank};
 
 use crate::chapter::share;
 use crate::publisher::Publisher;
@@ -34,6 +35,7 @@ pub struct Unnamed {
 impl Model for Unnamed {
     ghost use Rattle.std.specs.Prelude.{◌≡◌, ◌≤◌};
     ghost use Rattle.xcp_bank.specs.BankEnds.{new_writer, six_readers};
+    ghost use Rattle.xcp_bank.specs.BankId.{image_bytes};
     ghost use Rattle.xcp_locked.specs.Publications.{image_of};
     ghost use Rattle.xcp_slave.specs.SlaveValue.{layout_of, opening};
     ghost use Rattle.xcp_locked.specs.UnnamedSlave.{UnnamedValue};
@@ -42,7 +44,7 @@ impl Model for Unnamed {
 
     ghost view = { λ u. record { layout = layout_of u.slave; callers = u.callers; name = u.blank.name; bank = u.writer.bank } };
 
-    ghost invariant = { λ u. (u.slave ≡ opening (layout_of u.slave)) × (u.blank.parts ≡ u.callers) × (1 ≤ u.callers) × (u.callers ≤ 16) × (u.image ≡ image_of u.slave) × (u.writer ≡ new_writer u.writer.bank u.image) × (u.readers ≡ six_readers u.writer.bank u.image) };
+    ghost invariant = { λ u. (u.slave ≡ opening (layout_of u.slave)) × (u.blank.parts ≡ u.callers) × (1 ≤ u.callers) × (u.callers ≤ 16) × (u.image ≡ image_of u.slave) × (u.writer ≡ new_writer u.writer.bank u.image) × (u.readers ≡ six_readers u.writer.bank u.image) × (image_bytes u.writer.bank ≡ 2040) };
 }
 
 impl Unnamed {
@@ -216,12 +218,12 @@ fn new_caller<N: Name>(alloc: Global, number: u8, layout: &Layout, share: Share<
 
 /// A new bank's readers, by their opening's name.
 fn name_readers<N: Name>(readers: [xcp_bank::Reader; 6]) -> [Reader<N>; 6]
-    requires { AllByRecursion (λ r. r.bank ≡ N.bank) readers }
+    requires { AllByRecursion (λ r. IsOwnBank N.bank r.bank) readers }
     ensures { result ≡ readers }
 {
     readers.map(
         |reader| -> Reader<N>
-            requires { reader.bank ≡ N.bank }
+            requires { IsOwnBank N.bank reader.bank }
             ensures { result ≡ reader }
         { Reader::new(reader) },
     )

@@ -1,5 +1,6 @@
 //! The images that are published for the readers, each with its place.
 ghost use Rattle.std.specs.Prelude.{◌≡◌, ◌<◌, ◌+◌, ◌-◌, [], ◌∷◌, IfOk, OnErr, OnOk, vec_capacity, vec_len};
+ghost use Rattle.xcp_bank.specs.BankId.{image_bytes};
 ghost use Rattle.xcp_locked.specs.Publications.{image_of};
 ghost use Rattle.xcp_locked.specs.private.OfferedImages.{Offers};
 
@@ -73,7 +74,8 @@ impl Publisher {
 
     /// Publishes the slave's image, if it isn't the one published last. There is room for its place.
     pub(crate) fn offer(&mut self, slave: &Slave, place: u64)
-        requires { vec_len self.old.places < vec_capacity self.old.places }
+        requires room { vec_len self.old.places < vec_capacity self.old.places }
+        requires size { image_bytes self.old.writer.bank ≡ 2040 }
         ensures { Offers place (image_of slave.now) self.old self.new }
     {
         let mut image = [0; 2040];

@@ -3,6 +3,7 @@ ghost use Rattle.std.specs.Prelude.{◌≡◌, ◌↔◌, ℕ, ◌+◌, ◌-◌,
 ghost use mathlib.Core.List.{IsPrefix};
 ghost use Rattle.xcp_bank.specs.SeatKnowledge.{AllBegin};
 ghost use Rattle.xcp_bank.specs.BankEnds.{AcquireDoes, FollowsTold, Holds, HoldsNumber, IsRun, KnowsMore, LeavesBy, ReadDoes, TellsTaken, image_held, words_in};
+ghost use Rattle.xcp_locked.specs.private.OfferedImages.{IsOwnBank};
 
 use crate::Name;
 use std::marker::{Model, PhantomData};
@@ -17,20 +18,20 @@ pub struct Reader<N: Name> {
 }
 
 impl<N: Name> Model for Reader<N> {
-    ghost use Rattle.std.specs.Prelude.{◌≡◌};
     ghost use Rattle.xcp_bank.specs.BankEnds.{ReaderEnd};
+    ghost use Rattle.xcp_locked.specs.private.OfferedImages.{IsOwnBank};
 
     ghost Value = { ReaderEnd };
 
     ghost view = { λ r. r.inner };
 
-    ghost invariant = { λ r. r.inner.bank ≡ N.bank };
+    ghost invariant = { λ r. IsOwnBank N.bank r.inner.bank };
 }
 
 impl<N: Name> Reader<N> {
     /// A bank's reader, by its opening's name.
     pub(crate) fn new(inner: xcp_bank::Reader) -> Reader<N>
-        requires { inner.bank ≡ N.bank }
+        requires { IsOwnBank N.bank inner.bank }
         ensures { result ≡ inner }
     {
         Reader {
@@ -62,7 +63,7 @@ impl<N: Name> Reader<N> {
     }
 
     /// Reads the bytes of the held image from `at` on, as many as `out` has. What it holds and has
-    /// seen stays.
+    /// seen stays. An image has 2,040 bytes.
     pub fn read(&mut self, at: usize, out: &mut [u8])
         requires holds { Holds self.old }
         requires inside { at + length out.old ≤ 2040 }
@@ -72,6 +73,7 @@ impl<N: Name> Reader<N> {
         ensures does { ReadDoes (at / 8) (words_in at (length out.old)) self.old self.new }
         ensures run { IsRun self.new }
         ensures follows { 0 < length out.old → FollowsTold self.old self.new }
+        ensures whole { 0 < length out.old → length (image_held self.old) ≡ 2040 }
     {
         self.inner.read(at, out);
     }

@@ -45,6 +45,52 @@ fn write_with_double(packet: &mut Packet, front: &[u8], double: u32, order: Orde
     append_double(packet, double, order);
 }
 
+/// RESOURCE, COMM_MODE_BASIC, the greatest lengths of packets, and the versions of the protocol and of its transport.
+fn write_connect(packet: &mut Packet, basic: u8, max_cto: u8, max_dto: u16, order: Order)
+    ensures { packet.new.items ≡ layout order (Reply.Connect basic max_cto max_dto) }
+{
+    write_with_word(
+        packet,
+        &[RES, 0x05, basic, max_cto],
+        max_dto,
+        &[1, 1],
+        order,
+    );
+}
+
+/// The mode of a list: its bits, its event channel, its prescaler and its priority.
+fn write_list_mode(
+    packet: &mut Packet,
+    mode: u8,
+    event: u16,
+    prescaler: u8,
+    priority: u8,
+    order: Order,
+)
+    ensures { packet.new.items ≡ layout order (Reply.DaqListMode mode event prescaler priority) }
+{
+    write_with_word(
+        packet,
+        &[RES, mode, 0, 0],
+        event,
+        &[prescaler, priority],
+        order,
+    );
+}
+
+/// The sizes of entries, for DAQ and for STIM, and the time stamp's mode and ticks.
+fn write_resolution(packet: &mut Packet, greatest: u8, mode: u8, ticks: u16, order: Order)
+    ensures { packet.new.items ≡ layout order (Reply.DaqResolution greatest mode ticks) }
+{
+    write_with_word(
+        packet,
+        &[RES, 0x01, greatest, 0x01, 0, mode],
+        ticks,
+        &[],
+        order,
+    );
+}
+
 /// DAQ_PROPERTIES, the two numbers, MIN_DAQ and DAQ_KEY_BYTE.
 fn write_daq_info(packet: &mut Packet, properties: u8, lists: u16, events: u16, order: Order)
     ensures { packet.new.items ≡ layout order (Reply.DaqInfo properties lists events) }
@@ -124,13 +170,7 @@ pub fn write_reply(packet: &mut Packet, reply: &Reply, order: Order)
             basic,
             max_cto,
             max_dto,
-        } => write_with_word(
-            packet,
-            &[RES, 0x05, *basic, *max_cto],
-            *max_dto,
-            &[1, 1],
-            order,
-        ),
+        } => write_connect(packet, *basic, *max_cto, *max_dto, order),
         Reply::Status(status) => write(packet, &[RES, *status, 0, 0, 0, 0]),
         Reply::CommMode => write(packet, &[RES, 0, 0x01, 0, 0x08, 0, 0, 0x10]),
         Reply::Id(size) => write_with_double(packet, &[RES, 0, 0, 0], *size, order),
@@ -157,13 +197,7 @@ pub fn write_reply(packet: &mut Packet, reply: &Reply, order: Order)
             event,
             prescaler,
             priority,
-        } => write_with_word(
-            packet,
-            &[RES, *mode, 0, 0],
-            *event,
-            &[*prescaler, *priority],
-            order,
-        ),
+        } => write_list_mode(packet, *mode, *event, *prescaler, *priority, order),
         Reply::FirstPid(pid) => write(packet, &[RES, *pid]),
         Reply::DaqClock(time) => write_with_double(packet, &[RES, 0, 0, 0], *time, order),
         Reply::DaqInfo {
@@ -175,13 +209,7 @@ pub fn write_reply(packet: &mut Packet, reply: &Reply, order: Order)
             greatest,
             mode,
             ticks,
-        } => write_with_word(
-            packet,
-            &[RES, 0x01, *greatest, 0x01, 0, *mode],
-            *ticks,
-            &[],
-            order,
-        ),
+        } => write_resolution(packet, *greatest, *mode, *ticks, order),
         Reply::EventInfo {
             name,
             cycle,

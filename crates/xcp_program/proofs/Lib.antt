@@ -4,3 +4,4 @@ pub mod ClapRowLemmas
 pub mod ClapWalkLemmas
 pub mod NoFaultLemmas
 pub mod RefusalLemmas
+pub mod StoredPagesLemmas

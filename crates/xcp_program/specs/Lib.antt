@@ -1,7 +1,12 @@
 pub mod Beginning
 pub mod CommandLine
+pub mod EndFaults
 pub mod ExitStatus
+pub mod Hosts
 pub mod Periods
 pub mod ReplayOutcome
+pub mod ServerLines
+pub mod Serves
 pub mod Stays
+pub mod StoredPages
 pub mod private

@@ -44,7 +44,7 @@ const VERDICTS: &str = help!(
     "Each call of the journal is executed again, on a new slave of the layout file, and its answer compared. It prints: calls N
 (N is the number of all calls), settled, and: ended where the server has ended in order, else open. Where the file is cut
 short or altered, it prints calls N alone: so many calls stand before, and are good. With --lines there is a line for each
-call before, its parts with a tab between them: the caller's number, the request as a replay reads it, and the answer as
+call before, its parts with a tab between them: the caller's name, the request as a replay reads it, and the answer as
 a replay writes it.
 With --flash the slave begins with the stored pages of FILE, which isn't changed.":
     configuration, writing, memory, mismatched_call, audited_journal, read_flash

@@ -1,33 +1,46 @@
 //! The XCP slave's program, but for its `main`: the words of its command line, its faults with their statuses, the
-//! reading of the layout file and of stored pages, the periods of its tasks, and a replay of a script on the slave that these
-//! files describe.
+//! reading of the layout file and of stored pages, the periods of its tasks, the lines that a server prints and the fault with which it
+//! ends, and a replay of a script on the slave that these files describe.
 //!
 //! `specs/CommandLine.antt` has the command line, `specs/Beginning.antt` the layout that a slave begins with,
-//! `specs/ReplayOutcome.antt` what a replay promises, `specs/ExitStatus.antt` the statuses.
+//! `specs/ReplayOutcome.antt` what a replay promises, `specs/ServerLines.antt` the lines of a server, `specs/EndFaults.antt` in which
+//! order its faults are told, `specs/StoredPages.antt` when a file of stored pages has to be there, `specs/ExitStatus.antt` the statuses.
 #![tactic(auto)]
 
 mod arguments;
 mod command_line;
+mod end_faults;
 mod fault;
 mod fault_words;
+mod hosts;
 mod layout;
 mod matched;
 mod periods;
 mod purpose;
 mod replaying;
+mod server_lines;
 mod server_words;
+mod serving;
 mod source;
 mod staying;
+mod stored_pages;
 mod untimed;
 mod words;
 
 pub use command_line::options;
+pub use end_faults::{
+    fault_at_end, fault_at_stop, fault_of_journal, fault_of_pages, fault_of_print, status_at_end,
+};
 pub use fault::Fault;
+pub use hosts::refuse_many;
 pub use layout::{layout_of, layout_stored};
 pub use periods::periods_of;
 pub use purpose::{Options, OptionsFault};
 pub use replaying::replay;
+pub use server_lines::{Counts, Listening, Recorded};
+pub use serving::Serving;
 pub use source::{read_flash, read_text, read_whole};
 pub use staying::Staying;
+pub use stored_pages::{folder_of, refuse_second, stored_file};
 pub use untimed::refuse_clock;
 pub use words::{Unasked, asked, read_words};

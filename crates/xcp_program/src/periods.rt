@@ -1,6 +1,6 @@
 //! How long the tasks of a controller wait from one cycle to the next.
-ghost use Rattle.std.specs.Prelude.{◌≡◌, ◌<◌, ◌≤◌, ℕ, [], ◌∷◌, IfSome, length, slice_index_or as get_or};
-ghost use Rattle.xcp_program.specs.Periods.{cycle_time, period_of, unit_time};
+ghost use Rattle.std.specs.Prelude.{◌≡◌, ◌<◌, ◌≤◌, IfSome, length, slice_index_or as get_or};
+ghost use Rattle.xcp_program.specs.Periods.{cycle_time, period_of, periods_of, unit_time};
 ghost use Rattle.xcp_memory.specs.Layout.{no_event};
 
 use xcp_memory::Layout;
@@ -11,8 +11,7 @@ const MILLISECOND: u64 = 1_000_000;
 /// The nanoseconds from one cycle of each task to its next, 0 where cycles follow at once; tasks are numbered from 0. At a pace a
 /// task has the time that the event channel says which it raises, where the channel says one, else so many milliseconds.
 pub fn periods_of(layout: &Layout, pace: bool, period: u32) -> [u64; 6]
-    ensures { let of : ℕ → ℕ = period_of layout.now pace period in
-        result ≡ of 0 ∷ of 1 ∷ of 2 ∷ of 3 ∷ of 4 ∷ of 5 ∷ [] }
+    ensures { result ≡ periods_of layout.now pace period }
 {
     [
         period_of(layout, pace, period, 0),

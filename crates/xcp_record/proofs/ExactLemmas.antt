@@ -1,10 +1,9 @@
 -- Of a file that holds a run an audit can say nothing else than that it is settled.
-use Rattle.std.proofs.Common.{inl, inr, ◌≡◌, ◌≤◌, ◌<◌, ℕ, suc, ◌+◌, List, [], ◌∷◌, ◌++◌, length, map, take, drop, refl, sym, ap, ◌∙◌, subst, arith, append_assoc, append-nil, length-append, take-append-drop}
-use Rattle.std.specs.Prelude.{◌⊎◌, IfSome, Option, Some, None, Result, Ok, Err}
+use Rattle.std.proofs.Common.{inl, inr, ◌≡◌, ◌≤◌, ◌<◌, ℕ, suc, ◌+◌, List, [], ◌∷◌, ◌++◌, length, map, refl, sym, ap, ◌∙◌, subst, arith, append_assoc, append-nil, length-append}
+use Rattle.std.specs.Prelude.{IfSome, Option, Some, None, Result, Ok, Err}
 use Rattle.std.specs.Io.KnownBytes.{Consumes, IsAtEnd}
 use Rattle.std.specs.List.{AllByRecursion}
-use Rattle.std.proofs.Math.Seq.{take-append_seam}
-use Rattle.std.proofs.lemmas.List.{map-append, take-append-le}
+use Rattle.std.proofs.lemmas.List.{map-append}
 use Rattle.std.proofs.lemmas.List.Concat.{flat_map-append}
 use Rattle.sha2.specs.Sha256.{sha256}
 use Rattle.xcp_slave.specs.declared.Request.{Request}
@@ -16,19 +15,19 @@ use Rattle.xcp_slave.specs.Step.{Answers}
 use Rattle.xcp_trace.specs.declared.Entry.{Entry}
 use Rattle.xcp_trace.specs.EntrySpelling.{entry_in}
 use Rattle.xcp_trace.specs.Tape.{spelt}
-use mathlib.Core.List.{IsPrefix}
 use Rattle.xcp_record.specs.declared.fault.AuditFault.{AuditFault}
 use Rattle.xcp_record.specs.declared.fault.AuditFault.TheVariants as faults
 use Rattle.xcp_record.specs.declared.ending.Ending.{Ending}
 use Rattle.xcp_record.specs.declared.ending.Ending.TheVariants as endings
 use Rattle.xcp_record.specs.declared.ending.Settled.{Settled}
+use Rattle.xcp_record.specs.declared.roster.Roster.{Roster}
 use Rattle.xcp_record.specs.FileFormat.{chapter_bytes, chapter_head, chapter_in, ending_in, head, mark_in, size_in}
 use Rattle.xcp_record.specs.JournalFile.{EndsInside, IsChapter, IsNoPart, IsWhole, calls_of, exchanges}
 use Rattle.xcp_record.specs.Audit.{Audits, Differs, HoldsRun, IsForeign, SaysSettled, SettlesUpTo}
 use Rattle.xcp_record.proofs.TapeLemmas.{append_same, nothing}
-use Rattle.xcp_record.proofs.FormatLemmas.{chapter_short, file_head_length, head_length, sha256_length, size_front}
+use Rattle.xcp_record.proofs.FormatLemmas.{chapter_short, head_length, sha256_length, size_front}
 use Rattle.xcp_record.proofs.MarkLemmas.{no_ending_inside}
-use Rattle.xcp_record.proofs.ReadBackLemmas.{GoesOn, behind, file_goes_on, one_layout, read_back_whole, whole_begins}
+use Rattle.xcp_record.proofs.ReadBackLemmas.{GoesOn, behind, file_goes_on_as, one_layout, read_back_whole, same_named, whole_begins}
 
 abbrev Single : Type 0
 Single = (v : SlaveValue) (q : Request) (a b : Answer) (w u : SlaveValue) → Answers v q a w → Answers v q b u → (a ≡ b) × (w ≡ u)
@@ -55,13 +54,6 @@ runs_agree single v w calls more i differs run =
 ends_not : (rest : List ℕ) (size : ℕ) → size_in rest ≡ size → 48 + size ≤ length rest → EndsInside rest → ⊥
 ends_not rest size is long (inl few) = absurd (omega (arith, long, few))
 ends_not rest size is long (inr few) = absurd (omega (arith, is, long, few))
-
--- a head stands at the head of what was read
-head_front : (layout read left more : List ℕ) → length (head layout) ≡ 38 → read ++ left ≡ head layout ++ more → (left ≡ []) ⊎ (38 ≤ length read) → IsPrefix (head layout) read
-head_front layout read left more is h (inl none) = (more, sym h ∙ ap (λ b. read ++ b) none ∙ append-nil read)
-head_front layout read left more is h (inr long) =
-    let front : take 38 read ≡ head layout = sym (take-append-le 38 read left long) ∙ ap (take 38) h ∙ ap (λ k. take k (head layout ++ more)) (sym is) ∙ take-append_seam (head layout) more in
-    (drop 38 read, ap (λ b. b ++ drop 38 read) (sym front) ∙ take-append-drop 38 read)
 
 -- nor is the file of a run cut
 not_cut : (other : List ℕ) (m : ℕ) (ending : Ending) (before rest : List ℕ) (n : ℕ) (tail : List (List (List ℕ))) → AllByRecursion IsChapter tail → rest ≡ behind before n tail ++ ending_in other m ending
@@ -108,72 +100,74 @@ nothing_more before rest other end n tail whole h none =
     sym (append_same before other end end (omega (arith, e, a, b)) same).0
 
 -- nor foreign
-not_foreign : (layout read left more : List ℕ) → length layout ≡ 32 → read ++ left ≡ head layout ++ more → IsForeign (left ≡ []) read → ⊥
-not_foreign layout read left more is h foreign = foreign.1 layout is (head_front layout read left more (file_head_length layout is) h foreign.0)
+not_foreign : (roster : Option Roster) (layout read left more : List ℕ) → length layout ≡ 32 → read ++ left ≡ head roster layout ++ more → IsForeign (left ≡ []) read → ⊥
+not_foreign roster layout read left more is h foreign = foreign.1 roster layout left is (λ end. end) (more, sym h)
 
 -- the file that holds a run
-abbrev whole_of : (layout all bytes : List ℕ) (v : SlaveValue) (n : ℕ) (ending : Ending) (holds : HoldsRun layout v all n ending) → bytes ≡ all → IsWhole layout bytes holds.holds.settled.chapters ending
-whole_of layout all bytes v n ending holds same =
+abbrev whole_of : (roster : Option Roster) (layout all bytes : List ℕ) (v : SlaveValue) (n : ℕ) (ending : Ending) (holds : HoldsRun roster layout v all n ending) → bytes ≡ all → IsWhole roster layout bytes holds.holds.settled.chapters ending
+whole_of roster layout all bytes v n ending holds same =
     let before = holds.holds.before in
     record { before = before; file = holds.holds.settled.file; whole = same ∙ holds.holds.whole ∙ ap (λ k. before ++ ending_in before k ending) (sym holds.holds.settled.count) }
 
-up_to : (layout all read left : List ℕ) (v : SlaveValue) (m : ℕ) (why : ℕ → List ℕ → List ℕ → Type 0) → all ≡ read ++ left → (up : SettlesUpTo layout v read m why) → up.before ++ (up.rest ++ left) ≡ all
-up_to layout all read left v m why h up = sym (h ∙ ap (λ b. b ++ left) up.joined ∙ append_assoc up.before up.rest left)
+up_to : (roster : Option Roster) (layout all read left : List ℕ) (v : SlaveValue) (m : ℕ) (why : ℕ → List ℕ → List ℕ → Type 0) → all ≡ read ++ left → (up : SettlesUpTo roster layout v read m why) → up.before ++ (up.rest ++ left) ≡ all
+up_to roster layout all read left v m why h up = sym (h ∙ ap (λ b. b ++ left) up.joined ∙ append_assoc up.before up.rest left)
 
-from_front : (layout all read left : List ℕ) (v : SlaveValue) (n m : ℕ) (ending : Ending) (why : ℕ → List ℕ → List ℕ → Type 0) (holds : HoldsRun layout v all n ending) → all ≡ read ++ left → (up : SettlesUpTo layout v read m why)
-    → GoesOn up.before (up.rest ++ left) up.settled.chapters holds.holds.settled.chapters holds.holds.before ending
-from_front layout all read left v n m ending why holds h up =
-    file_goes_on layout up.before (up.rest ++ left) up.settled.chapters holds.holds.settled.chapters ending up.settled.file
-    (whole_of layout all (up.before ++ (up.rest ++ left)) v n ending holds (up_to layout all read left v m why h up))
+from_front : (found roster : Option Roster) (layout all read left : List ℕ) (v : SlaveValue) (n m : ℕ) (ending : Ending) (why : ℕ → List ℕ → List ℕ → Type 0) → length layout ≡ 32 → (holds : HoldsRun roster layout v all n ending) → all ≡ read ++ left
+    → (up : SettlesUpTo found layout v read m why) → GoesOn up.before (up.rest ++ left) up.settled.chapters holds.holds.settled.chapters holds.holds.before ending
+from_front found roster layout all read left v n m ending why is holds h up =
+    file_goes_on_as found roster layout up.before (up.rest ++ left) up.settled.chapters holds.holds.settled.chapters ending is up.settled.file
+    (whole_of roster layout all (up.before ++ (up.rest ++ left)) v n ending holds (up_to found layout all read left v m why h up))
 
 -- of a file that holds a run an audit says that it is settled, and how it ends, unless a read failed or no memory was left
-pub exact : Single → (layout all read left : List ℕ) (v : SlaveValue) (n : ℕ) (ending : Ending) (result : Result Settled AuditFault) → length layout ≡ 32 → all ≡ read ++ left → HoldsRun layout v all n ending
-    → Audits layout v (left ≡ []) read result → SaysSettled n ending result
-exact single layout all read left v n ending (Ok s) is h holds said =
+pub exact : Single → (found roster : Option Roster) (layout all read left : List ℕ) (v : SlaveValue) (n : ℕ) (ending : Ending) (result : Result Settled AuditFault) → length layout ≡ 32 → all ≡ read ++ left → HoldsRun roster layout v all n ending
+    → Audits found layout v (left ≡ []) read result → SaysSettled n ending result
+exact single found roster layout all read left v n ending (Ok s) is h holds said =
     let whole : all ≡ read = h ∙ ap (λ b. read ++ b) said.0 ∙ append-nil read in
     let to = said.1 in
-    let first : IsWhole layout read to.settled.chapters s.ending =
+    let first : IsWhole found layout read to.settled.chapters s.ending =
     record { before = to.before; file = to.settled.file; whole = to.whole ∙ ap (λ k. to.before ++ ending_in to.before k s.ending) (sym to.settled.count) } in
-    let same = read_back_whole layout read to.settled.chapters holds.holds.settled.chapters s.ending ending first (whole_of layout all read v n ending holds (sym whole)) in
+    let held = whole_of roster layout all read v n ending holds (sym whole) in
+    let one = sym (same_named found roster layout layout read to.settled.chapters holds.holds.settled.chapters s.ending ending is is first held).1 in
+    let same = read_back_whole roster layout read to.settled.chapters holds.holds.settled.chapters s.ending ending (subst (λ r. IsWhole r layout read to.settled.chapters s.ending) one first) held in
     (sym to.settled.count ∙ ap (λ cs. length (calls_of cs)) same.0 ∙ holds.holds.settled.count, sym same.1)
-exact single layout all read left v n ending (Err (faults.Mismatch i)) is h holds said =
+exact single found roster layout all read left v n ending (Err (faults.Mismatch i)) is h holds said =
     let chapters = holds.holds.settled.chapters in
-    let on = file_goes_on layout read left said.chapters chapters ending said.file (whole_of layout all (read ++ left) v n ending holds (sym h)) in
+    let on = file_goes_on_as found roster layout read left said.chapters chapters ending is said.file (whole_of roster layout all (read ++ left) v n ending holds (sym h)) in
     let tail = map (λ chapter. map entry_in chapter) on.tail in
     let calls : calls_of chapters ≡ calls_of said.chapters ++ calls_of tail = ap calls_of on.joined ∙ flat_map-append (λ c. c) said.chapters tail in
     runs_agree single v holds.holds.settled.last (calls_of said.chapters) (calls_of tail) i said.differs (subst (λ cs. Run v (exchanges cs) holds.holds.settled.last) calls holds.holds.settled.run)
-exact single layout all read left v n ending (Err (faults.Cut m)) is h holds said =
+exact single found roster layout all read left v n ending (Err (faults.Cut m)) is h holds said =
     let up = said.1 in
-    let on = from_front layout all read left v n m ending _ holds h up in
+    let on = from_front found roster layout all read left v n m ending _ is holds h up in
     let rest : up.rest ++ left ≡ up.rest = ap (λ b. up.rest ++ b) said.0 ∙ append-nil up.rest in
     not_cut holds.holds.before (length (calls_of holds.holds.settled.chapters)) ending up.before up.rest (length up.settled.chapters) on.tail on.each (sym rest ∙ on.bytes) up.why.0 up.why.1
-exact single layout all read left v n ending (Err (faults.Altered m)) is h holds said =
-    let on = from_front layout all read left v n m ending _ holds h said in
+exact single found roster layout all read left v n ending (Err (faults.Altered m)) is h holds said =
+    let on = from_front found roster layout all read left v n m ending _ is holds h said in
     let other = holds.holds.before in
     let calls = length (calls_of holds.holds.settled.chapters) in
-    let whole = whole_of layout all (said.before ++ (said.rest ++ left)) v n ending holds (up_to layout all read left v m _ h said) in
+    let whole = whole_of roster layout all (said.before ++ (said.rest ++ left)) v n ending holds (up_to found layout all read left v m _ h said) in
     not_altered other calls m ending said.before said.rest left (length said.settled.chapters) on.tail on.each on.bytes
     (λ none. (
       nothing_more said.before (said.rest ++ left) other (ending_in other calls ending) (length said.settled.chapters) on.tail whole.whole on.bytes none,
       ap (λ cs. length (calls_of cs)) (on.joined ∙ ap (λ t. said.settled.chapters ++ map (λ chapter. map entry_in chapter) t) none ∙ append-nil said.settled.chapters) ∙ said.settled.count,
     )) said.why
-exact single layout all read left v n ending (Err (faults.TooLong m)) is h holds said =
-    let on = from_front layout all read left v n m ending _ holds h said in
+exact single found roster layout all read left v n ending (Err (faults.TooLong m)) is h holds said =
+    let on = from_front found roster layout all read left v n m ending _ is holds h said in
     let a = ap length on.joined in
     let b = length-append said.settled.chapters (map (λ chapter. map entry_in chapter) on.tail) in
     let few = holds.few in
     let many = said.why in
     absurd (omega (arith, a, b, few, many))
-exact single layout all read left v n ending (Err faults.OtherLayout) is h holds said =
-    absurd (said.2 (sym (one_layout layout said.0 read left holds.holds.settled.chapters ending is said.1 (whole_of layout all (read ++ left) v n ending holds (sym h)) said.3)))
-exact single layout all read left v n ending (Err faults.Foreign) is h holds said =
-    absurd (not_foreign layout read left _ is (sym h ∙ whole_begins layout all holds.holds.settled.chapters ending (whole_of layout all all v n ending holds refl)) said)
-exact single layout all read left v n ending (Err faults.Read) is h holds said = tt
-exact single layout all read left v n ending (Err faults.Memory) is h holds said = tt
+exact single found roster layout all read left v n ending (Err faults.OtherLayout) is h holds said =
+    absurd (said.2 (sym (one_layout roster found layout said.0 read left holds.holds.settled.chapters ending is said.1 (whole_of roster layout all (read ++ left) v n ending holds (sym h)) said.3)))
+exact single found roster layout all read left v n ending (Err faults.Foreign) is h holds said =
+    absurd (not_foreign roster layout read left _ is (sym h ∙ whole_begins roster layout all holds.holds.settled.chapters ending (whole_of roster layout all all v n ending holds refl)) said)
+exact single found roster layout all read left v n ending (Err faults.Read) is h holds said = tt
+exact single found roster layout all read left v n ending (Err faults.Memory) is h holds said = tt
 
 -- the same of a reader whose bytes are known
-pub settles_known : Single → (old new : Option (List ℕ)) (layout read : List ℕ) (v : SlaveValue) (result : Result Settled AuditFault) → length layout ≡ 32 → Consumes old new read
-    → Audits layout v (IsAtEnd new) read result → IfSome old (λ all. (n : ℕ) (ending : Ending) → HoldsRun layout v all n ending → SaysSettled n ending result)
-settles_known single None new layout read v result is consumed said = tt
-settles_known single (Some all) None layout read v result is consumed said = absurd consumed
-settles_known single (Some all) (Some left) layout read v result is consumed said = λ n ending holds. exact single layout all read left v n ending result is consumed holds said
+pub settles_known : Single → (old new : Option (List ℕ)) (found : Option Roster) (layout read : List ℕ) (v : SlaveValue) (result : Result Settled AuditFault) → length layout ≡ 32 → Consumes old new read
+    → Audits found layout v (IsAtEnd new) read result → IfSome old (λ all. (roster : Option Roster) (n : ℕ) (ending : Ending) → HoldsRun roster layout v all n ending → SaysSettled n ending result)
+settles_known single None new found layout read v result is consumed said = tt
+settles_known single (Some all) None found layout read v result is consumed said = absurd consumed
+settles_known single (Some all) (Some left) found layout read v result is consumed said = λ roster n ending holds. exact single found roster layout all read left v n ending result is consumed holds said

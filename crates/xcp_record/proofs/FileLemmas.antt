@@ -1,5 +1,6 @@
 -- Files with one more chapter.
 use Rattle.std.proofs.Common.{◌≡◌, ℕ, suc, ◌+◌, List, [], ◌∷◌, ◌++◌, length, map, refl, sym, ap, ◌∙◌, subst, arith, append_assoc, append-nil, length-append}
+use Rattle.std.specs.Prelude.{Option}
 use Rattle.std.proofs.lemmas.List.{length-map, map-append}
 use Rattle.std.proofs.lemmas.List.Concat.{flat_map-append}
 use Rattle.xcp_slave.specs.declared.Exchange.{Exchange}
@@ -7,6 +8,7 @@ use Rattle.xcp_slave.specs.Run.{Run}
 use Rattle.xcp_slave.specs.SlaveValue.{SlaveValue}
 use Rattle.xcp_trace.specs.declared.Entry.{Entry}
 use Rattle.xcp_trace.specs.EntrySpelling.{entry_in}
+use Rattle.xcp_record.specs.declared.roster.Roster.{Roster}
 use Rattle.xcp_record.specs.FileFormat.{chapter_in, file_of, head, with_chapters}
 use Rattle.xcp_record.specs.JournalFile.{IsChapter, IsFile, calls_of, exchanges}
 use Rattle.xcp_record.specs.Audit.{Differs, Mismatches, Settles}
@@ -21,21 +23,21 @@ one_behind before n (c ∷ chapters) strings =
     rw e (one_behind (before ++ chapter_in before n c) (suc n) chapters strings)
 
 -- a file with no chapter
-pub file_begins : (layout : List ℕ) → IsFile layout (head layout) []
-file_begins layout = record { strings = []; whole = refl; each = tt; calls = refl }
+pub file_begins : (roster : Option Roster) (layout : List ℕ) → IsFile roster layout (head roster layout) []
+file_begins roster layout = record { strings = []; whole = refl; each = tt; calls = refl }
 
 -- a file with one more chapter behind it
-pub file_more : (layout bytes more : List ℕ) (chapters : List (List Entry)) (strings : List (List ℕ)) → IsFile layout bytes chapters → IsChapter strings
-    → more ≡ chapter_in bytes (length chapters) strings → IsFile layout (bytes ++ more) (chapters ++ map entry_in strings ∷ [])
-file_more layout bytes more chapters strings file chapter is =
-    let before = file_of layout file.strings in
+pub file_more : (roster : Option Roster) (layout bytes more : List ℕ) (chapters : List (List Entry)) (strings : List (List ℕ)) → IsFile roster layout bytes chapters → IsChapter strings
+    → more ≡ chapter_in bytes (length chapters) strings → IsFile roster layout (bytes ++ more) (chapters ++ map entry_in strings ∷ [])
+file_more roster layout bytes more chapters strings file chapter is =
+    let before = file_of roster layout file.strings in
     let number : length chapters ≡ length file.strings = ap length (sym file.calls) ∙ length-map file.strings (λ chapter. map entry_in chapter) in
     let zero_more : length file.strings ≡ 0 + length file.strings = omega arith in
     let whole : bytes ++ more ≡ before ++ chapter_in before (length file.strings) strings =
     ap (λ b. bytes ++ b) (is ∙ ap (λ n. chapter_in bytes n strings) number) ∙ ap (λ b. b ++ chapter_in b (length file.strings) strings) file.whole in
     record {
       strings = file.strings ++ strings ∷ [];
-      whole = whole ∙ ap (λ n. before ++ chapter_in before n strings) zero_more ∙ sym (one_behind (head layout) 0 file.strings strings);
+      whole = whole ∙ ap (λ n. before ++ chapter_in before n strings) zero_more ∙ sym (one_behind (head roster layout) 0 file.strings strings);
       each = all_more IsChapter file.strings strings file.each chapter;
       calls = map-append (λ chapter. map entry_in chapter) file.strings (strings ∷ []) ∙ ap (λ cs. cs ++ map entry_in strings ∷ []) file.calls;
     }
@@ -50,11 +52,11 @@ run_on v u w [] ys first next = subst (λ z. Run z ys w) first next
 run_on v u w (x ∷ xs) ys first next = (first.0, first.1, run_on first.0 u w xs ys first.2 next)
 
 -- the calls of one more chapter are a run too
-abbrev pub settles_more : (layout : List ℕ) (v slave w : SlaveValue) (before read calls : List ℕ) (number n count : ℕ) (settled : Settles layout v before n)
-    → length settled.chapters ≡ number → settled.last ≡ slave → (next : IsRead number before read calls count) → Run slave (exchanges (map entry_in next.strings)) w → Settles layout v (before ++ read) (n + count)
-settles_more layout v slave w before read calls number n count settled numbered at next run = record {
+abbrev pub settles_more : (roster : Option Roster) (layout : List ℕ) (v slave w : SlaveValue) (before read calls : List ℕ) (number n count : ℕ) (settled : Settles roster layout v before n)
+    → length settled.chapters ≡ number → settled.last ≡ slave → (next : IsRead number before read calls count) → Run slave (exchanges (map entry_in next.strings)) w → Settles roster layout v (before ++ read) (n + count)
+settles_more roster layout v slave w before read calls number n count settled numbered at next run = record {
   chapters = settled.chapters ++ map entry_in next.strings ∷ [];
-  file = file_more layout before read settled.chapters next.strings settled.file next.chapter (next.whole ∙ ap (λ k. chapter_in before k next.strings) (sym numbered));
+  file = file_more roster layout before read settled.chapters next.strings settled.file next.chapter (next.whole ∙ ap (λ k. chapter_in before k next.strings) (sym numbered));
   last = w;
   run = subst (λ es. Run v (exchanges es) w) (sym (calls_more settled.chapters (map entry_in next.strings)))
       (subst (λ xs. Run v xs w) (sym (map-append (λ (e : Entry). e.exchange) (calls_of settled.chapters) (map entry_in next.strings)))
@@ -65,13 +67,13 @@ settles_more layout v slave w before read calls number n count settled numbered 
 }
 
 -- a call of one more chapter is the first that differs
-pub mismatch_more : (layout : List ℕ) (v slave : SlaveValue) (before read calls : List ℕ) (number n count i : ℕ) (settled : Settles layout v before n)
-    → length settled.chapters ≡ number → settled.last ≡ slave → (next : IsRead number before read calls count) → Differs slave (map entry_in next.strings) i → Mismatches layout v (before ++ read) (n + i)
-mismatch_more layout v slave before read calls number n count i settled numbered at next differs =
+pub mismatch_more : (roster : Option Roster) (layout : List ℕ) (v slave : SlaveValue) (before read calls : List ℕ) (number n count i : ℕ) (settled : Settles roster layout v before n)
+    → length settled.chapters ≡ number → settled.last ≡ slave → (next : IsRead number before read calls count) → Differs slave (map entry_in next.strings) i → Mismatches roster layout v (before ++ read) (n + i)
+mismatch_more roster layout v slave before read calls number n count i settled numbered at next differs =
     let last = map entry_in next.strings in
     let front = calls_of settled.chapters in record {
       chapters = settled.chapters ++ last ∷ [];
-      file = file_more layout before read settled.chapters next.strings settled.file next.chapter (next.whole ∙ ap (λ k. chapter_in before k next.strings) (sym numbered));
+      file = file_more roster layout before read settled.chapters next.strings settled.file next.chapter (next.whole ∙ ap (λ k. chapter_in before k next.strings) (sym numbered));
       differs = record {
         earlier = front ++ differs.earlier;
         call = differs.call;

@@ -1,6 +1,6 @@
 -- The parts of a chapter in a file's bytes.
-use Rattle.std.proofs.Common.{inl, inr, ◌≡◌, ◌≤◌, ◌<◌, ℕ, zero, suc, ◌+◌, ◌*◌, ◌^◌, List, [], ◌∷◌, ◌++◌, length, take, drop, refl, sym, ap, ◌∙◌, subst, arith, append_assoc, length-append, length-drop, length-take-le, take-append-drop}
-use Rattle.std.specs.Prelude.{Bool, true, false, MatchBool, slice_index}
+use Rattle.std.proofs.Common.{inl, inr, ◌≡◌, ◌≤◌, ◌<◌, ℕ, zero, suc, ◌+◌, ◌*◌, ◌^◌, List, [], ◌∷◌, ◌++◌, length, take, refl, sym, ap, ◌∙◌, subst, arith, append_assoc, length-append, length-drop, length-take-le}
+use Rattle.std.specs.Prelude.{slice_index}
 use Rattle.std.proofs.Math.ListN.{get_or-append}
 use Rattle.std.specs.List.{AllByRecursion}
 use Rattle.std.specs.Int.{w32, from_le_bytes}
@@ -9,7 +9,7 @@ use Rattle.sha2.specs.Sha256.{digest_bytes, sha256}
 use Rattle.xcp_trace.specs.Tape.{framed, spelt}
 use Rattle.xcp_trace.specs.EntrySpelling.{IsEntryString}
 use mathlib.Core.List.{IsPrefix}
-use Rattle.xcp_record.specs.FileFormat.{chapter_bytes, chapter_head, chapter_in, head, magic, most_call, most_calls, size_in}
+use Rattle.xcp_record.specs.FileFormat.{chapter_bytes, chapter_head, chapter_in, most_call, most_calls, size_in}
 use Rattle.xcp_record.specs.JournalFile.{EndsInside, IsChapter, IsNoChapter}
 use Rattle.xcp_record.specs.private.Calls.{Spells}
 use Rattle.xcp_record.proofs.TapeLemmas.{append_same, spelt_same}
@@ -28,11 +28,6 @@ sha256_length m = digest_length _ 8
 pub head_length : (n c s : ℕ) → length (chapter_head n c s) ≡ 16
 unfolding chapter_head
 head_length n c s = refl
-
--- a file's head has 38
-pub file_head_length : (layout : List ℕ) → length layout ≡ 32 → length (head layout) ≡ 38
-unfolding head
-file_head_length layout h = let a = length-append magic layout in omega (arith, a, h)
 
 -- the size is read again off the head
 pub size_again : (n c s : ℕ) → s < 2 ^ 32 → size_in (chapter_head n c s) ≡ s
@@ -123,37 +118,6 @@ other_head before number first calls digest spelled is_first is_size is_digest s
     let same = ap length (spelt_same strings spelled (parts.1 ∙ sym spells.whole)) in
     other (sym (ap (λ n. chapter_head number n (length calls)) same) ∙ (sym (ap (λ b. chapter_head number (length strings) (length b)) parts.1) ∙ parts.0))
 
--- 38 bytes that begin with the magic are a file's head
-pub head_of : (bytes : List ℕ) → length bytes ≡ 38 → take 6 bytes ≡ magic → (layout : List ℕ) × (length layout ≡ 32) × (bytes ≡ head layout)
-unfolding head
-head_of bytes is h = (drop 6 bytes, (let n = length-drop 6 bytes in omega (arith, n, is)), sym (take-append-drop 6 bytes) ∙ ap (λ b. b ++ drop 6 bytes) h)
-
-pub head_begins : (layout : List ℕ) (more : List ℕ) → take 6 (head layout ++ more) ≡ magic
-unfolding head
-head_begins layout more = refl
-
-pub head_ends : (layout : List ℕ) → drop 6 (head layout) ≡ layout
-unfolding head
-head_ends layout = refl
-
--- others are no head
-pub no_head : (bytes layout : List ℕ) → (take 6 bytes ≡ magic → ⊥) → IsPrefix (head layout) bytes → ⊥
-no_head bytes layout none front = none (ap (take 6) (sym front.1) ∙ head_begins layout front.0)
-
--- nor are fewer
-pub short_head : (bytes layout : List ℕ) → length bytes < 38 → length layout ≡ 32 → IsPrefix (head layout) bytes → ⊥
-short_head bytes layout short is front =
-    let a = ap length front.1 in
-    let b = length-append (head layout) front.0 in
-    let c = file_head_length layout is in
-    absurd (omega (arith, a, b, c, short))
-
--- whether bytes begin with the magic tells whether they are a head
-pub is_head : (b : Bool) (bytes front : List ℕ) → length bytes ≡ 38 → front ≡ take 6 bytes → MatchBool b (front ≡ magic) (front ≡ magic → ⊥)
-    → MatchBool b ((layout : List ℕ) × (length layout ≡ 32) × (bytes ≡ head layout)) ((layout : List ℕ) → IsPrefix (head layout) bytes → ⊥)
-is_head true bytes front size is said = head_of bytes size (sym is ∙ said)
-is_head false bytes front size is said = λ layout. no_head bytes layout (λ h. said (is ∙ h))
-
 -- the size that a head says, whatever stands behind it
 pub size_at : (a more : List ℕ) → length a ≡ 16 → size_in (a ++ more) ≡ size_in a
 unfolding size_in
@@ -200,8 +164,3 @@ chapter_whole before number first calls digest strings spells is sum =
 pub regrouped : (before first calls digest : List ℕ) → ((before ++ first) ++ calls) ++ digest ≡ before ++ ((first ++ calls) ++ digest)
 regrouped before first calls digest =
     append_assoc (before ++ first) calls digest ∙ append_assoc before first (calls ++ digest) ∙ ap (λ b. before ++ b) (sym (append_assoc first calls digest))
-
--- the parts of a file's head
-pub head_parts : (layout : List ℕ) → magic ++ layout ≡ head layout
-unfolding head
-head_parts layout = refl

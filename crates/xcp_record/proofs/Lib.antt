@@ -1,5 +1,6 @@
 mod TapeLemmas
 mod FormatLemmas
+mod HeadLemmas
 mod MarkLemmas
 mod FileLemmas
 mod CallLemmas

@@ -1,5 +1,6 @@
 -- A file has one list of chapters, and of a longer file the front has the first of its chapters.
-use Rattle.std.proofs.Common.{◌≡◌, ℕ, suc, ◌+◌, List, [], ◌∷◌, ◌++◌, length, map, drop, refl, sym, ap, ◌∙◌, arith, append_assoc, append-nil}
+use Rattle.std.proofs.Common.{◌≡◌, ℕ, suc, ◌+◌, List, [], ◌∷◌, ◌++◌, length, map, refl, sym, ap, ◌∙◌, subst, arith, append_assoc, append-nil}
+use Rattle.std.specs.Prelude.{Option}
 use Rattle.std.specs.List.{AllByRecursion}
 use Rattle.std.proofs.lemmas.List.{length-map, map-append}
 use Rattle.sha2.specs.Sha256.{sha256}
@@ -9,11 +10,13 @@ use Rattle.xcp_trace.specs.Tape.{spelt}
 use mathlib.Core.List.{IsPrefix}
 use Rattle.xcp_record.specs.declared.ending.Ending.{Ending}
 use Rattle.xcp_record.specs.declared.ending.Ending.TheVariants as endings
+use Rattle.xcp_record.specs.declared.roster.Roster.{Roster}
 use Rattle.xcp_record.specs.FileFormat.{chapter_bytes, chapter_head, chapter_in, ending_in, head, with_chapters}
 use Rattle.xcp_record.specs.JournalFile.{IsChapter, IsFile, IsWhole, calls_of}
 use Rattle.xcp_record.proofs.MarkLemmas.{ending_not_begun, one_ending}
 use Rattle.xcp_record.proofs.TapeLemmas.{append_same, spelt_same}
-use Rattle.xcp_record.proofs.FormatLemmas.{chapter_short, file_head_length, head_ends, head_length, parts_are, sha256_length, size_again}
+use Rattle.xcp_record.proofs.FormatLemmas.{chapter_short, head_length, parts_are, sha256_length, size_again}
+use Rattle.xcp_record.proofs.HeadLemmas.{same_head}
 
 -- what chapters add to the bytes before
 abbrev pub behind : List ℕ → ℕ → List (List (List ℕ)) → List ℕ
@@ -65,10 +68,10 @@ pub record GoesOn (before rest : List ℕ) (first all : List (List Entry)) (whol
   pub each : AllByRecursion IsChapter tail
   pub bytes : rest ≡ behind before (length first) tail ++ ending_in whole (length (calls_of all)) ending
 
-pub file_goes_on : (layout before rest : List ℕ) (first all : List (List Entry)) (ending : Ending) → IsFile layout before first → (whole : IsWhole layout (before ++ rest) all ending)
+pub file_goes_on : (roster : Option Roster) (layout before rest : List ℕ) (first all : List (List Entry)) (ending : Ending) → IsFile roster layout before first → (whole : IsWhole roster layout (before ++ rest) all ending)
     → GoesOn before rest first all whole.before ending
-file_goes_on layout before rest first all ending front whole =
-    let h = head layout in
+file_goes_on roster layout before rest first all ending front whole =
+    let h = head roster layout in
     let file = whole.file in
     let m = length (calls_of all) in
     let end = ending_in whole.before m ending in
@@ -92,51 +95,64 @@ nothing_behind first second k m a b before n [] each h = (refl, one_ending first
 nothing_behind first second k m a b before n (t ∷ tail) each h =
     absurd (ending_not_begun before first n k a t _ each.0 (sym (append_assoc (chapter_in before n t) (behind (before ++ chapter_in before n t) (suc n) tail) (ending_in second m b)) ∙ sym h))
 
-same_head : (a b : List ℕ) → length a ≡ 32 → length b ≡ 32 → head a ≡ head b → a ≡ b
-same_head a b is_a is_b h = sym (head_ends a) ∙ ap (drop 6) h ∙ head_ends b
-
 -- the same bytes are the same file
-abbrev pub moved : (layout bytes other : List ℕ) (cs : List (List Entry)) (ending : Ending) → other ≡ bytes → IsWhole layout bytes cs ending → IsWhole layout other cs ending
-moved layout bytes other cs ending same whole = record { before = whole.before; file = whole.file; whole = same ∙ whole.whole }
+abbrev pub moved : (roster : Option Roster) (layout bytes other : List ℕ) (cs : List (List Entry)) (ending : Ending) → other ≡ bytes → IsWhole roster layout bytes cs ending → IsWhole roster layout other cs ending
+moved roster layout bytes other cs ending same whole = record { before = whole.before; file = whole.file; whole = same ∙ whole.whole }
 
 -- a file has one list of chapters, and one ending
-pub read_back_whole : (layout bytes : List ℕ) (cs ds : List (List Entry)) (a b : Ending) → IsWhole layout bytes cs a → IsWhole layout bytes ds b → (cs ≡ ds) × (b ≡ a)
-read_back_whole layout bytes cs ds a b first second =
+pub read_back_whole : (roster : Option Roster) (layout bytes : List ℕ) (cs ds : List (List Entry)) (a b : Ending) → IsWhole roster layout bytes cs a → IsWhole roster layout bytes ds b → (cs ≡ ds) × (b ≡ a)
+read_back_whole roster layout bytes cs ds a b first second =
     let k = length (calls_of cs) in
-    let more = file_goes_on layout first.before (ending_in first.before k a) cs ds b first.file (moved layout bytes (first.before ++ ending_in first.before k a) ds b (sym first.whole) second) in
+    let more = file_goes_on roster layout first.before (ending_in first.before k a) cs ds b first.file (moved roster layout bytes (first.before ++ ending_in first.before k a) ds b (sym first.whole) second) in
     let none = nothing_behind first.before second.before k (length (calls_of ds)) a b first.before (length cs) more.tail more.each more.bytes in
     (sym (more.joined ∙ ap (λ t. cs ++ map (λ chapter. map entry_in chapter) t) none.0 ∙ append-nil cs), none.1)
 
 -- a file without an end mark is whole
-pub open_whole : (layout bytes : List ℕ) (cs : List (List Entry)) → IsFile layout bytes cs → IsWhole layout bytes cs endings.Open
-open_whole layout bytes cs file = record { before = bytes; file = file; whole = sym (append-nil bytes) }
+pub open_whole : (roster : Option Roster) (layout bytes : List ℕ) (cs : List (List Entry)) → IsFile roster layout bytes cs → IsWhole roster layout bytes cs endings.Open
+open_whole roster layout bytes cs file = record { before = bytes; file = file; whole = sym (append-nil bytes) }
 
-pub read_back : (layout bytes : List ℕ) (cs ds : List (List Entry)) → IsFile layout bytes cs → IsFile layout bytes ds → cs ≡ ds
-read_back layout bytes cs ds first second =
-    (read_back_whole layout bytes cs ds endings.Open endings.Open (open_whole layout bytes cs first) (open_whole layout bytes ds second)).0
+pub read_back : (roster : Option Roster) (layout bytes : List ℕ) (cs ds : List (List Entry)) → IsFile roster layout bytes cs → IsFile roster layout bytes ds → cs ≡ ds
+read_back roster layout bytes cs ds first second =
+    (read_back_whole roster layout bytes cs ds endings.Open endings.Open (open_whole roster layout bytes cs first) (open_whole roster layout bytes ds second)).0
 
 -- a whole file begins with its head
-abbrev whole_behind : (layout bytes : List ℕ) (cs : List (List Entry)) (ending : Ending) → IsWhole layout bytes cs ending → List ℕ
-whole_behind layout bytes cs ending whole = behind (head layout) 0 whole.file.strings ++ ending_in whole.before (length (calls_of cs)) ending
+abbrev whole_behind : (roster : Option Roster) (layout bytes : List ℕ) (cs : List (List Entry)) (ending : Ending) → IsWhole roster layout bytes cs ending → List ℕ
+whole_behind roster layout bytes cs ending whole = behind (head roster layout) 0 whole.file.strings ++ ending_in whole.before (length (calls_of cs)) ending
 
-pub whole_begins : (layout bytes : List ℕ) (cs : List (List Entry)) (ending : Ending) (whole : IsWhole layout bytes cs ending) → bytes ≡ head layout ++ whole_behind layout bytes cs ending whole
-whole_begins layout bytes cs ending whole =
+pub whole_begins : (roster : Option Roster) (layout bytes : List ℕ) (cs : List (List Entry)) (ending : Ending) (whole : IsWhole roster layout bytes cs ending) → bytes ≡ head roster layout ++ whole_behind roster layout bytes cs ending whole
+whole_begins roster layout bytes cs ending whole =
     let end = ending_in whole.before (length (calls_of cs)) ending in
-    whole.whole ∙ ap (λ b. b ++ end) (whole.file.whole ∙ grows (head layout) 0 whole.file.strings) ∙ append_assoc (head layout) (behind (head layout) 0 whole.file.strings) end
+    whole.whole ∙ ap (λ b. b ++ end) (whole.file.whole ∙ grows (head roster layout) 0 whole.file.strings) ∙ append_assoc (head roster layout) (behind (head roster layout) 0 whole.file.strings) end
 
--- and one layout
-pub same_layout : (a b bytes : List ℕ) (cs ds : List (List Entry)) → length a ≡ 32 → length b ≡ 32 → IsFile a bytes cs → IsFile b bytes ds → b ≡ a
-same_layout a b bytes cs ds is_a is_b first second =
-    let whole : head a ++ behind (head a) 0 first.strings ≡ head b ++ behind (head b) 0 second.strings =
-    sym (grows (head a) 0 first.strings) ∙ sym first.whole ∙ second.whole ∙ grows (head b) 0 second.strings in
-    sym (same_head a b is_a is_b (append_same (head a) (head b) _ _ (file_head_length a is_a ∙ sym (file_head_length b is_b)) whole).0)
+-- and one layout, and one roster or none
+pub same_layout : (r q : Option Roster) (a b bytes : List ℕ) (cs ds : List (List Entry)) → length a ≡ 32 → length b ≡ 32 → IsFile r a bytes cs → IsFile q b bytes ds → (b ≡ a) × (q ≡ r)
+same_layout r q a b bytes cs ds is_a is_b first second =
+    let whole : head r a ++ behind (head r a) 0 first.strings ≡ head q b ++ behind (head q b) 0 second.strings =
+    sym (grows (head r a) 0 first.strings) ∙ sym first.whole ∙ second.whole ∙ grows (head q b) 0 second.strings in
+    let same = same_head r q a b _ _ is_a is_b whole in
+    (sym same.0, sym same.1)
 
 -- that of its head
-pub one_layout : (a b bytes rest : List ℕ) (cs : List (List Entry)) (ending : Ending) → length a ≡ 32 → length b ≡ 32 → IsWhole a (bytes ++ rest) cs ending → bytes ≡ head b → a ≡ b
-one_layout a b bytes rest cs ending is_a is_b whole h =
-    same_head a b is_a is_b (append_same (head a) (head b) _ _ (file_head_length a is_a ∙ sym (file_head_length b is_b)) (sym (ap (λ z. z ++ rest) (sym h) ∙ whole_begins a (bytes ++ rest) cs ending whole))).0
+pub one_layout : (r q : Option Roster) (a b bytes rest : List ℕ) (cs : List (List Entry)) (ending : Ending) → length a ≡ 32 → length b ≡ 32 → IsWhole r a (bytes ++ rest) cs ending → bytes ≡ head q b → a ≡ b
+one_layout r q a b bytes rest cs ending is_a is_b whole h =
+    (same_head r q a b _ rest is_a is_b (sym (ap (λ z. z ++ rest) (sym h) ∙ whole_begins r a (bytes ++ rest) cs ending whole))).0
 
 -- of two whole files, too
-pub same_named : (a b bytes : List ℕ) (cs ds : List (List Entry)) (end other : Ending) → length a ≡ 32 → length b ≡ 32 → IsWhole a bytes cs end → IsWhole b bytes ds other → b ≡ a
-same_named a b bytes cs ds end other is_a is_b first second =
-    sym (same_head a b is_a is_b (append_same (head a) (head b) _ _ (file_head_length a is_a ∙ sym (file_head_length b is_b)) (sym (whole_begins a bytes cs end first) ∙ whole_begins b bytes ds other second)).0)
+pub same_named : (r q : Option Roster) (a b bytes : List ℕ) (cs ds : List (List Entry)) (end other : Ending) → length a ≡ 32 → length b ≡ 32 → IsWhole r a bytes cs end → IsWhole q b bytes ds other → (b ≡ a) × (q ≡ r)
+same_named r q a b bytes cs ds end other is_a is_b first second =
+    let same = same_head r q a b _ _ is_a is_b (sym (whole_begins r a bytes cs end first) ∙ whole_begins q b bytes ds other second) in
+    (sym same.0, sym same.1)
+
+-- and the roster of its front
+one_roster : (found roster : Option Roster) (layout before rest : List ℕ) (first all : List (List Entry)) (ending : Ending) → length layout ≡ 32 → IsFile found layout before first → IsWhole roster layout (before ++ rest) all ending → found ≡ roster
+one_roster found roster layout before rest first all ending is front whole =
+    let more = behind (head found layout) 0 front.strings in
+    let start : before ++ rest ≡ head found layout ++ (more ++ rest) = ap (λ b. b ++ rest) (front.whole ∙ grows (head found layout) 0 front.strings) ∙ append_assoc (head found layout) more rest in
+    (same_head found roster layout layout (more ++ rest) _ is is (sym start ∙ whole_begins roster layout (before ++ rest) all ending whole)).1
+
+-- so it goes on with that
+pub file_goes_on_as : (found roster : Option Roster) (layout before rest : List ℕ) (first all : List (List Entry)) (ending : Ending) → length layout ≡ 32 → IsFile found layout before first
+    → (whole : IsWhole roster layout (before ++ rest) all ending) → GoesOn before rest first all whole.before ending
+file_goes_on_as found roster layout before rest first all ending is front whole =
+    subst (λ q. (w : IsWhole q layout (before ++ rest) all ending) → GoesOn before rest first all w.before ending) (one_roster found roster layout before rest first all ending is front whole)
+    (λ w. file_goes_on found layout before rest first all ending front w) whole

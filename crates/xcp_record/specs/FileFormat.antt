@@ -1,19 +1,26 @@
 -- The bytes of a journal's file: a head, then chapter after chapter, each with a digest of all that stands before it, and an end mark, if
 -- the file has one.
-use Rattle.std.specs.Prelude.{ℕ, suc, List, [], ◌∷◌, ◌++◌, length, slice_index}
+use Rattle.std.specs.Prelude.{ℕ, suc, List, [], ◌∷◌, ◌++◌, length, Option, Some, None, slice_index}
 use Rattle.std.specs.Int.{w32, w64, to_le_bytes, from_le_bytes}
 use Rattle.sha2.specs.Sha256.{sha256}
 use Rattle.xcp_trace.specs.Tape.{spelt}
 use Rattle.xcp_record.specs.declared.ending.Ending.{Ending}
 use Rattle.xcp_record.specs.declared.ending.Ending.TheVariants as endings
+use Rattle.xcp_record.specs.declared.roster.Roster.{Roster}
 
--- XCPJ, and the version, 1, its low byte first
-abbrev pub magic : List ℕ
-magic = 0x58 ∷ 0x43 ∷ 0x50 ∷ 0x4A ∷ 1 ∷ 0 ∷ []
+-- XCPJ, and the version, its low byte first
+abbrev pub magic : ℕ → List ℕ
+magic version = 0x58 ∷ 0x43 ∷ 0x50 ∷ 0x4A ∷ version ∷ 0 ∷ []
 
--- the head, where this is the SHA-256 of the layout file's bytes
-unfoldable pub head : List ℕ → List ℕ
-head layout = magic ++ layout
+-- the four bytes of a roster
+abbrev pub roster_bytes : Roster → List ℕ
+roster_bytes roster = roster.tools ∷ roster.tasks ∷ roster.pumps ∷ roster.clocks ∷ []
+
+-- The head, where this is the SHA-256 of the layout file's bytes: of version 1, which says nothing of the callers, or of version 2, with
+-- their roster.
+unfoldable pub head : Option Roster → List ℕ → List ℕ
+head None layout = magic 1 ++ layout
+head (Some roster) layout = magic 2 ++ layout ++ roster_bytes roster
 
 -- a chapter's first 16 bytes: its number, its number of calls, and the length of their bytes, each with its low byte first
 unfoldable pub chapter_head : ℕ → ℕ → ℕ → List ℕ
@@ -33,8 +40,8 @@ with_chapters before number [] = before
 with_chapters before number (calls ∷ chapters) = with_chapters (before ++ chapter_in before number calls) (suc number) chapters
 
 -- the file of chapters that are numbered from 0
-abbrev pub file_of : List ℕ → List (List (List ℕ)) → List ℕ
-file_of layout chapters = with_chapters (head layout) 0 chapters
+abbrev pub file_of : Option Roster → List ℕ → List (List (List ℕ)) → List ℕ
+file_of roster layout chapters = with_chapters (head roster layout) 0 chapters
 
 -- what stands at the beginning of an end mark where a chapter's number would: no chapter has it
 abbrev pub no_chapter : ℕ

@@ -1,11 +1,12 @@
 -- The chapters that a journal's file has, and its ending.
-use Rattle.std.specs.Prelude.{◌≡◌, ◌≤◌, ◌<◌, ◌⊎◌, ◌+◌, ℕ, List, ◌++◌, length, map}
+use Rattle.std.specs.Prelude.{◌≡◌, ◌≤◌, ◌<◌, ◌⊎◌, ◌+◌, ℕ, List, ◌++◌, length, map, Option}
 use Rattle.std.specs.List.{AllByRecursion, flat_map}
 use Rattle.xcp_slave.specs.declared.Exchange.{Exchange}
 use Rattle.xcp_trace.specs.declared.Entry.{Entry}
 use Rattle.xcp_trace.specs.EntrySpelling.{IsEntryString, entry_in}
 use mathlib.Core.List.{IsPrefix}
 use Rattle.xcp_record.specs.declared.ending.Ending.{Ending}
+use Rattle.xcp_record.specs.declared.roster.Roster.{Roster}
 use Rattle.xcp_record.specs.FileFormat.{chapter_in, ending_in, file_of, mark_in, most_calls, size_in}
 
 -- the strings of a chapter: each spells a call
@@ -13,10 +14,10 @@ pub record IsChapter (strings : List (List ℕ)) : Type 0 where
   pub each : AllByRecursion IsEntryString strings
   pub few : length strings ≤ most_calls
 
--- The bytes are a whole file of this layout without an end mark, and these are its chapters' calls.
-pub record IsFile (layout bytes : List ℕ) (chapters : List (List Entry)) : Type 0 where
+-- The bytes are a whole file of this layout without an end mark, with this roster of its callers or none, and these are its chapters' calls.
+pub record IsFile (roster : Option Roster) (layout bytes : List ℕ) (chapters : List (List Entry)) : Type 0 where
   pub strings : List (List (List ℕ))
-  pub whole : bytes ≡ file_of layout strings
+  pub whole : bytes ≡ file_of roster layout strings
   pub each : AllByRecursion IsChapter strings
   pub calls : map (λ chapter. map entry_in chapter) strings ≡ chapters
 
@@ -28,10 +29,10 @@ calls_of chapters = flat_map (λ calls. calls) chapters
 abbrev pub exchanges : List Entry → List Exchange
 exchanges calls = map (λ (e : Entry). e.exchange) calls
 
--- The bytes are a whole file of this layout with this ending, and these are its chapters' calls.
-pub record IsWhole (layout bytes : List ℕ) (chapters : List (List Entry)) (ending : Ending) : Type 0 where
+-- The bytes are a whole file of this layout, with this roster or none, and with this ending, and these are its chapters' calls.
+pub record IsWhole (roster : Option Roster) (layout bytes : List ℕ) (chapters : List (List Entry)) (ending : Ending) : Type 0 where
   pub before : List ℕ
-  pub file : IsFile layout before chapters
+  pub file : IsFile roster layout before chapters
   pub whole : bytes ≡ before ++ ending_in before (length (calls_of chapters)) ending
 
 -- Bytes that end inside a chapter or an end mark: they are fewer than its head, or than its head says.

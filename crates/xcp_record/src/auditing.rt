@@ -1,5 +1,5 @@
 //! An audit of a journal's file.
-ghost use Rattle.std.specs.Prelude.{◌≡◌, ◌≢◌, ◌<◌, ◌≤◌, ◌+◌, ◌^◌, ℕ, suc, List, [], Err, MatchBool, OnOk, IfErr, IfSome, drop, false, length, map, take, true};
+ghost use Rattle.std.specs.Prelude.{◌≡◌, ◌≢◌, ◌<◌, ◌≤◌, ◌+◌, ◌^◌, ◌++◌, ℕ, suc, List, Option, [], Err, MatchBool, OnOk, IfErr, IfSome, drop, false, length, map, take, true};
 ghost use Rattle.std.specs.Io.KnownBytes.{Consumes, IsAtEnd};
 ghost use Rattle.sha2.specs.Hashers.{Holds256};
 ghost use Rattle.xcp_slave.specs.SlaveValue.{SlaveValue};
@@ -8,19 +8,20 @@ ghost use Rattle.xcp_slave.specs.Run.{Run};
 ghost use Rattle.xcp_record.specs.Audit.{Audits, Differs, Hears, HoldsRun, SaysSettled};
 ghost use Rattle.xcp_trace.specs.declared.journal.Entry.{Entry};
 ghost use Rattle.xcp_trace.specs.EntrySpelling.{entry_in};
-ghost use Rattle.xcp_record.specs.FileFormat.{head, most_calls};
+ghost use Rattle.xcp_record.specs.FileFormat.{most_calls};
 ghost use Rattle.xcp_record.specs.declared.ending.Ending.{Ending};
-ghost use mathlib.Core.List.{IsPrefix};
+ghost use Rattle.xcp_record.specs.declared.roster.Roster.{Roster};
 ghost use Rattle.xcp_record.specs.private.Calls.{Spells};
 ghost use Rattle.xcp_record.specs.private.ReadChapter.{ReadsNext, fault_after};
-ghost use Rattle.xcp_record.specs.private.ReadHead.{ReadsHead};
+ghost use Rattle.xcp_record.specs.private.ReadHead.{ReadsHead, ReadsRoster};
 ghost use Rattle.xcp_record.specs.JournalFile.{exchanges};
 
 use crate::chapter::{ChapterFault, Parts};
 use crate::ending::{Ending, Settled};
 use crate::fault::AuditFault;
 use crate::filling::fill;
-use crate::head::{HEAD_BYTES, MAGIC, same};
+use crate::head::{FIRST_MAGIC, HEAD_BYTES, MAGIC, ROSTER_BYTES, same};
+use crate::roster::Roster;
 use crate::witness::Witness;
 use sha2::{Digest, Sha256};
 use std::alloc::Global;
@@ -43,7 +44,7 @@ const MOST_CHAPTERS: u64 = 4_294_967_296;
 
 /// Audits the file of a journal: reads it to its end, and executes each request on the slave, which has
 /// to be at its opening. The file is of the layout whose file has this SHA-256. The witness is told each
-/// call before it is executed.
+/// call before it is executed, with the roster of the file's head, or none where that is of version 1.
 ///
 /// `Ok` is the number of calls, where the file is whole and each call has the slave's answer, and whether the end mark ends it. A
 /// chapter's digest is looked at before its calls. There is room for one chapter: at most 34,013,184 bytes.
@@ -56,14 +57,14 @@ pub fn audit<R: Read, T: Witness>(
 ) -> Result<Settled, AuditFault>
     ensures audits { (read : List ℕ)
         × Consumes (R.remaining reader.old.inner) (R.remaining reader.new.inner) read
-        × Audits layout.now slave (IsAtEnd (R.remaining reader.new.inner)) read result
+        × (roster : Option Roster) × Audits roster layout.now slave (IsAtEnd (R.remaining reader.new.inner)) read result
         × (calls : List Entry)
-        × T.hears witness.old calls witness.new × Hears layout.now read result calls }
+        × T.hears witness.old roster calls witness.new × Hears roster layout.now read result calls }
     ensures unfailed { result ≢ Err AuditFault.Read → reader.new.failures ≡ reader.old.failures }
     ensures failed { result ≡ Err AuditFault.Read → reader.old.failures < reader.new.failures }
     // Of a file that holds a run of the slave it says nothing else.
-    ensures settles { IfSome (R.remaining reader.old.inner) (λ all. (n : ℕ) (ending : Ending)
-        → HoldsRun layout.now slave all n ending → SaysSettled n ending result) }
+    ensures settles { IfSome (R.remaining reader.old.inner) (λ all. (roster : Option Roster) (n : ℕ) (ending : Ending)
+        → HoldsRun roster layout.now slave all n ending → SaysSettled n ending result) }
 {
     each_request_has_one_answer();
     let mut slave = slave;
@@ -81,22 +82,23 @@ fn audit_chapters<R: Read, T: Witness>(
 ) -> Result<Settled, AuditFault>
     ensures audits { (read : List ℕ)
         × Consumes (R.remaining reader.old.inner) (R.remaining reader.new.inner) read
-        × Audits layout.now slave.old (IsAtEnd (R.remaining reader.new.inner)) read result
+        × (roster : Option Roster) × Audits roster layout.now slave.old (IsAtEnd (R.remaining reader.new.inner)) read result
         × (calls : List Entry)
-        × T.hears witness.old calls witness.new × Hears layout.now read result calls }
+        × T.hears witness.old roster calls witness.new × Hears roster layout.now read result calls }
     ensures unfailed { result ≢ Err AuditFault.Read → reader.new.failures ≡ reader.old.failures }
     ensures failed { result ≡ Err AuditFault.Read → reader.old.failures < reader.new.failures }
 {
     let mut hasher = Sha256::new();
-    if let Err(fault) = read_head(layout, reader, &mut hasher) {
-        return Err(fault);
-    }
+    let roster = match read_head(layout, reader, &mut hasher) {
+        Ok(roster) => roster,
+        Err(fault) => return Err(fault),
+    };
     let mut calls = 0;
     for number in 0..MOST_CHAPTERS + 1 {
         match next_part(number, calls, reader, &mut hasher, parts) {
             Ok(Part::End(ending)) => return Ok(Settled { calls, ending }),
             Ok(Part::Chapter(count)) => {
-                if let Err(place) = check_calls(slave, &parts.calls, calls, witness) {
+                if let Err(place) = check_calls(slave, roster, &parts.calls, calls, witness) {
                     return Err(AuditFault::Mismatch(place));
                 }
                 calls += count;
@@ -119,12 +121,12 @@ fn fault_after(calls: u64, fault: ChapterFault) -> AuditFault
     }
 }
 
-/// Reads the head of a file of this layout.
+/// Reads the head of a file of this layout, and answers its roster, if it has one. The hasher holds the head then.
 fn read_head<R: Read>(
     layout: &[u8; 32],
     reader: &mut Watched<R>,
     hasher: &mut Sha256,
-) -> Result<(), AuditFault>
+) -> Result<Option<Roster>, AuditFault>
     ensures reads { Holds256 hasher.old [] → (read : List ℕ)
         × Consumes (R.remaining reader.old.inner) (R.remaining reader.new.inner) read
         × ReadsHead layout.now (IsAtEnd (R.remaining reader.new.inner)) read hasher.new result }
@@ -138,23 +140,57 @@ fn read_head<R: Read>(
     if got < HEAD_BYTES {
         return Err(AuditFault::Foreign);
     }
-    if !has_magic(&head) {
-        return Err(AuditFault::Foreign);
-    }
+    hasher.update(&head);
+    let roster = match read_roster(&head, reader, hasher) {
+        Ok(roster) => roster,
+        Err(fault) => return Err(fault),
+    };
     if !names(&head, layout) {
         return Err(AuditFault::OtherLayout);
     }
-    hasher.update(&head);
-    Ok(())
+    Ok(roster)
 }
 
-/// Whether a file's head is that of a journal's file of this version.
-fn has_magic(bytes: &[u8; HEAD_BYTES]) -> bool
-    ensures { MatchBool result
-        ((layout : List ℕ) × (length layout ≡ 32) × (bytes.now ≡ head layout))
-        ((layout : List ℕ) → IsPrefix (head layout) bytes.now → ⊥) }
+/// Reads what a head has behind these bytes: nothing, or a roster. The hasher holds it too then.
+fn read_roster<R: Read>(
+    head: &[u8; HEAD_BYTES],
+    reader: &mut Watched<R>,
+    hasher: &mut Sha256,
+) -> Result<Option<Roster>, AuditFault>
+    ensures reads { (before : List ℕ) → Holds256 hasher.old before → (read : List ℕ)
+        × Consumes (R.remaining reader.old.inner) (R.remaining reader.new.inner) read
+        × ReadsRoster head.now (IsAtEnd (R.remaining reader.new.inner)) read result
+        × OnOk result (Holds256 hasher.new (before ++ read)) }
+    ensures unfailed { result ≢ Err AuditFault.Read → reader.new.failures ≡ reader.old.failures }
+    ensures failed { result ≡ Err AuditFault.Read → reader.old.failures < reader.new.failures }
 {
-    same(&bytes[..6], &MAGIC)
+    if has_magic(head, &FIRST_MAGIC) {
+        return Ok(None);
+    }
+    if !has_magic(head, &MAGIC) {
+        return Err(AuditFault::Foreign);
+    }
+    let mut bytes = [0; ROSTER_BYTES];
+    let Ok(got) = fill(reader, &mut bytes) else {
+        return Err(AuditFault::Read);
+    };
+    if got < ROSTER_BYTES {
+        return Err(AuditFault::Foreign);
+    }
+    hasher.update(&bytes);
+    Ok(Some(Roster {
+        tools: bytes[0],
+        tasks: bytes[1],
+        pumps: bytes[2],
+        clocks: bytes[3],
+    }))
+}
+
+/// Whether a file's head begins with this.
+fn has_magic(bytes: &[u8; HEAD_BYTES], magic: &[u8; 6]) -> bool
+    ensures { MatchBool result (take 6 bytes.now ≡ magic.now) (take 6 bytes.now ≢ magic.now) }
+{
+    same(&bytes[..6], magic)
 }
 
 /// Whether a file's head names this layout.
@@ -198,10 +234,11 @@ fn next_part<R: Read>(
     }
 }
 
-/// Executes the requests of calls on the slave, and tells them. The error is the first that the slave
+/// Executes the requests of calls on the slave, and tells them, with the file's roster. The error is the first that the slave
 /// answers otherwise, where so many calls stand before these.
 fn check_calls<T: Witness>(
     slave: &mut Slave,
+    roster: Option<Roster>,
     bytes: &[u8],
     before: u64,
     witness: &mut T,
@@ -214,10 +251,10 @@ fn check_calls<T: Witness>(
         → IfErr result (λ place. (i : ℕ) × (place ≡ before + i)
         × Differs slave.old (map entry_in strings) i) }
     ensures told { (strings : List (List ℕ)) → Spells bytes.now strings
-        → OnOk result (T.hears witness.old (map entry_in strings) witness.new) }
+        → OnOk result (T.hears witness.old roster (map entry_in strings) witness.new) }
     ensures told_some { (strings : List (List ℕ)) → Spells bytes.now strings
         → IfErr result (λ place. (i : ℕ) × (place ≡ before + i)
-        × T.hears witness.old (take (suc i) (map entry_in strings)) witness.new) }
+        × T.hears witness.old roster (take (suc i) (map entry_in strings)) witness.new) }
 {
     let mut left = bytes;
     let mut place = before;
@@ -226,7 +263,7 @@ fn check_calls<T: Witness>(
             unreachable!()
         };
         let call = owned(&lent);
-        witness.told(&call);
+        witness.told(roster, &call);
         if !answers(slave, &call) {
             return Err(place);
         }

@@ -80,7 +80,7 @@ pub enum AuditFault {
     /// The journal is another layout's.
     #[error("the journal is another layout's")]
     OtherLayout,
-    /// The file has not the head of a journal's file of this version.
+    /// The file has not the head of a journal's file of a version that is known.
     #[error("it is no journal's file")]
     Foreign,
     /// There are more chapters than a journal can have.

@@ -7,11 +7,17 @@ ghost use Rattle.xcp_record.specs.FileFormat.{chapter_head};
 use sha2::{Digest, Sha256};
 use std::alloc::AllocError;
 
-/// XCPJ, and the version, its low byte first.
-pub(crate) const MAGIC: [u8; 6] = [b'X', b'C', b'P', b'J', 1, 0];
+/// XCPJ, and version 1, its low byte first.
+pub(crate) const FIRST_MAGIC: [u8; 6] = [b'X', b'C', b'P', b'J', 1, 0];
 
-/// The bytes of a file's head.
+/// The same of version 2, which is written.
+pub(crate) const MAGIC: [u8; 6] = [b'X', b'C', b'P', b'J', 2, 0];
+
+/// The bytes of a file's head, but for a roster.
 pub(crate) const HEAD_BYTES: usize = 38;
+
+/// The bytes of a roster behind them.
+pub(crate) const ROSTER_BYTES: usize = 4;
 
 /// The bytes before a chapter's calls.
 pub(crate) const CHAPTER_HEAD_BYTES: usize = 16;

@@ -1,21 +1,24 @@
 //! Laws of the definitions: each is the contract of a function with an empty body.
-ghost use Rattle.std.specs.Prelude.{◌≡◌, ℕ, List, length};
+ghost use Rattle.std.specs.Prelude.{◌≡◌, ℕ, List, Option, length};
 ghost use Rattle.xcp_record.specs.declared.ending.Ending.{Ending};
+ghost use Rattle.xcp_record.specs.declared.roster.Roster.{Roster};
 ghost use Rattle.xcp_trace.specs.declared.journal.Entry.{Entry};
 ghost use Rattle.xcp_record.specs.JournalFile.{IsFile, IsWhole};
 
-/// What was written is read back: of a file there is one list of chapters with their calls, one ending and one
-/// layout.
+/// What was written is read back: of a file there is one list of chapters with their calls, one ending, one
+/// layout, and one roster or none.
 pub fn a_file_has_one_journal()
-    ensures chapters { (layout bytes : List ℕ) (written read : List (List Entry))
-        → IsFile layout bytes written → IsFile layout bytes read → read ≡ written }
-    ensures layout { (written read bytes : List ℕ) (chapters others : List (List Entry))
+    ensures chapters { (roster : Option Roster) (layout bytes : List ℕ) (written read : List (List Entry))
+        → IsFile roster layout bytes written → IsFile roster layout bytes read → read ≡ written }
+    ensures layout { (roster other : Option Roster) (written read bytes : List ℕ) (chapters others : List (List Entry))
         → length written ≡ 32 → length read ≡ 32
-        → IsFile written bytes chapters → IsFile read bytes others → read ≡ written }
-    ensures ending { (layout bytes : List ℕ) (written read : List (List Entry)) (end other : Ending)
-        → IsWhole layout bytes written end → IsWhole layout bytes read other
+        → IsFile roster written bytes chapters → IsFile other read bytes others
+        → (read ≡ written) × (other ≡ roster) }
+    ensures ending { (roster : Option Roster) (layout bytes : List ℕ) (written read : List (List Entry)) (end other : Ending)
+        → IsWhole roster layout bytes written end → IsWhole roster layout bytes read other
         → (read ≡ written) × (other ≡ end) }
-    ensures named { (written read bytes : List ℕ) (chapters others : List (List Entry)) (end other : Ending)
+    ensures named { (roster another : Option Roster) (written read bytes : List ℕ) (chapters others : List (List Entry)) (end other : Ending)
         → length written ≡ 32 → length read ≡ 32
-        → IsWhole written bytes chapters end → IsWhole read bytes others other → read ≡ written }
+        → IsWhole roster written bytes chapters end → IsWhole another read bytes others other
+        → (read ≡ written) × (another ≡ roster) }
 {}

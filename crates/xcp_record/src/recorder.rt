@@ -1,15 +1,17 @@
 //! What writes a journal's file.
-ghost use Rattle.std.specs.Prelude.{◌≡◌, ◌≤◌, ◌<◌, ◌+◌, ◌≢◌, ◌⊎◌, ◌*◌, ◌++◌, ◌∷◌, [], ℕ, List, Option, Err, OnOk, OnErr, IfOk, IfErr, length, true, false};
+ghost use Rattle.std.specs.Prelude.{◌≡◌, ◌≤◌, ◌<◌, ◌+◌, ◌≢◌, ◌⊎◌, ◌*◌, ◌++◌, ◌∷◌, [], ℕ, List, Option, Some, Err, OnOk, OnErr, IfOk, IfErr, length, true, false};
 ghost use Rattle.std.specs.Io.KnownBytes.{Appends};
 ghost use Rattle.sha2.specs.Hashers.{Holds256};
 ghost use Rattle.xcp_framing.specs.Prefix.{AppendsFront};
 ghost use Rattle.xcp_trace.specs.declared.journal.Entry.{Entry};
 ghost use Rattle.xcp_record.specs.FileFormat.{head, last_chapter, most_call, most_calls};
 ghost use Rattle.xcp_record.specs.Recording.{EndsInOrder, Records, StopsInMark, StopsInside};
+ghost use Rattle.xcp_record.specs.declared.roster.Roster.{Roster};
 ghost use Rattle.xcp_record.specs.private.Calls.{IsSealed};
 
 use crate::fault::{NotBegun, RecordFault};
 use crate::head::{END_MARK, MAGIC, chapter_head, digest_of};
+use crate::roster::Roster;
 use sha2::{Digest, Sha256};
 use std::alloc::{AllocError, Global};
 use std::io::Write;
@@ -34,23 +36,28 @@ pub struct Recorder<W> {
 }
 
 impl<W: Write> Recorder<W> {
-    /// A recorder that has written the head of a file to the stream, of the layout whose file has this SHA-256.
-    pub fn new(alloc: Global, stream: W, layout: &[u8; 32]) -> Result<Recorder<W>, NotBegun<W>>
-        ensures records { IfOk result (λ r. Records layout.now (W.contents stream)
+    /// A recorder that has written the head of a file to the stream, of the layout whose file has this SHA-256, and of these callers.
+    pub fn new(
+        alloc: Global,
+        stream: W,
+        layout: &[u8; 32],
+        roster: Roster,
+    ) -> Result<Recorder<W>, NotBegun<W>>
+        ensures records { IfOk result (λ r. Records (Some roster) layout.now (W.contents stream)
             (W.contents r.writer.inner) r.hasher r.chapters r.calls []) }
         ensures begins { IfOk result (λ r. r.stopped ≡ false) }
         ensures unfailed { IfOk result (λ r. r.writer.failures ≡ 0) }
         ensures refused { IfErr result (λ e. (e.fault ≡ RecordFault.Write) ⊎ (e.fault ≡ RecordFault.Memory)) }
         // A fault of the stream comes exactly where a write failed, and want of memory before anything is written.
         ensures write { IfErr result (λ e. e.fault ≡ RecordFault.Write → e.writer.failures ≡ 1) }
-        ensures front { IfErr result (λ e. AppendsFront (W.contents stream) (W.contents e.writer.inner) (head layout.now)) }
+        ensures front { IfErr result (λ e. AppendsFront (W.contents stream) (W.contents e.writer.inner) (head (Some roster) layout.now)) }
         ensures unwritten { IfErr result (λ e. e.fault ≡ RecordFault.Memory
             → e.writer ≡ record { inner = stream; calls = 0; failures = 0; read = []; asked = [] }) }
     {
         let mut writer = Watched::new(stream);
         let mut hasher = Sha256::new();
         let mut chapter = Vec::new(alloc);
-        match begin(layout, &mut writer, &mut hasher, &mut chapter) {
+        match begin(layout, roster, &mut writer, &mut hasher, &mut chapter) {
             Ok(()) => Ok(Recorder {
                 writer,
                 hasher,
@@ -90,16 +97,16 @@ impl<W: Write> Recorder<W> {
     pub fn append(&mut self, number: u64, entries: Entries<'_>) -> Result<(), RecordFault>
         requires { length entries ≤ most_calls }
         // A file with these chapters has this one behind them.
-        ensures records { (layout : List ℕ) (start : Option (List ℕ)) (chapters : List (List Entry))
-            → Records layout start (W.contents self.old.writer.inner) self.old.hasher
+        ensures records { (roster : Option Roster) (layout : List ℕ) (start : Option (List ℕ)) (chapters : List (List Entry))
+            → Records roster layout start (W.contents self.old.writer.inner) self.old.hasher
             self.old.chapters self.old.calls chapters
-            → OnOk result (Records layout start (W.contents self.new.writer.inner) self.new.hasher
+            → OnOk result (Records roster layout start (W.contents self.new.writer.inner) self.new.hasher
             self.new.chapters self.new.calls (chapters ++ entries.entry ∷ [])) }
         // Otherwise it has a front of it, or nothing.
-        ensures front { (layout : List ℕ) (start : Option (List ℕ)) (chapters : List (List Entry))
-            → Records layout start (W.contents self.old.writer.inner) self.old.hasher
+        ensures front { (roster : Option Roster) (layout : List ℕ) (start : Option (List ℕ)) (chapters : List (List Entry))
+            → Records roster layout start (W.contents self.old.writer.inner) self.old.hasher
             self.old.chapters self.old.calls chapters
-            → OnErr result (StopsInside layout start (W.contents self.new.writer.inner) chapters) }
+            → OnErr result (StopsInside roster layout start (W.contents self.new.writer.inner) chapters) }
         ensures ok { OnOk result ((self.old.stopped ≡ false) × (self.new.stopped ≡ false)
             × (number ≡ self.old.chapters)) }
         ensures err { OnErr result ((self.new.stopped ≡ true) × (self.new.calls ≡ self.old.calls)
@@ -147,15 +154,15 @@ impl<W: Write> Recorder<W> {
     /// is `Stopped`.
     pub fn end(&mut self) -> Result<(), RecordFault>
         // A file with these chapters has the end mark behind them.
-        ensures ends { (layout : List ℕ) (start : Option (List ℕ)) (chapters : List (List Entry))
-            → Records layout start (W.contents self.old.writer.inner) self.old.hasher
+        ensures ends { (roster : Option Roster) (layout : List ℕ) (start : Option (List ℕ)) (chapters : List (List Entry))
+            → Records roster layout start (W.contents self.old.writer.inner) self.old.hasher
             self.old.chapters self.old.calls chapters
-            → OnOk result (EndsInOrder layout start (W.contents self.new.writer.inner) chapters) }
+            → OnOk result (EndsInOrder roster layout start (W.contents self.new.writer.inner) chapters) }
         // Otherwise it has a front of it, or nothing.
-        ensures front { (layout : List ℕ) (start : Option (List ℕ)) (chapters : List (List Entry))
-            → Records layout start (W.contents self.old.writer.inner) self.old.hasher
+        ensures front { (roster : Option Roster) (layout : List ℕ) (start : Option (List ℕ)) (chapters : List (List Entry))
+            → Records roster layout start (W.contents self.old.writer.inner) self.old.hasher
             self.old.chapters self.old.calls chapters
-            → OnErr result (StopsInMark layout start (W.contents self.new.writer.inner) chapters) }
+            → OnErr result (StopsInMark roster layout start (W.contents self.new.writer.inner) chapters) }
         ensures ok { OnOk result (self.old.stopped ≡ false) }
         ensures kept { (self.new.stopped ≡ true) × (self.new.calls ≡ self.old.calls)
             × (self.new.chapters ≡ self.old.chapters) }
@@ -179,25 +186,27 @@ impl<W: Write> Recorder<W> {
     }
 }
 
-/// Writes the head of a file of this layout. The hasher holds it then.
+/// Writes the head of a file of this layout and these callers. The hasher holds it then.
 fn begin<W: Write>(
     layout: &[u8; 32],
+    roster: Roster,
     writer: &mut Watched<W>,
     hasher: &mut Sha256,
     chapter: &mut Vec<u8>,
 ) -> Result<(), RecordFault>
     requires fresh { Holds256 hasher.old [] }
     requires empty { chapter.old.items ≡ [] }
-    ensures written { OnOk result (Appends (W.contents writer.old.inner) (W.contents writer.new.inner) (head layout.now)) }
-    ensures held { OnOk result (Holds256 hasher.new (head layout.now)) }
+    ensures written { OnOk result (Appends (W.contents writer.old.inner) (W.contents writer.new.inner) (head (Some roster) layout.now)) }
+    ensures held { OnOk result (Holds256 hasher.new (head (Some roster) layout.now)) }
     ensures unfailed { OnOk result (writer.new.failures ≡ writer.old.failures) }
     ensures refused { IfErr result (λ e. (e ≡ RecordFault.Write) ⊎ (e ≡ RecordFault.Memory)) }
     ensures write { result ≡ Err RecordFault.Write → writer.new.failures ≡ writer.old.failures + 1 }
-    ensures front { OnErr result (AppendsFront (W.contents writer.old.inner) (W.contents writer.new.inner) (head layout.now)) }
+    ensures front { OnErr result (AppendsFront (W.contents writer.old.inner) (W.contents writer.new.inner) (head (Some roster) layout.now)) }
     ensures unwritten { result ≡ Err RecordFault.Memory → writer.new ≡ writer.old }
 {
     chapter.extend_from_slice(&MAGIC)?;
     chapter.extend_from_slice(layout)?;
+    chapter.extend_from_slice(&roster.bytes())?;
     hasher.update(&*chapter);
     writer.write_all(chapter)?;
     Ok(())

@@ -1,22 +1,25 @@
 //! What is told of an audit while it runs.
-ghost use Rattle.std.specs.Prelude.{[], ◌∷◌, ◌++◌, List, ⊤};
+ghost use Rattle.std.specs.Prelude.{[], ◌∷◌, ◌++◌, List, Option, ⊤};
 ghost use Rattle.xcp_trace.specs.declared.journal.Entry.{Entry};
+ghost use Rattle.xcp_record.specs.declared.roster.Roster.{Roster};
 
+use crate::roster::Roster;
 use xcp_trace::Entry;
 
-/// Is told each call that an audit compares, in their order: the one that differs is the last.
+/// Is told each call that an audit compares, in their order: the one that differs is the last. With each it is told the roster of the
+/// file, if that has one.
 pub trait Witness {
-    /// Told these calls, the witness comes from the first state to the second.
-    ghost hears: { Self → List Entry → Self → Type 0 };
+    /// Told these calls of a file with this roster or none, the witness comes from the first state to the second.
+    ghost hears: { Self → Option Roster → List Entry → Self → Type 0 };
 
     /// The next call.
-    fn told(&mut self, call: &Entry)
-        ensures { hears self.old (call.now ∷ []) self.new };
+    fn told(&mut self, roster: Option<Roster>, call: &Entry)
+        ensures { hears self.old roster (call.now ∷ []) self.new };
 
-    ghost hears_none: { (x : Self) → hears x [] x };
+    ghost hears_none: { (x : Self) (r : Option Roster) → hears x r [] x };
 
-    ghost hears_more: { (x y z : Self) (a b : List Entry)
-        → hears x a y → hears y b z → hears x (a ++ b) z };
+    ghost hears_more: { (x y z : Self) (r : Option Roster) (a b : List Entry)
+        → hears x r a y → hears y r b z → hears x r (a ++ b) z };
 }
 
 /// A witness that keeps nothing of what it is told.
@@ -24,11 +27,11 @@ pub trait Witness {
 pub struct Silent;
 
 impl Witness for Silent {
-    ghost hears = { λ x calls y. ⊤ };
+    ghost hears = { λ x r calls y. ⊤ };
 
-    fn told(&mut self, _call: &Entry) {}
+    fn told(&mut self, _roster: Option<Roster>, _call: &Entry) {}
 
-    ghost hears_none = { λ x. tt };
+    ghost hears_none = { λ x r. tt };
 
-    ghost hears_more = { λ x y z a b p q. tt };
+    ghost hears_more = { λ x y z r a b p q. tt };
 }

@@ -13,7 +13,7 @@ pub record StandsWhole {W : Type 0} (contents : W → Option (List ℕ)) (r : Re
   pub fine : r.fault ≡ None
   pub going : r.recorder.stopped ≡ false
   pub unfailed : r.recorder.writer.failures ≡ 0
-  pub records : Records r.layout (contents r.start.value) (contents r.recorder.writer.inner) r.recorder.hasher r.recorder.chapters r.recorder.calls chapters
+  pub records : Records (Some r.roster) r.layout (contents r.start.value) (contents r.recorder.writer.inner) r.recorder.hasher r.recorder.chapters r.recorder.calls chapters
 
 -- Why a recording writes no more: a write failed, and no other before it; or none failed, and there was no memory, or a journal can't have
 -- more chapters.
@@ -30,7 +30,7 @@ pub record StandsCut {W : Type 0} (contents : W → Option (List ℕ)) (r : Reco
   pub whole : List (List Entry)
   pub first : IsPrefix whole chapters
   pub calls : r.recorder.calls ≡ length (calls_of whole)
-  pub stops : StopsInside r.layout (contents r.start.value) (contents r.recorder.writer.inner) whole
+  pub stops : StopsInside (Some r.roster) r.layout (contents r.start.value) (contents r.recorder.writer.inner) whole
 
 -- What a recording has of the chapters that it was given: all of them and no fault, or a fault and the first ones.
 abbrev pub HasWritten : {W : Type 0} → (W → Option (List ℕ)) → Recording W → List (List Entry) → Type 0
@@ -42,14 +42,14 @@ pub record StandsEnded {W : Type 0} (contents : W → Option (List ℕ)) (r : Re
   pub stopped : r.recorder.stopped ≡ true
   pub unfailed : r.recorder.writer.failures ≡ 0
   pub calls : r.recorder.calls ≡ length (calls_of chapters)
-  pub ends : EndsInOrder r.layout (contents r.start.value) (contents r.recorder.writer.inner) chapters
+  pub ends : EndsInOrder (Some r.roster) r.layout (contents r.start.value) (contents r.recorder.writer.inner) chapters
 
 -- All of these chapters stand in the file, whole, and of the end mark a prefix of its bytes.
 pub record StandsUnmarked {W : Type 0} (contents : W → Option (List ℕ)) (r : Recording W) (chapters : List (List Entry)) : Type 0 where
   pub faulty : IsFaulty r
   pub stopped : r.recorder.stopped ≡ true
   pub calls : r.recorder.calls ≡ length (calls_of chapters)
-  pub stops : StopsInMark r.layout (contents r.start.value) (contents r.recorder.writer.inner) chapters
+  pub stops : StopsInMark (Some r.roster) r.layout (contents r.start.value) (contents r.recorder.writer.inner) chapters
 
 -- What a recording that was ended has of the chapters that it was given: all of them, the end mark and no fault; or a fault, and all of them,
 -- or the first ones.

@@ -1,5 +1,5 @@
 //! A scribe that writes the file of a journal.
-ghost use Rattle.std.specs.Prelude.{◌≡◌, ◌≤◌, ◌++◌, [], ◌∷◌, List, IfOk, IfErr, ◌⊎◌, length, true};
+ghost use Rattle.std.specs.Prelude.{◌≡◌, ◌≤◌, ◌++◌, [], ◌∷◌, List, IfOk, IfErr, Some, ◌⊎◌, length, true};
 ghost use Rattle.xcp_framing.specs.Prefix.{AppendsFront};
 ghost use Rattle.xcp_record.specs.FileFormat.{head, most_calls};
 ghost use Rattle.xcp_trace.specs.declared.journal.Entry.{Entry};
@@ -9,7 +9,7 @@ use crate::scribe::Scribe;
 use std::alloc::Global;
 use std::io::Write;
 use std::snapshot::Snapshot;
-use xcp_record::{NotBegun, RecordFault, Recorder};
+use xcp_record::{NotBegun, RecordFault, Recorder, Roster};
 use xcp_slave::Slave;
 use xcp_trace::Entries;
 
@@ -19,28 +19,36 @@ use xcp_trace::Entries;
 pub struct Recording<W> {
     recorder: Recorder<W>,
     layout: [u8; 32],
+    roster: Roster,
     start: Snapshot<W>,
     fault: Option<RecordFault>,
 }
 
 impl<W: Write> Recording<W> {
-    /// A recording that has written the head of a file to the stream, of the layout whose file has this SHA-256.
-    pub fn new(alloc: Global, stream: W, layout: [u8; 32]) -> Result<Recording<W>, NotBegun<W>>
+    /// A recording that has written the head of a file to the stream, of the layout whose file has this SHA-256, and of these callers.
+    pub fn new(
+        alloc: Global,
+        stream: W,
+        layout: [u8; 32],
+        roster: Roster,
+    ) -> Result<Recording<W>, NotBegun<W>>
         ensures written { IfOk result (λ r. HasWritten W.contents r []) }
         ensures layout { IfOk result (λ r. r.layout ≡ layout) }
+        ensures roster { IfOk result (λ r. r.roster ≡ roster) }
         ensures start { IfOk result (λ r. r.start.value ≡ stream) }
         ensures refused { IfErr result (λ e. (e.fault ≡ RecordFault.Write) ⊎ (e.fault ≡ RecordFault.Memory)) }
         // A fault of the stream comes exactly where a write failed, and want of memory before anything is written.
         ensures write { IfErr result (λ e. e.fault ≡ RecordFault.Write → e.writer.failures ≡ 1) }
-        ensures front { IfErr result (λ e. AppendsFront (W.contents stream) (W.contents e.writer.inner) (head layout)) }
+        ensures front { IfErr result (λ e. AppendsFront (W.contents stream) (W.contents e.writer.inner) (head (Some roster) layout)) }
         ensures unwritten { IfErr result (λ e. e.fault ≡ RecordFault.Memory
             → e.writer ≡ record { inner = stream; calls = 0; failures = 0; read = []; asked = [] }) }
     {
         let start = Snapshot::of(&stream);
-        match Recorder::new(alloc, stream, &layout) {
+        match Recorder::new(alloc, stream, &layout, roster) {
             Ok(recorder) => Ok(Recording {
                 recorder,
                 layout,
+                roster,
                 start,
                 fault: None,
             }),
@@ -82,7 +90,8 @@ impl<W: Write> Recording<W> {
     pub fn end(&mut self)
         ensures ends { (chapters : List (List Entry)) → HasWritten W.contents self.old chapters
             → HasEnded W.contents self.new chapters }
-        ensures kept { (self.new.layout ≡ self.old.layout) × (self.new.start ≡ self.old.start)
+        ensures kept { (self.new.layout ≡ self.old.layout) × (self.new.roster ≡ self.old.roster)
+            × (self.new.start ≡ self.old.start)
             × (self.new.recorder.calls ≡ self.old.recorder.calls) }
         // Where a chapter failed, or it was ended before, nothing changes.
         ensures again { self.old.recorder.stopped ≡ true → self.new ≡ self.old }

@@ -14,57 +14,6 @@ const PASSAGE: u32 = 1_073_741_824;
 /// How often a read may wait for a tool that says nothing between two frames.
 const WAITS: u32 = 4_294_967_295;
 
-/// Where a stream stands: between two frames, or inside one. A frame is LEN and CTR, of two bytes each, the low byte of LEN first,
-/// and then LEN bytes.
-#[derive(Clone, Copy, Debug)]
-pub struct FrameEdge {
-    /// How many bytes of LEN and CTR came, of a frame whose other bytes are still to come.
-    head: u8,
-    /// LEN, as far as it came.
-    length: u16,
-    /// How many bytes of the packet are still to come.
-    left: u16,
-}
-
-impl FrameEdge {
-    /// Before the first frame.
-    pub fn new() -> FrameEdge {
-        FrameEdge {
-            head: 0,
-            length: 0,
-            left: 0,
-        }
-    }
-
-    /// Whether a frame has begun, and not ended.
-    pub fn is_inside(&self) -> bool {
-        self.head > 0 || self.left > 0
-    }
-
-    /// One more byte came.
-    pub fn pass(&mut self, byte: u8) {
-        if self.left > 0 {
-            self.left -= 1;
-            return;
-        }
-        match self.head {
-            0 => {
-                self.length = u16::from(byte);
-                self.head = 1;
-            }
-            1 => {
-                self.length |= u16::from(byte) << 8;
-                self.head = 2;
-            }
-            2 => self.head = 3,
-            _ => {
-                self.head = 0;
-                self.left = self.length;
-            }
-        }
-    }
-}
-
 /// How long a connection waits for its tool.
 #[derive(Clone, Copy, Debug)]
 pub struct Times {
@@ -81,7 +30,8 @@ pub struct Times {
 #[derive(Drop)]
 pub struct Patient<'a> {
     stream: TcpStream,
-    edge: FrameEdge,
+    /// Whether the next read begins inside a frame.
+    is_inside: bool,
     times: Times,
     /// Whether the socket has the time for the next frame set, and not that inside a frame.
     is_resting: bool,
@@ -101,7 +51,7 @@ impl<'a> Patient<'a> {
         let _ = stream.set_read_timeout(Some(times.patience));
         Patient {
             stream,
-            edge: FrameEdge::new(),
+            is_inside: false,
             times,
             is_resting: false,
             reads: 0,
@@ -115,7 +65,7 @@ impl<'a> Patient<'a> {
         let Some(idle) = self.times.idle else {
             return;
         };
-        let rests = !self.edge.is_inside();
+        let rests = !self.is_inside;
         if rests != self.is_resting {
             self.is_resting = rests;
             let time = if rests { idle } else { self.times.patience };
@@ -128,14 +78,9 @@ impl<'a> Patient<'a> {
         ensures { IfSome result (λ read. ReadsAtMost read buf.new) }
     {
         match self.stream.read(buf) {
-            Ok(count) => {
-                for byte in &buf[..count] {
-                    self.edge.pass(*byte);
-                }
-                Some(Ok(count))
-            }
+            Ok(count) => Some(Ok(count)),
             Err(e) if is_interrupted(&e) => None,
-            Err(e) if is_late(&e) && !self.edge.is_inside() => self.rest(),
+            Err(e) if is_late(&e) && !self.is_inside => self.rest(),
             Err(e) => Some(Err(e)),
         }
     }
@@ -150,14 +95,21 @@ impl<'a> Patient<'a> {
     }
 }
 
-/// Looks whether a patient reader's last read ended a passage, and not the connection. Another passage begins then.
+/// Tells a patient reader where its stream stands, and looks whether its last read ended a passage, and not the connection. Another passage
+/// begins then.
 #[derive(Clone, Copy, Debug, Drop)]
 pub(crate) struct Patiently;
 
 impl<'a> Passages<Patient<'a>> for Patiently {
-    ghost use Rattle.std.specs.Prelude.{⊤};
+    ghost use Rattle.std.specs.Prelude.{◌≡◌, ⊤};
 
     ghost goes_on = { ⊤ };
+
+    ghost knows = { λ reader inside. reader.is_inside ≡ inside };
+
+    fn stand(&self, reader: &mut Patient<'a>, inside: bool) {
+        reader.is_inside = inside;
+    }
 
     fn begin_again(&self, reader: &mut Patient<'a>) -> bool {
         if !reader.is_passed {
@@ -171,7 +123,7 @@ impl<'a> Passages<Patient<'a>> for Patiently {
 
 impl Read for Patient<'_> {
     fn read(&mut self, buf: &mut [u8]) -> io::Result<usize> {
-        if self.reads >= PASSAGE && !self.edge.is_inside() {
+        if self.reads >= PASSAGE && !self.is_inside {
             self.is_passed = true;
             return Ok(0);
         }

@@ -2,7 +2,9 @@
 use Rattle.std.proofs.Common.{◌≡◌, ◌∙◌, ◌+◌, ◌<◌, ◌≤◌, ℕ, zero, suc, Bool, true, false, List, [], ◌∷◌, ◌++◌, length, length-append, Option, Some, None, refl, sym, ap, subst, arith}
 use Rattle.std.specs.Prelude.{IfSome, is_some, nat_lt, option_to_list, if◌then◌else◌}
 use Rattle.std.specs.List.{AllByRecursion}
+use Rattle.xcp_packet.specs.TimeStamps.{stamp_size}
 use Rattle.xcp_memory.specs.Layout.{LayoutValue}
+use Rattle.xcp_memory.specs.declared.Clock.{Clock}
 use Rattle.xcp_locked.specs.Caller.{CallerValue, callers_of, fresh_caller}
 use Rattle.xcp_service.specs.Parcels.{AreNumbered}
 use Rattle.xcp_service.specs.Telling.{has_clock}
@@ -29,6 +31,12 @@ last_dealt layout callers tools tasks one two three four spare dealt ones twos t
     let all = subst (λ (l : List CallerValue). AreNumbered 0 l) dealt (numbered_callers layout callers) in
     let behind = numbered_behind _ three (four ++ spare) (numbered_behind _ two (three ++ (four ++ spare)) (numbered_behind 0 one (two ++ (three ++ (four ++ spare))) all)) in
     last_of _ callers four spare behind few (λ some. let end = at some in omega (arith, end, ones, twos, threes))
+
+-- ---- whether there is one
+
+-- the size of the clock's stamps tells it
+pub tells_clock : (layout : LayoutValue) (clock : Clock) (size : ℕ) → size ≡ stamp_size clock.stamp → clock ≡ layout.clock → nat_lt 0 size ≡ has_clock layout
+tells_clock layout clock size is same = ap (λ n. nat_lt 0 n) is ∙ ap (λ (k : Clock). nat_lt 0 (stamp_size k.stamp)) same
 
 -- ---- before the first call
 

@@ -12,6 +12,7 @@ use Rattle.xcp_framing.specs.contracts.tally.Tally as Tally
 use Rattle.xcp_framing.specs.contracts.watched.Watched as Watched
 use Rattle.xcp_framing.specs.contracts.watched.Watched.TheInside as WatchedInside
 use Rattle.xcp_record.proofs.fault.RecordFault.TheSendSync as fault
+use Rattle.xcp_record.proofs.roster.Roster.TheSendSync as roster
 use Rattle.xcp_record.specs.contracts.recorder.Recorder as Recorder
 use Rattle.xcp_scribe.specs.contracts.asking.Asking as Asking
 use Rattle.xcp_scribe.specs.contracts.both.Both as Both
@@ -50,7 +51,7 @@ recorder_crosses W w =
 recording_crosses : (W : RattleType) → IsSend W → IsSend (Recording.the_field W).row
 recording_crosses W w =
     struct_send (declared.shape (Recording.the_type W))
-    (recorder_crosses W w, (search (sendable, crosses) depth 20, (search (sendable, crosses) depth 20, (search (sendable, crosses, fault.the_send) depth 20, tt))))
+    (recorder_crosses W w, (search (sendable, crosses) depth 20, (search (sendable, crosses, roster.the_send) depth 20, (search (sendable, crosses) depth 20, (search (sendable, crosses, fault.the_send) depth 20, tt)))))
 
 -- nor does a list of calls
 asking_crosses : IsSend Asking.the_field.row

@@ -1,6 +1,8 @@
 //! The file of a journal that a thread of its own writes.
-ghost use Rattle.std.specs.Prelude.{◌<◌, [], ⊤, None, IfOk, MatchOption};
+ghost use Rattle.std.specs.Prelude.{◌≡◌, ◌<◌, [], ⊤, None, IfOk, MatchOption};
+ghost use Rattle.sha2.specs.Sha256.{sha256};
 ghost use Rattle.xcp_scribe.specs.Scribing.{HasWritten};
+ghost use Rattle.xcpd.specs.Distance.{calls_with, place_of};
 
 use crate::journal::{begin_recording, new_file, print_calls};
 use crate::lines::Lines;
@@ -10,7 +12,8 @@ use std::sync::{Arc, Wait};
 use std::thread::{self, Threads};
 use std::time::{Clock, Duration};
 use xcp_behind::{Backlog, Behind, Opened, Progress, WriteEnd, open_backlog};
-use xcp_program::Fault;
+use xcp_program::{Fault, Recorded, fault_of_journal};
+use xcp_record::Roster;
 use xcp_scribe::{Recording, Scribe, Synced};
 use xcp_slave::Slave;
 use xcp_trace::Entries;
@@ -72,14 +75,17 @@ impl<R: Wait> Scribe for Counting<'_, R> {
 
 /// Where the number of calls with this chapter stands.
 fn place_of(chapter: u64) -> usize
-    ensures { result < KEPT }
+    ensures bound { result < KEPT }
+    ensures place { result ≡ place_of chapter }
 {
     (chapter % KEPT as u64) as usize
 }
 
 impl<R: Wait> Counting<'_, R> {
     /// How many calls stand in the file where the thread has written so many pieces: the head, and chapters behind it.
-    fn calls_with(&self, pieces: u64) -> u64 {
+    fn calls_with(&self, pieces: u64) -> u64
+        ensures { result ≡ calls_with self.now.calls pieces }
+    {
         match pieces.checked_sub(2) {
             Some(chapter) => self.calls[place_of(chapter)],
             None => 0,
@@ -95,9 +101,12 @@ pub fn distant_at<'a, R: Threads + Wait + Clock + Copy + Send + 'static>(
     text: &str,
     path: &Option<String>,
     flash: &Option<String>,
+    roster: Roster,
     lines: &Arc<Lines>,
 ) -> Result<(Distant<'a, R>, Option<Arc<Backlog>>), Fault>
-    ensures { IfOk result (λ r. MatchOption r.0 ⊤ (λ c. HasWritten (λ _. None) c.recording [])) }
+    ensures begun { IfOk result (λ r. MatchOption r.0 ⊤ (λ c. HasWritten (λ _. None) c.recording [])) }
+    ensures roster { IfOk result (λ r. MatchOption r.0 ⊤ (λ c. c.recording.roster ≡ roster)) }
+    ensures layout { IfOk result (λ r. MatchOption r.0 ⊤ (λ c. c.recording.layout ≡ sha256 text.now)) }
 {
     let Some(path) = path else {
         return Ok((None, None));
@@ -106,7 +115,7 @@ pub fn distant_at<'a, R: Threads + Wait + Clock + Copy + Send + 'static>(
     let Ok((stream, backlog, alarm)) = begin_writing(rt, handle, Synced::new(file), lines) else {
         return Err(Fault::Memory);
     };
-    let recording = begin_recording(rt, text, stream)?;
+    let recording = begin_recording(rt, text, roster, stream)?;
     if backlog.wait(handle, Duration::from_millis(LAST)) == Progress::Stopped {
         return Err(Fault::Journal(1));
     }
@@ -172,6 +181,6 @@ pub fn print_distant<R: Wait + Clock>(
         return print_calls(rt, &counting.recording);
     }
     let calls = counting.calls_with(shared.written(handle));
-    let _ = println!(rt; "recorded {calls}");
-    Some(Fault::Journal(2))
+    let printed = rt.print(Recorded { calls });
+    fault_of_journal(false, printed.is_ok())
 }

@@ -1,15 +1,20 @@
 //! The file of stored pages, by the program's words.
-ghost use Rattle.std.specs.Prelude.{[], ⊤, IfOk};
+ghost use Rattle.std.specs.Prelude.{◌≡◌, ℕ, List, [], ⊤, Option, IfOk, MatchOption, is_some, true};
+ghost use Rattle.sha2.specs.Sha256.{sha256};
+ghost use Rattle.xcp_program.specs.Beginning.{Begins};
 ghost use Rattle.xcp_scribe.specs.Flashing.{HasKept, KeepsNone};
+ghost use Rattle.xcpd.specs.Faults.{fault_of_keeping};
 
 use crate::teller::Teller;
 use sha2::{Digest, Sha256};
 use std::alloc::AllocError;
-use std::fs::{self, File, TryLockError};
-use std::io::{self, ErrorKind, Write};
+use std::fs::{self, File};
+use std::io::{self, Write};
 use std::sync::Wait;
 use xcp_memory::Layout;
-use xcp_program::{Fault, layout_stored, read_flash};
+use xcp_program::{
+    Fault, fault_of_pages, folder_of, layout_stored, read_flash, refuse_second, stored_file,
+};
 use xcp_scribe::{Flashing, Shelf};
 
 /// What keeps the pages that tools store, if the words name a file.
@@ -51,33 +56,24 @@ fn put_whole(rt: &HostRuntime, path: &str, fresh: &str, bytes: &[u8]) -> io::Res
     File::open(rt, folder_of(path))?.sync_all()
 }
 
-/// The folder in which a file lies.
-fn folder_of(path: &str) -> &str {
-    match path.rsplit_once('/') {
-        None => ".",
-        Some(("", _)) => "/",
-        Some((folder, _)) => folder,
-    }
-}
-
-/// The bytes of the file, if it is there.
-fn stored_at(rt: &HostRuntime, path: &str) -> Result<Option<Vec<u8>>, Fault> {
-    match File::open(rt, path) {
-        Ok(file) => Ok(Some(read_flash(rt.alloc(), file)?)),
-        Err(error) if error.kind() == ErrorKind::NotFound => Ok(None),
-        Err(_) => Err(Fault::Flash(1)),
+/// The bytes of the file, if it is there. Where it is wanted it must be.
+fn stored_at(rt: &HostRuntime, path: &str, wanted: bool) -> Result<Option<Vec<u8>>, Fault>
+    ensures { wanted ≡ true → IfOk result (λ stored. is_some stored ≡ true) }
+{
+    match stored_file(File::open(rt, path), wanted)? {
+        Some(file) => Ok(Some(read_flash(rt.alloc(), file)?)),
+        None => Ok(None),
     }
 }
 
 /// The bytes of the file, if it is named. It must be there then.
-pub fn stored_in(rt: &HostRuntime, path: &Option<String>) -> Result<Option<Vec<u8>>, Fault> {
+pub fn stored_in(rt: &HostRuntime, path: &Option<String>) -> Result<Option<Vec<u8>>, Fault>
+    ensures { IfOk result (λ stored. is_some stored ≡ is_some path.now) }
+{
     let Some(path) = path else {
         return Ok(None);
     };
-    match stored_at(rt, path)? {
-        None => Err(Fault::Flash(1)),
-        stored => Ok(stored),
-    }
+    stored_at(rt, path, true)
 }
 
 /// The layout that this text describes, with the pages that are stored in the file, if it is named and there; and what keeps the file,
@@ -88,14 +84,16 @@ pub fn begin_with<'a, R: Wait>(
     path: &Option<String>,
     teller: Teller<'a, R>,
 ) -> Result<(Layout, Kept<'a, R>), Fault>
-    ensures { IfOk result (λ r. KeepsNone r.1) }
+    ensures kept { IfOk result (λ r. KeepsNone r.1) }
+    ensures begins { IfOk result (λ r. (stored : Option (List ℕ)) × Begins text.now stored r.0) }
+    ensures layout { IfOk result (λ r. MatchOption r.1 ⊤ (λ kept. kept.layout ≡ sha256 text.now)) }
 {
     let alloc = rt.alloc();
     let Some(path) = path else {
         return Ok((layout_stored(alloc, text, None)?, None));
     };
     let place = place_at(rt, path, teller)?;
-    let stored = stored_at(rt, path)?;
+    let stored = stored_at(rt, path, false)?;
     let layout = layout_stored(alloc, text, stored.as_deref())?;
     match Flashing::new(alloc, place, &layout, Sha256::digest(text.as_bytes())) {
         Ok(kept) => Ok((layout, Some(kept))),
@@ -136,16 +134,16 @@ fn locked(rt: &HostRuntime, path: &str) -> Result<File, Fault> {
     let Ok(file) = File::create(rt, path) else {
         return Err(Fault::Flash(2));
     };
-    match file.try_lock() {
-        Err(TryLockError::WouldBlock) => Err(Fault::Flash(3)),
-        _ => Ok(file),
-    }
+    refuse_second(file.try_lock())?;
+    Ok(file)
 }
 
 /// The fault of the file, if something that was stored could not be written.
-pub fn fault_of<R: Wait>(kept: &Kept<'_, R>) -> Option<Fault> {
+pub fn fault_of_keeping<R: Wait>(kept: &Kept<'_, R>) -> Option<Fault>
+    ensures { result ≡ fault_of_keeping kept.now }
+{
     match kept {
-        Some(keeping) if keeping.has_failed() => Some(Fault::Flash(2)),
-        _ => None,
+        Some(keeping) => fault_of_pages(!keeping.has_failed()),
+        None => None,
     }
 }

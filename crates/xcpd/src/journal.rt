@@ -1,6 +1,9 @@
 //! The file of a server's journal, by the program's words.
-ghost use Rattle.std.specs.Prelude.{[], IfOk};
-ghost use Rattle.xcp_scribe.specs.Scribing.{HasBegun, HasWritten};
+ghost use Rattle.std.specs.Prelude.{◌≡◌, ⊤, [], Bool, IfOk, MatchBool, MatchOption, None, is_none};
+ghost use Rattle.sha2.specs.Sha256.{sha256};
+ghost use Rattle.xcp_program.specs.EndFaults.{fault_of_journal};
+ghost use Rattle.xcp_scribe.specs.Scribing.{AreEnded, HasBegun, HasWritten};
+ghost use Rattle.xcpd.specs.Faults.{fault_of_head};
 
 use crate::teller::Teller;
 use sha2::{Digest, Sha256};
@@ -8,8 +11,8 @@ use std::fs::{self, File};
 use std::io::{self, Write};
 use std::os::unix::fs::MetadataExt;
 use std::sync::Wait;
-use xcp_program::Fault;
-use xcp_record::{NotBegun, RecordFault};
+use xcp_program::{Fault, Recorded, fault_of_journal};
+use xcp_record::{NotBegun, RecordFault, Roster};
 use xcp_scribe::{Recording, Synced, end_recording};
 
 /// What writes a server's journal down, if the words name a file.
@@ -36,16 +39,19 @@ impl<R: Wait> Write for Telling<'_, R> {
     }
 }
 
-/// Makes the file of a journal, if it is named, of the layout file that has this text: it must not be there yet, and be none of those of
-/// the stored pages.
+/// Makes the file of a journal, if it is named, of the layout file that has this text, and of these callers: it must not be there yet, and
+/// be none of those of the stored pages.
 pub fn journal_at<'a, R: Wait>(
     rt: &HostRuntime,
     text: &str,
     path: &Option<String>,
     flash: &Option<String>,
+    roster: Roster,
     teller: Teller<'a, R>,
 ) -> Result<Written<'a, R>, Fault>
-    ensures { IfOk result HasBegun }
+    ensures begun { IfOk result HasBegun }
+    ensures roster { IfOk result (λ w. MatchOption w ⊤ (λ r. r.roster ≡ roster)) }
+    ensures layout { IfOk result (λ w. MatchOption w ⊤ (λ r. r.layout ≡ sha256 text.now)) }
 {
     let Some(path) = path else {
         return Ok(None);
@@ -55,26 +61,34 @@ pub fn journal_at<'a, R: Wait>(
         file: Synced::new(file),
         teller,
     };
-    Ok(Some(begin_recording(rt, text, stream)?))
+    Ok(Some(begin_recording(rt, text, roster, stream)?))
 }
 
-/// A recording to this stream, of the layout file that has this text.
+/// A recording to this stream, of the layout file that has this text, and of these callers.
 pub fn begin_recording<W: Write + Drop>(
     rt: &HostRuntime,
     text: &str,
+    roster: Roster,
     stream: W,
 ) -> Result<Recording<W>, Fault>
-    ensures { IfOk result (λ r. HasWritten W.contents r []) }
+    ensures begun { IfOk result (λ r. HasWritten W.contents r []) }
+    ensures roster { IfOk result (λ r. r.roster ≡ roster) }
+    ensures layout { IfOk result (λ r. r.layout ≡ sha256 text.now) }
 {
-    match Recording::new(rt.alloc(), stream, Sha256::digest(text.as_bytes())) {
+    let layout = Sha256::digest(text.as_bytes());
+    match Recording::new(rt.alloc(), stream, layout, roster) {
         Ok(recording) => Ok(recording),
-        Err(
-            NotBegun {
-                fault: RecordFault::Memory,
-                ..
-            },
-        ) => Err(Fault::Memory),
-        Err(_) => Err(Fault::Journal(1)),
+        Err(NotBegun { fault, .. }) => Err(fault_of_head(fault)),
+    }
+}
+
+/// The fault that is told where the head of a journal couldn't be written.
+fn fault_of_head(fault: RecordFault) -> Fault
+    ensures { result ≡ fault_of_head fault }
+{
+    match fault {
+        RecordFault::Memory => Fault::Memory,
+        _ => Fault::Journal(1),
     }
 }
 
@@ -123,7 +137,10 @@ pub fn print_recorded<R: Wait>(
     rt: &HostRuntime,
     written: &mut Written<'_, R>,
     settled: bool,
-) -> Option<Fault> {
+) -> Option<Fault>
+    ensures ended { MatchBool settled (AreEnded (λ _. None) written.old written.new) (written.new ≡ written.old) }
+    ensures fault { MatchOption written.new (result ≡ None) (λ r. (printed : Bool) × (result ≡ fault_of_journal (is_none r.fault) printed)) }
+{
     if settled {
         end_recording(written);
     }
@@ -131,11 +148,11 @@ pub fn print_recorded<R: Wait>(
 }
 
 /// Prints how many calls stand in the file of a recording. The fault is that of calls, or of an end mark, that don't stand there.
-pub fn print_calls<W: Write>(rt: &HostRuntime, recording: &Recording<W>) -> Option<Fault> {
-    let printed = println!(rt; "recorded {}", recording.calls());
-    if recording.fault().is_some() {
-        Some(Fault::Journal(2))
-    } else {
-        printed.err().map(|_| Fault::Stream(2))
-    }
+pub fn print_calls<W: Write>(rt: &HostRuntime, recording: &Recording<W>) -> Option<Fault>
+    ensures { (printed : Bool) × (result ≡ fault_of_journal (is_none recording.now.fault) printed) }
+{
+    let printed = rt.print(Recorded {
+        calls: recording.calls(),
+    });
+    fault_of_journal(recording.fault().is_none(), printed.is_ok())
 }

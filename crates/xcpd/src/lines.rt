@@ -1,4 +1,5 @@
 //! Lines for standard error that nobody waits for.
+ghost use Rattle.std.specs.Prelude.{◌≡◌, ◌≤◌, ◌+◌, ◌-◌, ◌^◌, ◌⊎◌, ◌++◌, ◌∷◌, [], min, vec_len};
 
 use std::alloc::Global;
 use std::io;
@@ -33,7 +34,12 @@ pub struct Lines {
 
 impl Waiting {
     /// One more line, if there is room for it.
-    fn take_in(&mut self, line: String) {
+    fn take_in(&mut self, line: String)
+        ensures taken { ((self.new.lines.items ≡ self.old.lines.items ++ line ∷ []) × (self.new.dropped ≡ self.old.dropped))
+            ⊎ ((self.new.lines.items ≡ self.old.lines.items) × (self.new.dropped ≡ min (self.old.dropped + 1) (2 ^ 64 - 1))) }
+        ensures most { vec_len self.old.lines ≤ MOST → vec_len self.new.lines ≤ MOST }
+        ensures kept { (self.new.is_closed ≡ self.old.is_closed) × (self.new.is_written ≡ self.old.is_written) }
+    {
         if self.lines.len() >= MOST || self.lines.push(line).is_err() {
             self.dropped = self.dropped.saturating_add(1);
         }

@@ -1,4 +1,8 @@
-//! What a server that stays tells on standard error: a line for each tool that comes and goes.
+//! What a server that stays tells on standard error: a line for each tool that comes and goes, which begins with the name that the caller
+//! of its seat has in an audit of the journal.
+
+ghost use Rattle.std.specs.Prelude.{◌≡◌};
+ghost use Rattle.xcp_server.specs.Report.{fault_of_outcome};
 
 use crate::lines::Lines;
 use std::alloc::AllocError;
@@ -34,21 +38,21 @@ impl<R: Wait> Log<'_, R> {
 
 impl<R: Wait> Watcher for Log<'_, R> {
     fn came(&self, seat: u8, tool: SocketAddr) {
-        self.tell(format!(in self.rt.alloc(); "seat {seat}: {tool} connected"));
+        self.tell(format!(in self.rt.alloc(); "tool {seat}: {tool} connected"));
     }
 
     fn idle(&self, seat: u8, tool: SocketAddr) {
         let seconds = self.idle;
-        self.tell(format!(in self.rt.alloc(); "seat {seat}: {tool} sent nothing for {seconds} s"));
+        self.tell(format!(in self.rt.alloc(); "tool {seat}: {tool} sent nothing for {seconds} s"));
     }
 
     fn gone(&self, seat: u8, tool: SocketAddr, end: Result<Served, ServeError>) {
         let alloc = self.rt.alloc();
         self.tell(match end {
-            Ok(_) => format!(in alloc; "seat {seat}: {tool} disconnected"),
+            Ok(_) => format!(in alloc; "tool {seat}: {tool} disconnected"),
             Err(error) => {
-                let fault = fault_of(&error);
-                format!(in alloc; "seat {seat}: {tool} disconnected: {fault}")
+                let fault = fault_of_outcome(&error);
+                format!(in alloc; "tool {seat}: {tool} disconnected: {fault}")
             }
         });
     }
@@ -68,7 +72,9 @@ impl<R: Wait> Watcher for Log<'_, R> {
 }
 
 /// The fault that is told where a connection ended so.
-fn fault_of(error: &ServeError) -> Fault {
+fn fault_of_outcome(error: &ServeError) -> Fault
+    ensures { result ≡ fault_of_outcome error.now }
+{
     match error {
         ServeError::Memory | ServeError::NoRoom => Fault::Memory,
         other => Fault::Stream(other.number()),

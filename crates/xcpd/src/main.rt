@@ -4,6 +4,8 @@
 
 mod audit;
 mod background;
+mod callers;
+mod counts;
 mod distant;
 mod flash;
 mod journal;
@@ -13,20 +15,23 @@ mod stack;
 mod stay;
 mod teller;
 
-ghost use Rattle.std.specs.Prelude.{◌≡◌, ◌<◌, ◌≤◌, ◌+◌, IfOk, vec_len};
+ghost use Rattle.std.specs.Prelude.{◌≡◌, ◌<◌, ◌≤◌, ◌+◌, ⊤, IfOk, MatchOption, vec_len};
 ghost use Rattle.xcp_program.specs.CommandLine.{InRange};
 ghost use Rattle.xcp_scribe.specs.Flashing.{KeepsNone};
 ghost use Rattle.xcp_scribe.specs.Scribing.{HasBegun};
+ghost use Rattle.xcpd.specs.Counted.{told_at_end};
 
 use crate::audit::audit_by;
-use crate::flash::{Kept, begin_with, fault_of, stored_in};
+use crate::callers::{callers_of, roster_of};
+use crate::counts::counts_at_end;
+use crate::flash::{Kept, begin_with, fault_of_keeping, stored_in};
 use crate::journal::{Written, journal_at, print_recorded};
 use crate::stack::{deepen, has_room};
 use crate::stay::stay_by;
 use crate::teller::Teller;
 use std::fs::File;
 use std::io;
-use std::net::{IpAddr, TcpListener};
+use std::net::TcpListener;
 use std::process::ExitCode;
 use std::sync::Wait;
 use std::thread::Threads;
@@ -35,8 +40,8 @@ use xcp_describe::{DescribeError, Findings, check, describe};
 use xcp_framing::Watched;
 use xcp_locked::Unnamed;
 use xcp_program::{
-    Fault, Options, Unasked, asked, periods_of, read_text, read_whole, read_words, refuse_clock,
-    replay,
+    Fault, Listening, Options, Serving, Unasked, asked, fault_at_end, fault_of_print, periods_of,
+    read_text, read_whole, read_words, refuse_clock, refuse_many, replay, status_at_end,
 };
 use xcp_scribe::Both;
 use xcp_server::{Report, Tools, accept_tools, serve_ends};
@@ -114,18 +119,11 @@ pub fn listen(rt: &HostRuntime, host: &str, port: u16) -> Result<TcpListener, Fa
     let Ok(listener) = TcpListener::bind(rt, (host, port)) else {
         return Err(Fault::Stream(0));
     };
-    match listener.local_addr() {
-        Ok(address) if !is_for_many(address.ip()) => Ok(listener),
-        _ => Err(Fault::Stream(0)),
-    }
-}
-
-/// Whether this is an address of many machines, to which none can connect: the system listens there all the same.
-fn is_for_many(address: IpAddr) -> bool {
-    match address {
-        IpAddr::V4(address) => address.is_broadcast() || address.is_multicast(),
-        IpAddr::V6(address) => address.is_multicast(),
-    }
+    let Ok(address) = listener.local_addr() else {
+        return Err(Fault::Stream(0));
+    };
+    refuse_many(address.ip())?;
+    Ok(listener)
 }
 
 /// What a server begins with: a slave, the periods of its tasks, what writes its journal and its stored pages down, and the tools that
@@ -150,13 +148,15 @@ fn admit<'a, R: Wait>(
     flash: &Option<String>,
 ) -> Result<Admitted<'a, R>, Fault>
     requires { (1 ≤ tools) × (tools ≤ 2) × (tasks ≤ 6) }
-    ensures { IfOk result (λ r. (vec_len r.3 ≡ tools) × (r.0.callers ≡ tools + tasks + tools) × HasBegun r.2.first × KeepsNone r.2.second) }
+    ensures { IfOk result (λ r. (vec_len r.3 ≡ tools) × (r.0.callers ≡ tools + tasks + tools) × HasBegun r.2.first × KeepsNone r.2.second
+        × MatchOption r.2.first ⊤ (λ w. w.roster.tools + w.roster.tasks + w.roster.pumps + w.roster.clocks ≡ r.0.callers)) }
 {
     let text = text_of(rt, path)?;
     let (layout, kept) = begin_with(rt, text.as_str(), flash, Teller::new(rt, handle, None))?;
     refuse_clock(&layout)?;
     let periods = periods_of(&layout, pace, period);
-    let Ok(unnamed) = Unnamed::new(rt.alloc(), layout, tools + tasks + tools) else {
+    let roster = roster_of(tools, tasks, 0);
+    let Ok(unnamed) = Unnamed::new(rt.alloc(), layout, callers_of(&roster)) else {
         return Err(Fault::Memory);
     };
     let listener = listen(rt, host, port)?;
@@ -165,9 +165,10 @@ fn admit<'a, R: Wait>(
         text.as_str(),
         journal,
         flash,
+        roster,
         Teller::new(rt, handle, None),
     )?;
-    let _ = println!(rt; "listening {port}");
+    let _ = rt.print(Listening { port });
     let ends = accept_tools(rt.alloc(), &listener, tools)?;
     let scribe = Both {
         first: written,
@@ -176,54 +177,22 @@ fn admit<'a, R: Wait>(
     Ok((unnamed, periods, scribe, ends))
 }
 
-/// Prints the last lines of a server whose callers are settled. Lost events have a line if there are any, and so have cycles that tasks were
-/// too late for.
-pub fn print_counts(
-    rt: &HostRuntime,
-    chapters: u64,
-    calls: u64,
-    lost: u64,
-    late: u64,
-) -> io::Result<()> {
-    println!(rt; "chapters {chapters}\ncalls {calls}")?;
-    if lost > 0 {
-        println!(rt; "lost {lost}")?;
-    }
-    if late > 0 {
-        println!(rt; "late {late}")?;
-    }
-    println!(rt; "settled")
-}
-
-/// Tells what came of a server: its counts once its callers are settled, then its fault, else that these couldn't be written.
-fn print_end(rt: &HostRuntime, told: Result<Report, Fault>) -> Option<Fault> {
+/// Prints the last lines of a server, once its callers are settled: whether they were printed, where there are such, and the faults that it
+/// tells.
+fn print_end(rt: &HostRuntime, told: Result<Report, Fault>) -> (Result<Option<Fault>, Fault>, bool)
+    ensures { result.0 ≡ told_at_end told }
+{
     match told {
-        Ok(report) => {
-            let written = print_counts(rt, report.chapters, report.calls, report.lost, 0);
-            match report.fault {
-                None if written.is_err() => Some(Fault::Stream(2)),
-                fault => fault,
-            }
-        }
-        Err(fault) => Some(fault),
+        Ok(report) => (Ok(report.fault), rt.print(counts_at_end(&report)).is_ok()),
+        Err(fault) => (Err(fault), true),
     }
-}
-
-/// Prints how many calls stand in the journal's file, if there is one, which is ended before if all callers are settled. The fault is that of
-/// the journal's file, else that of the stored pages'.
-fn print_written<R: Wait>(
-    rt: &HostRuntime,
-    scribe: &mut Both<Written<'_, R>, Kept<'_, R>>,
-    settled: bool,
-) -> Option<Fault> {
-    print_recorded(rt, &mut scribe.first, settled).or(fault_of(&scribe.second))
 }
 
 /// Tells why the program is asked nothing.
 fn tell(rt: &HostRuntime, unasked: &Unasked) -> ExitCode {
     let status = unasked.status();
     if status == 0 {
-        return end(rt, print!(rt; "{unasked}").err().map(|_| Fault::Stream(2)));
+        return end(rt, fault_of_print(print!(rt; "{unasked}").is_ok()));
     }
     let _ = eprint!(rt; "{unasked}");
     ExitCode::from(status)
@@ -231,13 +200,10 @@ fn tell(rt: &HostRuntime, unasked: &Unasked) -> ExitCode {
 
 /// Tells the fault, if there is one, and ends with its status.
 pub fn end(rt: &HostRuntime, fault: Option<Fault>) -> ExitCode {
-    match fault {
-        None => ExitCode::from(0),
-        Some(fault) => {
-            let _ = eprintln!(rt; "xcpd: {fault}");
-            ExitCode::from(fault.status())
-        }
+    if let Some(fault) = fault {
+        let _ = eprintln!(rt; "xcpd: {fault}");
     }
+    ExitCode::from(status_at_end(fault))
 }
 
 /// Serves tools and runs tasks until all have ended, and tells what came of it.
@@ -247,30 +213,27 @@ fn serve_by<R: Threads + Wait + Clock + Sync>(
     path: &str,
     host: &str,
     port: u16,
-    tools: u8,
-    tasks: u8,
-    cycles: u32,
-    chapter: u32,
-    period: u32,
-    pace: bool,
+    serving: Serving,
     journal: &Option<String>,
     flash: &Option<String>,
 ) -> Result<(), Fault>
-    requires { (1 ≤ tools) × (tools ≤ 2) × (tasks ≤ 6) }
+    requires { (1 ≤ serving.tools) × (serving.tools ≤ 2) × (serving.tasks ≤ 6) }
 {
     deepen(rt.alloc(), path)?;
     let admitted = admit(
-        rt, handle, path, host, port, tools, tasks, pace, period, journal, flash,
-    )?;
-    serve_admitted(
         rt,
         handle,
-        admitted,
-        tasks,
-        cycles,
-        chapter,
-        flash.is_some(),
-    )
+        path,
+        host,
+        port,
+        serving.tools,
+        serving.tasks,
+        serving.pace,
+        serving.period,
+        journal,
+        flash,
+    )?;
+    serve_admitted(rt, handle, admitted, serving)
 }
 
 /// The same, once the tools have connected. Its stack isn't there before: `deepen` makes sure that there is room for it.
@@ -279,14 +242,11 @@ fn serve_admitted<R: Threads + Wait + Clock + Sync>(
     rt: &HostRuntime,
     handle: &R,
     admitted: Admitted<'_, R>,
-    tasks: u8,
-    cycles: u32,
-    chapter: u32,
-    each_store: bool,
+    serving: Serving,
 ) -> Result<(), Fault>
     requires some { 0 < vec_len admitted.3 }
-    requires callers { vec_len admitted.3 + tasks + vec_len admitted.3 ≤ admitted.0.callers }
-    requires tasks { tasks ≤ 6 }
+    requires callers { vec_len admitted.3 + serving.tasks + vec_len admitted.3 ≤ admitted.0.callers }
+    requires tasks { serving.tasks ≤ 6 }
     requires scribe { HasBegun admitted.2.first × KeepsNone admitted.2.second }
 {
     let (unnamed, periods, scribe, ends) = admitted;
@@ -295,16 +255,22 @@ fn serve_admitted<R: Threads + Wait + Clock + Sync>(
         rt.alloc(),
         unnamed,
         ends,
-        tasks,
-        cycles,
-        chapter,
-        each_store,
+        serving.tasks,
+        serving.cycles,
+        serving.chapter,
+        serving.each_store,
         periods,
         scribe,
     )?;
     let settled = ending.told.is_ok();
-    let told = print_end(rt, ending.told);
-    match told.or(print_written(rt, &mut ending.scribe, settled)) {
+    let (told, printed) = print_end(rt, ending.told);
+    let journal = print_recorded(rt, &mut ending.scribe.first, settled);
+    match fault_at_end(
+        told,
+        printed,
+        journal,
+        fault_of_keeping(&ending.scribe.second),
+    ) {
         None => Ok(()),
         Some(fault) => Err(fault),
     }
@@ -327,6 +293,7 @@ fn obey<R: Threads + Wait + Clock + Copy + Send + Sync + 'static>(
 ) -> ExitCode
     requires { InRange options }
 {
+    let serving = options.serving();
     let staying = options.staying();
     let fault = match options {
         Options::Replay { config, flash } => run(rt, config.as_str(), &flash).err(),
@@ -334,20 +301,14 @@ fn obey<R: Threads + Wait + Clock + Copy + Send + Sync + 'static>(
             config,
             host,
             port,
-            tools,
-            tasks,
-            cycles,
-            chapter,
-            period,
             journal,
             flash,
-            pace,
+            ..
         } => {
-            serve_by(
-                rt, handle, &config, &host, port, tools, tasks, cycles, chapter, period, pace,
-                &journal, &flash,
-            )
-            .err()
+            let Some(serving) = serving else {
+                unreachable!()
+            };
+            serve_by(rt, handle, &config, &host, port, serving, &journal, &flash).err()
         }
         Options::Stay {
             config,

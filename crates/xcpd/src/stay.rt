@@ -1,14 +1,19 @@
 //! A server that stays, by the program's words.
 ghost use Rattle.std.specs.Prelude.{◌≡◌, ◌≤◌};
+ghost use Rattle.std.specs.Duration.{as_nanos};
+ghost use Rattle.xcpd.specs.Faults.{fault_of_stay};
+ghost use Rattle.xcpd.specs.Planned.{IsPlanned, nanos_of};
 
 use crate::background::is_in_background;
+use crate::callers::{callers_of, roster_of};
+use crate::counts::counts_at_stop;
 use crate::distant::{Distant, distant_at, finish_writing, print_distant};
-use crate::flash::{Kept, begin_with, fault_of as flash_fault_of};
+use crate::flash::{Kept, begin_with, fault_of_keeping};
 use crate::lines::{Lines, begin_lines};
 use crate::log::Log;
 use crate::stack::deepen;
 use crate::teller::Teller;
-use crate::{end, listen, print_counts, text_of};
+use crate::{end, listen, text_of};
 use std::process::ExitCode;
 use std::sync::{Arc, Wait};
 use std::thread::Threads;
@@ -17,14 +22,15 @@ use std::{io, thread};
 use xcp_behind::Backlog;
 use xcp_locked::{Discord, Unnamed};
 use xcp_memory::Layout;
-use xcp_program::{Fault, Staying, periods_of};
+use xcp_program::{Fault, Listening, Staying, fault_at_stop, periods_of, status_at_end};
 use xcp_scribe::Both;
 use xcp_seats::{Halt, Times};
 use xcp_stay::{Plan, Report, StayError, stay, timekeepers, wait_for_stop};
 
 /// The plan of a server that is asked to stay so, on a slave of this layout.
 fn plan_of(staying: Staying, layout: &Layout) -> Plan
-    ensures { (result.tools ≡ staying.tools) × (result.tasks ≡ staying.tasks) }
+    ensures plan { IsPlanned staying layout.now result }
+    ensures counts { (result.tools ≡ staying.tools) × (result.tasks ≡ staying.tasks) }
 {
     Plan {
         tools: staying.tools,
@@ -60,17 +66,14 @@ pub fn stay_by<R: Threads + Wait + Clock + Copy + Send + Sync + 'static>(
     let ended = stay_with(
         rt, handle, path, host, port, staying, journal, flash, &lines,
     );
-    let status = match ended {
-        Ok(()) => 0,
-        Err(fault) => {
-            if let Ok(line) = format!(in rt.alloc(); "{fault}") {
-                lines.tell(handle, line);
-            }
-            fault.status()
+    let fault = ended.err();
+    if let Some(fault) = fault {
+        if let Ok(line) = format!(in rt.alloc(); "{fault}") {
+            lines.tell(handle, line);
         }
-    };
+    }
     lines.end(handle);
-    ExitCode::from(status)
+    ExitCode::from(status_at_end(fault))
 }
 
 /// Serves tools, and prints how many chapters and calls there were. Where serving ends by itself, nobody waits for standard input.
@@ -96,20 +99,20 @@ fn stay_with<R: Threads + Wait + Clock + Copy + Send + Sync + 'static>(
         Teller::new(rt, handle, Some(&**lines)),
     )?;
     let plan = plan_of(staying, &layout);
-    let callers = plan.tools + plan.tools + plan.tasks + timekeepers(&layout);
-    let Ok(unnamed) = Unnamed::new(rt.alloc(), layout, callers) else {
+    let roster = roster_of(plan.tools, plan.tasks, timekeepers(&layout));
+    let Ok(unnamed) = Unnamed::new(rt.alloc(), layout, callers_of(&roster)) else {
         return Err(Fault::Memory);
     };
     let listener = listen(rt, host, port)?;
     let Ok(halt) = halt_by_input(rt, handle, staying.reads_input) else {
         return Err(Fault::Memory);
     };
-    let (written, backlog) = distant_at(rt, handle, text.as_str(), journal, flash, lines)?;
+    let (written, backlog) = distant_at(rt, handle, text.as_str(), journal, flash, roster, lines)?;
     let scribe = Both {
         first: written,
         second: kept,
     };
-    let _ = println!(rt; "listening {port}");
+    let _ = rt.print(Listening { port });
     let log = Log {
         rt,
         handle,
@@ -129,7 +132,7 @@ fn stay_with<R: Threads + Wait + Clock + Copy + Send + Sync + 'static>(
         Ok((told, mut scribe)) => tell(rt, handle, &told, &mut scribe, &backlog),
         Err(error) => {
             let _ = finish_writing(handle, &backlog);
-            Err(fault_of(error))
+            Err(fault_of_stay(error))
         }
     }
 }
@@ -142,11 +145,11 @@ fn tell<R: Wait + Clock>(
     scribe: &mut Both<Distant<'_, R>, Kept<'_, R>>,
     backlog: &Option<Arc<Backlog>>,
 ) -> Result<(), Fault> {
-    let printed = print_counts(rt, told.chapters, told.calls, told.lost, told.late);
-    let written = print_distant(rt, handle, &mut scribe.first, backlog);
-    match written.or(flash_fault_of(&scribe.second)) {
+    let printed = rt.print(counts_at_stop(told)).is_ok();
+    let journal = print_distant(rt, handle, &mut scribe.first, backlog);
+    match fault_at_stop(printed, journal, fault_of_keeping(&scribe.second)) {
+        None => Ok(()),
         Some(fault) => Err(fault),
-        None => printed.map_err(|_| Fault::Stream(2)),
     }
 }
 
@@ -171,12 +174,16 @@ fn halt_by_input<R: Threads + Wait + Copy + Send + 'static>(
 }
 
 /// So many seconds.
-fn seconds(count: u32) -> Duration {
+fn seconds(count: u32) -> Duration
+    ensures { as_nanos result ≡ nanos_of count }
+{
     Duration::from_secs(u64::from(count))
 }
 
 /// The fault that is told where a server that stays ended so.
-fn fault_of(error: StayError) -> Fault {
+fn fault_of_stay(error: StayError) -> Fault
+    ensures { result ≡ fault_of_stay error }
+{
     match error {
         StayError::Memory => Fault::Memory,
         StayError::Listener => Fault::Stream(0),

@@ -57,7 +57,7 @@ impl Core {
         Ok(Seen::Done)
     }
 
-    pub(super) fn read(&self, r: u8, k: u16) -> Result<Seen, StepError>
+    pub(super) fn read(&self, r: u8, k: usize) -> Result<Seen, StepError>
         ensures done { IfOk result
             (λ seen. Steps (width self.now) self.now (Read r k) seen self.now) }
         ensures refused { IfErr result
@@ -67,7 +67,6 @@ impl Core {
             return Err(StepError::NotEnabled);
         };
         let buffer = &self.buffers[usize::from(b)];
-        let k = usize::from(k);
         if k >= buffer.len() {
             return Err(StepError::NotEnabled);
         }

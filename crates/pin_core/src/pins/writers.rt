@@ -42,7 +42,7 @@ impl Core {
         Ok(Seen::Done)
     }
 
-    pub(super) fn write(&mut self, k: u16, word: u64) -> Result<Seen, StepError>
+    pub(super) fn write(&mut self, k: usize, word: u64) -> Result<Seen, StepError>
         ensures done { IfOk result
             (λ seen. Steps (width self.old) self.old (Write k word) seen self.new) }
         ensures refused { IfErr result
@@ -51,12 +51,11 @@ impl Core {
         let Some(b) = self.writer.building else {
             return Err(StepError::NotEnabled);
         };
-        let at = usize::from(k);
         let buffer = &mut self.buffers[usize::from(b)];
-        if at != self.writer.written || at >= buffer.len() {
+        if k != self.writer.written || k >= buffer.len() {
             return Err(StepError::NotEnabled);
         }
-        buffer.set(at, word);
+        buffer.set(k, word);
         self.writer.written += 1;
         Ok(Seen::Done)
     }

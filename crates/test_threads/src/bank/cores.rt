@@ -1,8 +1,8 @@
-//! The widest image, and refused memory. What lists of events are answered stands in core.book, beside `test_bank_books`.
+//! An image of many words, the widest one, and refused memory. What lists of events are answered stands in core.book, beside `test_bank_books`.
 use crate::bank::checks::so;
 use pin_core::Event::{Look, Pin, Publish, Read, Reset, Scan, Unpin, Write};
 use pin_core::Seen::{Done, Index, Leavings, Word};
-use pin_core::{Core, Event, RunError, Seen, StepError, run};
+use pin_core::{Core, Event, MAX_WORDS, RunError, Seen, StepError, run};
 use std::alloc::Global;
 use std::test::Fail;
 
@@ -20,10 +20,10 @@ fn first_wrong_step(core: &mut Core, rows: &[Row]) -> Option<usize> {
 }
 
 // The first word that can't be written alone, or that may be followed by Publish but isn't the last.
-fn first_wrong_word(core: &mut Core) -> Option<u16> {
-    for k in 0..256u16 {
+fn first_wrong_word(core: &mut Core, words: usize) -> Option<usize> {
+    for k in 0..words {
         let published = core.step(Publish);
-        let written = core.step(Write(k, u64::from(k) + 1));
+        let written = core.step(Write(k, k as u64 + 1));
         if published != Err(StepError::NotEnabled) || written != Ok(Done) {
             return Some(k);
         }
@@ -33,6 +33,7 @@ fn first_wrong_word(core: &mut Core) -> Option<u16> {
 
 static OPENED: [Row; 2] = [(Scan(7), Ok(Leavings(0))), (Reset(7), Ok(Done))];
 
+// An image of 2,040 bytes has 255 words, and its number is word 255.
 static WRITTEN: [Row; 6] = [
     (Write(256, 0), Err(StepError::NotEnabled)),
     (Publish, Ok(Done)),
@@ -42,18 +43,34 @@ static WRITTEN: [Row; 6] = [
     (Read(5, 256), Err(StepError::NotEnabled)),
 ];
 
-// Whether a core with the widest image is so.
-fn takes_the_widest(core: &mut Core) -> bool {
+// An image of 1 MiB has 131,072 words, and its number is word 131,072.
+static WRITTEN_WIDEST: [Row; 6] = [
+    (Write(131_073, 0), Err(StepError::NotEnabled)),
+    (Publish, Ok(Done)),
+    (Pin(5), Ok(Index(7))),
+    (Read(5, 131_072), Ok(Word(131_073))),
+    (Read(5, 0), Ok(Word(1))),
+    (Read(5, 131_073), Err(StepError::NotEnabled)),
+];
+
+// Whether a core whose images have so many words is so, and then answers these rows.
+fn takes_all_words(core: &mut Core, words: usize, rows: &[Row]) -> bool {
     first_wrong_step(core, &OPENED).is_none()
-        && first_wrong_word(core).is_none()
-        && first_wrong_step(core, &WRITTEN).is_none()
+        && first_wrong_word(core, words).is_none()
+        && first_wrong_step(core, rows).is_none()
 }
 
-// The widest image: its last word is number 255.
+#[test]
+fn image_of_many_words(rt: HostRuntime) -> Result<(), Fail> {
+    let mut core = Core::new(rt.alloc(), &[5; 256])?;
+    so(takes_all_words(&mut core, 256, &WRITTEN))
+}
+
 #[test]
 fn widest_image(rt: HostRuntime) -> Result<(), Fail> {
-    let mut core = Core::new(rt.alloc(), &[5; 256])?;
-    so(takes_the_widest(&mut core))
+    let first = vec![in rt.alloc(); 5u64; MAX_WORDS]?;
+    let mut core = Core::new(rt.alloc(), &first)?;
+    so(takes_all_words(&mut core, MAX_WORDS, &WRITTEN_WIDEST))
 }
 
 // A new core; what was refused is asked for again.

@@ -1,8 +1,9 @@
-//! Images of many bytes, published, held and read, worked out by hand. Those of one byte stand in bank.book, beside
+//! Images of 2,040 bytes, published, held and read, worked out by hand. Those of one byte stand in bank.book, beside
 //! `test_bank_books`.
 ghost use Rattle.std.specs.Prelude.{◌≡◌, IfOk};
 ghost use Rattle.xcp_bank.specs.BankEnds.{Holds};
 
+use crate::bank::calls::{get, put};
 use crate::bank::checks::so;
 use std::alloc::{AllocError, Global};
 use std::test::Fail;
@@ -45,7 +46,7 @@ fn held(reader: &mut Reader) -> (u64, [u8; 2])
     ensures holds { Holds reader.new }
 {
     let mut bytes = [9; 2];
-    reader.read(0, &mut bytes);
+    get(reader, 0, &mut bytes);
     (reader.number(), bytes)
 }
 
@@ -61,7 +62,7 @@ fn take(reader: &mut Reader) -> Row
 // What is held before and behind a publication, and then taken.
 fn rows_of(writer: &mut Writer, reader: &mut Reader) -> [Row; 4] {
     let first = take(reader);
-    writer.publish(&begins(0xAB, 0xCD));
+    put(writer, &begins(0xAB, 0xCD));
     let (number, bytes) = held(reader);
     let newer = take(reader);
     [first, (Taken::Same, number, bytes), newer, take(reader)]
@@ -91,7 +92,7 @@ fn range_is_read(reader: &mut Reader, image: &[u8; IMAGE_BYTES], at: usize, n: u
     let mut wanted = all(0xFF);
     wanted[..n].copy_from_slice(&image[at..at + n]);
     let mut bytes = all(0xFF);
-    reader.read(at, &mut bytes[..n]);
+    get(reader, at, &mut bytes[..n]);
     bytes == wanted
 }
 
@@ -154,7 +155,7 @@ fn asked_again(alloc: Global, image: &[u8; IMAGE_BYTES]) -> Result<(Writer, Read
 fn refused_memory_is_asked_for_again(rt: HostRuntime) -> Result<(), Fail> {
     let (mut writer, mut reader) = asked_again(rt.alloc(), &all(3))?;
     let first = take(&mut reader);
-    writer.publish(&all(4));
+    put(&mut writer, &all(4));
     let rows = [first, take(&mut reader)];
     so(rows == [(Taken::Newer, 0, [3; 2]), (Taken::Newer, 1, [4; 2])])
 }

@@ -1,14 +1,16 @@
 -- The words of an image's bytes.
-use Rattle.std.specs.Prelude.{◌≡◌, ℕ, ◌*◌, List, length, take, drop, slice_index}
+use Rattle.std.specs.Prelude.{◌*◌, ◌/◌, ℕ, zero, suc, List, [], ◌∷◌, ◌++◌, length, take, drop}
 use Rattle.std.specs.Int.{w64, from_le_bytes}
-use Rattle.xcp_bank.specs.Images.{image_of}
 
 -- word k of an image
 abbrev pub word_of : List ℕ → ℕ → ℕ
 word_of image k = from_le_bytes w64 (take 8 (drop (8 * k) image))
 
--- A buffer's words for an image and a number: they are 256, the first 255 have the image's bytes, and the last is the number.
-pub record WordsOf (image : List ℕ) (number : ℕ) (words : List ℕ) : Type 0 where
-  pub size : length words ≡ 256
-  pub bytes : image_of words ≡ image
-  pub last : slice_index words 255 ≡ number
+-- the words of an image below n
+abbrev pub words_below : ℕ → List ℕ → List ℕ
+words_below zero image = []
+words_below (suc n) image = words_below n image ++ word_of image n ∷ []
+
+-- a buffer's words for an image and a number: those of the image's bytes, and the number behind them
+abbrev pub words_for : List ℕ → ℕ → List ℕ
+words_for image number = words_below (length image / 8) image ++ number ∷ []

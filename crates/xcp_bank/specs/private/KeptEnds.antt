@@ -12,7 +12,7 @@ pub record ReaderKept (bank : TableId) (held : Option ℕ) (seat : Option (Seat 
   pub token : Seat (Unit {0}) Known
   pub is : seat ≡ Some token
   pub sits : IsReaderSeat token bank (reader_in seat).0 (reader_in seat).1
-  pub follows : Follows 256 (reader_in seat).0 (reader_in seat).1
+  pub follows : Follows bank.slots (reader_in seat).0 (reader_in seat).1
   pub here : (reader_in seat).1.pins.gone ≡ false
   pub held_is : held ≡ buffer_held (reader_in seat).1
   pub low : (b : ℕ) → held ≡ Some b → b < 8

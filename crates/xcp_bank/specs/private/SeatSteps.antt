@@ -1,5 +1,5 @@
 -- A seat of the bank, for the contracts of its steps.
-use Rattle.std.specs.Prelude.{◌≡◌, ◌≢◌, ℕ, suc, ◌+◌, ◌-◌, ◌/◌, ◌<◌, ◌≤◌, ◌⊎◌, List, [], ◌∷◌, ◌++◌, length, map, sum_by, slice_index, slice_index_or, false, Option, Some, None}
+use Rattle.std.specs.Prelude.{◌≡◌, ◌≢◌, ℕ, suc, ◌+◌, ◌-◌, ◌*◌, ◌/◌, ◌<◌, ◌≤◌, ◌⊎◌, List, [], ◌∷◌, ◌++◌, length, take, map, sum_by, slice_index, slice_index_or, false, Option, Some, None}
 use Rattle.atomic_table.specs.Seated.{TableId}
 use Rattle.atomic_table.specs.declared.shared.Seat.{Seat}
 use Rattle.xcp_bank.specs.declared.taken.Taken.{Taken}
@@ -14,31 +14,41 @@ use mathlib.Core.List.{IsPrefix}
 use Rattle.xcp_bank.specs.SeatKnowledge.{AllBegin, Reading, Writing, Known, one_reader}
 use Rattle.xcp_bank.specs.private.Everybody.{the_writer, everybody}
 
+-- A bank's table has buffers of 2 to 131,073 words, and as many slots as a buffer has words.
+pub record IsWide (bank : TableId) : Type 0 where
+  pub size : bank.words ≡ 9 + 8 * bank.slots
+  pub some : 1 < bank.slots
+  pub few : bank.slots ≤ 131073
+
+-- how many bytes an image in it has
+abbrev pub bytes_in : TableId → ℕ
+bytes_in bank = 8 * (bank.slots - 1)
+
 -- The seat is of this bank, and stands for the reader r, which is as x says.
 pub record IsReaderSeat (seat : Seat (Unit {0}) Known) (bank : TableId) (r : ℕ) (x : Reading) : Type 0 where
   pub bank_is : seat.table_id ≡ bank
-  pub wide : bank.words ≡ 2057
+  pub wide : IsWide bank
   pub me : seat.me ≡ (one_reader r x, [])
 
 -- The first seat, while it stands for the readers below n too.
 pub record IsFirstSeat (seat : Seat (Unit {0}) Known) (bank : TableId) (n : ℕ) (words : List ℕ) : Type 0 where
   pub bank_is : seat.table_id ≡ bank
-  pub wide : bank.words ≡ 2057
+  pub wide : IsWide bank
   pub me : seat.me ≡ (everybody n words, [])
-  pub size : length words ≡ 256
+  pub size : length words ≡ bank.slots
 
 -- The seat is of this bank, and stands for the writer, which is as w says.
 pub record IsWriterSeat (seat : Seat (Unit {0}) Known) (bank : TableId) (w : Writing) : Type 0 where
   pub bank_is : seat.table_id ≡ bank
-  pub wide : bank.words ≡ 2057
+  pub wide : IsWide bank
   pub me : seat.me ≡ (the_writer w, [])
 
--- One step or more of a reader's seat, or of the writer's.
-abbrev pub ReaderMoves : (ℕ → Reading → Reading → Type 0) → Seat (Unit {0}) Known → Seat (Unit {0}) Known → TableId → Type 0
-ReaderMoves after old new bank = (r : ℕ) (x : Reading) → IsReaderSeat old bank r x → (y : Reading) × IsReaderSeat new bank r y × after r x y
+-- One step or more of a reader's seat, or of the writer's, in buffers of as many words as the bank's have.
+abbrev pub ReaderMoves : (ℕ → ℕ → Reading → Reading → Type 0) → Seat (Unit {0}) Known → Seat (Unit {0}) Known → TableId → Type 0
+ReaderMoves after old new bank = (r : ℕ) (x : Reading) → IsReaderSeat old bank r x → (y : Reading) × IsReaderSeat new bank r y × after bank.slots r x y
 
-abbrev pub WriterMoves : (Writing → Writing → Type 0) → Seat (Unit {0}) Known → Seat (Unit {0}) Known → TableId → Type 0
-WriterMoves after old new bank = (w : Writing) → IsWriterSeat old bank w → (u : Writing) × IsWriterSeat new bank u × after w u
+abbrev pub WriterMoves : (ℕ → Writing → Writing → Type 0) → Seat (Unit {0}) Known → Seat (Unit {0}) Known → TableId → Type 0
+WriterMoves after old new bank = (w : Writing) → IsWriterSeat old bank w → (u : Writing) × IsWriterSeat new bank u × after bank.slots w u
 
 abbrev pub buffer_of : Option (ℕ × ℕ) → Option ℕ
 buffer_of None = None
@@ -50,28 +60,28 @@ buffer_held x = buffer_of x.pins.held
 
 -- A Look, or a Pin, that told this buffer.
 
-abbrev pub LookedAt : ℕ → ℕ → Reading → Reading → Type 0
-LookedAt buffer r x y = (n : ℕ) × (k : Looked 256 r x n y) × (buffer ≡ k.index)
+abbrev pub LookedAt : ℕ → ℕ → ℕ → Reading → Reading → Type 0
+LookedAt buffer W r x y = (n : ℕ) × (k : Looked W r x n y) × (buffer ≡ k.index)
 
-abbrev pub PinnedAt : ℕ → ℕ → Reading → Reading → Type 0
-PinnedAt buffer r x y = (n : ℕ) × (k : Pinned 256 r x n y) × (buffer ≡ k.index)
+abbrev pub PinnedAt : ℕ → ℕ → ℕ → Reading → Reading → Type 0
+PinnedAt buffer W r x y = (n : ℕ) × (k : Pinned W r x n y) × (buffer ≡ k.index)
 
 -- A Read of word k of the publication p, which is held: it was answered `word`.
-pub record WordRead (k p word : ℕ) (r : ℕ) (x y : Reading) : Type 0 where
+pub record WordRead (k p word W : ℕ) (r : ℕ) (x y : Reading) : Type 0 where
   pub before : List Deed
   pub reaches : Reaches r x before
   pub is : y ≡ reading_after_read r k word before x
-  pub follows : Follows 256 r y
+  pub follows : Follows W r y
   pub value : word ≡ slice_index (slice_index_or x.list p []) k
-  pub numbered : IsNumbered 256 p (slice_index_or x.list p [])
+  pub numbered : IsNumbered W p (slice_index_or x.list p [])
   pub pasts : AllBegin x.past x.list
 
 -- A Read of word k of the held buffer.
-abbrev pub WordReadAt : ℕ → ℕ → ℕ → ℕ → Reading → Reading → Type 0
-WordReadAt buffer k word r x y = (p : ℕ) → x.pins.held ≡ Some (buffer, p) → WordRead k p word r x y
+abbrev pub WordReadAt : ℕ → ℕ → ℕ → ℕ → ℕ → Reading → Reading → Type 0
+WordReadAt buffer k word W r x y = (p : ℕ) → x.pins.held ≡ Some (buffer, p) → WordRead k p word W r x y
 
 -- What a reader knows after it has acquired: it holds the last of the publications that it has seen then.
-pub record Acquired (taken : Taken) (buffer : ℕ) (r : ℕ) (x y : Reading) : Type 0 where
+pub record Acquired (taken : Taken) (buffer W : ℕ) (r : ℕ) (x y : Reading) : Type 0 where
   pub low : buffer < 8
   pub some : 0 < length y.list
   pub begins : IsPrefix x.list y.list
@@ -83,7 +93,7 @@ pub record Acquired (taken : Taken) (buffer : ℕ) (r : ℕ) (x y : Reading) : T
   pub placed : y.pending ≡ []
   pub heard_is : y.heard ≡ x.heard
   pub heard : IsPrefix x.heard y.history
-  pub up_to_date : UpToDate 256 r y
+  pub up_to_date : UpToDate W r y
   pub deeds : List Deed
   pub did : Does (suc r) x.history x.pending y.history y.pending deeds
   pub once : taken ≡ Same → (deeds ≡ looked_at r buffer ∷ []) × Ends y.history (looked_at r buffer)
@@ -95,13 +105,13 @@ pub record Acquired (taken : Taken) (buffer : ℕ) (r : ℕ) (x y : Reading) : T
 
 -- Reads of n words from word k on, of the publication p that is held: nothing changes but the history, which is a run if it was one.
 -- With one Read at least the publication is known to be whole, and what was told before to begin what is there now.
-pub record HasRead (k n p : ℕ) (r : ℕ) (x y : Reading) : Type 0 where
+pub record HasRead (k n p W : ℕ) (r : ℕ) (x y : Reading) : Type 0 where
   pub pins : y.pins ≡ x.pins
   pub list : y.list ≡ x.list
   pub past : y.past ≡ x.past
   pub heard_is : y.heard ≡ x.heard
-  pub follows : Follows 256 r x → Follows 256 r y
-  pub numbered : 0 < n → IsNumbered 256 p (slice_index_or x.list p [])
+  pub follows : Follows W r x → Follows W r y
+  pub numbered : 0 < n → IsNumbered W p (slice_index_or x.list p [])
   pub pasts : 0 < n → AllBegin x.past x.list
   pub heard : 0 < n → IsPrefix x.heard y.history
   pub did : Does (suc r) x.history x.pending y.history y.pending (reads_of r (slice_index_or x.list p []) k n)
@@ -112,7 +122,7 @@ pub record ReadsOn (bank : TableId) (buffer at k n : ℕ) (old new : Seat (Unit 
   pub size : length after ≡ length before
   pub elsewhere : (j : ℕ) → ((at + j) / 8 < k) ⊎ (k + n ≤ (at + j) / 8) → slice_index after j ≡ slice_index before j
   pub there : (r : ℕ) (y : Reading) (p : ℕ) → IsReaderSeat old bank r y → y.pins.held ≡ Some (buffer, p) → (j : ℕ) → j < length before → k ≤ (at + j) / 8 → (at + j) / 8 < k + n → slice_index after j ≡ slice_index (image_of (slice_index_or y.list p [])) (at + j)
-  pub reads : (r : ℕ) (x y : Reading) (p from m : ℕ) → IsReaderSeat old bank r y → y.pins.held ≡ Some (buffer, p) → HasRead from m p r x y → from + m ≡ k → (z : Reading) × IsReaderSeat new bank r z × HasRead from (m + n) p r x z
+  pub reads : (r : ℕ) (x y : Reading) (p from m : ℕ) → IsReaderSeat old bank r y → y.pins.held ≡ Some (buffer, p) → HasRead from m p bank.slots r x y → from + m ≡ k → (z : Reading) × IsReaderSeat new bank r z × HasRead from (m + n) p bank.slots r x z
 
 -- Scans, up to the buffer `next`, of which none has found the idle buffer.
 abbrev pub scanned_to : Option ℕ → List Deed → Writing → Writing
@@ -140,7 +150,7 @@ pub record FoundQuiet (b : ℕ) (w u : Writing) : Type 0 where
   pub most : length scans ≤ 7
 
 -- A Scan of each buffer below `next` but the current one, of which `held` weren't quiet. The idle one was.
-pub record Counted (next held : ℕ) (w u : Writing) : Type 0 where
+pub record Counted (next held W : ℕ) (w u : Writing) : Type 0 where
   pub quiet : Option ℕ
   pub history : List Deed
   pub is : u ≡ scanned_to quiet history w
@@ -153,7 +163,7 @@ pub record Counted (next held : ℕ) (w u : Writing) : Type 0 where
   pub behind : w.current < next → length found + 1 ≡ next
   pub most : held ≤ length found
   pub fewer : w.idle < next → held + 1 ≤ length found
-  pub up_to_date : 0 < length found → WriterUpToDate 256 u
+  pub up_to_date : 0 < length found → WriterUpToDate W u
 
 -- What the writer knows between two publications.
 pub record Rests (current : ℕ) (started : List ℕ) (w : Writing) : Type 0 where
@@ -164,12 +174,26 @@ pub record Rests (current : ℕ) (started : List ℕ) (w : Writing) : Type 0 whe
   pub idle : w.idle < 8
   pub apart : w.idle ≢ w.current
 
--- the writer after it has written these words
-abbrev pub filled : List ℕ → List Deed → Writing → Writing
-filled words history w = record w { pins = record w.pins { written = words }; history = history }
+-- the writer after it has written these words, and the words of all buffers then
+abbrev pub filled : List ℕ → List (List ℕ) → List Deed → Writing → Writing
+filled words all history w = record w { pins = record w.pins { written = words }; words = all; history = history }
 
--- The words were published, by at most 7 Scans, one Reset, 256 Writes and one Publish.
-pub record Publishes (words : List ℕ) (w u : Writing) : Type 0 where
+-- Buffer b has the words of this list from word k on up to word n.
+abbrev pub HasWords : ℕ → ℕ → ℕ → List ℕ → List (List ℕ) → Type 0
+HasWords b k n words all = (j : ℕ) → k ≤ j → j < n → slice_index (slice_index_or all b []) j ≡ slice_index words j
+
+-- So far the words of a list below `done` are written. Those of the buffer b from there on, below k, stand there already.
+pub record WrittenSoFar (bank : TableId) (seat : Seat (Unit {0}) Known) (b k : ℕ) (words : List ℕ) (w : Writing) : Type 0 where
+  pub done : ℕ
+  pub low : done ≤ k
+  pub history : List Deed
+  pub all : List (List ℕ)
+  pub sits : IsWriterSeat seat bank (filled (take done words) all history w)
+  pub grows : Grows 0 w.history history (writes_of words done)
+  pub there : HasWords b done k words all
+
+-- The words were published, by at most 7 Scans, one Reset, a Write of each and one Publish.
+pub record Publishes (words : List ℕ) (W : ℕ) (w u : Writing) : Type 0 where
   pub list : u.pins.publications ≡ w.pins.publications ++ words ∷ []
   pub scans : List Deed
   pub buffer : ℕ
@@ -177,4 +201,4 @@ pub record Publishes (words : List ℕ) (w u : Writing) : Type 0 where
   pub most : length scans ≤ 7
   pub grows : Grows 0 w.history u.history (scans ++ has_reset buffer ∷ (writes_of words (length words) ++ has_published ∷ []))
   pub last : Ends u.history has_published
-  pub up_to_date : WriterUpToDate 256 u
+  pub up_to_date : WriterUpToDate W u

@@ -1,6 +1,6 @@
 -- What each step of the writer tells its seat: from what it knew, by the number found, to what it knows then. `before` is all that has
 -- happened in the core, of which nothing since the writer's last step is its own: what it has then is that and one deed more, the step's.
-use Rattle.std.specs.Prelude.{◌≡◌, ◌≢◌, ℕ, ◌<◌, ◌≤◌, List, [], ◌∷◌, ◌++◌, length, slice_index}
+use Rattle.std.specs.Prelude.{◌≡◌, ◌≢◌, ℕ, zero, suc, ◌+◌, ◌*◌, ◌<◌, ◌≤◌, List, [], ◌∷◌, ◌++◌, length, slice_index, slice_index_or, slice_set, Option, Some, None}
 use Rattle.atomic_table.specs.Table.{Step}
 use Rattle.pin_core.specs.CurrentWord.{head_of}
 use Rattle.pin_core.specs.State.{PinState}
@@ -41,8 +41,13 @@ pub record WasReset (b : ℕ) (w : Writing) (n : ℕ) (u : Writing) : Type 0 whe
   pub grows : Grows 0 w.history before []
   pub is : u ≡ writing_after_reset b before w
 
+-- the words of the buffers, once word k of the one that is being built is x
+abbrev pub rewritten : Option ℕ → ℕ → ℕ → List (List ℕ) → List (List ℕ)
+rewritten None k x words = words
+rewritten (Some b) k x words = slice_set words b (slice_set (slice_index_or words b []) k x)
+
 abbrev pub writing_after_write : ℕ → List Deed → Writing → Writing
-writing_after_write x before w = record w { pins = writing x w.pins; history = before ++ has_written (length w.pins.written) x ∷ [] }
+writing_after_write x before w = record w { pins = writing x w.pins; words = rewritten w.pins.building (length w.pins.written) x w.words; history = before ++ has_written (length w.pins.written) x ∷ [] }
 
 -- Write of the next word, x.
 pub record Written (x : ℕ) (w : Writing) (n : ℕ) (u : Writing) : Type 0 where
@@ -50,10 +55,35 @@ pub record Written (x : ℕ) (w : Writing) (n : ℕ) (u : Writing) : Type 0 wher
   pub grows : Grows 0 w.history before []
   pub is : u ≡ writing_after_write x before w
 
+-- A look at the word i of the table, by which nothing changes: where it is word k of the buffer b, it is as the writer knows it.
+pub record Peeked (W i : ℕ) (w : Writing) (n : ℕ) (u : Writing) : Type 0 where
+  pub is : u ≡ w
+  pub found : (b k : ℕ) → b < 8 → k < W → i ≡ 9 + (b * W + k) → n ≡ slice_index (slice_index_or w.words b []) k
+
+-- the word that stands where the next one is to be written
+abbrev pub word_there : Option ℕ → ℕ → List (List ℕ) → ℕ
+word_there None k words = 0
+word_there (Some b) k words = slice_index (slice_index_or words b []) k
+
+abbrev pub standing : Writing → ℕ
+standing w = word_there w.pins.building (length w.pins.written) w.words
+
+-- Writes of the next n words, each of the word that stands there already. No word of the table changes.
+abbrev pub WrittenAgain : ℕ → Writing → Writing → Type 0
+WrittenAgain zero w u = u ≡ w
+WrittenAgain (suc n) w u = (v : Writing) × WrittenAgain n w v × Written (standing v) v (standing v) u
+
+-- All words before the word i of the table, which is one of the buffer that is being built, are written so.
+pub record KeptUpTo (W i : ℕ) (w : Writing) (n : ℕ) (u : Writing) : Type 0 where
+  pub count : ℕ
+  pub place : (b : ℕ) → w.pins.building ≡ Some b → i ≡ 9 + (b * W + (length w.pins.written + count))
+  pub writes : WrittenAgain count w u
+
 abbrev pub writing_after_publish : ℕ → ℕ → ℕ → List Deed → Writing → Writing
 writing_after_publish b count idle before w = record {
   pins = publishing w.current count w.pins;
   current = b;
+  words = w.words;
   idle = idle;
   history = before ++ has_published ∷ [];
 }

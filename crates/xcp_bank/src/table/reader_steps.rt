@@ -5,7 +5,7 @@ ghost use Rattle.xcp_bank.specs.SeatKnowledge.{Reading};
 ghost use Rattle.xcp_bank.specs.private.ReaderSteps.{GivesUp};
 ghost use Rattle.xcp_bank.specs.private.SeatSteps.{IsReaderSeat, ReaderMoves, PinnedAt, LookedAt, WordReadAt};
 
-use super::rule::{BUFFER_WORDS, Store, View};
+use super::rule::{Store, View};
 use atomic_table::{Play, Seat};
 use pin_core::{BUFFERS, parts};
 
@@ -14,7 +14,7 @@ struct LookPlay;
 impl Play<(), View> for LookPlay {
     ghost use Rattle.xcp_bank.specs.private.ReaderSteps.{Looked, reader_plays};
 
-    ghost then = { reader_plays (Looked 256) };
+    ghost then = { λ st. reader_plays (Looked st.slots) st };
 }
 
 struct PinPlay;
@@ -22,7 +22,7 @@ struct PinPlay;
 impl Play<(), View> for PinPlay {
     ghost use Rattle.xcp_bank.specs.private.ReaderSteps.{Pinned, reader_plays};
 
-    ghost then = { reader_plays (Pinned 256) };
+    ghost then = { λ st. reader_plays (Pinned st.slots) st };
 }
 
 struct UnpinPlay;
@@ -31,7 +31,7 @@ impl Play<(), View> for UnpinPlay {
     ghost use Rattle.std.specs.Prelude.{false};
     ghost use Rattle.xcp_bank.specs.private.ReaderSteps.{Unpinned, reader_plays};
 
-    ghost then = { reader_plays (Unpinned 256 false) };
+    ghost then = { λ st. reader_plays (Unpinned st.slots false) st };
 }
 
 struct LeavePlay;
@@ -40,7 +40,7 @@ impl Play<(), View> for LeavePlay {
     ghost use Rattle.std.specs.Prelude.{true};
     ghost use Rattle.xcp_bank.specs.private.ReaderSteps.{Unpinned, reader_plays};
 
-    ghost then = { reader_plays (Unpinned 256 true) };
+    ghost then = { λ st. reader_plays (Unpinned st.slots true) st };
 }
 
 struct ReadPlay;
@@ -48,7 +48,7 @@ struct ReadPlay;
 impl Play<(), View> for ReadPlay {
     ghost use Rattle.xcp_bank.specs.private.ReaderSteps.{ReadAt, reader_plays};
 
-    ghost then = { λ st. reader_plays (ReadAt 256 st.word) st };
+    ghost then = { λ st. reader_plays (ReadAt st.slots st.word) st };
 }
 
 /// Look: the current buffer.
@@ -71,7 +71,7 @@ pub(super) fn pin(store: &Store, seat: &mut Seat<(), View>) -> usize
 pub(super) fn unpin(store: &Store, seat: &mut Seat<(), View>, buffer: usize)
     requires buffer { buffer < BUFFERS }
     requires seat { (r : ℕ) × (x : Reading) × IsReaderSeat seat.old store.now.table_id r x × (p : ℕ) × (x.pins.held ≡ Some (buffer, p)) × (x.pins.looked ≢ buffer) }
-    ensures { ReaderMoves (GivesUp 256 false) seat.old seat.new store.now.table_id }
+    ensures { ReaderMoves (λ W. GivesUp W false) seat.old seat.new store.now.table_id }
 {
     store.fetch_add::<UnpinPlay>(seat, 1 + buffer, 1);
 }
@@ -80,19 +80,26 @@ pub(super) fn unpin(store: &Store, seat: &mut Seat<(), View>, buffer: usize)
 pub(super) fn unpin_for_good(store: &Store, seat: &mut Seat<(), View>, buffer: usize)
     requires buffer { buffer < BUFFERS }
     requires seat { (r : ℕ) × (x : Reading) × IsReaderSeat seat.old store.now.table_id r x × (p : ℕ) × (x.pins.held ≡ Some (buffer, p)) }
-    ensures { ReaderMoves (GivesUp 256 true) seat.old seat.new store.now.table_id }
+    ensures { ReaderMoves (λ W. GivesUp W true) seat.old seat.new store.now.table_id }
 {
     store.fetch_add::<LeavePlay>(seat, 1 + buffer, 1);
 }
 
-/// Read: word k of what the reader holds.
-pub(super) fn read_word(store: &Store, seat: &mut Seat<(), View>, buffer: usize, k: usize) -> u64
+/// Read: word k of what the reader holds, whose words begin at `base`.
+pub(super) fn read_word(
+    store: &Store,
+    seat: &mut Seat<(), View>,
+    buffer: usize,
+    base: usize,
+    k: usize,
+) -> u64
     requires buffer { buffer < BUFFERS }
-    requires word { k < BUFFER_WORDS }
+    requires base { base ≡ 9 + buffer * store.now.table_id.slots }
+    requires word { k < store.now.table_id.slots }
     requires seat { (r : ℕ) × (x : Reading) × IsReaderSeat seat.old store.now.table_id r x × (p : ℕ) × (x.pins.held ≡ Some (buffer, p)) }
     ensures { ReaderMoves (WordReadAt buffer k result) seat.old seat.new store.now.table_id }
 {
-    store.load::<ReadPlay>(seat, 9 + buffer * BUFFER_WORDS + k)
+    store.load::<ReadPlay>(seat, base + k)
 }
 
 // The buffer that word 0 tells.

@@ -1,14 +1,18 @@
 -- When a submit publishes.
 use Rattle.std.specs.Prelude.{◌≡◌, ◌≢◌, ◌≤◌, ◌+◌, ◌⊎◌, ℕ, List, [], ◌∷◌, ◌++◌, length}
-use Rattle.xcp_bank.specs.BankId.{BankId}
+use Rattle.xcp_bank.specs.BankId.{BankId, image_bytes}
 use Rattle.xcp_slave.specs.declared.Exchange.{Exchange}
 use Rattle.xcp_slave.specs.SlaveValue.{SlaveValue}
 use Rattle.xcp_locked.specs.declared.publisher.Publisher.{Publisher}
 use Rattle.xcp_locked.specs.Publications.{Publication, Published, image_of, images_of}
 use Rattle.xcp_locked.specs.private.PublicationPlaces.{places_of}
 
+-- The bank of this name, with images of 2,040 bytes.
+abbrev pub IsOwnBank : BankId → BankId → Type 0
+IsOwnBank named bank = (bank ≡ named) × (image_bytes bank ≡ 2040)
+
 -- What the writer of this bank has published since the chapter's first image, and where, is what is published of these exchanges,
--- which led from v to w; the image published last is at hand.
+-- which led from v to w; the image published last is at hand, and the bank has images of 2,040 bytes.
 pub record IsKept (bank : BankId) (v : SlaveValue) (xs : List Exchange) (w : SlaveValue) (p : Publisher) : Type 0 where
   pub list : List Publication
   pub published : Published v xs list
@@ -19,6 +23,7 @@ pub record IsKept (bank : BankId) (v : SlaveValue) (xs : List Exchange) (w : Sla
   pub few : length list ≤ length xs + 1
   pub last : p.last ≡ image_of w
   pub named : p.writer.bank ≡ bank
+  pub size : image_bytes bank ≡ 2040
 
 -- The image is published with this place where it isn't the last one, and else nothing changes.
 pub record Offers (place : ℕ) (image : List ℕ) (old new : Publisher) : Type 0 where

@@ -16,7 +16,7 @@ unpin-requires-clause-seat c =
     let f = c.requires in
     let h = held_at f.1.pins.held c.in-Some.buffer (sym f.4 ∙ c.in-Some.is) in
     let l = c.look.ensures f.0 f.1 f.2 in
-    let g : LookedAt c.look.result f.0 f.1 l.0 = l.2 in (
+    let g : LookedAt c.look.result c.args.board.now.slots f.0 f.1 l.0 = l.2 in (
       f.0,
       l.0,
       l.1,
@@ -29,7 +29,7 @@ pub pin-requires-2 : goal.pin-requires-2
 pin-requires-2 c =
     let f = c.requires in
     let l = c.look.ensures f.0 f.1 f.2 in
-    let g : LookedAt c.look.result f.0 f.1 l.0 = l.2 in
+    let g : LookedAt c.look.result c.args.board.now.slots f.0 f.1 l.0 = l.2 in
     let u = c.unpin.ensures f.0 l.0 l.1 in
     (f.0, u.0, u.1, ap (λ (v : Reading). v.pins.gone) u.2.is ∙ ap (λ (t : Bool). t || false) (ap (λ (v : Reading). v.pins.gone) g.1.is ∙ f.3), ap (λ (v : Reading). v.pins.held) u.2.is)
 
@@ -38,8 +38,8 @@ returns-in_default c = λ r x s.
     let f = c.requires in
     let k : Known_of c.args.held (r, x) = subst (Known_of c.args.held) (sits_one c.args.token.now c.args.board.now f.0 r f.1 x f.2 s) (f.3, f.4) in
     let p = c.pin.ensures r x s in
-    let g : PinnedAt c.pin.result r x p.0 = p.2 in
-    (p.0, p.1, acquired_first r x p.0 c.pin.result k.0 (held_none x.pins.held (sym k.1 ∙ c.in_default.is)) g)
+    let g : PinnedAt c.pin.result c.args.board.now.slots r x p.0 = p.2 in
+    (p.0, p.1, acquired_first c.args.board.now.slots r x p.0 c.pin.result k.0 (held_none x.pins.held (sym k.1 ∙ c.in_default.is)) g)
 
 pub returns-then-look-buffer : goal.returns-then-look-buffer
 returns-then-look-buffer c = λ r x s.
@@ -47,8 +47,8 @@ returns-then-look-buffer c = λ r x s.
     let k : Known_of c.args.held (r, x) = subst (Known_of c.args.held) (sits_one c.args.token.now c.args.board.now f.0 r f.1 x f.2 s) (f.3, f.4) in
     let h = held_at x.pins.held c.in-Some.buffer (sym k.1 ∙ c.in-Some.is) in
     let l = c.look.ensures r x s in
-    let g : LookedAt c.in-Some.buffer r x l.0 = subst (λ (b : ℕ). LookedAt b r x l.0) c.if-look-buffer.true l.2 in
-    (l.0, l.1, acquired_same r x l.0 c.in-Some.buffer h.0 k.0 h.1 g)
+    let g : LookedAt c.in-Some.buffer c.args.board.now.slots r x l.0 = subst (λ (b : ℕ). LookedAt b c.args.board.now.slots r x l.0) c.if-look-buffer.true l.2 in
+    (l.0, l.1, acquired_same c.args.board.now.slots r x l.0 c.in-Some.buffer h.0 k.0 h.1 g)
 
 pub returns : goal.returns
 returns c = λ r x s.
@@ -56,8 +56,8 @@ returns c = λ r x s.
     let k : Known_of c.args.held (r, x) = subst (Known_of c.args.held) (sits_one c.args.token.now c.args.board.now f.0 r f.1 x f.2 s) (f.3, f.4) in
     let h = held_at x.pins.held c.in-Some.buffer (sym k.1 ∙ c.in-Some.is) in
     let l = c.look.ensures r x s in
-    let g : LookedAt c.look.result r x l.0 = l.2 in
+    let g : LookedAt c.look.result c.args.board.now.slots r x l.0 = l.2 in
     let u = c.unpin.ensures r l.0 l.1 in
     let p = c.pin-2.ensures r u.0 u.1 in
-    let m : PinnedAt c.pin-2.result r u.0 p.0 = p.2 in
-    (p.0, p.1, acquired_other r x l.0 u.0 p.0 c.look.result c.in-Some.buffer c.pin-2.result h.0 k.0 h.1 g (λ e. c.if-look-buffer.false (sym e)) u.2 m)
+    let m : PinnedAt c.pin-2.result c.args.board.now.slots r u.0 p.0 = p.2 in
+    (p.0, p.1, acquired_other c.args.board.now.slots r x l.0 u.0 p.0 c.look.result c.in-Some.buffer c.pin-2.result h.0 k.0 h.1 g (λ e. c.if-look-buffer.false (sym e)) u.2 m)

@@ -27,7 +27,7 @@ returns-then-scan-started c = λ w d.
     let r : Rests c.args.current c.args.started.now w = subst (Rests c.args.current c.args.started.now) (desks_one c.args.token.now c.args.board.now f.0 w f.1 d) f.2 in
     let i = c.loop-buffer.invariant w d in
     let g = c.scan.ensures i.0 i.1 in
-    (g.0, g.1, searched_found w c.args.current c.args.started.now r c.loop-buffer.buffer i.0 i.2 c.if-buffer-current.false c.loop-buffer-test.true c.scan.result g.0 g.2 c.if-scan-started.true)
+    (g.0, g.1, searched_found w c.args.current c.args.started.now r c.loop-buffer.buffer i.0 i.2 c.if-buffer-current.false c.loop-buffer-test.true c.args.board.now.slots c.scan.result g.0 g.2 c.if-scan-started.true)
 
 pub loop-buffer-preserved : goal.loop-buffer-preserved
 loop-buffer-preserved c = λ w d.
@@ -35,7 +35,7 @@ loop-buffer-preserved c = λ w d.
     let r : Rests c.args.current c.args.started.now w = subst (Rests c.args.current c.args.started.now) (desks_one c.args.token.now c.args.board.now f.0 w f.1 d) f.2 in
     let i = c.loop-buffer.invariant w d in
     let g = c.scan.ensures i.0 i.1 in
-    (g.0, g.1, searched_more w c.args.current c.args.started.now r c.loop-buffer.buffer i.0 i.2 c.if-buffer-current.false c.loop-buffer-test.true c.scan.result g.0 g.2 c.if-scan-started.false)
+    (g.0, g.1, searched_more w c.args.current c.args.started.now r c.loop-buffer.buffer i.0 i.2 c.if-buffer-current.false c.loop-buffer-test.true c.args.board.now.slots c.scan.result g.0 g.2 c.if-scan-started.false)
 
 pub unreachable-requires : goal.unreachable-requires
 unreachable-requires c = let f = c.requires in let i = c.loop-buffer.invariant f.0 f.1 in never f.0 c.args.current c.args.started.now f.2 c.loop-buffer.buffer i.0 i.2 c.loop-buffer-test.false

@@ -1,4 +1,4 @@
-use Rattle.std.proofs.Common.{◌≡◌, ℕ, ◌+◌, ◌/◌, ◌<◌, [], length, get_or, refl, subst, arith}
+use Rattle.std.proofs.Common.{◌≡◌, ℕ, ◌+◌, ◌-◌, ◌*◌, ◌/◌, ◌<◌, [], length, get_or, refl, subst, arith}
 use Rattle.xcp_bank.specs.Images.{image_of}
 use Rattle.xcp_bank.specs.BankEnds.{words_in}
 use Rattle.xcp_bank.specs.private.SeatSteps.{HasRead}
@@ -10,12 +10,12 @@ pub returns : goal.returns
 returns c = λ r x s p holds.
     let at : ℕ = c.args.at in let n : ℕ = length c.args.out.now in
     let g = c.read_words.ensures in let inside = c.requires.inside in
-    let i = g.reads r x x p (at / 8) 0 s holds (read_none r x (at / 8) 0 p refl) (omega arith) in
+    let i = g.reads r x x p (at / 8) 0 s holds (read_none c.args.board.now.slots r x (at / 8) 0 p refl) (omega arith) in
     let same : 0 + words_in at n ≡ words_in at n = omega arith in
-    let read : HasRead (at / 8) (words_in at n) p r x i.0 = subst (λ (m : ℕ). HasRead (at / 8) m p r x i.0) same i.2 in
+    let read : HasRead (at / 8) (words_in at n) p c.args.board.now.slots r x i.0 = subst (λ (m : ℕ). HasRead (at / 8) m p c.args.board.now.slots r x i.0) same i.2 in
     let some : 0 < n → 0 < words_in at n = λ l. omega arith in (
       i.0,
       i.1,
       read,
-      part_is c.read_words.new.out (image_of (get_or x.list p [])) at n g.size inside (λ l. image_length (get_or x.list p []) (read.numbered (some l)).size) (λ j l. g.there r x p s holds j l (omega arith) (omega arith)),
+      part_is (8 * (c.args.board.now.slots - 1)) c.read_words.new.out (image_of (get_or x.list p [])) at n g.size inside (λ l. image_length c.args.board.now.slots (get_or x.list p []) (read.numbered (some l)).size) (λ j l. g.there r x p s holds j l (omega arith) (omega arith)),
     )

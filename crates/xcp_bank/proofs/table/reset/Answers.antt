@@ -9,5 +9,5 @@ use Rattle.xcp_bank.proofs.table.reset.Goals as goal
 -- what the step says of the seat and the table inside, said of the sealed ones
 pub returns : goal.returns
 returns c =
-    subst (λ (z : Seated (Unit {0}) Known × TableId). WriterMoves (λ w u. WasReset c.args.buffer w 0 u) z.0 c.reset.new.seat z.1)
+    subst (λ (z : Seated (Unit {0}) Known × TableId). WriterMoves (λ _ w u. WasReset c.args.buffer w 0 u) z.0 c.reset.new.seat z.1)
     (λ i. (c.token.view_is i, c.board.view_is i)) c.reset.ensures

@@ -9,5 +9,5 @@ use Rattle.xcp_bank.proofs.table.swap_in.Goals as goal
 -- what the step says of the seat and the table inside, said of the sealed ones
 pub returns : goal.returns
 returns c =
-    subst (λ (z : Seated (Unit {0}) Known × TableId). WriterMoves (λ w u. (n : ℕ) × (p : Published 256 c.args.buffer w n u) × (c.swap_in.result ≡ p.count)) z.0 c.swap_in.new.seat z.1)
+    subst (λ (z : Seated (Unit {0}) Known × TableId). WriterMoves (λ W w u. (n : ℕ) × (p : Published W c.args.buffer w n u) × (c.swap_in.result ≡ p.count)) z.0 c.swap_in.new.seat z.1)
     (λ i. (c.token.view_is i, c.board.view_is i)) c.swap_in.ensures

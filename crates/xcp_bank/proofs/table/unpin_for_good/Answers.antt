@@ -9,5 +9,5 @@ use Rattle.xcp_bank.proofs.table.unpin_for_good.Goals as goal
 -- what the step says of the seat and the table inside, said of the sealed ones
 pub returns : goal.returns
 returns c =
-    subst (λ (z : Seated (Unit {0}) Known × TableId). ReaderMoves (GivesUp 256 true) z.0 c.unpin_for_good.new.seat z.1)
+    subst (λ (z : Seated (Unit {0}) Known × TableId). ReaderMoves (λ W. GivesUp W true) z.0 c.unpin_for_good.new.seat z.1)
     (λ i. (c.token.view_is i, c.board.view_is i)) c.unpin_for_good.ensures

@@ -49,7 +49,7 @@ returns-in_err-answered-clause-streams g c =
     let e = c.in_err-answered.field-0.0 in
     let answered = rw (c.loop-turn.invariant.limit) at c.in_err-answered.ensures.answered in
     let handed = c.requires.handing_on.handed _ _ _ _ _ _ answered c.in_ok-hand_on.ensures.hands in
-    let chunk : List ℕ = take c.in-Ok.length c.read.new.buf in
+    let chunk : List ℕ = take c.in-Ok.length c.read_next.new.buffer in
     let ends = ends_for (Unit {0}) _ _ e c.answer_piece-answered.new.framer.held c.loop-turn.framer.held chunk chunk c.loop-turn.invariant.limit refl c.in_err-answered.ensures.ends in
     rw (passed_on c.from_residual-in_err-answered.result e c.from_residual-in_err-answered.ensures.1)
     (streams_part g.A.Answerer.answers c.requires.packets.more (Unit {0}) _ e _ _ _ _ _ _ _ _ _ c.loop-turn.invariant.along c.in-Ok.ensures.bytes.0 c.in-Ok.ensures.gives handed ends)
@@ -65,11 +65,11 @@ loop-turn-preserved g c =
     let handed = c.requires.handing_on.handed _ _ _ _ _ _ answered c.in_ok-hand_on.ensures.hands in
     let ends = rw (c.loop-turn.invariant.limit) at c.in_ok-answered.ensures.ends in
     let count = rw (c.loop-turn.invariant.limit) at c.in_ok-answered.ensures.counts in
-    let piece : length (take c.in-Ok.length c.read.new.buf) ≤ 512 = omega (arith, c.in-Ok.ensures.bound.0, length-take c.in-Ok.length c.read.new.buf, c.read.auto.buf, c.loop-turn.invariant.size) in
+    let piece : length (take c.in-Ok.length c.read_next.new.buffer) ≤ 512 = omega (arith, c.in-Ok.ensures.bound.0, length-take c.in-Ok.length c.read_next.new.buffer, c.read_next.auto.buffer, c.loop-turn.invariant.size) in
     record {
       along = along_more g.A.Answerer.answers c.requires.packets.more _ _ _ _ _ _ _ _ _ _ c.loop-turn.invariant.along c.in-Ok.ensures.bytes.0 c.in-Ok.ensures.gives handed ends.0 ends.1 count;
       rests = c.hand_on.ensures.rests;
-      size = c.read.auto.buf ∙ c.loop-turn.invariant.size;
+      size = c.read_next.auto.buffer ∙ c.loop-turn.invariant.size;
       limit = c.in_ok-answered.ensures.kept ∙ c.loop-turn.invariant.limit;
       bound = omega (arith, c.hand_on.ensures.sent, c.in_ok-answered.ensures.bound, c.loop-turn.invariant.bound, piece);
       few = omega (arith, c.in_ok-answered.ensures.few, c.loop-turn.invariant.few, piece);

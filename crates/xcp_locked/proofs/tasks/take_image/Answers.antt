@@ -8,7 +8,7 @@ pub returns-clause-took : goal.returns-clause-took
 returns-clause-took g c =
     let size : length c.args.last.now ≡ 2040 = search rules in
     took_image c.acquire.result _ _ _ _ _ _ (length c.args.last.now) size c.acquire.ensures.same_reader c.acquire.ensures.does c.acquire.ensures.rises
-    c.read.ensures.does c.read.ensures.same_reader c.read.ensures.same (c.read.ensures.follows (omega (arith, size))).whole c.read.ensures.bytes
+    c.read.ensures.does c.read.ensures.same_reader c.read.ensures.same (c.read.ensures.whole (omega (arith, size))) c.read.ensures.bytes
 
 pub returns-clause-seen : goal.returns-clause-seen
 returns-clause-seen g c = (

@@ -15,7 +15,7 @@ pub returns-clause-told : goal.returns-clause-told
 returns-clause-told g c =
     let was = c.loop-left.invariant in
     let none : length c.loop-left.left.now ≡ 0 = search rules in
-    heard_all (λ calls. g.T.Witness.hears c.args.witness.now calls c.loop-left.witness) c.args.bytes.now c.loop-left.left.now was.0 was.1 was.4 (nothing c.loop-left.left.now none)
+    heard_all (λ calls. g.T.Witness.hears c.args.witness.now c.args.roster calls c.loop-left.witness) c.args.bytes.now c.loop-left.left.now was.0 was.1 was.4 (nothing c.loop-left.left.now none)
 
 pub returns-then-not-answers-clause-err : goal.returns-then-not-answers-clause-err
 returns-then-not-answers-clause-err g c = λ strings spells.
@@ -31,15 +31,15 @@ pub returns-then-not-answers-clause-told_some : goal.returns-then-not-answers-cl
 returns-then-not-answers-clause-told_some g c = λ strings spells.
     let was = c.loop-left.invariant in
     let next = c.in-Some.ensures.some in
-    let Heard : List Entry → Type 0 = λ calls. g.T.Witness.hears c.args.witness.now calls c.told.new.self in (
+    let Heard : List Entry → Type 0 = λ calls. g.T.Witness.hears c.args.witness.now c.args.roster calls c.told.new.self in (
       was.0,
       was.3,
       heard_here Heard c.args.bytes.now c.loop-left.left.now c.in-Some.more.now next.string was.0 c.owned-call.result was.1 next.joined (c.owned-call.ensures ∙ sym next.spells) strings spells
-          (g.met.T.Witness.hears_more _ _ _ _ _ was.4 c.told.ensures),
+          (g.met.T.Witness.hears_more _ _ _ _ _ _ was.4 c.told.ensures),
     )
 
 pub loop-left-init : goal.loop-left-init
-loop-left-init g c = (0, walks_none c.args.bytes.now, refl, omega arith, g.met.T.Witness.hears_none c.args.witness.now)
+loop-left-init g c = (0, walks_none c.args.bytes.now, refl, omega arith, g.met.T.Witness.hears_none c.args.witness.now c.args.roster)
 
 pub unreachable-requires : goal.unreachable-requires
 unreachable-requires g c =
@@ -62,5 +62,5 @@ loop-left-preserved g c =
       walks_more c.args.bytes.now c.loop-left.left.now c.in-Some.more.now was.0 _ was.1 next,
       run_more c.args.slave.now c.loop-left.slave c.answers.new.slave was.1.done next.string c.owned-call.result is was.2 (c.answers.ensures.yes c.if-not-answers.false),
       (let place = was.3 in omega (arith, place)),
-      heard_more (λ calls. g.T.Witness.hears c.args.witness.now calls c.told.new.self) was.1.done next.string c.owned-call.result is (g.met.T.Witness.hears_more _ _ _ _ _ was.4 c.told.ensures),
+      heard_more (λ calls. g.T.Witness.hears c.args.witness.now c.args.roster calls c.told.new.self) was.1.done next.string c.owned-call.result is (g.met.T.Witness.hears_more _ _ _ _ _ _ was.4 c.told.ensures),
     )

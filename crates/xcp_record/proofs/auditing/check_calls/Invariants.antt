@@ -6,7 +6,7 @@ use Rattle.xcp_record.specs.private.Calls.{Walks}
 use Rattle.xcp_record.proofs.auditing.check_calls.Given as goal
 
 abbrev pub invariant-loop-left : goal.invariant-loop-left
-invariant-loop-left g l = (n : ℕ) × (w : Walks l.bytes l.left n) × Run l.fn.slave (exchanges (map entry_in w.done)) l.slave × (l.place ≡ l.before + n) × g.T.Witness.hears l.fn.witness (map entry_in w.done) l.witness
+invariant-loop-left g l = (n : ℕ) × (w : Walks l.bytes l.left n) × Run l.fn.slave (exchanges (map entry_in w.done)) l.slave × (l.place ≡ l.before + n) × g.T.Witness.hears l.fn.witness l.roster (map entry_in w.done) l.witness
 
 abbrev pub decreases-loop-left : goal.decreases-loop-left
 decreases-loop-left g l = length l.left

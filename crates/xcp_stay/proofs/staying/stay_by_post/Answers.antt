@@ -1,19 +1,16 @@
 use Rattle.std.proofs.Common.{◌≡◌, ◌+◌, ◌++◌, ◌∙◌, ap, arith, length, refl, sym}
 use Rattle.std.specs.Prelude.{nat_lt}
 use Rattle.std.proofs.lemmas.Result.{IfOk-weaker}
-use Rattle.xcp_packet.specs.TimeStamps.{stamp_size}
-use Rattle.xcp_memory.specs.declared.Clock.{Clock}
-use Rattle.xcp_service.specs.Telling.{has_clock}
 use Rattle.xcp_stay.specs.Team.{timekeepers}
 use Rattle.xcp_stay.proofs.CountLemmas.{length-callers_of}
 use Rattle.xcp_stay.proofs.KeptLemmas.{left_many}
 use Rattle.xcp_stay.proofs.TeamLemmas.{have_served}
-use Rattle.xcp_stay.proofs.TimekeeperLemmas.{count_all, few_there, fresh_dealt, have_all_served, is_there, last_dealt, numbered_all, tells_where}
+use Rattle.xcp_stay.proofs.TimekeeperLemmas.{count_all, few_there, fresh_dealt, have_all_served, is_there, last_dealt, numbered_all, tells_clock, tells_where}
 use Rattle.xcp_stay.proofs.staying.stay_by_post.Goals as goal
 
 pub deal-requires : goal.deal-requires
 deal-requires g c =
-    let tells : nat_lt 0 c.size-has_clock.result ≡ has_clock g.N.Name.layout = ap (λ n. nat_lt 0 n) c.size-has_clock.ensures.value ∙ ap (λ (k : Clock). nat_lt 0 (stamp_size k.stamp)) c.requires.ticks.0 in
+    let tells = tells_clock g.N.Name.layout _ _ c.size-has_clock.ensures.value c.requires.ticks.0 in
     let dealt = ap length (c.in_ok-post.ensures {u = tt}).members in
     let opened = ap length c.requires.opened ∙ length-callers_of g.N.Name.layout g.N.Ledger.parts in
     let enough = c.requires.callers in
@@ -21,7 +18,7 @@ deal-requires g c =
 
 pub hire-requires-clause-last : goal.hire-requires-clause-last
 hire-requires-clause-last g c =
-    let tells : nat_lt 0 c.size-has_clock.result ≡ has_clock g.N.Name.layout = ap (λ n. nat_lt 0 n) c.size-has_clock.ensures.value ∙ ap (λ (k : Clock). nat_lt 0 (stamp_size k.stamp)) c.requires.ticks.0 in
+    let tells = tells_clock g.N.Name.layout _ _ c.size-has_clock.ensures.value c.requires.ticks.0 in
     let said = c.in_ok-dealt.ensures {u = tt} in
     let crew = c.in_ok-dealt.dealt.crew in
     let own = c.in_ok-dealt.dealt.timekeepers in
@@ -40,7 +37,7 @@ hire-requires-clause-fresh g c =
 
 pub conclude-requires : goal.conclude-requires
 conclude-requires g c =
-    let tells : nat_lt 0 c.size-has_clock.result ≡ has_clock g.N.Name.layout = ap (λ n. nat_lt 0 n) c.size-has_clock.ensures.value ∙ ap (λ (k : Clock). nat_lt 0 (stamp_size k.stamp)) c.requires.ticks.0 in
+    let tells = tells_clock g.N.Name.layout _ _ c.size-has_clock.ensures.value c.requires.ticks.0 in
     let said = c.in_ok-dealt.ensures {u = tt} in
     let ran = c.in_ok-ended.ensures {u = tt} in
     let crew = c.in_ok-dealt.dealt.crew in
@@ -57,7 +54,7 @@ conclude-requires g c =
 
 pub returns-clause-leaves : goal.returns-clause-leaves
 returns-clause-leaves g c =
-    let tells : nat_lt 0 c.size-has_clock.result ≡ has_clock g.N.Name.layout = ap (λ n. nat_lt 0 n) c.size-has_clock.ensures.value ∙ ap (λ (k : Clock). nat_lt 0 (stamp_size k.stamp)) c.requires.ticks.0 in
+    let tells = tells_clock g.N.Name.layout _ _ c.size-has_clock.ensures.value c.requires.ticks.0 in
     let said = c.in_ok-dealt.ensures {u = tt} in
     let ran = c.in_ok-ended.ensures {u = tt} in
     let crew = c.in_ok-dealt.dealt.crew in
@@ -71,7 +68,7 @@ returns-clause-leaves g c =
 
 pub returns-clause-served : goal.returns-clause-served
 returns-clause-served g c =
-    let tells : nat_lt 0 c.size-has_clock.result ≡ has_clock g.N.Name.layout = ap (λ n. nat_lt 0 n) c.size-has_clock.ensures.value ∙ ap (λ (k : Clock). nat_lt 0 (stamp_size k.stamp)) c.requires.ticks.0 in
+    let tells = tells_clock g.N.Name.layout _ _ c.size-has_clock.ensures.value c.requires.ticks.0 in
     let said = c.in_ok-dealt.ensures {u = tt} in
     let ran = c.in_ok-ended.ensures {u = tt} in
     let crew = c.in_ok-dealt.dealt.crew in

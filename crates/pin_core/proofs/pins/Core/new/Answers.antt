@@ -14,7 +14,7 @@ built c =
 
 pub invariant_of-result : goal.invariant_of-result
 invariant_of-result c =
-    let few : length c.args.first.now ≤ 256 = c.requires.few_words in
+    let few : length c.args.first.now ≤ 131073 = c.requires.few_words in
     (omega arith, subst (λ (s : PinState). Lawful (width s) s) (built c) (opening_lawful c.args.first.now c.requires.some_words few))
 
 pub returns : goal.returns

@@ -26,12 +26,12 @@ happened c =
     let was : c.index_mut-buffer.result.now ≡ words_of s b = c.index_mut-buffer.ensures.value ∙ there s.words c.from.result b c.index_mut-buffer.result.now [] c.from.ensures here in
     let wide = law.sizes.widths b low in
     let len : c.len.result ≡ width s = c.len.ensures ∙ (ap length was ∙ wide) in
-    let place : c.from-at.result ≡ n = c.if-at-self.false in
+    let place : k ≡ n = c.if-k-self.false in
     let fits : n < length (words_of s b) = omega arith in
-    let can : CanWrite (width s) s k b = (c.in-Some.is, length_front s.writer.building b n s.words c.in-Some.is (omega arith) ∙ (sym place ∙ c.from-at.ensures), omega arith) in
-    let row : c.set.new.self ≡ set (words_of s b) k x = c.set.ensures ∙ (λ i. set (was i) (c.from-at.ensures i) x) in
+    let can : CanWrite (width s) s k b = (c.in-Some.is, length_front s.writer.building b n s.words c.in-Some.is (omega arith) ∙ sym place, omega arith) in
+    let row : c.set.new.self ≡ set (words_of s b) k x = c.set.ensures ∙ (λ i. set (was i) k x) in
     let all : set s.words c.from.result c.set.new.self ≡ set s.words b (set (words_of s b) k x) = λ i. set s.words (c.from.ensures i) (row i) in
-    let next : n ≡ k = sym place ∙ c.from-at.ensures in
+    let next : n ≡ k = sym place in
     let front : front_of s.writer.building (n + 1) (set s.words c.from.result c.set.new.self) ≡ s.writer.written ++ x ∷ [] =
     (λ i. front_of s.writer.building (n + 1) (set s.words (c.from.ensures i) ((row ∙ ap (λ (m : ℕ). set (words_of s b) m x) (sym next)) i)))
     ∙ front_more s.writer.building b n s.words c.in-Some.is x inside fits in

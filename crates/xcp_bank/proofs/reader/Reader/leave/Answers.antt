@@ -1,6 +1,8 @@
-use Rattle.std.proofs.Common.{ℕ, sym, ◌∙◌, subst, Option}
+use Rattle.std.proofs.Common.{ℕ, true, sym, ◌∙◌, subst, Option}
 use Rattle.std.specs.Arc.{arc_value}
+use Rattle.atomic_table.specs.Seated.{TableId}
 use Rattle.xcp_bank.specs.SeatKnowledge.{Reading}
+use Rattle.xcp_bank.specs.private.ReaderSteps.{GivesUp}
 use Rattle.xcp_bank.specs.BankEnds.{ReaderEnd, reader_end, LeavesBy, GivesBack}
 use Rattle.xcp_bank.specs.EndFields.{reader_in}
 use Rattle.xcp_bank.proofs.EndFieldLemmas.{sits_at}
@@ -21,4 +23,4 @@ returns c =
     let shows = c.new-2.ensures ∙ shown_is c.unpin_for_good.new.token bank r e.0 (sits_at c.unpin_for_good.new.token r e.0 c.deref.ensures e.1) in
     subst (λ (z : ReaderEnd). LeavesBy z.held z c.new-2.result) c.self.view_is
     (subst (λ (o : Option (ℕ × ℕ)). LeavesBy o (reader_end bank r x) c.new-2.result) (sym h.2)
-    (subst (GivesBack (reader_end bank r x)) (sym shows) (left_end bank r x e.0 e.2)))
+    (subst (GivesBack (reader_end bank r x)) (sym shows) (left_end bank r x e.0 (subst (λ (z : TableId). GivesUp z.slots true r x e.0) c.deref.ensures e.2))))

@@ -9,4 +9,4 @@ use Rattle.xcp_bank.proofs.reader.Reader.new.Goals as goal
 pub invariant_of-result : goal.invariant_of-result
 invariant_of-result c =
     let f = c.requires in
-    kept_by c.args.seat (arc_value c.args.board) f.0 (starting f.1) None f.3 (follows_starting f.1 f.0 f.2) refl refl (λ b e. absurd (none-some b e))
+    kept_by c.args.seat (arc_value c.args.board) f.0 (starting f.1) None f.3 (follows_starting (arc_value c.args.board).slots f.1 f.0 f.2) refl refl (λ b e. absurd (none-some b e))

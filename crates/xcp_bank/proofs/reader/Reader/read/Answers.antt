@@ -1,6 +1,8 @@
-use Rattle.std.proofs.Common.{ℕ, ◌/◌, ◌<◌, List, length, take, drop, sym, ap, ◌∙◌, subst, Some, arith}
+use Rattle.std.proofs.Common.{ℕ, ◌+◌, ◌-◌, ◌*◌, ◌/◌, ◌<◌, ◌≤◌, List, length, take, drop, sym, ap, ◌∙◌, subst, Some, arith}
 use Rattle.std.specs.Arc.{arc_value}
 use Rattle.xcp_bank.specs.SeatKnowledge.{Reading}
+use Rattle.atomic_table.specs.Seated.{TableId}
+use Rattle.xcp_bank.specs.private.SeatSteps.{HasRead}
 use Rattle.xcp_bank.specs.BankEnds.{ReaderEnd, reader_end, image_held, words_in}
 use Rattle.xcp_bank.specs.EndFields.{reader_in, shown_reader}
 use Rattle.xcp_bank.proofs.EndFieldLemmas.{sits_at}
@@ -12,12 +14,16 @@ read_at-requires-clause-seat c =
     let h = holding (arc_value c.self.inside.board) c.deref.result.now c.self.inside.held c.self.inside.seat c.self.invariant c.in-Some.seat c.in-Some-held.buffer c.in-Some.is c.in-Some-held.is c.deref.ensures in
     ((reader_in c.self.inside.seat).0, (reader_in c.self.inside.seat).1, h.0, h.1, h.2)
 
+pub read_at-requires-clause-inside : goal.read_at-requires-clause-inside
+read_at-requires-clause-inside c = subst (λ (z : TableId). c.args.at + length c.args.out.now ≤ 8 * (z.slots - 1)) (ap (λ (z : ReaderEnd). z.bank.table) (sym c.self.view_is) ∙ sym c.deref.ensures) c.requires.inside
+
 pub invariant_of-self : goal.invariant_of-self
 invariant_of-self c =
     let r : ℕ = (reader_in c.self.inside.seat).0 in let x : Reading = (reader_in c.self.inside.seat).1 in
     let h = holding (arc_value c.self.inside.board) c.deref.result.now c.self.inside.held c.self.inside.seat c.self.invariant c.in-Some.seat c.in-Some-held.buffer c.in-Some.is c.in-Some-held.is c.deref.ensures in
     let e = c.read_at.ensures r x h.0 h.1 h.2 in
-    reads_kept (arc_value c.self.inside.board) c.self.inside.held c.self.inside.seat c.self.invariant c.read_at.new.token (c.args.at / 8) (words_in c.args.at (length c.args.out.now)) h.1 e.0 (sits_at c.read_at.new.token r e.0 c.deref.ensures e.1) e.2
+    reads_kept (arc_value c.self.inside.board) c.self.inside.held c.self.inside.seat c.self.invariant c.read_at.new.token (c.args.at / 8) (words_in c.args.at (length c.args.out.now)) h.1 e.0 (sits_at c.read_at.new.token r e.0 c.deref.ensures e.1)
+    (subst (λ (z : TableId). HasRead (c.args.at / 8) (words_in c.args.at (length c.args.out.now)) h.1 z.slots r x e.0) c.deref.ensures e.2)
 
 pub returns-clause-bytes : goal.returns-clause-bytes
 returns-clause-bytes c =
@@ -35,7 +41,7 @@ said c =
     let e = c.read_at.ensures r x h.0 h.1 h.2 in
     let k : ℕ = c.args.at / 8 in let n : ℕ = words_in c.args.at (length c.args.out.now) in
     subst (λ (z : ReaderEnd). ReadEnd k n z (shown_reader bank (Some c.read_at.new.token))) c.self.view_is
-    (subst (ReadEnd k n (reader_end bank r x)) (sym (shown_is c.read_at.new.token bank r e.0 (sits_at c.read_at.new.token r e.0 c.deref.ensures e.1))) (read_end bank r k n c.in-Some-held.buffer h.1 x e.0 h.2 c.self.invariant.follows e.2))
+    (subst (ReadEnd k n (reader_end bank r x)) (sym (shown_is c.read_at.new.token bank r e.0 (sits_at c.read_at.new.token r e.0 c.deref.ensures e.1))) (read_end bank (sits_at c.read_at.new.token r e.0 c.deref.ensures e.1).wide r k n c.in-Some-held.buffer h.1 x e.0 h.2 c.self.invariant.follows (subst (λ (z : TableId). HasRead k n h.1 z.slots r x e.0) c.deref.ensures e.2)))
 
 some_words : (at n : ℕ) → 0 < n → 0 < words_in at n
 some_words at n some = omega arith

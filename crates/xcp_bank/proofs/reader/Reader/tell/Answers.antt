@@ -23,7 +23,7 @@ made c =
 pub invariant_of-self : goal.invariant_of-self
 invariant_of-self c =
     let k = c.self.invariant in let t = c.tell_seat.ensures.told in
-    kept_by c.tell_seat.result (arc_value c.self.inside.board) (reader_in c.self.inside.seat).0 (when_parted t.0 (reader_in c.self.inside.seat).0 (when_joined t.0 (reader_in c.self.inside.seat).0 (reader_in c.self.inside.seat).1)) c.self.inside.held (made c) (follows_told (reader_in c.self.inside.seat).0 (reader_in c.self.inside.seat).1 t.0 k.follows) k.here k.held_is k.low
+    kept_by c.tell_seat.result (arc_value c.self.inside.board) (reader_in c.self.inside.seat).0 (when_parted t.0 (reader_in c.self.inside.seat).0 (when_joined t.0 (reader_in c.self.inside.seat).0 (reader_in c.self.inside.seat).1)) c.self.inside.held (made c) (follows_told (arc_value c.self.inside.board).slots (reader_in c.self.inside.seat).0 (reader_in c.self.inside.seat).1 t.0 k.follows) k.here k.held_is k.low
 
 -- and what contracts see of it
 said : (c : goal.Joined-self) → ToldEnd c.args.writer.now c.args.self.now (shown_reader (arc_value c.self.inside.board) (Some c.tell_seat.result))

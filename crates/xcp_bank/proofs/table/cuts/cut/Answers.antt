@@ -8,8 +8,8 @@ pub split_seat-requires : goal.split_seat-requires
 split_seat-requires c =
     let f = c.requires in
     let s = c.args.store.now in
-    let w = f.2.wide in
-    (f.2.bank_is, omega arith, cut_allowed 256 c.args.seat.now.id f.0 f.1 c.args.seat.now.me.0 (ap (λ (m : Seat). m.0) f.2.me))
+    let w = f.2.wide.size in
+    (f.2.bank_is, omega arith, cut_allowed c.args.seat.now.id f.0 f.1 c.args.seat.now.me.0 (ap (λ (m : Seat). m.0) f.2.me))
 
 abbrev nothing_held : List (ℕ × Unit {0})
 nothing_held = []

@@ -1,5 +1,6 @@
 use Rattle.std.proofs.Common.{◌≡◌, sym, ap, subst}
 use Rattle.std.specs.Arc.{arc_value}
+use Rattle.atomic_table.specs.Seated.{TableId}
 use Rattle.xcp_bank.specs.SeatKnowledge.{Writing}
 use Rattle.xcp_bank.specs.private.SeatSteps.{IsWriterSeat, Counted}
 use Rattle.xcp_bank.specs.BankEnds.{WriterEnd, writer_end, HeldDoes}
@@ -10,13 +11,13 @@ use Rattle.xcp_bank.proofs.ScanCountLemmas.{rests_still, counted_still, held_few
 use Rattle.xcp_bank.proofs.writer.Writer.held.Goals as goal
 
 -- what the writer knows then
-made : (c : goal.After-count_held) → (u : Writing) × IsWriterSeat c.count_held.new.token (arc_value c.self.inside.board) u × Counted 8 c.count_held.result (writer_in c.self.inside.seat) u
+made : (c : goal.After-count_held) → (u : Writing) × IsWriterSeat c.count_held.new.token (arc_value c.self.inside.board) u × Counted 8 c.count_held.result (arc_value c.self.inside.board).slots (writer_in c.self.inside.seat) u
 made c =
     let bank = arc_value c.self.inside.board in
     let w : Writing = writer_in c.self.inside.seat in
     let T : c.deref.result.now ≡ bank = c.deref.ensures in
     let e = c.count_held.ensures w (desks_at c.self.inside.seat w (sym T) c.self.invariant.desks) in
-    (e.0, desks_at c.count_held.new.token e.0 T e.1, e.2)
+    (e.0, desks_at c.count_held.new.token e.0 T e.1, subst (λ (z : TableId). Counted 8 c.count_held.result z.slots w e.0) T e.2)
 
 pub invariant_of-self : goal.invariant_of-self
 invariant_of-self c =
@@ -24,8 +25,8 @@ invariant_of-self c =
     let w : Writing = writer_in c.self.inside.seat in
     let r = c.self.invariant.rests in
     writer_kept_by c.count_held.new.token (arc_value c.self.inside.board) m.0 c.self.inside.current c.self.inside.started c.self.inside.count m.1
-    (rests_still w c.self.inside.current c.self.inside.started r c.count_held.result m.0 m.2)
-    (counted_still w c.self.inside.current c.self.inside.started r c.count_held.result m.0 m.2 c.self.inside.count c.self.invariant.counted)
+    (rests_still (arc_value c.self.inside.board) w c.self.inside.current c.self.inside.started r c.count_held.result m.0 m.2)
+    (counted_still (arc_value c.self.inside.board) w c.self.inside.current c.self.inside.started r c.count_held.result m.0 m.2 c.self.inside.count c.self.invariant.counted)
 
 -- and what contracts see of it
 said : (c : goal.After-count_held) → HeldDoes c.count_held.result c.args.self.now (shown_writer (arc_value c.self.inside.board) c.count_held.new.token)
@@ -35,10 +36,10 @@ said c =
     let m = made c in
     subst (λ (z : WriterEnd). HeldDoes c.count_held.result z (shown_writer bank c.count_held.new.token)) c.self.view_is
     (subst (HeldDoes c.count_held.result (writer_end bank w)) (sym (writer_shown c.count_held.new.token bank m.0 m.1))
-    (held_end w c.self.inside.current c.self.inside.started c.self.invariant.rests c.count_held.result m.0 m.2 bank))
+    (held_end bank w c.self.inside.current c.self.inside.started c.self.invariant.rests c.count_held.result m.0 m.2))
 
 pub returns-clause-most : goal.returns-clause-most
-returns-clause-most c = let m = made c in held_few (writer_in c.self.inside.seat) c.self.inside.current c.self.inside.started c.self.invariant.rests c.count_held.result m.0 m.2
+returns-clause-most c = let m = made c in held_few (arc_value c.self.inside.board) (writer_in c.self.inside.seat) c.self.inside.current c.self.inside.started c.self.invariant.rests c.count_held.result m.0 m.2
 
 pub returns-clause-same_bank : goal.returns-clause-same_bank
 returns-clause-same_bank c = ap (λ (z : WriterEnd). z.bank) (said c).same

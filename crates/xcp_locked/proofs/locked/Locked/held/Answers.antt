@@ -22,6 +22,7 @@ invariant_of-self g c =
         few = k.few;
         last = k.last;
         named = c.held.ensures.same_bank ∙ k.named;
+        size = k.size;
       },
       c.self.invariant.5,
       c.self.invariant.6,

@@ -1,8 +1,11 @@
-use Rattle.std.proofs.Common.{◌≡◌, ◌∙◌, ◌∷◌, [], ap, arith, length, sym}
+use Rattle.std.proofs.Common.{◌≡◌, ◌∙◌, ◌∷◌, [], ap, arith, length, subst, sym}
 use Rattle.std.specs.Arc.{arc_value}
+use Rattle.std.specs.List.{AllByRecursion}
 use Rattle.xcp_slave.specs.SlaveValue.{layout_of, opening}
-use Rattle.xcp_bank.specs.BankEnds.{new_writer}
+use Rattle.xcp_bank.specs.BankId.{BankId, image_bytes}
+use Rattle.xcp_bank.specs.BankEnds.{ReaderEnd, new_writer}
 use Rattle.xcp_locked.specs.Publications.{image_of}
+use Rattle.xcp_locked.specs.private.OfferedImages.{IsOwnBank}
 use Rattle.xcp_locked.specs.UnnamedSlave.{UnnamedValue}
 use Rattle.xcp_locked.proofs.JournalLemmas.{run_first}
 use Rattle.xcp_locked.proofs.PublicationLemmas.{kept_first}
@@ -22,10 +25,17 @@ invariant_of-locked g c =
       (let t = c.open-book.ensures.total in omega (arith, none, t)),
       omega (arith, none),
       layout,
-      kept_first g.N.Name.bank (arc_value c.in_ok-waits.field-0.base) entries _ c.new-publisher.result c.new-journal.ensures (sym base) (published.0 ∙ (was.5 ∙ (λ i. new_writer (bank i) (was.4 i)))) published.1 (published.2 ∙ was.4) published.3,
+      kept_first g.N.Name.bank (arc_value c.in_ok-waits.field-0.base) entries _ c.new-publisher.result c.new-journal.ensures (sym base) (published.0 ∙ (was.5 ∙ (λ i. new_writer (bank i) (was.4 i)))) published.1 (published.2 ∙ was.4) published.3 (subst (λ (b : BankId). image_bytes b ≡ 2040) bank was.7),
       reached_first g.N.Name.layout (arc_value c.in_ok-waits.field-0.base) (base ∙ (was.0 ∙ ap opening layout)),
       omega arith,
       omega arith,
       (let f = published.3 in omega (arith, f)),
       all_first g.N.Name.layout (arc_value c.in_ok-waits.field-0.base) entries _ (base ∙ (was.0 ∙ ap opening layout)) c.new-journal.ensures (ap (λ z. z.publications) (published.0 ∙ was.5) ∙ (ap (λ i. i ∷ []) was.4 ∙ ap (λ v. image_of v ∷ []) (was.0 ∙ ap opening layout))),
     )
+
+pub name_readers-requires : goal.name_readers-requires
+name_readers-requires g c =
+    let was = c.unnamed.invariant in
+    let bank = ap (λ (u : UnnamedValue). u.bank) c.unnamed.view_is ∙ c.requires.bank in
+    let own : IsOwnBank g.N.Name.bank c.unnamed.inside.writer.bank = (bank, was.7) in
+    (omega arith, subst (AllByRecursion (λ (r : ReaderEnd). IsOwnBank g.N.Name.bank r.bank)) (sym was.6) (own, (own, (own, (own, (own, (own, tt)))))))

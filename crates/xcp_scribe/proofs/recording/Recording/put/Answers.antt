@@ -46,7 +46,7 @@ pub returns-then-is_none : goal.returns-then-is_none
 returns-then-is_none g c = λ chapters was. elim was [
   | inl whole ↦ inr (record {
     faulty = first_fault
-        (record { recorder = c.append-appended.new.self; layout = c.args.self.now.layout; start = c.args.self.now.start; fault = Some c.in-Err.fault })
+        (record { recorder = c.append-appended.new.self; layout = c.args.self.now.layout; roster = c.args.self.now.roster; start = c.args.self.now.start; fault = Some c.in-Err.fault })
         c.in-Err.fault refl (λ e. let grown = c.in-Err.ensures.write (ap Err e) in let none = whole.unfailed in omega (arith, grown, none))
         (λ other. c.in-Err.ensures.unfailed (λ e. other (ap fault_in e)) ∙ whole.unfailed)
         (λ e. numbered c.chapters-number.result c.args.self.now.recorder.chapters c.append-appended.new.self.chapters c.chapters-number.ensures c.in-Err.ensures.err.2 (c.in-Err.ensures.number (ap Err e)))
@@ -55,7 +55,7 @@ returns-then-is_none g c = λ chapters was. elim was [
     whole = chapters;
     first = (c.args.calls ∷ [], refl);
     calls = c.in-Err.ensures.err.1 ∙ whole.records.called;
-    stops = c.in-Err.ensures.front c.args.self.now.layout _ chapters whole.records;
+    stops = c.in-Err.ensures.front (Some c.args.self.now.roster) c.args.self.now.layout _ chapters whole.records;
   })
   | inr cut ↦ absurd (not_none c.args.self.now cut.faulty (none_of c.args.self.now.fault (c.if-is_none.ensures {u = tt})))
 ]
@@ -67,11 +67,11 @@ returns-else-is_none g c = λ chapters was. elim was [
       let same = (c.in-Err.ensures.stopped cut.stopped).1 in
       let start = g.W.Write.contents c.args.self.now.start.value in
       inr (record {
-        faulty = subst (λ (r : Recorder _). IsFaulty (record { recorder = r; layout = c.args.self.now.layout; start = c.args.self.now.start; fault = c.args.self.now.fault })) (sym same) cut.faulty;
+        faulty = subst (λ (r : Recorder _). IsFaulty (record { recorder = r; layout = c.args.self.now.layout; roster = c.args.self.now.roster; start = c.args.self.now.start; fault = c.args.self.now.fault })) (sym same) cut.faulty;
         stopped = ap (λ (r : Recorder _). r.stopped) same ∙ cut.stopped;
         whole = cut.whole;
         first = (cut.first.0 ++ c.args.calls ∷ [], sym (append_assoc cut.whole cut.first.0 (c.args.calls ∷ [])) ∙ ap (λ (l : List (List Entry)). l ++ c.args.calls ∷ []) cut.first.1);
         calls = ap (λ (r : Recorder _). r.calls) same ∙ cut.calls;
-        stops = subst (λ (r : Recorder _). StopsInside c.args.self.now.layout start (g.W.Write.contents r.writer.inner) cut.whole) (sym same) cut.stops;
+        stops = subst (λ (r : Recorder _). StopsInside (Some c.args.self.now.roster) c.args.self.now.layout start (g.W.Write.contents r.writer.inner) cut.whole) (sym same) cut.stops;
       })
 ]

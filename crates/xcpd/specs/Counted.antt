@@ -1,0 +1,19 @@
+-- What the last lines of a server count, and what else it tells.
+use Rattle.std.specs.Prelude.{Option, Result, Ok, Err}
+use Rattle.xcp_program.specs.declared.fault.Fault.{Fault}
+use Rattle.xcp_program.specs.declared.server_lines.Counts.{Counts}
+use Rattle.xcp_server.specs.declared.report.Report.{Report}
+use Rattle.xcp_stay.specs.declared.staying.Report as stayed
+
+-- of a server that ends with its tools and tasks, no cycles are too late
+abbrev pub counts_at_end : Report → Counts
+counts_at_end r = record { chapters = r.chapters; calls = r.calls; lost = r.lost; late = 0 }
+
+-- of one that stayed, all that is told of it
+abbrev pub counts_at_stop : stayed.Report → Counts
+counts_at_stop r = record { chapters = r.chapters; calls = r.calls; lost = r.lost; late = r.late }
+
+-- the faults that a server tells which ended with its tools and tasks, or the one that kept it from that
+abbrev pub told_at_end : Result Report Fault → Result (Option Fault) Fault
+told_at_end (Ok r) = Ok r.fault
+told_at_end (Err fault) = Err fault

@@ -1,0 +1,4 @@
+pub mod Counted
+pub mod Distance
+pub mod Faults
+pub mod Planned
