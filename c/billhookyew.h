@@ -5,8 +5,8 @@
  *
  * ALL CALLS
  *   - No pointer is null, also where a length is 0.
- *   - What the pointers of one call point to doesn't overlap, is initialized (an xcp_answer too: `= {0}` once), stays as
- *     it is while the call runs, and is memory that may be written where the parameter isn't const.
+ *   - What the pointers of one call point to doesn't overlap, is initialized (an xcp_answer too: `= XCP_ANSWER_INIT`
+ *     once), stays as it is while the call runs, and is memory that may be written where the parameter isn't const.
  *   - No call from a signal handler, or from the forked child of a process with threads.
  *   - malloc, realloc and free are those of one allocator, and a block is aligned to each power of two up to 16 that
  *     divides its size.
@@ -19,6 +19,17 @@
  *     thread calls it. An xcp_reader or an xcp_framer is used by one thread, and needs no lock. Whoever hands a handle to
  *     another thread orders that by a lock, the start or the join of a thread, or a sequentially consistent atomic.
  *   - Different handles need no order among each other: readers read while the slave publishes.
+ *
+ * WHAT A CALL COSTS, AND INTERRUPTS
+ *   - Each call is proved to end, and no call waits for another thread: none takes a lock. No proof says after how many
+ *     nanoseconds or instructions. What each call took on one machine stands in docs/measurements/README.md, under "The
+ *     library for C", with its bytes of stack; those of xcp_open_stored and xcp_stored_pages don't yet.
+ *   - xcp_open, xcp_open_stored and xcp_framer_open take memory, and as counted no other call does. xcp_close,
+ *     xcp_reader_close and xcp_framer_close free it.
+ *   - A call is many steps. An interrupt that comes in the midst of one calls nothing of the library, as a signal handler
+ *     doesn't: it may read what a task of yours got from xcp_read, and leave a mark for a thread that then calls xcp_event.
+ *   - A thread of higher priority may come in the midst of another one's call, with a handle of its own, or under the
+ *     slave's lock, which it then waits for.
  */
 #ifndef BILLHOOKYEW_H
 #define BILLHOOKYEW_H
@@ -29,28 +40,38 @@
 extern "C" {
 #endif
 
+#define XCP_VERSION "0.1.0" /* the library's: `xcpd --version` says the same */
+
 typedef struct { void *at; } xcp_slave;
 typedef struct { void *at; } xcp_reader;
 typedef struct { void *at; } xcp_framer;
 #define XCP_CLOSED { NULL }
 
 enum {
-    XCP_IMAGE_BYTES = 2040, /* an image: the controller's pages of all segments, in order, then zeros */
-    XCP_READERS = 6,        /* readers of one slave */
-    XCP_SIGNAL_BYTES = 64,  /* the most signals of an event */
-    XCP_PACKET_BYTES = 255, /* the longest packet */
-    XCP_FRAME_BYTES = 259   /* the longest frame */
+    XCP_TEXT_BYTES = 65536,  /* the longest text of a layout file */
+    XCP_STORED_BYTES = 2126, /* the longest file of stored pages */
+    XCP_IMAGE_BYTES = 2040,  /* an image: the controller's pages of all segments, in order, then zeros */
+    XCP_READERS = 6,         /* readers of one slave */
+    XCP_SIGNAL_BYTES = 64,   /* the most signals of an event */
+    XCP_PACKET_BYTES = 255,  /* the longest packet */
+    XCP_FRAME_BYTES = 259    /* the longest frame */
 };
 
-/* What an opening answers. 1 to 6 are the faults of a layout file, as docs/LAYOUT.md has them. */
+/* What an opening answers, or xcp_stored_pages. 1 to 6 are the faults of a layout file, as docs/LAYOUT.md has them. */
 enum {
     XCP_OPENED = 0,
     XCP_NO_DOCUMENT = 1, XCP_MISSING = 2, XCP_WRONG_TYPE = 3, XCP_OUT_OF_RANGE = 4, XCP_OVERLAP = 5, XCP_TOO_MANY = 6,
     XCP_NO_MEMORY = 7,
     XCP_NO_UTF8 = 8,
-    XCP_NO_READER = 9,     /* six were taken: a reader that is closed doesn't come back */
-    XCP_IS_OPEN = 10,      /* the handle that is to be opened owns something already */
-    XCP_SLAVE_CLOSED = 11  /* the slave's handle owns none */
+    XCP_NO_READER = 9,      /* six were taken: a reader that is closed doesn't come back */
+    XCP_IS_OPEN = 10,       /* the handle that is to be opened owns something already */
+    XCP_SLAVE_CLOSED = 11,  /* the slave's handle owns none */
+    XCP_STORED_HEAD = 12,   /* the file doesn't begin as one of stored pages, of version 1 */
+    XCP_STORED_LAYOUT = 13, /* it is of another text */
+    XCP_STORED_SIZE = 14,   /* it is cut short or too long, or has other sizes than the segments */
+    XCP_STORED_DIGEST = 15, /* it was altered */
+    XCP_LONG_TEXT = 16,     /* the text has more than XCP_TEXT_BYTES */
+    XCP_NO_ROOM = 17        /* the file has more bytes than there is room for */
 };
 
 /* What an xcp_answer tells. */
@@ -72,6 +93,7 @@ typedef struct {
     uint8_t told, count, width, length;
     uint8_t bytes[XCP_PACKET_BYTES];
 } xcp_answer;
+#define XCP_ANSWER_INIT { 0, 0, 0, 0, { 0 } }
 
 typedef struct {
     uint8_t length;
@@ -95,8 +117,20 @@ typedef struct {
 /* ---- The slave: under your lock ---- */
 
 /* Opens a slave by the text of a layout file, `length` bytes: XCP_OPENED, or a fault. All memory that the slave and its
- * readers ever take is taken here. It wants some 31 kB of stack. */
+ * readers ever take is taken here. Of all calls it and xcp_open_stored want the most stack, tens of kilobytes. */
 uint8_t xcp_open(const uint8_t *text, size_t length, xcp_slave *slave);
+
+/* The same with a file of stored pages, which xcp_stored_pages wrote out for this very text: each page of a segment begins
+ * with the stored one. What is wrong with the text comes first; then XCP_STORED_HEAD, XCP_STORED_LAYOUT, XCP_STORED_SIZE
+ * or XCP_STORED_DIGEST for the file. Where there is no file yet, call xcp_open. */
+uint8_t xcp_open_stored(const uint8_t *text, size_t length, const uint8_t *file, size_t file_length, xcp_slave *slave);
+
+/* Writes out the file of the slave's reference pages, for xcp_open_stored at a later start: XCP_OPENED, and `used` bytes of
+ * `out` are the file; or XCP_NO_ROOM, and it has `used` bytes, which are more than `room`; or XCP_SLAVE_CLOSED. With
+ * XCP_STORED_BYTES there is always room. Nothing else of `out` is written, and the slave stays as it is. It takes no memory.
+ * Once a tool has asked for a store, these are the pages that the store leaves: so they can be kept before xcp_finish_store
+ * tells the tool that they are. Else they are those that the slave has, also behind XCP_STORED. */
+uint8_t xcp_stored_pages(xcp_slave *slave, uint8_t *out, size_t room, size_t *used);
 
 /* Frees it. Its readers stay: they keep the image that they hold, and no newer one comes. */
 void xcp_close(xcp_slave *slave);

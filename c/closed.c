@@ -15,6 +15,8 @@ static void each_is_refused(void) {
     want(!xcp_event(&slave, 0, bytes, 16, &answer), "xcp_event");
     want(!xcp_drain(&slave, &answer), "xcp_drain");
     want(!xcp_finish_store(&slave, &answer), "xcp_finish_store");
+    size_t used = 9;
+    want(xcp_stored_pages(&slave, out, 4, &used) == XCP_SLAVE_CLOSED && out[0] == 1 && used == 9, "xcp_stored_pages");
     want(!xcp_time(&slave, 1, &answer), "xcp_time");
     want(!xcp_hangup(&slave, &answer), "xcp_hangup");
     want(!xcp_time(&slave, 5, &answer), "xcp_time");
@@ -39,6 +41,7 @@ int main(int argc, char **argv) {
         want(xcp_framer_open(xcp_max_cto(&slave), &framer) == XCP_OPENED, "xcp_framer_open");
         /* What is open isn't opened again. */
         want(xcp_open(layout, layout_length, &slave) == XCP_IS_OPEN, "xcp_open again");
+        want(xcp_open_stored(layout, layout_length, layout, 0, &slave) == XCP_IS_OPEN, "xcp_open_stored again");
         want(xcp_reader_open(&slave, &reader) == XCP_IS_OPEN, "xcp_reader_open again");
         want(xcp_framer_open(64, &framer) == XCP_IS_OPEN, "xcp_framer_open again");
         xcp_reader_close(&reader);
@@ -47,7 +50,7 @@ int main(int argc, char **argv) {
         each_is_refused();
     }
     /* Too long, past the end, and nothing held. */
-    xcp_answer answer = {0, 0, 0, 0, {0}};
+    xcp_answer answer = XCP_ANSWER_INIT;
     xcp_one_frame frame = {0, {0}};
     xcp_one_packet one = {0, {0}};
     uint8_t out[4];

@@ -29,7 +29,7 @@ static void task_has_seen(int n) {
 /* Tells the time of the monotonic clock, in microseconds: before an event, and before GET_DAQ_CLOCK. Under the lock. This layout
  * has no clock, so no answer has the time; clock.c has one. */
 static void tell_time(void) {
-    xcp_answer answer = {0, 0, 0, 0, {0}};
+    xcp_answer answer = XCP_ANSWER_INIT;
     struct timespec now;
     clock_gettime(CLOCK_MONOTONIC, &now);
     want(xcp_time(&slave, (uint64_t)now.tv_sec * 1000000u + (uint64_t)now.tv_nsec / 1000u, &answer), "a time is taken");
@@ -37,7 +37,7 @@ static void tell_time(void) {
 }
 
 static void command(const char *what, const uint8_t *packet, size_t length) {
-    xcp_answer answer = {0, 0, 0, 0, {0}};
+    xcp_answer answer = XCP_ANSWER_INIT;
     pthread_mutex_lock(&lock);
     if (packet[0] == 0xDC) tell_time();
     bool taken = xcp_command(&slave, packet, length, &answer);
@@ -73,7 +73,7 @@ int main(int argc, char **argv) {
     COMMAND("UPLOAD", 0xF5, 80); /* more than one packet has room for: a block */
     COMMAND("unknown", 0x01);
     COMMAND("GET_DAQ_CLOCK", 0xDC); /* unknown, where the layout has no clock */
-    xcp_answer answer = {0, 0, 0, 0, {0}};
+    xcp_answer answer = XCP_ANSWER_INIT;
     static const uint8_t signals[24] = {1, 2, 3};
     tell_time();
     want(xcp_event(&slave, 1, signals, sizeof signals, &answer), "an event is taken");

@@ -14,6 +14,8 @@ void __wrap_free(void *place);
 }
 #endif
 
+static uint8_t stored[XCP_STORED_BYTES];
+static size_t stored_length;
 static bool counting;
 static long asked, refused_one, blocks;
 
@@ -44,7 +46,7 @@ static bool opens_without(long nth, long *told, long *done_without) {
     xcp_reader reader = XCP_CLOSED;
     xcp_framer framer = XCP_CLOSED;
     asked = 0, refused_one = nth, blocks = 0, counting = true;
-    uint8_t first = xcp_open(layout, layout_length, &slave);
+    uint8_t first = stored_length ? xcp_open_stored(layout, layout_length, stored, stored_length, &slave) : xcp_open(layout, layout_length, &slave);
     uint8_t second = first ? first : xcp_reader_open(&slave, &reader);
     uint8_t third = first ? first : xcp_framer_open(xcp_max_cto(&slave), &framer);
     want(!slave.at == !!first && !reader.at == !!second && !framer.at == !!third, "a handle owns what was opened");
@@ -68,7 +70,7 @@ static long all_calls(long rounds) {
     xcp_slave slave = XCP_CLOSED;
     xcp_reader reader = XCP_CLOSED;
     xcp_framer framer = XCP_CLOSED;
-    xcp_answer answer = {0, 0, 0, 0, {0}};
+    xcp_answer answer = XCP_ANSWER_INIT;
     xcp_one_packet one = {0, {0}};
     xcp_one_frame frame = {0, {0}};
     xcp_fed fed = {0, 0, 0, 0, {0}};
@@ -87,6 +89,7 @@ static long all_calls(long rounds) {
         }
         xcp_time(&slave, (uint64_t)i, &answer), xcp_event(&slave, 0, image, 24, &answer);
         xcp_drain(&slave, &answer), xcp_finish_store(&slave, &answer);
+        want(!xcp_stored_pages(&slave, stored, sizeof stored, &stored_length), "a file of stored pages");
         xcp_acquire(&reader), xcp_read(&reader, 0, image, sizeof image), xcp_number(&reader, &number);
         xcp_pending(&slave), xcp_held(&slave), xcp_hangup(&slave, &answer);
     }
@@ -102,5 +105,8 @@ int main(int argc, char **argv) {
     fprintf(stderr, "%ld allocations, %ld refusals told, %ld done without\n", nth - 1, told, done_without);
     printf("each refused allocation is told or done without, and nothing is lost\n");
     printf("allocations of all other calls: %ld\n", all_calls(500));
+    told = 0, done_without = 0, nth = 1;
+    while (opens_without(nth, &told, &done_without)) nth++;
+    printf("and so of openings with stored pages\n");
     return 0;
 }

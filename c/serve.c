@@ -15,7 +15,7 @@ static int ended;
 static size_t signal_bytes = 24;
 
 static void *task(void *unused) {
-    xcp_answer answer = {0, 0, 0, 0, {0}};
+    xcp_answer answer = XCP_ANSWER_INIT;
     uint8_t signals[XCP_SIGNAL_BYTES] = {0};
     struct timespec wait = {0, 10000000};
     for (uint32_t cycle = 0; !SEEN(ended); cycle++) {
@@ -48,7 +48,7 @@ static bool answered(int tool, uint16_t *ctr, const xcp_answer *answer) {
 
 /* Executes each command of what was read. */
 static bool executed(int tool, uint16_t *ctr, xcp_framer *framer, const uint8_t *bytes, size_t length) {
-    xcp_answer answer = {0, 0, 0, 0, {0}};
+    xcp_answer answer = XCP_ANSWER_INIT;
     xcp_fed fed = {0, 0, 0, 0, {0}};
     for (size_t at = 0; at < length; at += fed.used) {
         if (!xcp_feed(framer, bytes + at, length - at, &fed) || fed.got == XCP_BAD_LEN) return false;
@@ -63,7 +63,7 @@ static bool executed(int tool, uint16_t *ctr, xcp_framer *framer, const uint8_t 
 
 /* Sends the packets that wait. */
 static bool drained(int tool, uint16_t *ctr) {
-    xcp_answer answer = {0, 0, 0, 0, {0}};
+    xcp_answer answer = XCP_ANSWER_INIT;
     for (;;) {
         pthread_mutex_lock(&lock);
         xcp_drain(&slave, &answer);
@@ -114,7 +114,7 @@ int main(int argc, char **argv) {
     close(listener);
     TELL(ended, 1);
     pthread_join(thread, NULL);
-    xcp_answer answer = {0, 0, 0, 0, {0}};
+    xcp_answer answer = XCP_ANSWER_INIT;
     xcp_hangup(&slave, &answer);
     xcp_close(&slave);
     printf("the tool is gone\n");

@@ -1,7 +1,7 @@
 /* Bytes of stack that each call takes. */
 #include "common.h"
 
-static xcp_slave slave = XCP_CLOSED;
+static xcp_slave slave = XCP_CLOSED, other = XCP_CLOSED;
 static xcp_reader reader = XCP_CLOSED;
 static xcp_framer framer = XCP_CLOSED;
 static xcp_answer answer;
@@ -9,7 +9,8 @@ static xcp_one_packet one;
 static xcp_one_frame frame;
 static xcp_fed fed;
 static uint64_t number;
-static uint8_t image[XCP_IMAGE_BYTES];
+static uint8_t image[XCP_IMAGE_BYTES], stored[XCP_STORED_BYTES];
+static size_t stored_length;
 static const uint8_t connects[] = {0xFF, 0}, pages[] = {0xEB, 0x83, 0, 1}, put[] = {0xED, 4, 0, 0, 0, 0, 8, 0, 9, 9, 9, 9},
                      mta[] = {0xF6, 0, 0, 0, 0, 0, 8, 0}, block[] = {0xF5, 80}, signals[24] = {0};
 
@@ -26,6 +27,9 @@ CALL(uploads, xcp_command(&slave, block, sizeof block, &answer))
 CALL(packs, xcp_packet(&answer, 1, &one))
 CALL(fires, xcp_event(&slave, 0, signals, sizeof signals, &answer))
 CALL(drains, xcp_drain(&slave, &answer))
+CALL(keeps, xcp_stored_pages(&slave, stored, sizeof stored, &stored_length))
+CALL(opens_stored, xcp_open_stored(layout, layout_length, stored, stored_length, &other))
+CALL(closes_other, xcp_close(&other))
 CALL(acquires, xcp_acquire(&reader))
 CALL(reads, xcp_read(&reader, 0, image, sizeof image))
 CALL(numbers, xcp_number(&reader, &number))
@@ -56,7 +60,8 @@ int main(int argc, char **argv) {
     static const struct { const char *name; void *(*body)(void *); } calls[] = {
         {"xcp_open", opens}, {"xcp_reader_open", reader_opens}, {"xcp_framer_open", framer_opens}, {"CONNECT", connect_it},
         {"SET_CAL_PAGE", switches}, {"SHORT_DOWNLOAD", writes}, {"SET_MTA", sets}, {"UPLOAD, a block", uploads}, {"xcp_packet", packs},
-        {"xcp_event", fires}, {"xcp_drain", drains}, {"xcp_acquire", acquires}, {"xcp_read, an image", reads}, {"xcp_number", numbers},
+        {"xcp_event", fires}, {"xcp_drain", drains}, {"xcp_stored_pages", keeps}, {"xcp_open_stored", opens_stored}, {"xcp_close", closes_other},
+        {"xcp_acquire", acquires}, {"xcp_read, an image", reads}, {"xcp_number", numbers},
         {"xcp_frame", frames}, {"xcp_feed", feeds}, {"xcp_reader_close", reader_closes}, {"xcp_close", closes}};
     used(nothing);
     long base = used(nothing);

@@ -38,7 +38,7 @@ int main(int argc, char **argv) {
     pthread_t threads[XCP_READERS];
     for (int i = 0; i < XCP_READERS; i++) want(xcp_reader_open(&slave, readers + i) == 0, "a reader");
     for (int i = 0; i < XCP_READERS; i++) start(threads + i, task, readers + i);
-    xcp_answer answer = {0, 0, 0, 0, {0}};
+    xcp_answer answer = XCP_ANSWER_INIT;
     static const uint8_t connects[] = {0xFF, 0}, both_pages[] = {0xEB, 0x83, 0, 1};
     xcp_command(&slave, connects, sizeof connects, &answer);
     xcp_command(&slave, both_pages, sizeof both_pages, &answer);

@@ -60,6 +60,11 @@ int main(int argc, char **argv) {
     want(answer.told == XCP_PACKETS, "a packet was drained");
     TIME("xcp_drain of nothing", 4000, xcp_drain(&slave, &answer));
     TIME("xcp_pending", 4000, xcp_pending(&slave));
+    static uint8_t stored[XCP_STORED_BYTES];
+    size_t used = 0;
+    TIME("xcp_stored_pages", 500, xcp_stored_pages(&slave, stored, sizeof stored, &used));
+    xcp_slave other = XCP_CLOSED;
+    TIME("xcp_open_stored and xcp_close", 20, xcp_open_stored(layout, layout_length, stored, used, &other); xcp_close(&other));
     xcp_acquire(&reader);
     uint64_t number;
     TIME("xcp_acquire, the same image", 20000, xcp_acquire(&reader));

@@ -22,7 +22,7 @@ int main(int argc, char **argv) {
         fprintf(stderr, "the slave isn't opened: fault %d\n", fault);
         return 1;
     }
-    xcp_answer answer = {0, 0, 0, 0, {0}};
+    xcp_answer answer = XCP_ANSWER_INIT;
     xcp_one_packet packet = {0, {0}};
     bool done = xcp_command(&slave, connect, sizeof connect, &answer);
     for (uint8_t i = 0; done && xcp_packet(&answer, i, &packet); i++) {

@@ -1,8 +1,10 @@
 """A tool that works alone on pages and lists, and a model of what it must be answered."""
+import hashlib
 import struct
+import threading
 import time
 import tomllib
-from collections import deque
+from collections import Counter, deque
 from random import Random
 
 from tool import Tool
@@ -13,6 +15,16 @@ REJOIN, SET_UP = 20, 5  # seconds from one connection to the next, from one sett
 DONE, NOT_IN_ONE_AREA, PROTECTED = b"\xff", b"\xfe\x24", b"\xfe\x23"
 # Of each checksum its type, and how many bytes are added into how many.
 SUMS = {"ADD_11": (1, 1, 1), "ADD_12": (2, 1, 2), "ADD_14": (3, 1, 4), "ADD_22": (4, 2, 2), "ADD_24": (5, 2, 4), "ADD_44": (6, 4, 4)}
+
+
+def within(counts, part):
+    """The milliseconds within which this part of so many things was over."""
+    left = part * sum(counts.values())
+    for milliseconds in sorted(counts):
+        left -= counts[milliseconds]
+        if left <= 0:
+            return milliseconds + 1
+    return 0
 
 
 class Segment:
@@ -33,6 +45,7 @@ class Layout:
     """What the layout file says. It has to be of an Intel slave."""
 
     def __init__(self, path):
+        self.path = path
         with open(path, "rb") as file:
             table = tomllib.load(file)
         self.max_cto, self.max_dto, self.id = table["max_cto"], table["max_dto"], table["id"].encode()
@@ -63,6 +76,9 @@ class Calibrator:
         self.sampled = self.segments[-1]  # its first two bytes, on the controller's page, are in each data packet
         self.contents = deque(maxlen=500)  # what these were
         self.running, self.tool = False, None
+        self.delays = Counter()  # how many round trips took so many milliseconds
+        self.early = 0  # stores that were told before the file of stored pages had them
+        self.wanted, self.taken = threading.Event(), threading.Event()  # that it connects once more, and that it did
         self.stamps, self.clocks, self.last_stamp, self.last_clock = 0, 0, None, None
         self.since = time.monotonic()  # when the lists were set up before the last time
         # How often each step is taken, and whether it uses the MTA.
@@ -87,6 +103,8 @@ class Calibrator:
         weights = [it[0] for it in self.steps]
         set_up = joined = time.monotonic()
         while not self.soak.over.is_set():
+            if self.wanted.is_set():
+                self.connect_again()
             _, needs_mta, step = self.random.choices(self.steps, weights)[0]
             if not needs_mta:
                 step()
@@ -96,15 +114,47 @@ class Calibrator:
                 finally:
                     self.soak.mta.release()
             now = time.monotonic()
-            if now > joined + REJOIN:
-                self.tool.leave()
-                self.soak.expect_end(self.tool, {"none"})
-                self.join()
+            if now > joined + REJOIN and self.soak.session.acquire(blocking=False):
+                try:
+                    self.tool.leave()
+                    self.soak.expect_end(self.tool, {"none"})
+                    self.join()
+                finally:
+                    self.soak.session.release()
                 joined = set_up = now
             elif now > set_up + SET_UP:
                 self.set_lists_up()
                 set_up = now
             time.sleep(STEP_PAUSE)
+
+    def take_session(self):
+        """Has it connect once more, and waits until it has. Others call this."""
+        self.taken.clear()
+        self.wanted.set()
+        while not self.taken.wait(0.5) and not self.soak.over.is_set():
+            pass
+
+    def connect_again(self):
+        """A CONNECT takes the session, and clears the MTA."""
+        with self.soak.mta:
+            self.tool.expect(b"\xff\x00", self.layout.connected)
+        self.wanted.clear()
+        self.taken.set()
+
+    def note_trip(self, seconds):
+        self.trips += 1
+        self.delays[int(1000 * seconds)] += 1
+
+    def delay(self, part):
+        return within(self.delays, part)
+
+    def stored_pages(self):
+        """The bytes of the file that has the reference pages."""
+        with open(self.layout.path, "rb") as file:
+            content = b"XCPF\x01\x00" + hashlib.sha256(file.read()).digest()
+        for segment in self.segments:
+            content += struct.pack("<I", segment.size) + segment.pages[0]
+        return content + hashlib.sha256(content).digest()
 
     def some_range(self, most):
         """A segment, where in it a range begins, and its bytes: at most so many."""
@@ -219,6 +269,8 @@ class Calibrator:
         while (self.tool.ask_for(b"\xfd") or b"\0\1")[1] & 1:
             if time.monotonic() > until:
                 raise Fault("no task finishes a store")
+            time.sleep(0.001)
+        self.early += self.soak.stored() not in (None, self.stored_pages())
         self.tool.expect(bytes([0xE5, 0, number]), bytes([0xFF, 0, segment.frozen]))
 
     # Steps that use the MTA

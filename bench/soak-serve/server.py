@@ -1,15 +1,17 @@
 """The server that is tried: its process, what it prints, and what /proc says of it."""
 import os
-import queue
 import re
 import subprocess
 import threading
 import time
 from collections import namedtuple
+from queue import Empty, Queue
 
 from xcp_client import Fault
 
 SEATS, TASKS, PERIOD, PATIENCE = 3, 6, 1, 2
+MOST_SEATS, LONG_QUEUE = 4, 64  # with ghosts or a scanner; with a scanner
+IDLE = 30  # seconds after which a silent connection is closed, beside ghosts: a visitor may have to wait for almost as long
 Usage = namedtuple("Usage", "seconds highest resident processor threads descriptors")
 
 
@@ -17,10 +19,13 @@ class Log:
     """What the server says on standard error: which tool has which seat, and how each connection ended."""
 
     LOST = re.compile(r"xcpd: lost \d+")
+    SILENT = re.compile(r"xcpd: tool \d: (127\.0\.0\.1:\d+) sent nothing for \d+ s")
+    TURNED_AWAY = re.compile(r"xcpd: (127\.0\.0\.1:\d+) was turned away: no seat is free")
     LINE = re.compile(r"xcpd: tool (\d): (127\.0\.0\.1:\d+) (?:(connected)|disconnected(?:: (.+))?)")
 
-    def __init__(self, stream):
-        self.present, self.ended, self.strange = {}, {}, []
+    def __init__(self, stream, seats):
+        self.present, self.ended, self.strange, self.silent = {}, {}, [], set()
+        self.seats = seats
         self.news = threading.Condition()
         threading.Thread(target=self.read, args=[stream], daemon=True).start()
 
@@ -33,10 +38,14 @@ class Log:
     def take(self, line):
         found = self.LINE.fullmatch(line)
         seat, address, came, end = found.groups() if found else (None,) * 4
-        if came and seat not in self.present and int(seat) < SEATS:
+        if came and seat not in self.present and int(seat) < self.seats:
             self.present[seat] = address
         elif found and not came and self.present.pop(seat, None) == address:
             self.ended[address] = end or "none"
+        elif silent := self.SILENT.fullmatch(line):
+            self.silent.add(silent[1])
+        elif turned := self.TURNED_AWAY.fullmatch(line):
+            self.ended[turned[1]] = "turned away"
         elif not self.LOST.fullmatch(line):
             self.strange.append(line)
 
@@ -55,14 +64,14 @@ class Log:
 class Server:
     """The program, with its standard streams."""
 
-    def __init__(self, program, layout, port):
-        words = ["--stay", "--port", port, "--tools", SEATS, "--queue", SEATS, "--tasks", TASKS, "--period", PERIOD, "--patience", PATIENCE]
-        words = [program, "serve", "--config", layout, *map(str, words)]
+    def __init__(self, program, layout, port, *more, seats=SEATS, queue=SEATS, environment=None):
+        words = ["--stay", "--port", port, "--tools", seats, "--queue", queue, "--tasks", TASKS, "--period", PERIOD, "--patience", PATIENCE]
+        words = [program, "serve", "--config", layout, *map(str, [*words, *more])]
         pipe = subprocess.PIPE
-        environment = {"MALLOC_ARENA_MAX": "1", **os.environ}  # as in the unit of SERVICE
+        environment = {"MALLOC_ARENA_MAX": "1", **os.environ, **(environment or {})}  # as in the unit of SERVICE
         self.process = subprocess.Popen(words, stdin=pipe, stdout=pipe, stderr=pipe, text=True, bufsize=1, env=environment)
         self.began = time.monotonic()
-        self.port, self.log, self.lines = port, Log(self.process.stderr), queue.Queue()
+        self.port, self.seats, self.log, self.lines = port, seats, Log(self.process.stderr, seats), Queue()
         threading.Thread(target=self.read, daemon=True).start()
         first = self.line(10)
         if first != f"listening {port}":
@@ -77,7 +86,7 @@ class Server:
         """The next line of standard output, or None if there is none."""
         try:
             return self.lines.get(timeout=seconds)
-        except queue.Empty:
+        except Empty:
             return None
 
     def usage(self):
@@ -94,16 +103,16 @@ class Server:
         return Usage(seconds, *kilobytes, processor, int(status["Threads"]), len(os.listdir(f"{at}/fd")))
 
     def stop(self):
-        """Stops it in order, and gives the numbers of chapters and of calls."""
+        """Stops it in order, and gives the numbers of chapters and of calls, and of those that were recorded, None without a journal."""
         self.process.stdin.write("stop\n")
         lines = []
         while (line := self.line(30)) is not None:
             lines.append(line)
         status = self.process.wait(30)
-        told = re.fullmatch(r"chapters (\d+)\ncalls (\d+)(?:\nlost \d+)?(?:\nlate \d+)?\nsettled", "\n".join(lines))
+        told = re.fullmatch(r"chapters (\d+)\ncalls (\d+)(?:\nlost \d+)?(?:\nlate \d+)?\nsettled(?:\nrecorded (\d+))?", "\n".join(lines))
         if not told or status != 0 or self.log.strange:
             raise Fault(f"after `stop` it prints {lines} and says {self.log.strange}, status {status}")
-        return int(told[1]), int(told[2])
+        return int(told[1]), int(told[2]), told[3] and int(told[3])
 
     def kill(self):
         self.process.kill()

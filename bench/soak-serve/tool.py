@@ -7,7 +7,7 @@ from xcp_client import Client, Fault
 
 
 class Tool(Client):
-    """A tool's connection. Its owner counts what it gets."""
+    """A tool's connection. Its owner counts what it gets, and its round trips."""
 
     PATIENCE = 30.0
 
@@ -28,13 +28,14 @@ class Tool(Client):
 
     def expect(self, packet, *wanted):
         """Sends a command packet, and wants these answers."""
+        began = time.monotonic()
         self.send(packet)
         for answer in wanted:
             found = self.answer()
             if found != answer:
                 said = found.hex(" ") if found else "nothing"
                 raise Fault(f"{packet.hex(' ')} is answered {said}, and not {answer.hex(' ')}")
-        self.owner.trips += 1
+        self.owner.note_trip(time.monotonic() - began)
 
     def look(self):
         """Looks at what came beside the answers."""

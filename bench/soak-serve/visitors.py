@@ -28,6 +28,9 @@ class Visitor:
             turn += 1
             self.soak.over.wait(VISIT_PAUSE)
 
+    def note_trip(self, _):
+        self.trips += 1
+
     def check_data(self, packet, tool):
         self.soak.check_shape(packet, tool.began - 1)
 
@@ -60,7 +63,7 @@ class Visitor:
         self.visits[way.name] += 1
 
     def crowd(self, way):
-        """More tools than there are seats: each is answered in its turn. While they may have all seats, nobody else waits for a seat with
+        """More tools than there are seats for them: each is answered in its turn. While they may have all seats, nobody else waits for a seat with
         the MTA in hand, which they need to go on."""
         if not self.soak.crowding.acquire(blocking=False):
             return

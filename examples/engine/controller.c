@@ -25,14 +25,14 @@ void controller_close(controller *it) {
 }
 
 void controller_time(controller *it) {
-    xcp_answer answer = {0, 0, 0, 0, {0}};
+    xcp_answer answer = XCP_ANSWER_INIT;
     struct timespec time;
     clock_gettime(CLOCK_MONOTONIC, &time);
     xcp_time(&it->slave, (uint64_t)time.tv_sec * 1000000u + (uint64_t)time.tv_nsec / 1000u, &answer);
 }
 
 void controller_event(controller *it, uint16_t channel) {
-    xcp_answer answer = {0, 0, 0, 0, {0}};
+    xcp_answer answer = XCP_ANSWER_INIT;
     uint8_t bytes[SIGNAL_BYTES];
     signals_into(&it->measured, bytes);
     controller_time(it); /* the time stamp of the event's packets */
@@ -41,7 +41,7 @@ void controller_event(controller *it, uint16_t channel) {
 }
 
 void controller_store(controller *it) {
-    xcp_answer answer = {0, 0, 0, 0, {0}};
+    xcp_answer answer = XCP_ANSWER_INIT;
     xcp_finish_store(&it->slave, &answer);
     if (answer.told == XCP_STORED) it->stores++;
 }

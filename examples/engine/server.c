@@ -56,7 +56,7 @@ static bool sent(connection *it, const xcp_answer *answer) {
 /* Executes each command of a piece of the stream, and sends what answers it. */
 static bool executed(connection *it, const uint8_t *bytes, size_t length) {
     xcp_fed fed = {0, 0, 0, 0, {0}};
-    xcp_answer answer = {0, 0, 0, 0, {0}};
+    xcp_answer answer = XCP_ANSWER_INIT;
     for (size_t at = 0; at < length; at += fed.used) {
         if (!xcp_feed(&it->framer, bytes + at, length - at, &fed) || fed.got == XCP_BAD_LEN) return false;
         if (fed.got != XCP_ONE) continue;
@@ -71,7 +71,7 @@ static bool executed(connection *it, const uint8_t *bytes, size_t length) {
 
 /* Sends the packets that wait in the slave. The lock is held for each of them alone, and never while one is sent. */
 static bool drained(connection *it) {
-    xcp_answer answer = {0, 0, 0, 0, {0}};
+    xcp_answer answer = XCP_ANSWER_INIT;
     for (;;) {
         pthread_mutex_lock(&it->shared->lock);
         xcp_drain(&it->shared->slave, &answer);
@@ -96,7 +96,7 @@ static void serve(connection *it) {
 /* Serves a tool that has connected, and ends its session. */
 static void welcome(controller *shared, int socket) {
     connection it = {shared, socket, 0, XCP_CLOSED};
-    xcp_answer answer = {0, 0, 0, 0, {0}};
+    xcp_answer answer = XCP_ANSWER_INIT;
     int yes = 1;
     setsockopt(socket, IPPROTO_TCP, TCP_NODELAY, &yes, sizeof yes);
     pthread_mutex_lock(&shared->lock);

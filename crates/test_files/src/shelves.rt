@@ -77,16 +77,19 @@ fn give_both(alloc: Global, keeping: &mut Flashing<Memory>, chapters: u8) -> Res
     give_stored(alloc, keeping, chapters)
 }
 
-/// How often the shelf was asked, whether a write failed, and whether the stored pages stand on it.
-type Came = (u8, bool, bool);
+/// How often the shelf was asked, whether a write failed, whether the stored pages stand on it, and whether the scribe says that all that
+/// was to be stored does.
+type Came = (u8, bool, bool, bool);
 
 fn came(keeping: Flashing<Memory>) -> Came {
     let failed = keeping.has_failed();
+    let is_shelved = keeping.is_shelved();
     let shelf = keeping.into_shelf();
     (
         shelf.asked,
         failed,
         shelf.file.as_slice() == STORED.as_slice(),
+        is_shelved,
     )
 }
 
@@ -101,15 +104,15 @@ fn after(alloc: Global, failures: u8, chapters: u8) -> Result<Came, Fail> {
 type Row = (u8, u8, Came);
 
 static PUT: [Row; 3] = [
-    (0, 0, (0, false, false)),
-    (0, 1, (1, false, true)),
-    (0, 3, (1, false, true)),
+    (0, 0, (0, false, false, true)),
+    (0, 1, (1, false, true, true)),
+    (0, 3, (1, false, true, true)),
 ];
 
 static TRIED_AGAIN: [Row; 3] = [
-    (1, 1, (1, true, false)),
-    (1, 2, (2, true, true)),
-    (2, 2, (2, true, false)),
+    (1, 1, (1, true, false, false)),
+    (1, 2, (2, true, true, true)),
+    (2, 2, (2, true, false, false)),
 ];
 
 /// Fails with the first of these rows, counted from 0, of which another thing comes.
@@ -149,7 +152,7 @@ fn two(alloc: Global) -> Result<Two, Fail> {
 
 fn have_it(both: Two) -> bool {
     let Both { first, second } = both;
-    let (_, _, first_has) = came(first);
+    let (_, _, first_has, _) = came(first);
     match second {
         Some(second) => came(second).2 && first_has,
         None => false,

@@ -29,11 +29,21 @@ fn ask(slave: &mut Slave, bytes: &[u8]) -> Answer {
     slave.submit(&Request::Command(packet(bytes)))
 }
 
-/// Whether a page is stored behind those commands.
-fn stores(slave: &mut Slave) -> bool {
+/// Those commands.
+fn ask_for_it(slave: &mut Slave) {
     for command in STORE {
         let _ = ask(slave, command);
     }
+}
+
+/// Whether a page is stored behind those commands.
+fn stores(slave: &mut Slave) -> bool {
+    ask_for_it(slave);
+    finishes(slave)
+}
+
+/// Whether a page is stored.
+fn finishes(slave: &mut Slave) -> bool {
     slave.submit(&Request::FinishStore) == Answer::Stored(1)
 }
 
@@ -69,6 +79,15 @@ fn are_written(alloc: Global, slave: &Slave) -> Result<(), Fail> {
 #[test]
 fn stored_pages_are_written(rt: HostRuntime) -> Result<(), Fail> {
     let slave = stored(rt.alloc())?;
+    are_written(rt.alloc(), &slave)
+}
+
+#[test]
+fn pages_that_are_to_be_stored_are_written(rt: HostRuntime) -> Result<(), Fail> {
+    let mut slave = Slave::new(rt.alloc(), layout(rt.alloc())?)?;
+    ask_for_it(&mut slave);
+    are_written(rt.alloc(), &slave)?;
+    so(finishes(&mut slave), "no page was stored")?;
     are_written(rt.alloc(), &slave)
 }
 

@@ -34,6 +34,8 @@ impl Scribe for Timing {
 
     ghost wrote = { λ s chapters. ⊤ };
 
+    ghost shelved = { λ s chapters. ⊤ };
+
     // What stands before a chapter's first call isn't seen.
     fn write(&mut self, mut calls: Entries<'_>, _last: &Slave) {
         let mut is_told = true;
@@ -46,6 +48,10 @@ impl Scribe for Timing {
                 .0
                 .count(entry.caller(), &entry.exchange().request, is_told);
         }
+    }
+
+    fn is_shelved(&self) -> bool {
+        true
     }
 }
 

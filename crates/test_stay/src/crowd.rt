@@ -35,6 +35,8 @@ impl Scribe for Sorting {
 
     ghost wrote = { λ s chapters. ⊤ };
 
+    ghost shelved = { λ s chapters. ⊤ };
+
     fn write(&mut self, mut calls: Entries<'_>, _last: &Slave) {
         self.0.chapters = self.0.chapters.saturating_add(1);
         // A chapter has no more calls.
@@ -44,6 +46,10 @@ impl Scribe for Sorting {
             };
             self.0.sort(entry.caller(), &entry.exchange().request);
         }
+    }
+
+    fn is_shelved(&self) -> bool {
+        true
     }
 }
 

@@ -1,5 +1,5 @@
 //! Tests of a server that stays, by public calls alone: tools over TCP that come and go, and whose the session is; chapters that are cut, settled
-//! and dropped meanwhile, times that are told, and the line that ends it.
+//! and dropped meanwhile, stores that wait for their shelf, times that are told, and the line that ends it.
 #![tactic(auto)]
 
 #[cfg(test)]
@@ -18,6 +18,8 @@ mod posting;
 mod sessions;
 #[cfg(test)]
 mod silent;
+#[cfg(test)]
+mod storing;
 #[cfg(test)]
 mod turns;
 #[cfg(test)]

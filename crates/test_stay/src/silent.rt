@@ -38,6 +38,6 @@ pub fn plan_of(tools: u8, tasks: u8, patience: u64) -> Plan
         },
         queue: 0,
         cut_every: None,
-        each_store: true,
+        keeps_pages: true,
     }
 }

@@ -4,3 +4,5 @@ pub mod ReaderAsBox
 pub mod FramerAsBox
 pub mod Crossing
 pub mod Tested
+pub mod OpenSlaveLemmas
+pub mod OpeningLemmas

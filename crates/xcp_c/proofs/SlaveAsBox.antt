@@ -6,8 +6,8 @@ use Rattle.std.proofs.BoxSteps.Form.{Bx}
 use Rattle.std.specs.contracts.alloc.Global as Heap
 use Rattle.std.specs.contracts.impls.GlobalAllocator.TheImpl.{ghosts, dict}
 use Rattle.std.proofs.alloc.Global.TheLaws as heap
-use Rattle.xcp_controller.specs.contracts.controller.Controller as Thing
-use Rattle.xcp_controller.proofs.controller.Controller.TheLaws as thing
+use Rattle.xcp_c.specs.contracts.open_slave.OpenSlave as Thing
+use Rattle.xcp_c.proofs.open_slave.OpenSlave.TheLaws as thing
 use Rattle.xcp_c.specs.contracts.place.Place as Place
 use Rattle.xcp_c.specs.contracts.slave_handle.SlaveHandle as Handle
 

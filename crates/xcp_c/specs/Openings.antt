@@ -1,62 +1,107 @@
 -- What a C program opens.
 use Rattle.std.specs.Str.{IsUtf8}
-use Rattle.std.specs.Prelude.{◌≡◌, ◌⊎◌, ℕ, List, [], ◌∷◌, ◌++◌, Option, Some, None}
+use Rattle.std.specs.Prelude.{◌≡◌, ◌⊎◌, ◌≤◌, ◌<◌, ℕ, List, [], ◌∷◌, ◌++◌, length, Option, Some, None}
+use Rattle.sha2.specs.Sha256.{sha256}
 use Rattle.xcp_bank.specs.BankId.{image_bytes}
 use Rattle.xcp_bank.specs.BankEnds.{ReaderEnd, new_writer, six_readers}
-use Rattle.xcp_controller.specs.ControllerValue.{ControllerValue, image_of}
+use Rattle.xcp_controller.specs.ControllerValue.{image_of}
 use Rattle.xcp_config.specs.ConfigText.{HasFault, HasLayout, IsNoDocument}
 use Rattle.xcp_config.specs.FaultNumbers.{number_of}
 use Rattle.xcp_config.specs.declared.config_error.ConfigError.{ConfigError}
+use Rattle.xcp_flash.specs.FlashFile.{file_of}
+use Rattle.xcp_flash.specs.References.{AreReferences, with_references}
+use Rattle.xcp_flash.specs.Restoring.{IsFault, IsRestored}
+use Rattle.xcp_flash.specs.declared.fault.FlashError.{FlashError}
 use Rattle.xcp_memory.specs.Layout.{LayoutValue}
 use Rattle.xcp_slave.specs.SlaveValue.{opening}
 use Rattle.xcp_c.specs.Held.{IsOpen}
+use Rattle.xcp_c.specs.OpenValue.{OpenValue}
+use Rattle.xcp_c.specs.StoredPages.{number_of_stored}
 
--- What an opening gives: a slave with this layout at its opening, whose image of 2,040 bytes is published, and six readers to be
--- taken, which hold nothing.
-pub record IsOpening (l : LayoutValue) (slave : Option ControllerValue) : Type 0 where
-  pub value : ControllerValue
+-- What an opening by this text gives: a slave with this layout at its opening, whose image of 2,040 bytes is published, and six
+-- readers to be taken, which hold nothing.
+pub record IsOpening (text : List ℕ) (l : LayoutValue) (slave : Option OpenValue) : Type 0 where
+  pub value : OpenValue
   pub is : slave ≡ Some value
-  pub opened : value.slave ≡ opening l
-  pub size : image_bytes value.writer.bank ≡ 2040
-  pub writer : value.writer ≡ new_writer value.writer.bank (image_of (opening l))
-  pub six : value.spare ≡ six_readers value.writer.bank (image_of (opening l))
+  pub opened : value.controller.slave ≡ opening l
+  pub size : image_bytes value.controller.writer.bank ≡ 2040
+  pub writer : value.controller.writer ≡ new_writer value.controller.writer.bank (image_of (opening l))
+  pub six : value.controller.spare ≡ six_readers value.controller.writer.bank (image_of (opening l))
+  pub digest : value.digest ≡ sha256 text
 
--- the number of a fault of this text: 1 where it is no document, 7 where an allocation failed, 8 where it isn't UTF-8
+-- UTF-8 of at most 65,536 bytes
+abbrev pub IsText : List ℕ → Type 0
+IsText text = (length text ≤ 65536) × IsUtf8 text
+
+-- The number of a fault of this text: 16 where it has more than 65,536 bytes, 8 where it isn't UTF-8, and then 1 where it is no
+-- document, and that of the fault that it has; or 7 where an allocation failed.
 abbrev pub IsFaultOf : List ℕ → ℕ → Type 0
 IsFaultOf text n =
-    ((n ≡ 1) × IsNoDocument text)
-    ⊎ (n ≡ 7)
-    ⊎ ((n ≡ 8) × ¬ IsUtf8 text)
+    ((65536 < length text) × (n ≡ 16))
+    ⊎ ((length text ≤ 65536) × (¬ IsUtf8 text) × (n ≡ 8))
+    ⊎ (IsText text × (
+    (IsNoDocument text × (n ≡ 1))
     ⊎ ((e : ConfigError) × HasFault text e × (n ≡ number_of e))
+    ⊎ (n ≡ 7)))
 
 -- the text describes a layout, and the slave is that of its opening
-abbrev pub IsOpened : List ℕ → Option ControllerValue → Type 0
-IsOpened text slave = (l : LayoutValue) × HasLayout text l × IsOpening l slave
+abbrev pub IsOpened : List ℕ → Option OpenValue → Type 0
+IsOpened text slave = (l : LayoutValue) × IsText text × HasLayout text l × IsOpening text l slave
 
--- Opening by this text: the handle owned nothing, the text describes a layout, and the slave is that of its opening; or this is
--- the number of the text's fault, or 10 where the handle owned a slave, and the handle is as it was.
-abbrev pub OpensBy : List ℕ → ℕ → Option ControllerValue → Option ControllerValue → Type 0
+-- Opening by this text: the handle owned a slave, 10, and is as it was; or it owned nothing, the text describes a layout, and the
+-- slave is that of its opening; or this is the number of the text's fault, and it still owns nothing.
+abbrev pub OpensBy : List ℕ → ℕ → Option OpenValue → Option OpenValue → Type 0
 OpensBy text n old new =
-    ((n ≡ 0) × (old ≡ None) × IsOpened text new)
-    ⊎ ((IsFaultOf text n ⊎ ((n ≡ 10) × IsOpen old)) × (new ≡ old))
+    (IsOpen old × (n ≡ 10) × (new ≡ old))
+    ⊎ ((old ≡ None) × (((n ≡ 0) × IsOpened text new) ⊎ (IsFaultOf text n × (new ≡ None))))
+
+-- Where a text describes a layout, a slave of it is opened, or there is no memory: no other fault is told.
+abbrev pub TellsText : List ℕ → ℕ → Option OpenValue → Type 0
+TellsText text n new = (l : LayoutValue) → IsText text → HasLayout text l → (n ≡ 7) ⊎ ((n ≡ 0) × IsOpening text l new)
+
+-- the text describes a layout, of which this file is: the slave is that of its opening with the file's pages as reference pages
+abbrev pub IsOpenedWith : List ℕ → List ℕ → Option OpenValue → Type 0
+IsOpenedWith text file slave =
+    (l with_pages : LayoutValue) × IsText text × HasLayout text l × IsRestored l (sha256 text) file with_pages × IsOpening text with_pages slave
+
+-- the text describes a layout, and this is the number of the file's fault beside it
+abbrev pub IsFaultOfFile : List ℕ → List ℕ → ℕ → Type 0
+IsFaultOfFile text file n =
+    (l : LayoutValue) × IsText text × HasLayout text l × (e : FlashError) × IsFault l (sha256 text) file e × (n ≡ number_of_stored e)
+
+-- The same by this text and this file of stored pages, whose faults come behind the text's.
+abbrev pub OpensStored : List ℕ → List ℕ → ℕ → Option OpenValue → Option OpenValue → Type 0
+OpensStored text file n old new =
+    (IsOpen old × (n ≡ 10) × (new ≡ old))
+    ⊎ ((old ≡ None) × (
+    ((n ≡ 0) × IsOpenedWith text file new)
+    ⊎ ((IsFaultOf text n ⊎ IsFaultOfFile text file n) × (new ≡ None))))
+
+-- Where a text describes a layout: by the file of pages of its sizes a slave is opened with these, and a fault of the file is
+-- the one that is told; or there is no memory.
+abbrev pub TellsFile : List ℕ → List ℕ → ℕ → Option OpenValue → Type 0
+TellsFile text file n new =
+    (l : LayoutValue) → IsText text → HasLayout text l
+    → ((pages : List (List ℕ)) → AreReferences pages l → file ≡ file_of (sha256 text) pages → (n ≡ 7) ⊎ ((n ≡ 0) × IsOpening text (with_references pages l) new))
+    × ((e : FlashError) → IsFault l (sha256 text) file e → (n ≡ 7) ⊎ (n ≡ number_of_stored e))
 
 -- This reader of images of 2,040 bytes, which nobody had taken, is taken, and the slave is as it was.
-pub record Takes (old new : Option ControllerValue) (taken : ReaderEnd) : Type 0 where
-  pub before : ControllerValue
-  pub after : ControllerValue
+pub record Takes (old new : Option OpenValue) (taken : ReaderEnd) : Type 0 where
+  pub before : OpenValue
+  pub after : OpenValue
   pub was : old ≡ Some before
   pub is : new ≡ Some after
-  pub from : before.spare ≡ after.spare ++ taken ∷ []
+  pub from : before.controller.spare ≡ after.controller.spare ++ taken ∷ []
   pub size : image_bytes taken.bank ≡ 2040
-  pub same : (after.slave ≡ before.slave) × (after.writer ≡ before.writer)
+  pub same : (after.controller.slave ≡ before.controller.slave) × (after.controller.writer ≡ before.controller.writer) × (after.digest ≡ before.digest)
 
 -- a slave, each of whose readers was taken
-abbrev pub HasNone : Option ControllerValue → Type 0
-HasNone o = (v : ControllerValue) × (o ≡ Some v) × (v.spare ≡ [])
+abbrev pub HasNone : Option OpenValue → Type 0
+HasNone o = (v : OpenValue) × (o ≡ Some v) × (v.controller.spare ≡ [])
 
 -- Opening a reader: one that nobody had taken is taken; or it is refused, and both handles are as they were: 9 where all are
 -- taken, 10 where the reader's handle owned one, 11 where the slave's owned none.
-abbrev pub OpensReader : ℕ → Option ControllerValue → Option ControllerValue → Option ReaderEnd → Option ReaderEnd → Type 0
+abbrev pub OpensReader : ℕ → Option OpenValue → Option OpenValue → Option ReaderEnd → Option ReaderEnd → Type 0
 OpensReader n old new reader opened =
     ((n ≡ 0) × (reader ≡ None) × (r : ReaderEnd) × Takes old new r × (opened ≡ Some r))
     ⊎ ((((n ≡ 9) × HasNone old) ⊎ ((n ≡ 10) × IsOpen reader) ⊎ ((n ≡ 11) × (old ≡ None))) × (new ≡ old) × (opened ≡ reader))

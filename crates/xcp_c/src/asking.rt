@@ -12,15 +12,15 @@ use std::mem;
 #[unsafe(no_mangle)]
 pub extern "C" fn xcp_max_cto(alloc: Global, slave: &mut SlaveHandle) -> u8
     ensures max_cto { MatchOption slave.old.value (result ≡ 0)
-        (λ v. result ≡ (layout_of v.slave).max_cto) }
+        (λ v. result ≡ (layout_of v.controller.slave).max_cto) }
     ensures same { slave.new.value ≡ slave.old.value }
 {
     if !slave.is_open() {
         return 0;
     }
-    let controller = mem::replace(slave, SlaveHandle::closed(alloc)).into_box();
-    let most = controller.max_cto();
-    *slave = SlaveHandle::of(controller);
+    let opened = mem::replace(slave, SlaveHandle::closed(alloc)).into_box();
+    let most = opened.max_cto();
+    *slave = SlaveHandle::of(opened);
     most
 }
 
@@ -28,15 +28,15 @@ pub extern "C" fn xcp_max_cto(alloc: Global, slave: &mut SlaveHandle) -> u8
 #[unsafe(no_mangle)]
 pub extern "C" fn xcp_pending(alloc: Global, slave: &mut SlaveHandle) -> u8
     ensures count { MatchOption slave.old.value (result ≡ 0)
-        (λ v. result ≡ length v.slave.outbox) }
+        (λ v. result ≡ length v.controller.slave.outbox) }
     ensures same { slave.new.value ≡ slave.old.value }
 {
     if !slave.is_open() {
         return 0;
     }
-    let controller = mem::replace(slave, SlaveHandle::closed(alloc)).into_box();
-    let count = controller.pending();
-    *slave = SlaveHandle::of(controller);
+    let opened = mem::replace(slave, SlaveHandle::closed(alloc)).into_box();
+    let count = opened.pending();
+    *slave = SlaveHandle::of(opened);
     count
 }
 
@@ -50,8 +50,8 @@ pub extern "C" fn xcp_held(alloc: Global, slave: &mut SlaveHandle) -> u8
     if !slave.is_open() {
         return 0;
     }
-    let mut controller = mem::replace(slave, SlaveHandle::closed(alloc)).into_box();
-    let count = controller.held();
-    *slave = SlaveHandle::of(controller);
+    let mut opened = mem::replace(slave, SlaveHandle::closed(alloc)).into_box();
+    let count = opened.held();
+    *slave = SlaveHandle::of(opened);
     count
 }

@@ -13,10 +13,12 @@
 mod answer;
 mod asking;
 mod framer_handle;
+mod open_slave;
 mod opening;
 mod place;
 mod reader_handle;
 mod reading;
 mod requests;
 mod slave_handle;
+mod storing;
 mod wire;

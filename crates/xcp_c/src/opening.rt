@@ -1,13 +1,22 @@
 //! What a C program opens and closes.
-ghost use Rattle.std.specs.Prelude.{◌≡◌, IfErr, IfOk, None};
-ghost use Rattle.xcp_c.specs.Openings.{IsFaultOf, IsOpened, OpensBy, OpensReader};
+ghost use Rattle.std.specs.Prelude.{◌≡◌, ◌⊎◌, IfErr, IfOk, MatchResult, None};
+ghost use Rattle.sha2.specs.Sha256.{sha256};
+ghost use Rattle.xcp_config.specs.ConfigText.{HasLayout};
+ghost use Rattle.xcp_c.specs.Openings.{IsFaultOf, IsFaultOfFile, IsOpened, IsOpenedWith, IsOpening, IsText, OpensBy, OpensReader, OpensStored, TellsFile, TellsText};
 
+use crate::open_slave::OpenSlave;
 use crate::reader_handle::ReaderHandle;
 use crate::slave_handle::SlaveHandle;
+use crate::storing::number_of;
+use sha2::{Digest, Sha256};
 use std::alloc::Global;
 use std::{mem, str};
 use xcp_config::read_layout;
-use xcp_controller::Controller;
+use xcp_flash::restore;
+use xcp_memory::Layout;
+
+/// The most bytes that a text may have.
+const TEXT_BYTES: usize = 65_536;
 
 /// The number of a fault where an allocation fails.
 pub(crate) const MEMORY: u8 = 7;
@@ -22,13 +31,17 @@ const NO_READER: u8 = 9;
 pub(crate) const OPEN: u8 = 10;
 
 /// The number that says that the slave's handle owns none.
-const CLOSED: u8 = 11;
+pub(crate) const CLOSED: u8 = 11;
+
+/// The number of a fault where the text has more than 65,536 bytes.
+const LONG_TEXT: u8 = 16;
 
 /// Opens a slave by the text of a layout file: 0, or the number of a fault, or 10 where the handle owns a
 /// slave already. Then it is as it was.
 #[unsafe(no_mangle)]
 pub extern "C" fn xcp_open(alloc: Global, text: &[u8], slave: &mut SlaveHandle) -> u8
-    ensures { OpensBy text.now result slave.old.value slave.new.value }
+    ensures opens { OpensBy text.now result slave.old.value slave.new.value }
+    ensures tells { slave.old.value ≡ None → TellsText text.now result slave.new.value }
 {
     if slave.is_open() {
         return OPEN;
@@ -39,6 +52,31 @@ pub extern "C" fn xcp_open(alloc: Global, text: &[u8], slave: &mut SlaveHandle) 
             0
         }
         Err(fault) => fault,
+    }
+}
+
+/// Opens a slave by the text of a layout file and a file of its stored pages, with which its pages then
+/// begin: 0, or 10 where the handle owns a slave already, or the number of the text's fault, or that of
+/// the file's. Then it is as it was.
+#[unsafe(no_mangle)]
+pub extern "C" fn xcp_open_stored(
+    alloc: Global,
+    text: &[u8],
+    file: &[u8],
+    slave: &mut SlaveHandle,
+) -> u8
+    ensures opens { OpensStored text.now file.now result slave.old.value slave.new.value }
+    ensures tells { slave.old.value ≡ None → TellsFile text.now file.now result slave.new.value }
+{
+    if slave.is_open() {
+        return OPEN;
+    }
+    match open_stored(alloc, text, file) {
+        Ok(opened) => {
+            *slave = opened;
+            0
+        }
+        Err(number) => number,
     }
 }
 
@@ -59,9 +97,9 @@ pub extern "C" fn xcp_reader_open(
     if !slave.is_open() {
         return CLOSED;
     }
-    let mut controller = mem::replace(slave, SlaveHandle::closed(alloc)).into_box();
-    let taken = controller.take_reader();
-    *slave = SlaveHandle::of(controller);
+    let mut opened = mem::replace(slave, SlaveHandle::closed(alloc)).into_box();
+    let taken = opened.take_reader();
+    *slave = SlaveHandle::of(opened);
     match taken {
         Some(taken) => {
             *reader = ReaderHandle::of(taken);
@@ -84,18 +122,55 @@ pub extern "C" fn xcp_close(alloc: Global, slave: &mut SlaveHandle)
 fn open(alloc: Global, text: &[u8]) -> Result<SlaveHandle, u8>
     ensures opened { IfOk result (λ h. IsOpened text.now h.value) }
     ensures fault { IfErr result (λ n. IsFaultOf text.now n) }
+    ensures tells { MatchResult result (λ h. TellsText text.now 0 h.value) (λ n. TellsText text.now n None) }
 {
+    match read(alloc, text) {
+        Ok(layout) => begin(alloc, layout, text),
+        Err(fault) => Err(fault),
+    }
+}
+
+fn open_stored(alloc: Global, text: &[u8], file: &[u8]) -> Result<SlaveHandle, u8>
+    ensures opened { IfOk result (λ h. IsOpenedWith text.now file.now h.value) }
+    ensures fault { IfErr result (λ n. IsFaultOf text.now n ⊎ IsFaultOfFile text.now file.now n) }
+    ensures tells { MatchResult result (λ h. TellsFile text.now file.now 0 h.value) (λ n. TellsFile text.now file.now n None) }
+{
+    let mut layout = match read(alloc, text) {
+        Ok(layout) => layout,
+        Err(fault) => return Err(fault),
+    };
+    if let Err(fault) = restore(&mut layout, &Sha256::digest(text), file) {
+        return Err(number_of(fault));
+    }
+    begin(alloc, layout, text)
+}
+
+/// The layout that a text describes, or the number of the text's fault.
+fn read(alloc: Global, text: &[u8]) -> Result<Layout, u8>
+    ensures layout { IfOk result (λ l. IsText text.now × HasLayout text.now l) }
+    ensures fault { IfErr result (λ n. IsFaultOf text.now n) }
+{
+    if text.len() > TEXT_BYTES {
+        return Err(LONG_TEXT);
+    }
     let Ok(text) = str::from_utf8(text) else {
         return Err(NO_UTF8);
     };
-    let layout = match read_layout(alloc, text) {
-        Ok(layout) => layout,
-        Err(fault) => return Err(fault.number()),
-    };
-    let Ok(controller) = Controller::open(alloc, layout) else {
+    match read_layout(alloc, text) {
+        Ok(layout) => Ok(layout),
+        Err(fault) => Err(fault.number()),
+    }
+}
+
+/// A handle of a slave at the opening of this layout, by this text; or the number of a failed allocation.
+fn begin(alloc: Global, layout: Layout, text: &[u8]) -> Result<SlaveHandle, u8>
+    ensures opened { IfOk result (λ h. IsOpening text.now layout h.value) }
+    ensures fault { IfErr result (λ n. n ≡ 7) }
+{
+    let Ok(opened) = OpenSlave::new(alloc, layout, Sha256::digest(text)) else {
         return Err(MEMORY);
     };
-    match Box::new(alloc, controller) {
+    match Box::new(alloc, opened) {
         Ok(held) => Ok(SlaveHandle::of(held)),
         Err(_) => Err(MEMORY),
     }

@@ -26,10 +26,10 @@ fn submit(alloc: Global, slave: &mut SlaveHandle, asked: Asked<'_>, answer: &mut
     if !slave.is_open() {
         return false;
     }
-    let mut controller = mem::replace(slave, SlaveHandle::closed(alloc)).into_box();
-    let told = controller.answer(asked);
-    answer.tell(told, controller.packet());
-    *slave = SlaveHandle::of(controller);
+    let mut opened = mem::replace(slave, SlaveHandle::closed(alloc)).into_box();
+    let told = opened.answer(asked);
+    answer.tell(told, opened.packet());
+    *slave = SlaveHandle::of(opened);
     true
 }
 

@@ -1,12 +1,12 @@
 //! The handle of a slave.
 ghost use Rattle.std.specs.Prelude.{◌≡◌, MatchBool, Option, Some, None};
-ghost use Rattle.xcp_controller.specs.ControllerValue.{ControllerValue};
 ghost use Rattle.xcp_c.specs.Held.{IsOpen, coded_slave};
+ghost use Rattle.xcp_c.specs.OpenValue.{OpenValue};
 
+use crate::open_slave::OpenSlave;
 use crate::place::Place;
 use std::alloc::Global;
 use std::marker::Model;
-use xcp_controller::Controller;
 
 /// The place of a boxed slave, or null.
 #[repr(C)]
@@ -14,7 +14,7 @@ use xcp_controller::Controller;
 pub struct SlaveHandle {
     at: *mut u8,
     alloc: Global,
-    pub ghost value: { Option ControllerValue } by { coded_slave },
+    pub ghost value: { Option OpenValue } by { coded_slave },
 }
 
 impl Model for SlaveHandle {
@@ -32,14 +32,14 @@ impl SlaveHandle {
     }
 
     /// A handle that owns this.
-    pub(crate) fn of(boxed: Box<Controller>) -> SlaveHandle
+    pub(crate) fn of(boxed: Box<OpenSlave>) -> SlaveHandle
         ensures { result.value ≡ Some boxed.value }
     {
         SlaveHandle::keep(Place::of(boxed))
     }
 
     /// What it owns.
-    pub(crate) fn into_box(self) -> Box<Controller>
+    pub(crate) fn into_box(self) -> Box<OpenSlave>
         requires { IsOpen self.value }
         ensures { self.value ≡ Some result.value }
     {
@@ -55,7 +55,7 @@ impl SlaveHandle {
     }
 
     /// Forgets the type of the place.
-    fn keep(place: Place<Controller, Global>) -> SlaveHandle
+    fn keep(place: Place<OpenSlave, Global>) -> SlaveHandle
         ensures { result.value ≡ place.value }
     {
         let Place { at, alloc } = place;
@@ -66,12 +66,12 @@ impl SlaveHandle {
     }
 
     /// The place with its type.
-    fn give(self) -> Place<Controller, Global>
+    fn give(self) -> Place<OpenSlave, Global>
         ensures { result.value ≡ self.value }
     {
         let SlaveHandle { at, alloc } = self;
         Place {
-            at: at as *mut Controller,
+            at: at as *mut OpenSlave,
             alloc,
         }
     }

@@ -109,6 +109,13 @@ impl Controller {
         &self.lent
     }
 
+    /// The slave, which requests alone change.
+    pub fn slave(&self) -> &Slave
+        ensures { result.now ≡ self.now.slave }
+    {
+        &self.slave
+    }
+
     /// MAX_CTO: the greatest length of a command or of a packet that answers one, 8 to 255 bytes.
     pub fn max_cto(&self) -> u8
         ensures { result ≡ (layout_of self.now.slave).max_cto }

@@ -71,19 +71,19 @@ one_size v i lawful is there =
     let of = is.each i there in
     All-get_or (λ (p : List ℕ). length p ≡ length s.bytes) (segment_at v i).pages 0 [] (omega (arith, paged, of.count)) of.sized
 
-same_sizes : (pages : List SegmentPages) (segments : List SegmentValue) → length pages ≡ length segments
-    → ((i : ℕ) → i < length pages → length (reference_page (get_or pages i no_pages)) ≡ length (get_or segments i no_segment).bytes)
-    → map (λ (p : List ℕ). length p) (map reference_page pages) ≡ map (λ (s : SegmentValue). length s.bytes) segments
-same_sizes [] [] long each = refl
-same_sizes [] (s ∷ segments) long each = absurd (omega arith)
-same_sizes (p ∷ pages) [] long each = absurd (omega arith)
-same_sizes (p ∷ pages) (s ∷ segments) long each =
-    ap (λ (n : ℕ). n ∷ map (λ (q : List ℕ). length q) (map reference_page pages)) (each 0 (omega arith))
-    ∙ ap (λ (ns : List ℕ). length s.bytes ∷ ns) (same_sizes pages segments (omega arith) (λ i k. each (suc i) (omega arith)))
+pub same_sizes : (page_of : SegmentPages → List ℕ) (pages : List SegmentPages) (segments : List SegmentValue) → length pages ≡ length segments
+    → ((i : ℕ) → i < length pages → length (page_of (get_or pages i no_pages)) ≡ length (get_or segments i no_segment).bytes)
+    → map (λ (p : List ℕ). length p) (map page_of pages) ≡ map (λ (s : SegmentValue). length s.bytes) segments
+same_sizes page_of [] [] long each = refl
+same_sizes page_of [] (s ∷ segments) long each = absurd (omega arith)
+same_sizes page_of (p ∷ pages) [] long each = absurd (omega arith)
+same_sizes page_of (p ∷ pages) (s ∷ segments) long each =
+    ap (λ (n : ℕ). n ∷ map (λ (q : List ℕ). length q) (map page_of pages)) (each 0 (omega arith))
+    ∙ ap (λ (ns : List ℕ). length s.bytes ∷ ns) (same_sizes page_of pages segments (omega arith) (λ i k. each (suc i) (omega arith)))
 
 -- so they are reference pages of the layout
 pub sized : (v : SlaveValue) → IsLayout (layout_of v) → IsPages v.transfer.pages → AreReferences (references v) (layout_of v)
-sized v lawful is = same_sizes v.transfer.pages.segments (layout_of v).segments is.count (λ i there. one_size v.transfer.pages i lawful is there)
+sized v lawful is = same_sizes reference_page v.transfer.pages.segments (layout_of v).segments is.count (λ i there. one_size v.transfer.pages i lawful is there)
 
 count_with : (pages : List (List ℕ)) (segments : List SegmentValue) → length pages ≡ length segments → length (with_pages pages segments) ≡ length segments
 count_with [] segments long = refl

@@ -5,3 +5,4 @@ mod LayoutLemmas
 mod TakingLemmas
 mod FittingLemmas
 mod SizeLemmas
+mod KeptLemmas

@@ -1,5 +1,5 @@
 -- How many bytes pages take in a file.
-use Rattle.std.proofs.Common.{◌≡◌, ◌<◌, ◌≤◌, ℕ, zero, suc, ◌+◌, List, [], ◌∷◌, ◌++◌, length, map, take, get_or, sym, ap, subst, arith}
+use Rattle.std.proofs.Common.{◌≡◌, ◌<◌, ◌≤◌, ℕ, zero, suc, ◌+◌, List, [], ◌∷◌, ◌++◌, length, map, take, get_or, sym, subst, arith}
 use Rattle.xcp_flash.specs.FlashFile.{pages_size}
 
 -- the bytes of these pages

@@ -3,10 +3,15 @@ use Rattle.std.specs.Prelude.{◌≡◌, ℕ, suc, List, [], ◌∷◌, length, 
 use Rattle.xcp_memory.specs.Layout.{LayoutValue}
 use Rattle.xcp_memory.specs.ReferencePage.{reference_page, with_reference}
 use Rattle.xcp_slave.specs.SlaveValue.{SlaveValue}
+use Rattle.xcp_slave.specs.StoredPages.{kept_page}
 
 -- the reference pages of a slave, in order
 abbrev pub references : SlaveValue → List (List ℕ)
 references v = map reference_page v.transfer.pages.segments
+
+-- those that it will have once what a tool asked for is stored
+abbrev pub kept_pages : SlaveValue → List (List ℕ)
+kept_pages v = map (kept_page v) v.transfer.pages.segments
 
 -- those of a layout
 abbrev pub laid_out : LayoutValue → List (List ℕ)

@@ -4,7 +4,7 @@ ghost use Rattle.std.specs.List.{flat_map};
 ghost use Rattle.xcp_memory.specs.Pages.{IsPages};
 ghost use Rattle.xcp_slave.specs.SlaveValue.{layout_of};
 ghost use Rattle.xcp_flash.specs.FlashFile.{file_of, file_size, page_in, pages_size};
-ghost use Rattle.xcp_flash.specs.References.{AreReferences, laid_out, references};
+ghost use Rattle.xcp_flash.specs.References.{AreReferences, kept_pages, laid_out};
 
 use crate::fitting::fit_each;
 use crate::head::{MAGIC, digest_of};
@@ -48,11 +48,12 @@ impl References {
         fit_each(&self.pages, layout)
     }
 
-    /// Takes the reference pages of a slave, and answers whether they are others than before. It takes no memory.
+    /// Takes the reference pages that a slave will have once what a tool asked for is stored, and answers whether they are others than
+    /// before. It takes no memory.
     pub fn take(&mut self, slave: &Slave) -> bool
         requires { AreReferences self.old (layout_of slave.now) }
-        ensures new { self.new ≡ references slave.now }
-        ensures changed { MatchBool result (self.old ≢ references slave.now) (self.old ≡ references slave.now) }
+        ensures new { self.new ≡ kept_pages slave.now }
+        ensures changed { MatchBool result (self.old ≢ kept_pages slave.now) (self.old ≡ kept_pages slave.now) }
         ensures kept { AreReferences self.new (layout_of slave.now) }
     {
         slave.audit();
@@ -77,16 +78,16 @@ impl References {
     }
 }
 
-/// Takes the reference page of each segment, and answers whether one is another than before.
+/// Takes the page that is kept of each segment, and answers whether one is another than before.
 fn take_each(pages: &mut [Page], slave: &Slave) -> bool
     requires sized { AreReferences pages.old (layout_of slave.now) }
     requires lawful { IsPages slave.now.transfer.pages }
-    ensures new { pages.new ≡ references slave.now }
-    ensures changed { MatchBool result (pages.old ≢ references slave.now) (pages.old ≡ references slave.now) }
+    ensures new { pages.new ≡ kept_pages slave.now }
+    ensures changed { MatchBool result (pages.old ≢ kept_pages slave.now) (pages.old ≡ kept_pages slave.now) }
 {
     let mut changed = false;
     for segment in 0..pages.len() {
-        if pages[segment].take(slave.reference(segment)) {
+        if pages[segment].take(slave.kept(segment)) {
             changed = true;
         }
     }

@@ -1,10 +1,11 @@
 -- FREEZE modes of segments, and what is stored of the segments that are in it.
 -- (ASAM MCD-1 XCP, protocol layer, description of commands: SET_SEGMENT_MODE, GET_SEGMENT_MODE, SET_REQUEST.)
-use Rattle.std.specs.Prelude.{ℕ, Bool, not, [], ◌∷◌, map, count_by, Option, ◌==◌, bit_and, if◌then◌else◌, slice_set}
+use Rattle.std.specs.Prelude.{ℕ, Bool, not, List, [], ◌∷◌, map, count_by, Option, ◌==◌, bit_and, if◌then◌else◌, slice_set}
 use Rattle.xcp_packet.specs.declared.Code.{Code}
 use Rattle.xcp_packet.specs.declared.Code.TheVariants.{ModeNotValid, SegmentNotValid}
 use Rattle.xcp_memory.specs.PageCopy.{lacks_segment, with_content}
 use Rattle.xcp_memory.specs.Pages.{PagesValue, SegmentPages, segment_at, xcp_page}
+use Rattle.xcp_memory.specs.ReferencePage.{reference_page}
 use Rattle.xcp_packet.specs.Rows.{first_holding}
 
 -- bit 0 of a segment mode: FREEZE
@@ -40,6 +41,10 @@ segment_mode s = if s.freeze then 0x01 else 0x00
 -- that the tool has.
 abbrev pub segment_frozen : SegmentPages → SegmentPages
 segment_frozen s = if s.freeze then with_content s 0 (xcp_page s) else s
+
+-- the reference page that a store leaves of a segment: in FREEZE mode the content of the page that the tool has, and else its own
+abbrev pub stored_page : SegmentPages → List ℕ
+stored_page s = if s.freeze then xcp_page s else reference_page s
 
 -- the pages once all segments in FREEZE mode are stored
 abbrev pub pages_frozen : PagesValue → PagesValue

@@ -23,7 +23,7 @@ staying_of (Stay config host p t k ms s q i c unread journal flash pace) =
       queue = q;
       idle = asked_count (nat_lt 0 i) i;
       cut_every = asked_count (is_some journal) c;
-      each_store = is_some flash;
+      keeps_pages = is_some flash;
       reads_input = not unread;
     })
 staying_of _ = None

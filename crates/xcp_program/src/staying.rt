@@ -23,8 +23,8 @@ pub struct Staying {
     pub idle: Option<u32>,
     /// The seconds from one cut of the journal's open chapter to the next, if there are any: where the journal is written to a file.
     pub cut_every: Option<u32>,
-    /// Whether a store that stores ends its chapter: where a file keeps the stored pages.
-    pub each_store: bool,
+    /// Whether a file keeps the stored pages: a store is finished once it has them.
+    pub keeps_pages: bool,
     /// Whether standard input is read.
     pub reads_input: bool,
 }
@@ -60,7 +60,7 @@ impl Options {
             queue: *queue,
             idle: where_true(*idle > 0, *idle),
             cut_every: where_true(journal.is_some(), *cut_every),
-            each_store: flash.is_some(),
+            keeps_pages: flash.is_some(),
             reads_input: !*no_stdin,
         })
     }

@@ -87,9 +87,11 @@ fn put<F: Shelf>(
 }
 
 impl<F: Shelf> Scribe for Flashing<F> {
-    ghost use Rattle.xcp_scribe.specs.Flashing.{HasKept};
+    ghost use Rattle.xcp_scribe.specs.Flashing.{HasKept, IsShelved};
 
     ghost wrote = { HasKept F.holds };
+
+    ghost shelved = { IsShelved F.holds };
 
     fn write(&mut self, _calls: Entries<'_>, last: &Slave) {
         if !self.pages.fit(last.layout()) {
@@ -104,6 +106,14 @@ impl<F: Shelf> Scribe for Flashing<F> {
         } else {
             self.standing = Standing::Behind;
             self.failed = true;
+        }
+    }
+
+    /// Whether the last write was none that failed.
+    fn is_shelved(&self) -> bool {
+        match self.standing {
+            Standing::Untouched | Standing::Current => true,
+            Standing::Behind => false,
         }
     }
 }

@@ -124,10 +124,18 @@ pub fn end_recording<W: Write>(written: &mut Option<Recording<W>>)
 impl<W: Write + Drop> Scribe for Recording<W> {
     ghost use Rattle.xcp_scribe.specs.Given.{calls_given};
     ghost use Rattle.xcp_scribe.specs.Scribing.{HasWritten};
+    ghost use Rattle.std.specs.Prelude.{⊤};
 
     ghost wrote = { λ r given. HasWritten W.contents r (calls_given given) };
 
+    // It keeps no pages.
+    ghost shelved = { λ _ _. ⊤ };
+
     fn write(&mut self, calls: Entries<'_>, _last: &Slave) {
         self.put(calls);
+    }
+
+    fn is_shelved(&self) -> bool {
+        true
     }
 }

@@ -13,7 +13,7 @@ use xcp_flash::References;
 /// How a file stands beside the reference pages of a slave.
 #[derive(Clone, Copy, Debug, PartialEq, Eq)]
 pub enum Standing {
-    /// They are those with which the slave began: nothing was written.
+    /// No others are kept than those with which the slave began: nothing was written.
     Untouched,
     /// The file has them.
     Current,
@@ -21,7 +21,8 @@ pub enum Standing {
     Behind,
 }
 
-/// Replaces a file of stored pages where a chapter ends with other reference pages than the one before. Where that fails it is tried
+/// Replaces a file of stored pages where other pages are kept of a chapter's end than of the one before: its reference pages, or, while a
+/// store is requested, those that this leaves. Where that fails it is tried
 /// again at the end of the next chapter. All its memory is taken at the beginning.
 #[derive(Drop)]
 pub struct Flashing<F> {

@@ -1,6 +1,6 @@
 -- Digits that are read in pairs.
 use Rattle.std.proofs.Common.{◌≡◌, ◌<◌, ◌≤◌, ℕ, suc, ◌+◌, ◌*◌, ◌/◌, ◌%◌, Bool, true, false, cond, List, [], ◌∷◌, ◌++◌, length, drop, refl, sym, ap, ◌∙◌, arith, Option, Some, None, Result, Ok, Err, append_assoc, drop-cons, ◌⊎◌, inl, inr}
-use Rattle.std.specs.Prelude.{slice_index, unwrap_or, is_some, filter, not, map, ◌==◌, ◌||◌}
+use Rattle.std.specs.Prelude.{slice_index, unwrap_or, is_some, filter, not, map, ◌==◌, ◌||◌, if◌then◌else◌}
 use Rattle.std.specs.List.{list_any, range_with_len}
 use Rattle.std.proofs.lemmas.List.{append-nil, drop_all}
 use Rattle.std.proofs.lemmas.List.FromFn.{get_or-map-range_with_len}
@@ -15,16 +15,36 @@ use Rattle.xcp_script.specs.declared.slot.Parsed.TheVariants as parseds
 use Rattle.xcp_script.specs.private.LineInSlot.{line_in}
 use Rattle.xcp_script.specs.ScriptLine.{bytes_if_ok, command_of, command_with, hex_bytes, is_space}
 
--- the table of all 256 bytes tells of each its value as a hex digit, and 255 where it is none
+-- the table of all 256 bytes tells of each its value as a hex digit, and 256 where it is none
 pub in_table : (digit : ℕ) → digit < 256 → slice_index (map value_or (range_with_len 0 256)) digit ≡ value_or digit
 in_table digit h = get_or-map-range_with_len value_or 0 256 digit digit 0 h (omega arith)
 
--- the tables of the digits of all 256 bytes tell of each its first, and its second
-pub high_in_table : (b : ℕ) → b < 256 → slice_index (map (λ (n : ℕ). slice_index upper_digits (n / 16)) (range_with_len 0 256)) b ≡ slice_index upper_digits (b / 16)
-high_in_table b h = get_or-map-range_with_len (λ (n : ℕ). slice_index upper_digits (n / 16)) 0 256 b b 0 h (omega arith)
+-- no such value is greater
+pub is_bounded : (digit : ℕ) → value_or digit ≤ 256
+is_bounded digit = grind arith
 
-pub low_in_table : (b : ℕ) → b < 256 → slice_index (map (λ (n : ℕ). slice_index upper_digits (n % 16)) (range_with_len 0 256)) b ≡ slice_index upper_digits (b % 16)
-low_in_table b h = get_or-map-range_with_len (λ (n : ℕ). slice_index upper_digits (n % 16)) 0 256 b b 0 h (omega arith)
+-- the digit at an index of the table of the two digits of all bytes
+abbrev digit_at : ℕ → ℕ
+digit_at i = slice_index upper_digits (if i % 2 == 0 then i / 32 else i / 2 % 16)
+
+at_even : (b : ℕ) → digit_at (2 * b) ≡ slice_index upper_digits (b / 16)
+at_even b =
+    let e : (2 * b) % 2 == 0 ≡ true = grind arith in
+    let f : (2 * b) / 32 ≡ b / 16 = omega arith in
+    rw (e, f) refl
+
+at_odd : (b : ℕ) → digit_at (2 * b + 1) ≡ slice_index upper_digits (b % 16)
+at_odd b =
+    let e : (2 * b + 1) % 2 == 0 ≡ false = grind arith in
+    let f : (2 * b + 1) / 2 ≡ b = omega arith in
+    rw (e, f) refl
+
+-- that table has the first digit of each byte, and the second behind it
+pub high_in_table : (b : ℕ) → b < 256 → slice_index (map digit_at (range_with_len 0 512)) (2 * b) ≡ slice_index upper_digits (b / 16)
+high_in_table b h = get_or-map-range_with_len digit_at 0 512 (2 * b) (2 * b) 0 (omega (arith, h)) (omega arith) ∙ at_even b
+
+pub low_in_table : (b : ℕ) → b < 256 → slice_index (map digit_at (range_with_len 0 512)) (2 * b + 1) ≡ slice_index upper_digits (b % 16)
+low_in_table b h = get_or-map-range_with_len digit_at 0 512 (2 * b + 1) (2 * b + 1) 0 (omega (arith, h)) (omega arith) ∙ at_odd b
 
 -- bytes, and others behind them
 abbrev pub behind : List ℕ → Option (List ℕ) → Option (List ℕ)
@@ -63,12 +83,26 @@ said digits = bytes_if_ok (decode_pairs 0 digits)
 said_pair : (h l : ℕ) (rest : List ℕ) → said (h ∷ l ∷ rest) ≡ pair_of (hex_digit_value h) (hex_digit_value l) (said rest)
 said_pair h l rest = pairs_are 0 h l rest ∙ ap (λ (r : Option (List ℕ)). pair_of (hex_digit_value h) (hex_digit_value l) r) (anywhere 2 0 rest)
 
-is_some_value : (o : Option ℕ) → unwrap_or o 255 ≤ 15 → o ≡ Some (unwrap_or o 255)
+is_some_value : (o : Option ℕ) → unwrap_or o 256 ≤ 15 → o ≡ Some (unwrap_or o 256)
 is_some_value None h = absurd (omega (arith, h))
 is_some_value (Some n) h = refl
 
 no_value : (c : ℕ) → 15 < value_or c → hex_digit_value c ≡ None
 no_value c h = grind (arith, h)
+
+-- the value of a digit is at most 15, and that of what is none 256
+one_of : (c : ℕ) → (value_or c ≤ 15) ⊎ (value_or c ≡ 256)
+one_of c = grind arith
+
+-- the value of two digits is a byte's only where both are digits
+pub both : (c d : ℕ) → value_or c * 16 + value_or d ≤ 255 → (value_or c ≤ 15) × (value_or d ≤ 15)
+both c d h =
+    let low : value_or d ≤ 15 = elim (one_of d) [ inl l ↦ l | inr l ↦ absurd (omega (arith, h, l)) ] in
+    (omega (arith, h), low)
+
+pub not_both : (c d : ℕ) → 255 < value_or c * 16 + value_or d → (15 < value_or c) ⊎ (15 < value_or d)
+not_both c d h =
+    elim (one_of c) [ inl k ↦ elim (one_of d) [ inl l ↦ absurd (omega (arith, h, k, l)) | inr l ↦ inr (omega (arith, l)) ] | inr k ↦ inl (omega (arith, k)) ]
 
 two_more : (digits : List ℕ) (i : ℕ) → 2 * i + 1 < length digits → drop (2 * i) digits ≡ slice_index digits (2 * i) ∷ slice_index digits (2 * i + 1) ∷ drop (2 * (i + 1)) digits
 two_more digits i h =

@@ -8,3 +8,4 @@ pub mod MemoryShortageLemmas
 pub mod AnswerTextLemmas
 pub mod LineReadingLaws
 pub mod FrontLemmas
+pub mod WordLemmas

@@ -1,10 +1,10 @@
 //! The lines of a script, read one by one.
-ghost use Rattle.std.specs.Prelude.{◌≡◌, ◌≤◌, MatchBool, MatchOption, codes, drop, if◌then◌else◌, position, length, take, true, false, Some, None};
+ghost use Rattle.std.specs.Prelude.{◌≡◌, ◌≤◌, ⊤, ℕ, MatchBool, MatchOption, codes, drop, position, length, take, true, false, Some, None};
 ghost use Rattle.xcp_script.specs.ScriptLine.{meaning, channel_of, command_of, command_with, event_of, event_with, hex_bytes, is_skipped, is_space, is_word, time_of, time_with};
 ghost use Rattle.xcp_script.specs.private.LineInSlot.{line_in};
 
 use crate::Line;
-use crate::digits::{GREATEST_VALUE, digit_value};
+use crate::digits::{GREATEST_BYTE, digit_value};
 use crate::slot::{Parsed, SIGNAL_BYTES, Slot};
 use arrayvec::ArrayVec;
 
@@ -39,36 +39,65 @@ pub(crate) fn parse_into(max_cto: u8, line: &[u8], slot: &mut Slot) -> Parsed
     }
 }
 
-#[tactic(auto, unfolding(crate::specs::ScriptLine::meaning))]
+/// What a line says that is no comment. Commands are read at one place, so that this is read there without a call.
 fn parse_request(max_cto: u8, line: &[u8], slot: &mut Slot) -> Parsed
     requires some { is_skipped line.now ≡ false }
     requires short { length line.now ≤ 1024 }
     ensures { line_in result slot.new.command slot.new.signals ≡ meaning max_cto line.now }
 {
-    if line == b"drain".as_slice() {
-        return Parsed::Drain;
+    if may_begin_word(line) {
+        if let Some(parsed) = parse_words(line, slot) {
+            return parsed;
+        }
     }
-    if line == b"store".as_slice() {
-        return Parsed::FinishStore;
-    }
-    if line == b"hangup".as_slice() {
-        return Parsed::Hangup;
-    }
-    match event_text(line) {
-        Some(text) => parse_event(text, slot),
-        None => parse_other(max_cto, line, slot),
+    parse_command(max_cto, line, slot)
+}
+
+/// Whether a line may begin with a word: a line that doesn't is compared with none. All words begin with a lower-case letter, and most
+/// commands with a digit or an upper-case one.
+fn may_begin_word(line: &[u8]) -> bool
+    requires some { is_skipped line.now ≡ false }
+    requires short { length line.now ≤ 1024 }
+    ensures { MatchBool result ⊤ ((max_cto : ℕ) → meaning max_cto line.now ≡ command_of max_cto line.now) }
+{
+    match line {
+        [] => false,
+        [first, ..] => *first >= b'a',
     }
 }
 
-/// What a line says that begins with none of the other words.
+/// What a line says that is or begins with a word, if it does.
 #[tactic(auto, unfolding(crate::specs::ScriptLine::meaning))]
-fn parse_other(max_cto: u8, line: &[u8], slot: &mut Slot) -> Parsed
+fn parse_words(line: &[u8], slot: &mut Slot) -> Option<Parsed>
+    requires some { is_skipped line.now ≡ false }
     requires short { length line.now ≤ 1024 }
-    ensures { line_in result slot.new.command slot.new.signals ≡ (if is_word (codes "time ") (take 5 line.now) then time_with (time_of (drop 5 line.now)) else command_of max_cto line.now) }
+    ensures { MatchOption result ((max_cto : ℕ) → meaning max_cto line.now ≡ command_of max_cto line.now)
+        (λ parsed. (max_cto : ℕ) → line_in parsed slot.new.command slot.new.signals ≡ meaning max_cto line.now) }
+{
+    if line == b"drain".as_slice() {
+        return Some(Parsed::Drain);
+    }
+    if line == b"store".as_slice() {
+        return Some(Parsed::FinishStore);
+    }
+    if line == b"hangup".as_slice() {
+        return Some(Parsed::Hangup);
+    }
+    match event_text(line) {
+        Some(text) => Some(parse_event(text, slot)),
+        None => parse_timed(line, slot),
+    }
+}
+
+/// What a line says that begins with `time `, if it does.
+fn parse_timed(line: &[u8], slot: &Slot) -> Option<Parsed>
+    ensures { MatchOption result (is_word (codes "time ") (take 5 line.now) ≡ false)
+        (λ parsed. (is_word (codes "time ") (take 5 line.now) ≡ true)
+        × (line_in parsed slot.now.command slot.now.signals ≡ time_with (time_of (drop 5 line.now)))) }
 {
     match time_text(line) {
-        Some(digits) => parse_time(digits, slot),
-        None => parse_command(max_cto, line, slot),
+        Some(digits) => Some(parse_time(digits, slot)),
+        None => None,
     }
 }
 
@@ -219,10 +248,12 @@ fn read_hex<const N: usize>(most: usize, digits: &[u8], read: &mut ArrayVec<u8, 
     for i in 0..digits.len() / 2 {
         let high = digit_value(digits[2 * i]);
         let low = digit_value(digits[2 * i + 1]);
-        if high > GREATEST_VALUE || low > GREATEST_VALUE {
+        let byte = high * 16 + low;
+        // one of the two is no digit
+        if byte > GREATEST_BYTE {
             return false;
         }
-        read.push(high * 16 + low);
+        read.push(byte as u8);
     }
     true
 }

@@ -10,9 +10,9 @@ use std::alloc::Global;
 use std::sync::Wait;
 use std::time::{Clock, Duration};
 use together::Meanwhile;
-use xcp_locked::{HasSlave, Name};
+use xcp_locked::Name;
 use xcp_scribe::Scribe;
-use xcp_service::{Collector, Halted, Post, Route, Shared};
+use xcp_service::{Collector, Halted, Post, Route, Shared, cut_in_time};
 
 /// What the thread that made all others does: it keeps chapters, until the post is closed.
 #[derive(Drop)]
@@ -40,7 +40,7 @@ impl<'a, N: Name, M: Route, S: Scribe> Meanwhile<Result<Collector<N, M, S>, Halt
 }
 
 /// Who waits until the server is asked to end, and makes everybody end. Meanwhile it tells of lost events once a second, and cuts the
-/// journal's open chapter off as often as it is asked to.
+/// journal's open chapter off as often as it is asked to, and where a write of stored pages has to be tried again.
 #[derive(Drop)]
 pub struct Ward<'a, N: Name, M: Route, W> {
     pub alloc: Global,
@@ -97,23 +97,12 @@ impl<'a, N: Name, M: Route, W: Watcher> Ward<'a, N, M, W> {
         lost
     }
 
-    /// Cuts the journal's open chapter off, if so many seconds have passed since that was looked at last and it is time. Answers how many
-    /// have passed then.
+    /// Cuts the journal's open chapter off, if so many seconds have passed since that was done last and it is time, or what tools asked to
+    /// have stored doesn't lie on the shelf yet. Answers how many have passed then. While the keeper is behind, the next look does.
     fn cut_in_time(&self, rt: &impl Wait, seconds: u32) -> u32 {
-        match self.cut_every {
-            Some(every) if every <= seconds => {
-                cut(rt, self.alloc, self.shared);
-                0
-            }
-            _ => seconds,
-        }
-    }
-}
-
-/// Cuts the journal's open chapter off, if it has a call. Where there is no memory, the next look does.
-fn cut<N: Name, M: Route>(rt: &impl Wait, alloc: Global, shared: &Shared<N, M>) {
-    let mut resident = shared.lock.lock(rt);
-    if resident.locked().len() > 0 {
-        resident.cut(rt, alloc, &shared.post);
+        let is_time = self.cut_every.is_some_and(|every| every <= seconds);
+        let mut resident = self.shared.lock.lock(rt);
+        let looked = cut_in_time(rt, self.alloc, &mut resident, &self.shared.post, is_time);
+        if is_time && looked { 0 } else { seconds }
     }
 }

@@ -15,7 +15,7 @@ use std::time::Clock;
 use together::Work;
 use xcp_locked::{Name, Reader, event, take_image};
 use xcp_packet::Packet;
-use xcp_service::{Member, Post, Resident, Route, Shared, call};
+use xcp_service::{Member, Post, Resident, Route, Shared, call, finish_store};
 use xcp_slave::{Asked, Request};
 
 /// A task: its number, its member, and its reader. Its cycles have no end.
@@ -51,7 +51,7 @@ pub struct Rested<N: Name, M: Route> {
 
 impl<'a, N: Name, M: Route, C: Clock + Wait> Ticker<'a, N, M, C> {
     /// Cycle after cycle, until the server ends: an event is submitted, and the reader told under the same
-    /// hold; then the image is taken and read, without a lock; and task 0 finishes a store. Where cycles have no period, each
+    /// hold; then the image is taken and read, without a lock; and task 0 finishes a store, where it may. Where cycles have no period, each
     /// waits first until the keeper is not far behind. A cycle that is late by a period or more is left out, and counted. Where there is no
     /// memory for an event or a store it is lost, and isn't in the journal.
     fn tick<R: Wait>(self, rt: &R) -> Rested<N, M>
@@ -212,7 +212,7 @@ fn submit_and_tell<N: Name, M: Route>(
     }
 }
 
-/// Submits that what SET_REQUEST asked for is stored.
+/// Submits that what SET_REQUEST asked for is stored, or, where stored pages are kept and don't lie on the shelf yet, nothing.
 fn store<N: Name, M: Route>(
     rt: &impl Wait,
     alloc: Global,
@@ -225,13 +225,12 @@ fn store<N: Name, M: Route>(
 {
     let mut packet = Packet::new();
     member.reserve();
-    let _ = call(
+    let _ = finish_store(
         rt,
         alloc,
         &mut shared.lock.lock(rt),
         &shared.post,
         member,
-        Asked::FinishStore,
         &mut packet,
     );
 }

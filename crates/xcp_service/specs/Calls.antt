@@ -13,6 +13,7 @@ use Rattle.xcp_locked.specs.Receipts.{receipt}
 use Rattle.xcp_locked.specs.declared.receipt.Receipt.{Receipt}
 use Rattle.xcp_service.specs.Residents.{ResidentValue, with_a_cut}
 use Rattle.xcp_service.specs.Sessions.{noted}
+use Rattle.xcp_service.specs.Storing.{asked_in}
 
 -- a call begins with the slave as it was, or behind a cut of the open chapter
 abbrev pub IsBegun : ResidentValue → ResidentValue → Type 0
@@ -22,7 +23,8 @@ IsBegun old begun = (begun ≡ old) ⊎ (begun ≡ with_a_cut old)
 abbrev pub receipt_at : ResidentValue → Request → Answer → Receipt
 receipt_at begun request answer = receipt begun.locked.chapter (length begun.locked.journal) request answer
 
--- The caller of this number was answered so: one call more stands in the journal, and the image is published where it changed. The
+-- The caller of this number was answered so: one call more stands in the journal, the image is published where it changed, and it is noted
+-- in which chapter a store was asked for. The
 -- open chapter may have been cut off before it, and behind it, so that the call is the last of its chapter.
 pub record Calls (number : ℕ) (request : Request) (answer : Answer) (old new : ResidentValue) : Type 0 where
   pub begun : ResidentValue
@@ -34,6 +36,7 @@ pub record Calls (number : ℕ) (request : Request) (answer : Answer) (old new :
   pub published : Publishes begun.locked done.locked
   pub past : done.past ≡ begun.past
   pub sessions : done.sessions ≡ begun.sessions
+  pub stores : done.stores ≡ asked_in begun.locked.chapter request answer begun.stores
   pub ends : (new ≡ done) ⊎ (new ≡ with_a_cut done)
 
 -- The same of a caller of a seat. Behind the call, under the same hold, it is noted whose the session is then.

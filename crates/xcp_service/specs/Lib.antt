@@ -8,5 +8,6 @@ pub mod Refusals
 pub mod Residents
 pub mod Sessions
 pub mod Sheaves
+pub mod Storing
 pub mod Telling
 pub mod private

@@ -7,13 +7,15 @@ use Rattle.xcp_locked.specs.Journal.{exchanges}
 use Rattle.xcp_locked.specs.LockedSlave.{ChapterValue, LockedValue, chapter_of, cut_off}
 use Rattle.xcp_locked.specs.PublishingCalls.{AreImages}
 use Rattle.xcp_service.specs.Sessions.{has_session}
+use Rattle.xcp_service.specs.Storing.{StoresValue}
 
--- The slave, with its open chapter, all chapters that were ever cut off it, in order, and the seats that have connected and whose tools
--- are still there, the one that connected last first.
+-- The slave, with its open chapter, all chapters that were ever cut off it, in order, the seats that have connected and whose tools
+-- are still there, the one that connected last first, and the chapter that has to lie on the shelf before a store is finished.
 pub record ResidentValue : Type 0 where
   pub locked : LockedValue
   pub past : List ChapterValue
   pub sessions : List ℕ
+  pub stores : StoresValue
 
 -- the open chapter was cut off, and is the last of those that were
 abbrev pub with_a_cut : ResidentValue → ResidentValue

@@ -9,6 +9,7 @@ use crate::parcel::Parcel;
 use crate::post::Post;
 use crate::refusal::Refusal;
 use crate::route::Route;
+use crate::shelved::Shelved;
 use relay::{Giver, Taker};
 use std::alloc::Global;
 use std::marker::{Model, PhantomData};
@@ -92,8 +93,9 @@ impl<N: Name, M: Route, S: Scribe> Collector<N, M, S> {
         }
     }
 
-    /// Has the keeper take what comes, until the post is closed and nothing lies there; each chapter is written down before. Where
-    /// something isn't as it must be it goes no further.
+    /// Has the keeper take what comes, until the post is closed and nothing lies there; each chapter is written down before. Behind each
+    /// chapter the post is told that all so far lie on the shelf, where the scribe says so. Where something isn't as it must be it goes no
+    /// further.
     pub fn collect(
         self,
         rt: &impl Wait,
@@ -117,10 +119,14 @@ impl<N: Name, M: Route, S: Scribe> Collector<N, M, S> {
                 });
             };
             write_down(&mut scribe, &parcel);
+            let is_chapter = parcel.chapter.is_some();
             let (stood, came) = (Snapshot::of(&keeper), Snapshot::of(&parcel));
             if let Err(why) = keeper.take(desk, tag, parcel) {
                 let refusal = Refusal::new(why, tag, stood, came);
                 return Err(Halted { refusal, taker, of });
+            }
+            if is_chapter && scribe.is_shelved() {
+                post.shelve(rt, Shelved::of(&keeper, &scribe));
             }
         }
         unreachable!()

@@ -193,7 +193,7 @@ impl<N: Name> Keeper<N> {
         ensures desk { OnOk result (number ≢ desk → parcel.chapters ≡ []) }
         ensures refused { IfErr result (GoesNoFurther (RefusesParcel desk number self.old parcel)) }
     {
-        let Parcel { chapter, sheaf } = parcel;
+        let Parcel { chapter, sheaf, .. } = parcel;
         match (chapter, sheaf) {
             (Some(chapter), _) => self.take_chapter(desk, number, chapter)?,
             (None, Some(sheaf)) => self.take_sheaf(number, &sheaf)?,

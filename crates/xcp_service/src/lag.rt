@@ -13,6 +13,13 @@ struct Lying {
     is_closed: bool,
 }
 
+/// That a chapter was counted, which nobody can say but `Lag::rise`. It goes with the chapter, and is given back when the keeper takes
+/// it: so none is taken before it was counted, nor counted off twice, and the count never stays above what lies there.
+#[derive(Drop)]
+pub(crate) struct Counted {
+    _by_lag: (),
+}
+
 /// How many chapters were cut off that the keeper has not taken, for who can wait until it has caught up.
 #[derive(Drop)]
 pub(crate) struct Lag {
@@ -32,17 +39,23 @@ impl Lag {
         }
     }
 
-    /// One more was cut off.
-    pub(crate) fn rise(&self, rt: &impl Wait) {
+    /// One more is to be handed in.
+    pub(crate) fn rise(&self, rt: &impl Wait) -> Counted {
         let mut lying = self.lying.lock(rt);
         lying.chapters = lying.chapters.saturating_add(1);
+        Counted { _by_lag: () }
     }
 
-    /// One was taken.
-    pub(crate) fn fall(&self, rt: &impl Wait) {
+    /// The one that was counted so was taken.
+    pub(crate) fn fall(&self, rt: &impl Wait, _counted: Counted) {
         let mut lying = self.lying.lock(rt);
         lying.chapters = lying.chapters.saturating_sub(1);
         self.fell.notify_all();
+    }
+
+    /// Whether one lies there, or is to be handed in.
+    pub(crate) fn is_behind(&self, rt: &impl Wait) -> bool {
+        self.lying.lock(rt).chapters > 0
     }
 
     /// Nobody waits from now on.

@@ -8,6 +8,9 @@
 //! The tools of several seats share the slave's one session: it is of the seat that connected last, of those whose tools are still there
 //! (`specs/Sessions.antt`, `specs/Happenings.antt`), and its packets are that seat's.
 //!
+//! Where stored pages are kept on a shelf, a store is finished only once the chapter in which it was asked for lies there
+//! (`specs/Storing.antt`): [`finish_store`] submits it then.
+//!
 //! Where the layout has a clock, a [`Timekeeper`] tells the slave the time under the same hold as an event and as a GET_DAQ_CLOCK.
 //!
 //! `specs/Residents.antt` has a slave that stays, `specs/Keeping.antt` what a keeper has settled, `specs/Parcels.antt` what goes by the post, `specs/Refusals.antt` what a
@@ -32,10 +35,12 @@ mod resident;
 mod route;
 mod seated;
 mod sessions;
+mod shelved;
+mod stores;
 mod timekeeper;
 mod waiting;
 
-pub use calling::{CHAPTER, call, call_for};
+pub use calling::{CHAPTER, call, call_for, cut_in_time, finish_store};
 pub use collector::{Collector, Halted};
 pub use former::{Former, Resigned, resign_all};
 pub use keeper::{Keeper, Unkept};

@@ -9,6 +9,7 @@ ghost use Rattle.xcp_locked.specs.LockedSlave.{SameChapter};
 ghost use Rattle.xcp_locked.specs.PublishingCalls.{Publishes};
 ghost use Rattle.xcp_locked.specs.Receipts.{receipt};
 ghost use Rattle.xcp_service.specs.Parcels.{HasAllReceipts, IsHandedOver};
+ghost use Rattle.xcp_service.specs.Storing.{asked_in};
 
 use crate::collector::Collector;
 use crate::former::Former;
@@ -151,6 +152,8 @@ impl<N: Name, M: Route> Member<N, M> {
         ensures published { IfOk result (λ told. Publishes resident.old.locked resident.new.locked) }
         ensures past { resident.new.past ≡ resident.old.past }
         ensures sessions { resident.new.sessions ≡ resident.old.sessions }
+        ensures stores { IfOk result (λ told. resident.new.stores
+            ≡ asked_in resident.old.locked.chapter (request_asked asked.entry) (answer_in told packet.new) resident.old.stores) }
         ensures chapter { SameChapter resident.old.locked resident.new.locked }
     {
         let told = resident.submit(&mut self.caller, asked, packet)?;

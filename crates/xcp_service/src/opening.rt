@@ -2,6 +2,7 @@
 ghost use Rattle.std.specs.Prelude.{◌≡◌, ◌+◌, [], IfOk};
 ghost use Rattle.xcp_service.specs.Parcels.{AreOpened};
 ghost use Rattle.xcp_service.specs.Residents.{IsUncut};
+ghost use Rattle.xcp_service.specs.Storing.{unasked};
 
 use crate::collector::Collector;
 use crate::member::Member;
@@ -53,21 +54,21 @@ impl<N: Name> Unrouted<N> {
         Ok(Unrouted { relay, taker })
     }
 
-    /// Opens it for a slave that was just opened, and all its callers, with a scribe that was given nothing yet. It says whether each store
-    /// ends its chapter.
+    /// Opens it for a slave that was just opened, and all its callers, with a scribe that was given nothing yet. It is said whether this
+    /// keeps stored pages on a shelf: each store then waits until they lie there.
     pub fn open<M: Route, S: Scribe>(
         self,
         alloc: Global,
         locked: Locked<N>,
         callers: Vec<Caller<N>>,
         scribe: S,
-        each_store: bool,
+        keeps_pages: bool,
     ) -> Result<Posting<N, M, S>, AllocError>
         requires relay { self ≡ M.relay }
         requires first { IsUncut N.layout locked }
         requires callers { AreOpened N.parts callers.items }
         requires scribe { S.wrote scribe [] }
-        ensures slave { IfOk result (λ p. p.resident ≡ record { locked = locked; past = []; sessions = [] }) }
+        ensures slave { IfOk result (λ p. p.resident ≡ record { locked = locked; past = []; sessions = []; stores = unasked keeps_pages }) }
         ensures members { IfOk result (λ p. p.members.items ≡ callers.items) }
     {
         let Unrouted { relay, mut taker } = self;
@@ -76,7 +77,7 @@ impl<N: Name> Unrouted<N> {
         let pumps = Arc::new(alloc, Pumps::new())?;
         Ok(Posting {
             post: Post::new(relay),
-            resident: Resident::new(locked, chapters, each_store, pumps),
+            resident: Resident::new(locked, chapters, keeps_pages, pumps),
             members,
             collector: Collector::new(alloc, taker, desk, scribe),
         })

@@ -1,6 +1,7 @@
 //! What goes to a keeper.
 ghost use Rattle.std.specs.Prelude.{◌≡◌, [], ◌∷◌};
 
+use crate::lag::Counted;
 use std::marker::Model;
 use xcp_locked::{Chapter, Name, Sheaf};
 
@@ -9,6 +10,8 @@ use xcp_locked::{Chapter, Name, Sheaf};
 pub(crate) struct Parcel<N: Name> {
     pub(crate) chapter: Option<Chapter<N>>,
     pub(crate) sheaf: Option<Sheaf<N>>,
+    /// That the chapter was counted before it was handed in.
+    pub(crate) counted: Option<Counted>,
 }
 
 impl<N: Name> Model for Parcel<N> {
@@ -23,13 +26,14 @@ impl<N: Name> Model for Parcel<N> {
 }
 
 impl<N: Name> Parcel<N> {
-    /// A chapter.
-    pub(crate) fn of_chapter(chapter: Chapter<N>) -> Parcel<N>
+    /// A chapter, which was counted.
+    pub(crate) fn of_chapter(chapter: Chapter<N>, counted: Counted) -> Parcel<N>
         ensures { result ≡ record { chapters = chapter ∷ []; sheaves = [] } }
     {
         Parcel {
             chapter: Some(chapter),
             sheaf: None,
+            counted: Some(counted),
         }
     }
 
@@ -40,6 +44,7 @@ impl<N: Name> Parcel<N> {
         Parcel {
             chapter: None,
             sheaf: Some(sheaf),
+            counted: None,
         }
     }
 }

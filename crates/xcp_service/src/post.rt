@@ -6,16 +6,19 @@ ghost use Rattle.xcp_service.specs.Parcels.{parcel_of_chapter, parcel_of_sheaf};
 use crate::lag::Lag;
 use crate::parcel::Parcel;
 use crate::route::Route;
+use crate::shelved::Shelved;
 use relay::{Giver, Relay, Taker, Tray};
 use std::marker::{Model, PhantomData};
-use std::sync::Wait;
+use std::sync::{Mutex, MutexGuard, Wait};
 use xcp_locked::{Chapter, Name, Sheaf};
 
-/// By which chapters that were cut off, and sheaves that were handed over, go to the keeper, in order.
+/// By which chapters that were cut off, and sheaves that were handed over, go to the keeper, in order; and where the keeper says how many
+/// chapters lie on the shelf.
 #[derive(Drop)]
 pub struct Post<N: Name, M: Route> {
     relay: Relay<Parcel<N>>,
     lag: Lag,
+    shelved: Mutex<Shelved<N>>,
     of: PhantomData<M>,
 }
 
@@ -38,6 +41,7 @@ impl<N: Name, M: Route> Post<N, M> {
         Post {
             relay,
             lag: Lag::new(),
+            shelved: Mutex::new(Shelved::new()),
             of: PhantomData,
         }
     }
@@ -62,8 +66,9 @@ impl<N: Name, M: Route> Post<N, M> {
         ensures put { tray.new.put ≡ tray.old.put ++ parcel_of_chapter chapter ∷ [] }
         ensures same { (tray.new.relay ≡ tray.old.relay) × (tray.new.tag ≡ tray.old.tag) }
     {
-        self.relay.put(rt, tray, Parcel::of_chapter(chapter));
-        self.lag.rise(rt);
+        let counted = self.lag.rise(rt);
+        let parcel = Parcel::of_chapter(chapter, counted);
+        self.relay.put(rt, tray, parcel);
     }
 
     /// Hands a sheaf in; where there is no memory it lies on the tray, until that is cleared.
@@ -87,13 +92,21 @@ impl<N: Name, M: Route> Post<N, M> {
             (taker.new ≡ taker.old)
             (λ x. taker.new ≡ record taker.old { taken = taker.old.taken ++ x ∷ [] }) }
     {
-        let taken = self.relay.wait_and_take(rt, taker);
-        if let Some((_, parcel)) = &taken {
-            if parcel.chapter.is_some() {
-                self.lag.fall(rt);
-            }
+        let (tag, parcel) = self.relay.wait_and_take(rt, taker)?;
+        let Parcel {
+            chapter,
+            sheaf,
+            counted,
+        } = parcel;
+        if let Some(counted) = counted {
+            self.lag.fall(rt, counted);
         }
-        taken
+        let parcel = Parcel {
+            chapter,
+            sheaf,
+            counted: None,
+        };
+        Some((tag, parcel))
     }
 
     /// Whether nothing lay there at one moment of the call. Then all that this giver handed in was taken, in order.
@@ -103,6 +116,21 @@ impl<N: Name, M: Route> Post<N, M> {
         ensures same { (giver.new ≡ giver.old) × (taker.new ≡ taker.old) }
     {
         self.relay.meets(giver, taker)
+    }
+
+    /// The keeper says that these lie on the shelf.
+    pub(crate) fn shelve(&self, rt: &impl Wait, shelved: Shelved<N>) {
+        *self.shelved.lock(rt) = shelved;
+    }
+
+    /// What the keeper said last that lies on the shelf, while it is held.
+    pub(crate) fn shelved<W: Wait>(&self, rt: &W) -> MutexGuard<'_, Shelved<N>> {
+        self.shelved.lock(rt)
+    }
+
+    /// Whether a chapter lies there that the keeper has not taken yet. It may take it at once.
+    pub fn is_behind(&self, rt: &impl Wait) -> bool {
+        self.lag.is_behind(rt)
     }
 
     /// Waits while two or more chapters lie there, until the post is closed. So who makes calls faster than the keeper settles

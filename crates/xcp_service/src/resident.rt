@@ -14,6 +14,7 @@ ghost use Rattle.xcp_service.specs.Parcels.{chapters_put, parcel_of_sheaf};
 ghost use Rattle.xcp_service.specs.Residents.{GoesOn, HasPublished, IsUncut, pending_for, with_a_cut};
 ghost use Rattle.xcp_service.specs.Sessions.{has_session, noted, without};
 ghost use Rattle.xcp_service.specs.Sheaves.{sheaf_of};
+ghost use Rattle.xcp_service.specs.Storing.{MayFinish, asked_in, unasked, wants_end};
 
 use crate::collector::Collector;
 use crate::parcel::Parcel;
@@ -21,6 +22,7 @@ use crate::post::Post;
 use crate::pumps::Pumps;
 use crate::route::Route;
 use crate::sessions::Sessions;
+use crate::stores::Stores;
 use relay::{Giver, Tray};
 use std::alloc::Global;
 use std::marker::{Model, PhantomData};
@@ -38,9 +40,8 @@ pub struct Resident<N: Name, M: Route> {
     /// By which its chapters go to the keeper. What lies here is handed in before the next one is cut off, and before anybody hands
     /// receipts over.
     tray: Tray<Parcel<N>>,
-    /// Whether a store that stores ends its chapter, so that who keeps stored pages has them at once.
-    each_store: bool,
     sessions: Sessions,
+    stores: Stores,
     /// Where pumps wait, which no contract sees.
     pumps: Arc<Pumps>,
     of: PhantomData<M>,
@@ -53,9 +54,9 @@ impl<N: Name, M: Route> Model for Resident<N, M> {
 
     ghost Value = { ResidentValue };
 
-    ghost view = { λ r. record { locked = r.locked; past = chapters_put r.tray.put; sessions = r.sessions } };
+    ghost view = { λ r. record { locked = r.locked; past = chapters_put r.tray.put; sessions = r.sessions; stores = r.stores } };
 
-    ghost invariant = { λ r. (r.tray.relay ≡ M.relay) × (r.tray.tag ≡ N.parts) × GoesOn N.layout (record { locked = r.locked; past = chapters_put r.tray.put; sessions = r.sessions }) × HasPublished N.layout (record { locked = r.locked; past = chapters_put r.tray.put; sessions = r.sessions }) };
+    ghost invariant = { λ r. (r.tray.relay ≡ M.relay) × (r.tray.tag ≡ N.parts) × GoesOn N.layout (record { locked = r.locked; past = chapters_put r.tray.put; sessions = r.sessions; stores = r.stores }) × HasPublished N.layout (record { locked = r.locked; past = chapters_put r.tray.put; sessions = r.sessions; stores = r.stores }) };
 }
 
 impl<N: Name, M: Route> HasSlave<N> for Resident<N, M> {
@@ -70,23 +71,24 @@ impl<N: Name, M: Route> HasSlave<N> for Resident<N, M> {
 }
 
 impl<N: Name, M: Route> Resident<N, M> {
-    /// A slave of which no chapter was cut off yet, with the giver of its chapters, whose tag is the one behind those of all callers.
+    /// A slave of which no chapter was cut off yet, with the giver of its chapters, whose tag is the one behind those of all callers. It is
+    /// said whether stored pages are kept on a shelf.
     pub(crate) fn new(
         locked: Locked<N>,
         chapters: Giver<Parcel<N>>,
-        each_store: bool,
+        keeps_pages: bool,
         pumps: Arc<Pumps>,
     ) -> Resident<N, M>
         requires first { IsUncut N.layout locked }
         requires chapters { chapters ≡ record { relay = M.relay; tag = N.parts; given = [] } }
-        ensures { result ≡ record { locked = locked; past = []; sessions = [] } }
+        ensures { result ≡ record { locked = locked; past = []; sessions = []; stores = unasked keeps_pages } }
     {
         locked.audit();
         Resident {
             locked,
             tray: Tray::new(chapters),
-            each_store,
             sessions: Sessions::new(),
+            stores: Stores::new(keeps_pages),
             pumps,
             of: PhantomData,
         }
@@ -139,9 +141,18 @@ impl<N: Name, M: Route> Resident<N, M> {
         self.pumps.tell_all();
     }
 
-    /// Whether a store that stores ends its chapter.
-    pub(crate) fn each_store(&self) -> bool {
-        self.each_store
+    /// Whether the open chapter has to end, so that the shelf gets its pages.
+    pub(crate) fn wants_end(&self) -> bool
+        ensures { result ≡ wants_end self.now.locked.chapter self.now.stores }
+    {
+        self.stores.wants_end(self.locked.chapter())
+    }
+
+    /// Whether a store may be finished, where the first so many chapters lie on the shelf.
+    pub(crate) fn may_finish(&self, shelved: u64) -> bool
+        ensures { MatchBool result (MayFinish shelved self.now.stores) (¬ (MayFinish shelved self.now.stores)) }
+    {
+        self.stores.may_finish(shelved)
     }
 
     /// Hands in the chapter that could not be handed in when it was cut off, if there is one, and tells whether there is none now.
@@ -213,11 +224,17 @@ impl<N: Name, M: Route> Resident<N, M> {
         ensures chapter { SameChapter self.old.locked self.new.locked }
         ensures past { self.new.past ≡ self.old.past }
         ensures sessions { self.new.sessions ≡ self.old.sessions }
+        ensures stores { IfOk result (λ told. self.new.stores
+            ≡ asked_in self.old.locked.chapter (request_asked asked.entry) (answer_in told packet.new) self.old.stores) }
     {
         self.locked.audit();
         let before = self.locked.pending();
+        let chapter = self.locked.chapter();
         let submitted = self.locked.submit_into(caller, asked, packet);
         self.pumps.tell_packets(before, self.locked.pending());
+        if let Ok(told) = &submitted {
+            self.stores.note(chapter, asked, told, packet);
+        }
         submitted
     }
 

@@ -113,7 +113,7 @@ pub(crate) fn has_code(code: u8, asked: Asked<'_>) -> bool
 }
 
 /// Whether the answer is a positive response.
-fn is_positive(told: &Told, packet: &Packet) -> bool
+pub(crate) fn is_positive(told: &Told, packet: &Packet) -> bool
     ensures { result ≡ is_positive (answer_in told.now packet.now) }
 {
     match told {

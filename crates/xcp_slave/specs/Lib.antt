@@ -18,4 +18,5 @@ pub mod BlockDownload
 pub mod CodesByEffect
 pub mod DueLists
 pub mod SlaveClock
+pub mod StoredPages
 pub mod private

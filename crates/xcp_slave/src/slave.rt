@@ -12,6 +12,7 @@ ghost use Rattle.xcp_slave.specs.Step.{Answers, AnswersPacket, at_time};
 ghost use Rattle.xcp_slave.specs.AnswerInBytes.{answer_in};
 ghost use Rattle.xcp_slave.specs.AskedRequest.{IsShort, request_asked};
 ghost use Rattle.xcp_slave.specs.SlaveValue.{ended, layout_of, noblock, opening};
+ghost use Rattle.xcp_slave.specs.StoredPages.{kept_page};
 ghost use Rattle.xcp_transfer.specs.Laws.{IsLawful};
 ghost use Rattle.xcp_transfer.specs.TransferValue.{response_room};
 ghost use Rattle.xcp_daq.specs.DaqInvariant.{IsDaq};
@@ -189,6 +190,22 @@ impl Slave {
         ensures size { length result.now ≡ length (get_or (layout_of self.now).segments segment no_segment).bytes }
     {
         self.transfer.pages().reference(segment)
+    }
+
+    /// The bytes of the reference page that a segment will have once what a tool asked for is stored: where a store is requested and the
+    /// segment is in FREEZE mode those of the page that the tool has, and else those of the reference page.
+    ///
+    /// ASAM MCD-1 XCP, protocol layer, description of commands: SET_REQUEST.
+    pub fn kept(&self, segment: usize) -> &[u8]
+        requires { segment < length (layout_of self.now).segments }
+        ensures value { result.now ≡ kept_page self.now (segment_at self.now.transfer.pages segment) }
+        ensures size { length result.now ≡ length (get_or (layout_of self.now).segments segment no_segment).bytes }
+    {
+        if self.store {
+            self.transfer.pages().stored(segment)
+        } else {
+            self.transfer.pages().reference(segment)
+        }
     }
 
     /// Executes one request. It takes no memory and always answers.

@@ -14,7 +14,13 @@ pub(crate) struct Boxed<S: Scribe> {
 impl<S: Scribe> Scribe for Boxed<S> {
     ghost wrote = { λ b given. S.wrote b.scribe.value given };
 
+    ghost shelved = { λ b given. S.shelved b.scribe.value given };
+
     fn write(&mut self, calls: Entries<'_>, last: &Slave) {
         self.scribe.as_mut().write(calls, last);
+    }
+
+    fn is_shelved(&self) -> bool {
+        self.scribe.as_ref().is_shelved()
     }
 }

@@ -41,8 +41,8 @@ pub struct Plan {
     pub queue: u8,
     /// After how many seconds the journal's open chapter is cut off, where it has a call, if it is for the time alone.
     pub cut_every: Option<u32>,
-    /// Whether a store that stores ends its chapter, so that the scribe has its pages at once.
-    pub each_store: bool,
+    /// Whether the scribe keeps stored pages: a request to store ends its chapter then, and the store is finished once they lie on the shelf.
+    pub keeps_pages: bool,
 }
 
 /// What is told of a server that stayed.
@@ -285,7 +285,7 @@ fn stay_by_post<
         resident,
         members,
         collector,
-    } = unrouted.open::<M, Boxed<S>>(alloc, locked, callers, scribe, plan.each_store)?;
+    } = unrouted.open::<M, Boxed<S>>(alloc, locked, callers, scribe, plan.keeps_pages)?;
     let hall = Hall::new();
     let lobby = Lobby::new(alloc, plan.tools, plan.queue);
     let losses = Losses::new();

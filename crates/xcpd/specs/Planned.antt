@@ -20,4 +20,4 @@ pub record IsPlanned (asked : Staying) (layout : LayoutValue) (plan : Plan) : Ty
   pub idle : option_map as_nanos plan.times.idle ≡ option_map nanos_of asked.idle
   pub queue : plan.queue ≡ asked.queue
   pub cut_every : plan.cut_every ≡ asked.cut_every
-  pub each_store : plan.each_store ≡ asked.each_store
+  pub keeps_pages : plan.keeps_pages ≡ asked.keeps_pages

@@ -58,11 +58,14 @@ pub struct Counting<'a, R> {
 }
 
 impl<R: Wait> Scribe for Counting<'_, R> {
-    ghost use Rattle.std.specs.Prelude.{None};
+    ghost use Rattle.std.specs.Prelude.{None, ⊤};
     ghost use Rattle.xcp_scribe.specs.Given.{calls_given};
     ghost use Rattle.xcp_scribe.specs.Scribing.{HasWritten};
 
     ghost wrote = { λ c given. HasWritten (λ _. None) c.recording (calls_given given) };
+
+    // It keeps no pages.
+    ghost shelved = { λ _ _. ⊤ };
 
     fn write(&mut self, calls: Entries<'_>, last: &Slave) {
         self.recording.write(calls, last);
@@ -70,6 +73,10 @@ impl<R: Wait> Scribe for Counting<'_, R> {
             self.calls[place_of(self.chapters)] = self.recording.calls();
             self.chapters = self.chapters.saturating_add(1);
         }
+    }
+
+    fn is_shelved(&self) -> bool {
+        true
     }
 }
 

@@ -42,7 +42,7 @@ fn plan_of(staying: Staying, layout: &Layout) -> Plan
         },
         queue: staying.queue,
         cut_every: staying.cut_every,
-        each_store: staying.each_store,
+        keeps_pages: staying.keeps_pages,
     }
 }
 

@@ -3,8 +3,8 @@ use denote.Struct.Struct.{exits_of}
 use denote.Struct.Owning.{shape, fields, to}
 use denote.Param.Send.{IsSend, AllSend, owning_send, struct_send, sendable}
 use Rattle.std.proofs.alloc.Global.TheSendSync as global
-use Rattle.xcp_controller.specs.contracts.controller.Controller as Held
-use Rattle.xcp_controller.proofs.controller.Controller.TheSendSync.{the_send as held}
+use Rattle.xcp_c.specs.contracts.open_slave.OpenSlave as Held
+use Rattle.xcp_c.proofs.open_slave.OpenSlave.TheSendSync.{the_send as held}
 use Rattle.xcp_c.proofs.Crossing.{owned, quiet}
 use Rattle.xcp_c.specs.contracts.slave_handle.SlaveHandle.{the_row, the_type}
 

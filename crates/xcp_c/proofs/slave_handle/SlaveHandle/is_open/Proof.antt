@@ -20,7 +20,7 @@ use denote.Signature.{plain}
 use denote.Steps.{nothing, owned, opens, closes, peeks}
 use denote.Triple.Walked.{Stays, walk_of, says, stay_ref, Goes-ref, ends_at}
 use Rattle.xcp_c.specs.Held.{held_at}
-use Rattle.xcp_controller.specs.contracts.controller.Controller as Held
+use Rattle.xcp_c.specs.contracts.open_slave.OpenSlave as Held
 use Rattle.xcp_c.specs.contracts.slave_handle.SlaveHandle.is_open as f
 use Rattle.xcp_c.proofs.slave_handle.SlaveHandle.is_open.Statement.{statement}
 use Rattle.xcp_c.proofs.slave_handle.SlaveHandle.is_open.Code as code

@@ -1,8 +1,8 @@
 use Rattle.std.proofs.Common.{◌≡◌, ◌++◌, List, ℕ, length, take, drop, ap, sym, ◌∙◌, subst, arith}
 use Rattle.std.proofs.Math.Seq.{take-append_seam}
 use Rattle.xcp_slave.specs.SlaveValue.{layout_of}
-use Rattle.xcp_flash.specs.References.{AreReferences, references}
-use Rattle.xcp_flash.proofs.LayoutLemmas.{sized}
+use Rattle.xcp_flash.specs.References.{AreReferences, kept_pages}
+use Rattle.xcp_flash.proofs.KeptLemmas.{kept_sized}
 use Rattle.xcp_flash.proofs.references.References.take.Goals as goal
 
 pub returns-clause-kept : goal.returns-clause-kept
@@ -13,5 +13,5 @@ returns-clause-kept c =
     let many = c.deref_mut.ensures.len in
     let kept = c.take_each.auto.pages in
     let long : c.self.inside.pages.len ≡ length new = omega (arith, many, kept) in
-    let all : take c.self.inside.pages.len (new ++ rest) ≡ references v = ap (λ (n : ℕ). take n (new ++ rest)) long ∙ take-append_seam new rest ∙ c.take_each.ensures.new in
-    subst (λ (ps : List (List ℕ)). AreReferences ps (layout_of v)) (sym all) (sized v c.audit.ensures.transfer.layout c.audit.ensures.transfer.pages)
+    let all : take c.self.inside.pages.len (new ++ rest) ≡ kept_pages v = ap (λ (n : ℕ). take n (new ++ rest)) long ∙ take-append_seam new rest ∙ c.take_each.ensures.new in
+    subst (λ (ps : List (List ℕ)). AreReferences ps (layout_of v)) (sym all) (kept_sized v c.audit.ensures.transfer.layout c.audit.ensures.transfer.pages)

@@ -3,7 +3,7 @@ use Rattle.std.specs.Prelude.{◌≢◌, not, Bool, MatchBool}
 use Rattle.xcp_memory.specs.Layout.{LayoutValue}
 use Rattle.xcp_slave.specs.SlaveValue.{layout_of}
 use Rattle.xcp_flash.specs.FlashFile.{file_of}
-use Rattle.xcp_flash.specs.References.{AreReferences, references}
+use Rattle.xcp_flash.specs.References.{AreReferences, kept_pages}
 use Rattle.xcp_scribe.specs.Given.{Given}
 use Rattle.xcp_scribe.specs.ShelfCalls.{Asked}
 use Rattle.xcp_scribe.specs.declared.standing.Standing.TheVariants.{Behind}
@@ -21,7 +21,7 @@ pub returns-then-not-is_due : goal.returns-then-not-is_due
 returns-then-not-is_due g c = λ given was.
     let more : Given = record { calls = c.args._calls; last = c.args.last.now } in
     let none = c.if-not-is_due.ensures {u = tt} in
-    let same = subst (λ (b : Bool). MatchBool b (c.args.self.now.pages ≢ references c.args.last.now) (c.args.self.now.pages ≡ references c.args.last.now)) none.0 c.take-changed.ensures.changed in
+    let same = subst (λ (b : Bool). MatchBool b (c.args.self.now.pages ≢ kept_pages c.args.last.now) (c.args.self.now.pages ≡ kept_pages c.args.last.now)) none.0 c.take-changed.ensures.changed in
     kept_same g.F.Shelf.holds c.args.self.now c.take-changed.new.self _ _ _ given more was c.take-changed.ensures.new c.take-changed.ensures.kept same none.1
 
 pub invariant_of-self-then-put : goal.invariant_of-self-then-put
@@ -50,9 +50,9 @@ pub returns-then-put : goal.returns-then-put
 returns-then-put g c = λ given was.
     let more : Given = record { calls = c.args._calls; last = c.args.last.now } in
     let call : Asked = record { file = file_of c.args.self.now.layout c.take-changed.new.self; put = c.put.result } in
-    let due : (references c.args.last.now ≢ c.args.self.now.pages) ⊎ (c.args.self.now.standing ≡ Behind) = elim (c.if-not-is_due.ensures {u = tt}) [
+    let due : (kept_pages c.args.last.now ≢ c.args.self.now.pages) ⊎ (c.args.self.now.standing ≡ Behind) = elim (c.if-not-is_due.ensures {u = tt}) [
       | inl changed ↦
-          let others = subst (λ (b : Bool). MatchBool b (c.args.self.now.pages ≢ references c.args.last.now) (c.args.self.now.pages ≡ references c.args.last.now)) changed c.take-changed.ensures.changed in
+          let others = subst (λ (b : Bool). MatchBool b (c.args.self.now.pages ≢ kept_pages c.args.last.now) (c.args.self.now.pages ≡ kept_pages c.args.last.now)) changed c.take-changed.ensures.changed in
           inl (λ e. others (sym e))
       | inr behind ↦ inr behind
     ] in
@@ -62,9 +62,9 @@ pub returns-else-put : goal.returns-else-put
 returns-else-put g c = λ given was.
     let more : Given = record { calls = c.args._calls; last = c.args.last.now } in
     let call : Asked = record { file = file_of c.args.self.now.layout c.take-changed.new.self; put = c.put.result } in
-    let due : (references c.args.last.now ≢ c.args.self.now.pages) ⊎ (c.args.self.now.standing ≡ Behind) = elim (c.if-not-is_due.ensures {u = tt}) [
+    let due : (kept_pages c.args.last.now ≢ c.args.self.now.pages) ⊎ (c.args.self.now.standing ≡ Behind) = elim (c.if-not-is_due.ensures {u = tt}) [
       | inl changed ↦
-          let others = subst (λ (b : Bool). MatchBool b (c.args.self.now.pages ≢ references c.args.last.now) (c.args.self.now.pages ≡ references c.args.last.now)) changed c.take-changed.ensures.changed in
+          let others = subst (λ (b : Bool). MatchBool b (c.args.self.now.pages ≢ kept_pages c.args.last.now) (c.args.self.now.pages ≡ kept_pages c.args.last.now)) changed c.take-changed.ensures.changed in
           inl (λ e. others (sym e))
       | inr behind ↦ inr behind
     ] in

@@ -26,3 +26,11 @@ new-refusal-requires g c =
     subst (λ (k : KeeperValue). GoesNoFurther (RefusesParcel g.N.Ledger.parts tag k c.of-came.result.value) why) (sym c.of-stood.ensures)
     (subst (λ (p : ParcelValue). GoesNoFurther (RefusesParcel g.N.Ledger.parts tag c.loop-parcel.keeper p) why) (sym c.of-came.ensures)
     (subst (λ (d : ℕ). GoesNoFurther (RefusesParcel d tag c.loop-parcel.keeper c.in-Some-take.parcel) why) c.self.invariant.3 c.in-Err.ensures.refused))
+
+pub of-requires : goal.of-requires
+of-requires g c =
+    let at = c.loop-parcel in
+    let kept = c.in_default-take.ensures {u = tt} in
+    c.is_shelved.ensures c.if-is_shelved.true (given_in c.take-in-loop-parcel.new.self.chapters)
+    (subst (g.S.Scribe.wrote c.write_down.new.scribe) (sym (ap given_in kept.chapters ∙ given_append at.keeper.chapters c.in-Some-take.parcel.chapters))
+    (c.write_down.ensures (given_in at.keeper.chapters) at.invariant.2))

@@ -23,4 +23,4 @@ returns g c =
     let was = ap (λ (t : TrayValue ParcelValue). t.put) c.clear.ensures in
     let put = c.put_chapter.ensures.put ∙ (ap (λ (ps : List ParcelValue). ps ++ parcel_of_chapter c.in-Ok.chapter ∷ []) was
     ∙ ap (λ (d : ChapterValue). c.self.inside.tray.put ++ parcel_of_chapter d ∷ []) done.chapter) in
-    more_is_a_cut c.args.self.now c.self.inside.tray.put c.put_chapter.new.tray.put c.self.inside.locked c.cut.new.self c.self.inside.sessions c.self.view_is done.next put
+    more_is_a_cut c.args.self.now c.self.inside.tray.put c.put_chapter.new.tray.put c.self.inside.locked c.cut.new.self c.self.inside.sessions c.self.inside.stores c.self.view_is done.next put
