@@ -12,6 +12,7 @@ use std::alloc::{AllocError, Global};
 use std::fmt::Write;
 use test_playing::{Row, Section, Trouble};
 use xcp_audit::{Printer, print_audit};
+use xcp_describe::a2l_of;
 use xcp_flash::restore;
 use xcp_framing::Watched;
 use xcp_memory::Layout;
@@ -64,7 +65,8 @@ fn audited(
     lines: bool,
 ) -> Result<String, Trouble> {
     let text = section.layout()?;
-    let layout = layout_stored(alloc, text, section.pages)?;
+    let a2l = a2l_of(alloc, text)?;
+    let layout = layout_stored(alloc, text, a2l, section.pages)?;
     let mut reader = Watched::new(file);
     let mut printer = Printer::new(alloc, Vec::new(alloc));
     let said = print_audit(alloc, text, layout, &mut reader, &mut printer, lines);

@@ -8,7 +8,9 @@ use crate::pieces::Pieces;
 use std::alloc::Global;
 use std::fmt::Write;
 use test_playing::{Row, Section, Trouble, unescaped};
+use xcp_describe::a2l_of;
 use xcp_framing::Watched;
+use xcp_memory::Layout;
 use xcp_program::{layout_stored, replay};
 use xcp_script::{Line, parse_line};
 use xcp_slave::Slave;
@@ -48,7 +50,10 @@ pub fn replayed(
 ) -> Result<String, Trouble> {
     let mut reader = Watched::new(script);
     let mut writer = Watched::new(Vec::new(alloc));
-    let ended = replay(alloc, layout, pages, &mut reader, &mut writer, TURNS);
+    let ended = match a2l_of(alloc, layout) {
+        Ok(a2l) => replay(alloc, layout, a2l, pages, &mut reader, &mut writer, TURNS),
+        Err(fault) => Err(fault),
+    };
     let mut text = text_of(alloc, writer.into_inner().as_slice(), ended)?;
     match ended {
         Ok(requests) if requests != text.as_str().lines().count() as u64 => {
@@ -57,6 +62,13 @@ pub fn replayed(
         _ => {}
     }
     Ok(text)
+}
+
+/// The layout with which the slave of a part begins.
+pub fn begun(alloc: Global, section: &Section<'_>) -> Result<Layout, Trouble> {
+    let text = section.layout()?;
+    let a2l = a2l_of(alloc, text)?;
+    Ok(layout_stored(alloc, text, a2l, section.pages)?)
 }
 
 /// The ECU image of a slave in hex. Its last zeros are left out, but for those that so many digits would write.
@@ -84,7 +96,7 @@ fn submit(slave: &mut Slave, line: &[u8]) -> bool {
 
 /// A slave that was just made.
 fn slave_of(alloc: Global, section: &Section<'_>) -> Result<Slave, Trouble> {
-    let layout = layout_stored(alloc, section.layout()?, section.pages)?;
+    let layout = begun(alloc, section)?;
     Ok(Slave::new(alloc, layout)?)
 }
 

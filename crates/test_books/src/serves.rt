@@ -3,13 +3,13 @@
 //! The answer has a line for each frame that is written, its LEN, its CTR and its packet in hex with blanks between, and then
 //! `frames F sent S`, or `stream N`, the number of the fault, with the LEN that is bad.
 use crate::pieces::Pieces;
+use crate::script::begun;
 use hex::encode_upper;
 use std::alloc::{AllocError, Global};
 use std::fmt::Write;
 use test_playing::{Section, Trouble};
 use xcp_framing::{Desk, ServeError, Served, Watched, serve};
 use xcp_memory::Layout;
-use xcp_program::layout_stored;
 use xcp_slave::Slave;
 
 /// The most reads of one stream.
@@ -81,7 +81,7 @@ fn push_end(text: &mut String, ended: Result<Served, ServeError>) -> Result<(), 
 
 /// What a desk over a new slave answers a stream that comes so, and how it ends.
 pub fn served(alloc: Global, section: &Section<'_>, stream: Pieces<'_>) -> Result<String, Trouble> {
-    let layout = layout_stored(alloc, section.layout()?, section.pages)?;
+    let layout = begun(alloc, section)?;
     let (written, ended) = desk_told(alloc, desk_of(alloc, layout)?, stream);
     let mut text = frames_of(alloc, written.as_slice())?;
     push_end(&mut text, ended)?;

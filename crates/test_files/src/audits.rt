@@ -22,7 +22,7 @@ fn audited(
     good: usize,
     room: usize,
 ) -> Option<(Result<(), Fault>, Vec<u8>)> {
-    let layout = layout_stored(alloc, config, flash).ok()?;
+    let layout = layout_stored(alloc, config, None, flash).ok()?;
     let mut reader = Watched::new(Failing { text: file, good });
     let full = Full {
         bytes: Vec::new(alloc),

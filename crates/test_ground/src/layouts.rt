@@ -1,7 +1,7 @@
 //! Small layouts, of whose slaves tests are, and the layout file of one.
 use std::alloc::{AllocError, Global};
 use std::test::Fail;
-use xcp_memory::{ClockPart, EventPart, Layout, NO_CLOCK, Parts, SegmentPart};
+use xcp_memory::{ClockPart, EventPart, ExtrasPart, Layout, NO_CLOCK, Parts, SegmentPart};
 use xcp_packet::Order;
 
 /// A segment's address, its bytes and how many pages it has.
@@ -63,6 +63,11 @@ pub fn parts(alloc: Global, small: Small) -> Result<Parts, AllocError> {
         signals_address: 0x8000,
         signals_length: small.signals,
         events: Vec::new(alloc),
+        extras: ExtrasPart {
+            a2l: Vec::new(alloc),
+            uploads_a2l: false,
+            tells_overload: false,
+        },
     };
     match fill(&mut parts, alloc, small.segments) {
         Ok(()) => Ok(parts),

@@ -2,7 +2,9 @@
 use std::alloc::{AllocError, Global};
 use std::test::Fail;
 use xcp_memory::LayoutFault::{Overlap, Range, TooMany};
-use xcp_memory::{Area, ClockPart, EventPart, Key, Layout, LayoutFault, Parts, SegmentPart};
+use xcp_memory::{
+    Area, ClockPart, EventPart, ExtrasPart, Key, Layout, LayoutFault, Parts, SegmentPart,
+};
 use xcp_packet::Order;
 
 /// The parts of a layout: the clock by size, unit and ticks, the segments by address and numbers of bytes and of pages, the events
@@ -10,6 +12,7 @@ use xcp_packet::Order;
 struct Row {
     id: &'static [u8],
     own: (i64, i64, i64),
+    a2l: &'static [u8],
     clock: (i64, i64, i64),
     segments: &'static [(i64, usize, i64)],
     signals: (i64, i64),
@@ -46,9 +49,10 @@ fn add_event(
     Ok(())
 }
 
-/// Adds the identification, the segments and the events.
+/// Adds the identification, the A2L file's name, the segments and the events.
 fn add(parts: &mut Parts, alloc: Global, row: &Row) -> Result<(), AllocError> {
     parts.id.extend_from_slice(row.id)?;
+    parts.extras.a2l.extend_from_slice(row.a2l)?;
     for segment in row.segments {
         add_segment(parts, alloc, segment)?;
     }
@@ -73,6 +77,11 @@ fn parts(alloc: Global, row: &Row) -> Result<Parts, AllocError> {
         signals_address,
         signals_length,
         events: Vec::new(alloc),
+        extras: ExtrasPart {
+            a2l: Vec::new(alloc),
+            uploads_a2l: false,
+            tells_overload: false,
+        },
     };
     match add(&mut parts, alloc, row) {
         Ok(()) => Ok(parts),
@@ -82,6 +91,8 @@ fn parts(alloc: Global, row: &Row) -> Result<Parts, AllocError> {
 
 const LONG: &[u8] = b"a name of thirty-three characters";
 
+const LONG_A2L: &[u8] = b"a name of an A2L file that has sixty-five characters, no more.a2l";
+
 /// An event of which all is wrong.
 const WRONG: (&[u8], i64, i64, i64) = (b"", -1, -1, -1);
 
@@ -89,6 +100,7 @@ const WRONG: (&[u8], i64, i64, i64) = (b"", -1, -1, -1);
 const BARE: Row = Row {
     id: b"ECU1",
     own: (32, 64, 3),
+    a2l: b"",
     clock: (0, 0, 1),
     segments: &[],
     signals: (-1, 65),
@@ -115,6 +127,19 @@ macro_rules! with_itself {
         Row {
             id: $id,
             own: $own,
+            fault: Some($fault),
+            ..BARE
+        }
+    };
+}
+
+/// The A2L file's name, where the clock behind it is wrong.
+macro_rules! with_a2l {
+    ($name:expr, $fault:expr) => {
+        Row {
+            own: (255, 255, 6),
+            a2l: $name,
+            clock: (-1, -1, 0),
             fault: Some($fault),
             ..BARE
         }
@@ -167,12 +192,18 @@ macro_rules! with_events {
 }
 
 /// Each row keeps the limit that the row before breaks, and breaks all those behind that it can.
-static ROWS: [Row; 37] = [
+static ROWS: [Row; 40] = [
     with_itself!(b"", (7, 256, 7), Range(Key::Id)),
     with_itself!(b"ECU\x7F", (7, 256, 7), Range(Key::Id)),
     with_itself!(b"ECU 1~", (256, 7, 0), Range(Key::MaxCto)),
     with_itself!(b"ECU1", (8, 256, 0), Range(Key::MaxDto)),
     with_itself!(b"ECU1", (255, 255, 7), Range(Key::Checksum)),
+    with_a2l!(LONG_A2L, Range(Key::A2l)),
+    with_a2l!(b"engine\n.a2l", Range(Key::A2l)),
+    with_a2l!(
+        b"a name of an A2L file that has ~64 characters, which are all.a2l",
+        Range(Key::ClockSize)
+    ),
     with_clock!((-1, -1, 0), Range(Key::ClockSize)),
     with_clock!((5, 13, 65_536), Range(Key::ClockSize)),
     with_clock!((3, 13, 0), Range(Key::ClockSize)),

@@ -3,6 +3,8 @@
 #![tactic(auto)]
 
 #[cfg(test)]
+mod a2l_files;
+#[cfg(test)]
 mod config_tests;
 #[cfg(test)]
 mod config_texts;

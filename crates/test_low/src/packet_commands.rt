@@ -72,7 +72,7 @@ macro_rules! rows {
 /// A command's code, the least bytes that it has, and its parameters.
 type Row = (u8, usize, &'static [(Field, u8)]);
 
-static ROWS: [Row; 40] = commands!(rows []);
+static ROWS: [Row; 42] = commands!(rows []);
 
 macro_rules! command_of {
     ([$code:ident] $($variant:ident $handler:ident $value:literal $least:literal { $($name:ident: $kind:ident $place:literal),* })*) => {
@@ -144,7 +144,9 @@ fn takes_more(command: &Command) -> bool {
         Some(Ok(Command::Download { bytes, .. }))
         | Some(Ok(Command::DownloadNext { bytes, .. }))
         | Some(Ok(Command::DownloadMax { bytes }))
-        | Some(Ok(Command::ShortDownload { bytes, .. })) => {
+        | Some(Ok(Command::ShortDownload { bytes, .. }))
+        | Some(Ok(Command::GetVersion { bytes }))
+        | Some(Ok(Command::WriteDaqMultiple { bytes })) => {
             bytes.as_slice() == [0xAA, 0xBB].as_slice()
         }
         Some(Ok(found)) => are_same(&found, command, Order::Intel),

@@ -1,5 +1,5 @@
 //! Tests of the program but for its `main`, by public calls alone: files of many sizes, faults and their texts, turns, want of memory,
-//! writers that take no more, layouts with a clock, and what servers print and end with.
+//! writers that take no more, layouts with a clock, A2L files that tools get from the slave, and what servers print and end with.
 #![tactic(auto)]
 
 #[cfg(test)]
@@ -16,5 +16,7 @@ mod replays;
 mod servers;
 #[cfg(test)]
 mod sources;
+#[cfg(test)]
+mod uploads;
 #[cfg(test)]
 mod words;

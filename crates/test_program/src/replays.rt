@@ -14,6 +14,7 @@ fn told(alloc: Global, script: &str, turns: u32) -> Result<String, AllocError> {
         alloc,
         config.as_str(),
         None,
+        None,
         &mut reader,
         &mut writer,
         turns,

@@ -1,6 +1,7 @@
 //! An audit whose outcome is printed.
 ghost use Rattle.std.specs.Prelude.{◌≡◌, ◌≢◌, ◌<◌, ◌⊎◌, ◌++◌, [], ℕ, List, Option, Err, IfOk, IfSome, if◌then◌else◌, codes, decimal, string_bytes};
 ghost use Rattle.std.specs.Io.KnownBytes.{Consumes, IsAtEnd};
+ghost use Rattle.xcp_memory.specs.Layout.{A2lFileValue};
 ghost use Rattle.xcp_slave.specs.SlaveValue.{SlaveValue};
 ghost use Rattle.xcp_trace.specs.declared.Entry.{Entry};
 ghost use Rattle.xcp_program.specs.Beginning.{Begins};
@@ -35,7 +36,7 @@ pub fn print_audit<R: Read, W: Write>(
     printer: &mut Printer<W>,
     lines: bool,
 ) -> Result<(), Fault>
-    requires { (flash : Option (List ℕ)) × Begins config.now flash layout }
+    requires { (a2l : Option A2lFileValue) × (flash : Option (List ℕ)) × Begins config.now a2l flash layout }
     // Memory may be short before anything is read or printed.
     ensures ends { ((result ≡ Err Fault.Memory) × (reader.new ≡ reader.old) × (printer.new ≡ printer.old))
         ⊎ PrintsAudit config.now layout

@@ -1,7 +1,7 @@
 -- Parts that were read of a table that passes its checks keep the limits of parts, but perhaps those of overlapping areas.
-use Rattle.std.proofs.Common.{◌≡◌, not, ℕ, ◌+◌, Bool, true, false, List, length, map, ◌++◌, ◌∷◌, [], take, Some, None, Option, refl, sym, ◌∙◌, ap, sum_by, is_some, nat_le, ◌==◌, codes, if◌then◌else◌, ℤ, pos, negsuc, arith}
+use Rattle.std.proofs.Common.{◌≡◌, not, ℕ, ◌+◌, Bool, true, false, List, length, map, ◌++◌, ◌∷◌, [], take, Some, None, Option, refl, sym, ◌∙◌, ap, sum_by, is_some, nat_le, ◌==◌, ◌&&◌, codes, if◌then◌else◌, ℤ, pos, negsuc, arith}
 use Rattle.std.proofs.lemmas.Bool.Decides.{nat_tests}
-use Rattle.std.specs.List.{flat_map, enumerate_from, fold}
+use Rattle.std.specs.List.{flat_map, enumerate_from, fold, list_all}
 use Rattle.std.proofs.lemmas.List.{take-map, length-map}
 use Rattle.std.proofs.lemmas.Simd.{map-map}
 use Rattle.std.specs.Option.{option_and_then, option_map}
@@ -13,17 +13,17 @@ use Rattle.xcp_memory.specs.declared.SegmentPart.{SegmentPart}
 use Rattle.xcp_memory.specs.declared.EventPart.{EventPart}
 use Rattle.xcp_memory.specs.declared.ClockPart.{ClockPart}
 use Rattle.xcp_memory.specs.LayoutParts.{number, size, layout_of, areas, segment_of_part, event_of_part}
-use Rattle.xcp_memory.specs.Layout.{SegmentValue, EventValue}
-use Rattle.xcp_memory.specs.Limits.{Limit, first_fault as first_limit, clock_limits, own_limits, segment_limits, segments_limits, limits_in, signals_limits, event_limits, events_limits, apart_limits, is_within, is_text, is_address, ends_in_time, text_limit, number_limit, least_limit, count_limits, id_limit, max_cto_limit, max_dto_limit, segment_counts, address_limit, data_limit, pages_limit, signals_address_limit, signals_length_limit, event_counts, name_limit, cycle_limit, unit_limit, priority_limit}
+use Rattle.xcp_memory.specs.Layout.{SegmentValue, EventValue, ExtrasValue}
+use Rattle.xcp_memory.specs.Limits.{Limit, first_fault as first_limit, clock_limits, own_limits, segment_limits, segments_limits, limits_in, signals_limits, event_limits, events_limits, apart_limits, is_within, is_printable, is_text, is_text_or_none, is_address, ends_in_time, text_limit, number_limit, least_limit, count_limits, id_limit, max_cto_limit, max_dto_limit, segment_counts, address_limit, data_limit, pages_limit, signals_address_limit, signals_length_limit, event_counts, name_limit, cycle_limit, unit_limit, priority_limit}
 use Rattle.xcp_memory.specs.declared.LayoutFault.{LayoutFault}
 use Rattle.xcp_config.specs.declared.config_error.ConfigError.{ConfigError}
 use Rattle.xcp_config.specs.declared.config_error.ConfigError.TheVariants as error
 use Rattle.xcp_packet.specs.Rows.{first_holding}
 use Rattle.xcp_config.specs.FaultNumbers.{error_of}
-use Rattle.xcp_config.specs.TomlValues.{text_of, integer_of, bytes_of, members_of, is_array_of_tables, byte_orders, checksums}
-use Rattle.xcp_config.specs.TableLayout.{layout_in, byte_order_of, checksum_of, clock_key, clock_in, clock_setting, clock_part, segments_of, signals_of, events_of, address_of, size_of, pages_of, length_of, setting, segment_in, event_in}
+use Rattle.xcp_config.specs.TomlValues.{text_of, integer_of, bytes_of, members_of, is_array_of_tables, byte_orders, checksums, overloads}
+use Rattle.xcp_config.specs.TableLayout.{layout_in, byte_order_of, checksum_of, a2l_in, clock_key, clock_in, clock_setting, clock_part, segments_of, signals_of, events_of, address_of, size_of, pages_of, length_of, setting, segment_in, event_in}
 use Rattle.xcp_config.specs.private.PartsRead.{Reads, Segment, Event, segment_read, segment_written, event_read, event_written}
-use Rattle.xcp_config.specs.TableChecks.{text_checks, name_checks, integer_checks, data_checks, array_checks, table_checks, size_check, clock_key_checks, checks_of_clock, clock_checks, own_checks, size_checks, segment_checks, checks_in, segments_checks, end_checks, place_checks, signals_checks, event_checks, events_checks, limit_check}
+use Rattle.xcp_config.specs.TableChecks.{text_checks, name_checks, integer_checks, boolean_checks, if_there, data_checks, array_checks, table_checks, extras_checks, size_check, clock_key_checks, checks_of_clock, clock_checks, own_checks, size_checks, segment_checks, checks_in, segments_checks, end_checks, place_checks, signals_checks, event_checks, events_checks, limit_check}
 use Rattle.xcp_packet.proofs.RowTestLemmas.{none_both, none_left}
 
 -- three limits that are kept, four, and five
@@ -85,6 +85,26 @@ array_good : (k : Key) (most : ℕ) (v : Option Data) → first_holding (array_c
 unfolding array_checks
 array_good k most v h = last_pass (is_some v) (is_array_of_tables v) (nat_le 1 (length (members_of v))) (nat_le (length (members_of v)) most) (error.Missing k) (error.Kind k) (error.Range k) (error.TooMany k) h
 
+-- the name of the A2L file
+other_two : (a b c : Bool) → (a && b && c) ≡ true → (b && c) ≡ true
+other_two true b c h = h
+other_two false b c h = cc
+
+some_or_none : (most : ℕ) (bytes : List ℕ) → is_text most bytes ≡ true → is_text_or_none most bytes ≡ true
+some_or_none most bytes h = other_two (nat_le 1 (length bytes)) (nat_le (length bytes) most) (list_all is_printable bytes) h
+
+name_kept : (v : Option Data) → first_holding (if_there (text_checks key.A2l (text_limit 64 key.A2l)) v) ≡ None → is_text_or_none 64 (text_of v) ≡ true
+name_kept None h = refl
+name_kept (Some d) h = some_or_none 64 (text_of (Some d)) (text_good key.A2l 64 (Some d) h)
+
+a2l_kept : (t : Data) → first_holding (extras_checks t) ≡ None → is_text_or_none 64 (a2l_in t) ≡ true
+unfolding extras_checks
+a2l_kept t h =
+    let a = if_there (text_checks key.A2l (text_limit 64 key.A2l)) (get (codes "a2l") t) in
+    let b = if_there (boolean_checks key.UploadA2l) (get (codes "upload_a2l") t) in
+    let c = if_there (name_checks key.Overload overloads) (get (codes "overload") t) in
+    name_kept (get (codes "a2l") t) (none_both a b (none_both (a ++ b) c h).0).0
+
 -- the clock
 size_kept : (z : ℤ) → is_within 1 4 z ≡ true → is_within 0 4 z ≡ true
 size_kept (pos n) h = grind (arith, nat_tests)
@@ -115,8 +135,8 @@ clock_kept : (t : Data) → first_holding (clock_checks t) ≡ None → first_ho
 unfolding clock_checks
 clock_kept t h = table_kept (clock_key t) h
 
-own_by : (a b c d : Bool) (e f g k : LayoutFault) (r : Option LayoutFault) → a ≡ true → b ≡ true → c ≡ true → d ≡ true → r ≡ None → (if not a then Some e else (if not b then Some f else (if not c then Some g else (if not d then Some k else r)))) ≡ None
-own_by a b c d e f g k r h i j l m = rw (h, i, j, l, m) refl
+own_by : (a b c d e : Bool) (f g k l m : LayoutFault) (r : Option LayoutFault) → a ≡ true → b ≡ true → c ≡ true → d ≡ true → e ≡ true → r ≡ None → (if not a then Some f else (if not b then Some g else (if not c then Some k else (if not d then Some l else (if not e then Some m else r))))) ≡ None
+own_by a b c d e f g k l m r h i j n o p = rw (h, i, j, n, o, p) refl
 
 -- the slave's own values
 own_kept : (p : Parts) (t : Data) → Reads p t → first_holding (own_checks t) ≡ None → first_holding (own_limits p) ≡ None
@@ -127,15 +147,17 @@ own_kept p t r h =
     let c = integer_checks key.MaxDto max_dto_limit (get (codes "max_dto") t) in
     let d = name_checks key.ByteOrder byte_orders (byte_order_of t) in
     let e = name_checks key.Checksum checksums (checksum_of t) in
-    let all = none_both (a ++ b ++ c ++ d ++ e) (clock_checks t) h in
-    let four = none_both (a ++ b ++ c ++ d) e all.0 in
+    let all = none_both (a ++ b ++ c ++ d ++ e ++ extras_checks t) (clock_checks t) h in
+    let five = none_both (a ++ b ++ c ++ d ++ e) (extras_checks t) all.0 in
+    let four = none_both (a ++ b ++ c ++ d) e five.0 in
     let three = none_both (a ++ b ++ c) d four.0 in
     let two = none_both (a ++ b) c three.0 in
     let one = none_both a b two.0 in
     let id = ap (is_text 64) r.id ∙ text_good key.Id 64 (get (codes "id") t) one.0 in
     let cto = ap (is_within 8 255) r.max_cto ∙ integer_good key.MaxCto 8 255 (get (codes "max_cto") t) one.1 in
     let dto = ap (is_within 8 255) r.max_dto ∙ integer_good key.MaxDto 8 255 (get (codes "max_dto") t) two.1 in
-    own_by _ _ _ _ _ _ _ _ _ id cto dto r.known (ap (λ (x : ClockPart). first_holding (clock_limits x)) r.clock ∙ clock_kept t all.1)
+    let a2l = ap (λ (x : ExtrasValue). is_text_or_none 64 x.a2l) r.extras ∙ a2l_kept t five.1 in
+    own_by _ _ _ _ _ _ _ _ _ _ _ id cto dto r.known a2l (ap (λ (x : ClockPart). first_holding (clock_limits x)) r.clock ∙ clock_kept t all.1)
 
 -- the sum of what a list's elements are seen as
 sum_map : {A B : Type 0} (f : B → ℕ) (g : A → B) (n : ℕ) (xs : List A) → fold (λ m x. m + f (g x)) n xs ≡ fold (λ m y. m + f y) n (map g xs)
@@ -260,7 +282,7 @@ layout_read p t r =
     sym (map-map as_segment segment_read p.segments.items) ∙ ap (map as_segment) r.segments ∙ map-map as_segment segment_written (segments_of t) in
     let events : map event_of_part p.events.items ≡ map event_in (events_of t) =
     sym (map-map as_event event_read p.events.items) ∙ ap (map as_event) r.events ∙ map-map as_event event_written (events_of t) in
-    rw (r.id, r.max_cto, r.max_dto, r.checksum, r.order, r.clock, segments, r.signals_address, r.signals_length, events) refl
+    rw (r.id, r.max_cto, r.max_dto, r.checksum, r.order, r.clock, segments, r.signals_address, r.signals_length, events, r.extras) refl
 
 -- the areas decide, where all checks before theirs pass
 pub areas_decide : (p : Parts) (t : Data) → Reads p t → first_holding (own_checks t ++ segments_checks t ++ signals_checks t ++ events_checks t) ≡ None → first_limit p ≡ first_holding (apart_limits (areas (layout_in t)))

@@ -13,8 +13,10 @@ use Rattle.xcp_config.specs.declared.config_error.ConfigError.TheVariants.{Text,
 use Rattle.xcp_packet.specs.Rows.{first_holding}
 use Rattle.xcp_config.specs.Check.{Check}
 use Rattle.xcp_config.specs.FaultNumbers.{error_of}
+use Rattle.xcp_config.specs.TomlValues.{overloads}
+use Rattle.xcp_memory.specs.Limits.{text_limit}
 use Rattle.xcp_config.specs.TableLayout.{layout_in, clock_key, segments_of, events_of}
-use Rattle.xcp_config.specs.TableChecks.{text_checks, name_checks, integer_checks, data_checks, array_checks, table_checks, checks_of_clock, clock_checks, clock_key_checks, own_checks, segment_checks, checks_in, segments_checks, place_checks, signals_checks, event_checks, events_checks, limit_check, limit_checks, checks, first_fault}
+use Rattle.xcp_config.specs.TableChecks.{text_checks, name_checks, integer_checks, data_checks, array_checks, table_checks, boolean_checks, if_there, extras_checks, checks_of_clock, clock_checks, clock_key_checks, own_checks, segment_checks, checks_in, segments_checks, place_checks, signals_checks, event_checks, events_checks, limit_check, limit_checks, checks, first_fault}
 
 -- a fault of a table
 abbrev of_table : ConfigError → Bool
@@ -62,6 +64,33 @@ array_told : (k : Key) (n : ℕ) (v : Option Data) → all_of_table (array_check
 unfolding array_checks
 array_told k n v = refl
 
+there_told : (cs : Option Data → List Check) → ((d : Data) → all_of_table (cs (Some d)) ≡ true) → (v : Option Data) → all_of_table (if_there cs v) ≡ true
+there_told cs h None = refl
+there_told cs h (Some d) = h d
+
+name_told : (d : Data) → all_of_table (text_checks key.A2l (text_limit 64 key.A2l) (Some d)) ≡ true
+unfolding text_checks
+name_told d = refl
+
+upload_told : (d : Data) → all_of_table (boolean_checks key.UploadA2l (Some d)) ≡ true
+unfolding boolean_checks
+upload_told d = refl
+
+overload_told : (d : Data) → all_of_table (name_checks key.Overload overloads (Some d)) ≡ true
+unfolding name_checks
+overload_told d = refl
+
+extras_told : (t : Data) → all_of_table (extras_checks t) ≡ true
+unfolding extras_checks
+extras_told t =
+    let a = text_checks key.A2l (text_limit 64 key.A2l) in
+    let b = boolean_checks key.UploadA2l in
+    let c = name_checks key.Overload overloads in
+    let v = get (codes "a2l") t in
+    let w = get (codes "upload_a2l") t in
+    let x = get (codes "overload") t in
+    both (if_there a v ++ if_there b w) (if_there c x) (both (if_there a v) (if_there b w) (there_told a name_told v) (there_told b upload_told w)) (there_told c overload_told x)
+
 clock_told : (v : Option Data) → all_of_table (checks_of_clock v) ≡ true
 unfolding clock_key_checks table_checks integer_checks
 clock_told None = refl
@@ -69,7 +98,7 @@ clock_told (Some c) = refl
 
 own_told : (t : Data) → all_of_table (own_checks t) ≡ true
 unfolding own_checks text_checks name_checks integer_checks clock_checks
-own_told t = clock_told (clock_key t)
+own_told t = both (extras_checks t) (clock_checks t) (extras_told t) (clock_told (clock_key t))
 
 segment_told : (ss : List Data) (p : ℕ × Data) → all_of_table (checks_in ss p) ≡ true
 unfolding segment_checks integer_checks data_checks

@@ -3,18 +3,18 @@
 use Rattle.std.specs.Prelude.{ℕ, ℤ, ◌+◌, List, [], ◌∷◌, ◌++◌, length, map, sum_by, take, codes, Option, Some, None, is_some, not, ◌==◌}
 use Rattle.std.specs.Option.{option_and_then}
 use Rattle.std.specs.List.{flat_map, enumerate_from}
-use Rattle.toml.specs.Data.{Data, get, as_integer, as_str, as_table}
+use Rattle.toml.specs.Data.{Data, get, as_integer, as_str, as_bool, as_table}
 use Rattle.xcp_memory.specs.declared.Key.{Key}
 use Rattle.xcp_memory.specs.declared.Key.TheVariants as key
 use Rattle.xcp_memory.specs.declared.LayoutFault.TheVariants as limit
 use Rattle.xcp_memory.specs.LayoutParts.{number, areas}
-use Rattle.xcp_memory.specs.Limits.{Limit, id_limit, max_cto_limit, max_dto_limit, number_limit, segment_counts, address_limit, data_limit, total_limit, end_limit, pages_limit, signals_address_limit, signals_length_limit, event_counts, name_limit, cycle_limit, unit_limit, priority_limit, apart_limits}
+use Rattle.xcp_memory.specs.Limits.{Limit, id_limit, max_cto_limit, max_dto_limit, text_limit, number_limit, segment_counts, address_limit, data_limit, total_limit, end_limit, pages_limit, signals_address_limit, signals_length_limit, event_counts, name_limit, cycle_limit, unit_limit, priority_limit, apart_limits}
 use Rattle.xcp_config.specs.declared.config_error.ConfigError.{ConfigError}
 use Rattle.xcp_config.specs.declared.config_error.ConfigError.TheVariants.{Missing, Kind, Range}
 use Rattle.xcp_config.specs.FaultNumbers.{error_of}
 use Rattle.xcp_packet.specs.Rows.{first_holding, must}
 use Rattle.xcp_config.specs.Check.{Check}
-use Rattle.xcp_config.specs.TomlValues.{text_of, integer_of, bytes_of, members_of, is_array_of_tables, named, byte_orders, checksums}
+use Rattle.xcp_config.specs.TomlValues.{text_of, integer_of, bytes_of, members_of, is_array_of_tables, named, byte_orders, checksums, overloads}
 use Rattle.xcp_config.specs.TableLayout.{layout_in, byte_order_of, checksum_of, clock_key, clock_setting, clock_part, segments_of, signals_of, events_of, address_of, size_of, pages_of, length_of, setting}
 
 -- the check that a limit of a layout makes
@@ -45,6 +45,18 @@ integer_checks k limit v =
     ∷ limit_check (limit (integer_of v))
     ∷ []
 
+-- a boolean
+unfoldable pub boolean_checks : Key → Option Data → List Check
+boolean_checks k v =
+    must (is_some v) (Missing k)
+    ∷ must (is_some (option_and_then as_bool v)) (Kind k)
+    ∷ []
+
+-- the checks of a value that needn't be there
+abbrev pub if_there : (Option Data → List Check) → Option Data → List Check
+if_there checks None = []
+if_there checks (Some d) = checks (Some d)
+
 -- a text of hex digits that writes as many bytes as keep a limit
 unfoldable pub data_checks : Key → (ℕ → Limit) → Option Data → List Check
 data_checks k limit v =
@@ -66,6 +78,14 @@ table_checks k v =
     must (is_some v) (Missing k)
     ∷ must (is_some (option_and_then as_table v)) (Kind k)
     ∷ []
+
+-- What only some slaves have: the name of the A2L file, a text that is absent or 1 to 64 printable characters; whether tools get
+-- the file from the slave, a boolean or absent; how a lost sample is told, absent or one of the words for it.
+unfoldable pub extras_checks : Data → List Check
+extras_checks t =
+    if_there (text_checks key.A2l (text_limit 64 key.A2l)) (get (codes "a2l") t)
+    ++ if_there (boolean_checks key.UploadA2l) (get (codes "upload_a2l") t)
+    ++ if_there (name_checks key.Overload overloads) (get (codes "overload") t)
 
 -- a time stamp doesn't have three bytes
 abbrev pub size_check : ℤ → List Check
@@ -95,6 +115,7 @@ own_checks t =
     ++ integer_checks key.MaxDto max_dto_limit (get (codes "max_dto") t)
     ++ name_checks key.ByteOrder byte_orders (byte_order_of t)
     ++ name_checks key.Checksum checksums (checksum_of t)
+    ++ extras_checks t
     ++ clock_checks t
 
 -- how many bytes there are in all with those of segment i, and where the last one of these lies

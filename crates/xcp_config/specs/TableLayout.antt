@@ -1,5 +1,5 @@
 -- The layout that the table of a configuration has.
-use Rattle.std.specs.Prelude.{ℕ, ℤ, pos, List, map, length, codes, Option, Some, None, unwrap_or}
+use Rattle.std.specs.Prelude.{ℕ, ℤ, pos, Bool, false, List, map, length, codes, Option, Some, None, unwrap_or}
 use Rattle.toml.specs.Data.{Data, integer, string, table, no_members, get}
 use Rattle.xcp_packet.specs.declared.Order.{Order}
 use Rattle.xcp_packet.specs.declared.Order.TheVariants.{Intel}
@@ -7,8 +7,8 @@ use Rattle.xcp_memory.specs.declared.ChecksumKind.{ChecksumKind}
 use Rattle.xcp_memory.specs.declared.ChecksumKind.TheVariants.{Add14}
 use Rattle.xcp_memory.specs.LayoutParts.{number, clock_of}
 use Rattle.xcp_memory.specs.declared.ClockPart.{ClockPart}
-use Rattle.xcp_memory.specs.Layout.{LayoutValue, SegmentValue, EventValue}
-use Rattle.xcp_config.specs.TomlValues.{optional, text_of, integer_of, bytes_of, members_of, named, byte_orders, checksums}
+use Rattle.xcp_memory.specs.Layout.{LayoutValue, SegmentValue, EventValue, ExtrasValue}
+use Rattle.xcp_config.specs.TomlValues.{optional, text_of, integer_of, boolean_of, bytes_of, members_of, named, byte_orders, checksums, overloads}
 
 -- the byte order, `intel` where none is given
 abbrev pub byte_order_of : Data → Option Data
@@ -23,6 +23,22 @@ checksum_of t = optional (string (codes "ADD_14")) (get (codes "checksum") t)
 
 abbrev pub checksum_in : Data → ChecksumKind
 checksum_in t = unwrap_or (named checksums (text_of (checksum_of t))) Add14
+
+-- the name of the A2L file, of no bytes where none is given
+abbrev pub a2l_in : Data → List ℕ
+a2l_in t = text_of (get (codes "a2l") t)
+
+-- whether tools get the A2L file from the slave, which they don't where nothing is said
+abbrev pub uploads_in : Data → Bool
+uploads_in t = boolean_of (get (codes "upload_a2l") t)
+
+-- whether an event packet tells of lost samples, which none does where nothing is said
+abbrev pub overload_in : Data → Bool
+overload_in t = unwrap_or (named overloads (text_of (get (codes "overload") t))) false
+
+-- what only some slaves have: the A2L file itself is made later
+abbrev pub extras_in : Data → ExtrasValue
+extras_in t = record { a2l = a2l_in t; uploads_a2l = uploads_in t; tells_overload = overload_in t; file = None }
 
 -- a number of the clock, or its default where none is given
 abbrev pub clock_setting : List ℕ → ℕ → Data → Option Data
@@ -105,4 +121,5 @@ layout_in t = record {
   signals_address = number (address_of (signals_of t));
   signals_length = number (length_of (signals_of t));
   events = map event_in (events_of t);
+  extras = extras_in t;
 }

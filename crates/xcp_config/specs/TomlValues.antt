@@ -1,11 +1,11 @@
 -- The values that a TOML document has at its keys (TOML v1.1.0: keys, arrays and tables), read as a configuration reads them.
-use Rattle.std.specs.Prelude.{ℕ, ℤ, pos, Bool, List, [], ◌∷◌, ◌&&◌, codes, Option, Some, None, Result, Ok, Err, is_some, unwrap_or, if◌then◌else◌}
+use Rattle.std.specs.Prelude.{ℕ, ℤ, pos, Bool, true, false, List, [], ◌∷◌, ◌&&◌, codes, Option, Some, None, Result, Ok, Err, is_some, unwrap_or, if◌then◌else◌}
 use Rattle.std.specs.Option.{option_and_then}
 use Rattle.std.specs.List.{list_all}
 use Rattle.std.specs.Str.{bytes_eq}
 use Rattle.hex.specs.Hex.{decode_of}
 use Rattle.hex.specs.declared.FromHexError.{FromHexError}
-use Rattle.toml.specs.Data.{Data, Items, no_items, item, as_integer, as_str, as_array, as_table}
+use Rattle.toml.specs.Data.{Data, Items, no_items, item, as_integer, as_str, as_bool, as_array, as_table}
 use Rattle.xcp_packet.specs.declared.Order.{Order}
 use Rattle.xcp_packet.specs.declared.Order.TheVariants.{Intel, Motorola}
 use Rattle.xcp_memory.specs.declared.ChecksumKind.{ChecksumKind}
@@ -23,6 +23,10 @@ text_of v = unwrap_or (option_and_then as_str v) []
 -- the integer that a value is, and 0 where it is none
 abbrev pub integer_of : Option Data → ℤ
 integer_of v = unwrap_or (option_and_then as_integer v) (pos 0)
+
+-- the boolean that a value is, and false where it is none
+abbrev pub boolean_of : Option Data → Bool
+boolean_of v = unwrap_or (option_and_then as_bool v) false
 
 -- the bytes that were decoded, and none where they couldn't be
 abbrev pub decoded : Result (List ℕ) FromHexError → List ℕ
@@ -70,3 +74,8 @@ checksums =
     ∷ (codes "ADD_24", Add24)
     ∷ (codes "ADD_44", Add44)
     ∷ []
+
+-- whether an event packet tells of lost samples: the one word that says so
+-- (ASAM MCD-1 XCP, protocol layer, event packets: EV_DAQ_OVERLOAD.)
+abbrev pub overloads : List (List ℕ × Bool)
+overloads = (codes "event", true) ∷ []

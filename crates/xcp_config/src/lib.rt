@@ -6,6 +6,7 @@
 mod clock;
 mod config_error;
 mod events;
+mod extras;
 mod own;
 mod reading;
 mod segments;

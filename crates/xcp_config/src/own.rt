@@ -3,20 +3,21 @@ ghost use Rattle.std.specs.Prelude.{◌≡◌, ◌⊎◌, codes, true, Some, Non
 ghost use Rattle.toml.specs.Data.{get};
 ghost use Rattle.toml.specs.View.{view};
 ghost use Rattle.xcp_memory.specs.declared.Key.TheVariants as key;
-ghost use Rattle.xcp_memory.specs.LayoutParts.{number, kind_numbered};
+ghost use Rattle.xcp_memory.specs.LayoutParts.{extras_of, number, kind_numbered};
 ghost use Rattle.xcp_memory.specs.Limits.{is_within};
 ghost use Rattle.xcp_packet.specs.Rows.{first_holding};
 ghost use Rattle.xcp_config.specs.TomlValues.{byte_orders, checksums, integer_of, named, text_of};
-ghost use Rattle.xcp_config.specs.TableLayout.{byte_order_of, checksum_in, checksum_of, clock_in, clock_key, order_in};
+ghost use Rattle.xcp_config.specs.TableLayout.{byte_order_of, checksum_in, checksum_of, clock_in, clock_key, extras_in, order_in};
 ghost use Rattle.xcp_config.specs.TableChecks.{own_checks, name_checks};
 
 use crate::ConfigError;
 use crate::clock::read_clock;
+use crate::extras::read_extras;
 use crate::values::{read_integer, read_text, text_in};
 use std::alloc::Global;
 use toml::Value;
 use xcp_memory::limits::MAX_ID;
-use xcp_memory::{ChecksumKind, ClockPart, Key};
+use xcp_memory::{ChecksumKind, ClockPart, ExtrasPart, Key};
 use xcp_packet::Order;
 
 /// The values of the slave itself.
@@ -28,6 +29,7 @@ pub(crate) struct Own {
     pub(crate) order: Order,
     /// The number of the type of checksums: 1 to 6.
     pub(crate) checksum: i64,
+    pub(crate) extras: ExtrasPart,
     pub(crate) clock: ClockPart,
 }
 
@@ -92,7 +94,8 @@ fn read_checksum(table: &Value) -> Result<ChecksumKind, ConfigError>
 }
 
 impl Own {
-    /// Reads the identification, MAX_CTO, MAX_DTO, the byte order, the type of checksums and the clock, in this order.
+    /// Reads the identification, MAX_CTO, MAX_DTO, the byte order, the type of checksums, what only some slaves have, and the
+    /// clock, in this order.
     pub(crate) fn read(alloc: Global, table: &Value) -> Result<Own, ConfigError>
         ensures passes { IfOk result (λ o. first_holding (own_checks (view table.now)) ≡ None) }
         ensures id { IfOk result (λ o. o.id.items ≡ text_of (get (codes "id") (view table.now))) }
@@ -101,6 +104,7 @@ impl Own {
         ensures order { IfOk result (λ o. o.order ≡ order_in (view table.now)) }
         ensures checksum { IfOk result (λ o. kind_numbered (number o.checksum) ≡ checksum_in (view table.now)) }
         ensures range { IfOk result (λ o. is_within 1 6 o.checksum ≡ true) }
+        ensures extras { IfOk result (λ o. extras_of o.extras ≡ extras_in (view table.now)) }
         ensures clock { IfOk result (λ o. o.clock ≡ clock_in (clock_key (view table.now))) }
         ensures refused { IfErr result (λ e. (e ≡ ConfigError.Memory) ⊎ (first_holding (own_checks (view table.now)) ≡ Some e)) }
     {
@@ -109,6 +113,7 @@ impl Own {
         let max_dto = read_integer(table, "max_dto", Key::MaxDto, 8, 255)?;
         let order = read_order(table)?;
         let checksum = read_checksum(table)?;
+        let extras = read_extras(alloc, table)?;
         let clock = read_clock(table)?;
         Ok(Own {
             id,
@@ -116,6 +121,7 @@ impl Own {
             max_dto,
             order,
             checksum: i64::from(checksum.number()),
+            extras,
             clock,
         })
     }

@@ -53,6 +53,7 @@ fn read_parts(alloc: Global, table: &Value) -> Result<Parts, ConfigError>
         signals_address: signals.address,
         signals_length: signals.length,
         events,
+        extras: own.extras,
     })
 }
 

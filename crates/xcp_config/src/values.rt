@@ -5,8 +5,8 @@ ghost use Rattle.toml.specs.Data.{get, integer};
 ghost use Rattle.toml.specs.View.{view};
 ghost use Rattle.xcp_memory.specs.Limits.{is_within, text_limit, number_limit, least_limit, count_limits};
 ghost use Rattle.xcp_packet.specs.Rows.{first_holding};
-ghost use Rattle.xcp_config.specs.TomlValues.{bytes_of, integer_of, is_table, members_of, optional, text_of};
-ghost use Rattle.xcp_config.specs.TableChecks.{array_checks, data_checks, integer_checks, table_checks, text_checks};
+ghost use Rattle.xcp_config.specs.TomlValues.{boolean_of, bytes_of, integer_of, is_table, members_of, optional, text_of};
+ghost use Rattle.xcp_config.specs.TableChecks.{array_checks, boolean_checks, data_checks, integer_checks, table_checks, text_checks};
 ghost use Rattle.xcp_config.specs.private.TextThere.{text_there};
 
 use crate::ConfigError;
@@ -95,6 +95,22 @@ pub(crate) fn read_setting(
     match table.get(name) {
         None => Ok(i64::from(default)),
         Some(_) => read_integer(table, name, key, least, most),
+    }
+}
+
+/// A boolean.
+#[tactic(auto, unfolding(crate::specs::TableChecks::boolean_checks))]
+pub(crate) fn boolean_in(table: &Value, name: &str, key: Key) -> Result<bool, ConfigError>
+    ensures passes { IfOk result (λ _. first_holding (boolean_checks key (get name.now (view table.now))) ≡ None) }
+    ensures value { IfOk result (λ b. b ≡ boolean_of (get name.now (view table.now))) }
+    ensures refused { IfErr result (λ e. first_holding (boolean_checks key (get name.now (view table.now))) ≡ Some e) }
+{
+    let Some(value) = table.get(name) else {
+        return Err(ConfigError::Missing(key));
+    };
+    match value.as_bool() {
+        Some(boolean) => Ok(boolean),
+        None => Err(ConfigError::Kind(key)),
     }
 }
 

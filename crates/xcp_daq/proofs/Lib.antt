@@ -7,3 +7,4 @@ pub mod DueListLemmas
 pub mod ListLoopLemmas
 pub mod SampleBoundLaws
 pub mod SameListLemmas
+pub mod WriteTurnLemmas

@@ -1,14 +1,17 @@
 -- The commands that write and read what a list samples, and when.
--- (ASAM MCD-1 XCP, protocol layer, description of commands: CLEAR_DAQ_LIST, SET_DAQ_PTR, WRITE_DAQ, READ_DAQ,
--- SET_DAQ_LIST_MODE.)
-use Rattle.std.specs.Prelude.{ℕ, ◌+◌, ◌==◌, not, ◌&&◌, ◌||◌, nat_le, nat_lt, Bool, true, false, List, [], ◌∷◌, length, map, Option, Some, None, if◌then◌else◌, slice_index_or as get_or, slice_set}
+-- (ASAM MCD-1 XCP, protocol layer, description of commands: CLEAR_DAQ_LIST, SET_DAQ_PTR, WRITE_DAQ,
+-- WRITE_DAQ_MULTIPLE, READ_DAQ, SET_DAQ_LIST_MODE.)
+use Rattle.std.specs.Prelude.{ℕ, zero, suc, ◌+◌, ◌*◌, ◌==◌, not, ◌&&◌, ◌||◌, nat_le, nat_lt, Bool, true, false, List, [], ◌∷◌, ◌++◌, length, drop, map, Option, Some, None, Result, Ok, Err, if◌then◌else◌, slice_index_or as get_or, slice_set}
+use Rattle.xcp_packet.specs.ByteOrder.{byte_at, double_at}
+use Rattle.xcp_packet.specs.declared.Order.{Order}
 use Rattle.xcp_packet.specs.declared.Code.{Code}
-use Rattle.xcp_packet.specs.declared.Code.TheVariants.{OutOfRange, DaqActive, DaqConfig, AccessDenied, ModeNotValid}
+use Rattle.xcp_packet.specs.declared.Code.TheVariants.{CmdSyntax, OutOfRange, DaqActive, DaqConfig, AccessDenied, ModeNotValid}
 use Rattle.xcp_packet.specs.declared.Stamp.{Stamp}
 use Rattle.xcp_packet.specs.declared.Stamp.TheVariants.{Without}
 use Rattle.xcp_memory.specs.Layout.{LayoutValue}
 use Rattle.xcp_memory.specs.ComputedAccess.{lies_inside}
 use Rattle.xcp_packet.specs.Rows.{first_holding}
+use Rattle.xcp_daq.specs.declared.daq_element.DaqElement.{DaqElement}
 use Rattle.xcp_daq.specs.declared.element.Element.{Element}
 use Rattle.xcp_daq.specs.declared.pointer.Pointer.{Pointer}
 use Rattle.xcp_daq.specs.DaqLists.{DaqValue, DaqList, list_at, odt_at, lacks_list, lacks_odt, lacks_entry, greatest_size, has_stamp, with_list, with_odt}
@@ -78,6 +81,56 @@ written_at (Some p) e v =
 -- what WRITE_DAQ does
 abbrev pub write_daq_after : ℕ → ℕ → DaqValue → DaqValue
 write_daq_after size address v = written_at v.pointer (record { size = size; address = address }) v
+
+-- a DAQ element in eight bytes: BIT_OFFSET, size, address, address extension, and a dummy byte
+abbrev pub element_in : Order → List ℕ → DaqElement
+element_in order p = record { offset = byte_at 0 p; size = byte_at 1 p; address = double_at order 2 p; extension = byte_at 6 p }
+
+-- so many DAQ elements, one behind the other
+abbrev pub elements_in : Order → ℕ → List ℕ → List DaqElement
+elements_in order zero p = []
+elements_in order (suc n) p = element_in order p ∷ elements_in order n (drop 8 p)
+
+-- what WRITE_DAQ_MULTIPLE asks of its bytes: the number of DAQ elements, all of them, and that there is one
+abbrev pub multiple_rows : List ℕ → List (Bool × Code)
+multiple_rows bytes =
+    (length bytes == 0, CmdSyntax)
+    ∷ (nat_lt (length bytes) (1 + 8 * byte_at 0 bytes), CmdSyntax)
+    ∷ (byte_at 0 bytes == 0, OutOfRange)
+    ∷ []
+
+-- a refusal, and what comes where there is none
+abbrev pub unless : Option Code → Result DaqValue Code → Result DaqValue Code
+unless None next = next
+unless (Some code) next = Err code
+
+-- WRITE_DAQs in turn: the value behind the last one, or the first refusal of one, at the value that those before it leave
+abbrev pub write_daqs : LayoutValue → List DaqElement → DaqValue → Result DaqValue Code
+write_daqs layout [] v = Ok v
+write_daqs layout (e ∷ es) v =
+    unless (write_daq_refusal layout e.offset e.size e.extension e.address v) (write_daqs layout es (write_daq_after e.size e.address v))
+
+-- the WRITE_DAQs of WRITE_DAQ_MULTIPLE
+abbrev pub multiple : LayoutValue → List ℕ → DaqValue → Result DaqValue Code
+multiple layout bytes v = write_daqs layout (elements_in layout.order (byte_at 0 bytes) (drop 1 bytes)) v
+
+-- the refusal, where there is one
+abbrev pub refused_in : Result DaqValue Code → List (Bool × Code)
+refused_in (Ok w) = []
+refused_in (Err code) = (true, code) ∷ []
+
+-- when WRITE_DAQ_MULTIPLE is refused: its bytes are looked at first, and then the WRITE_DAQs in turn
+abbrev pub write_daq_multiple_refusal : LayoutValue → List ℕ → DaqValue → Option Code
+write_daq_multiple_refusal layout bytes v = first_holding (multiple_rows bytes ++ refused_in (multiple layout bytes v))
+
+-- all of them or none
+abbrev pub all_or_none : DaqValue → Result DaqValue Code → DaqValue
+all_or_none v (Ok w) = w
+all_or_none v (Err code) = v
+
+-- what WRITE_DAQ_MULTIPLE does
+abbrev pub write_daq_multiple_after : LayoutValue → List ℕ → DaqValue → DaqValue
+write_daq_multiple_after layout bytes v = all_or_none v (multiple layout bytes v)
 
 -- when READ_DAQ is refused
 abbrev pub read_daq_refusal : DaqValue → Option Code

@@ -27,9 +27,10 @@ abbrev pub daq_list_mode_reply : ℕ → DaqValue → ListMode
 daq_list_mode_reply list v =
     record { mode = mode_bits (list_at v list); event = (list_at v list).event; prescaler = (list_at v list).prescaler; priority = (list_at v list).priority }
 
--- DAQ_PROPERTIES: bit 0, lists are allocated; bit 1, they have prescalers; bit 4, they may have time stamps
+-- DAQ_PROPERTIES: bit 0, lists are allocated; bit 1, they have prescalers; bit 4, they may have time stamps; bit 7, an event
+-- packet tells of a lost sample
 abbrev pub daq_properties : LayoutValue → ℕ
-daq_properties layout = 0x03 + (if has_stamp layout.clock.stamp then 0x10 else 0)
+daq_properties layout = 0x03 + (if has_stamp layout.clock.stamp then 0x10 else 0) + (if layout.extras.tells_overload then 0x80 else 0)
 
 -- GET_DAQ_PROCESSOR_INFO: the properties, and how many lists and how many event channels there are
 abbrev pub processor_info_reply : LayoutValue → DaqValue → ProcessorInfo

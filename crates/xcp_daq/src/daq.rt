@@ -7,6 +7,7 @@ ghost use Rattle.xcp_daq.specs.DaqInvariant.{IsDaq};
 mod allocating;
 mod configuring;
 mod info;
+mod multiple;
 mod reading;
 mod sampling;
 mod starting;

@@ -6,6 +6,7 @@
 
 mod allocation;
 mod daq;
+mod daq_element;
 mod element;
 mod list_flags;
 mod mode;
@@ -17,6 +18,7 @@ mod sample_laws;
 
 pub use allocation::Allocation;
 pub use daq::Daq;
+pub use daq_element::DaqElement;
 pub use element::Element;
 pub use pointer::Pointer;
 pub use reports::{EventInfo, ListMode, ProcessorInfo, ResolutionInfo};

@@ -20,7 +20,8 @@ pub struct ListMode {
 /// ASAM MCD-1 XCP, protocol layer, description of commands: GET_DAQ_PROCESSOR_INFO.
 #[derive(Clone, Copy, Debug, PartialEq, Eq)]
 pub struct ProcessorInfo {
-    /// DAQ_PROPERTIES: 03, or 13 where lists may have time stamps.
+    /// DAQ_PROPERTIES: 03, with bit 4 where lists may have time stamps, and with bit 7 where an event packet tells of a lost
+    /// sample.
     pub properties: u8,
     /// How many DAQ lists there are: up to 16.
     pub lists: u16,

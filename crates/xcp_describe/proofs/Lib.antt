@@ -1,4 +1,5 @@
 mod ArrayLemmas
 mod CleanLemmas
 mod EntryLemmas
+mod FileLemmas
 mod PlainLemmas

@@ -2,7 +2,7 @@
 use Rattle.std.specs.Prelude.{ℕ, List, [], ◌++◌, codes}
 use Rattle.std.specs.Fmt.{decimal}
 use Rattle.xcp_memory.specs.declared.Key.{Key}
-use Rattle.xcp_memory.specs.declared.Key.TheVariants.{Id, MaxCto, MaxDto, ByteOrder, Checksum, Clock, ClockSize, ClockUnit, ClockTicks, Segment, Address, Data, Pages, Signals, SignalsAddress, SignalsLength, Event, Name, Cycle, Unit, Priority}
+use Rattle.xcp_memory.specs.declared.Key.TheVariants.{Id, MaxCto, MaxDto, ByteOrder, Checksum, A2l, UploadA2l, Overload, Clock, ClockSize, ClockUnit, ClockTicks, Segment, Address, Data, Pages, Signals, SignalsAddress, SignalsLength, Event, Name, Cycle, Unit, Priority}
 use Rattle.xcp_memory.specs.declared.Area.{Area}
 use Rattle.xcp_memory.specs.declared.Area.TheVariants as area
 use Rattle.xcp_config.specs.declared.config_error.ConfigError.{ConfigError}
@@ -34,6 +34,9 @@ name_of_key MaxCto = codes "max_cto"
 name_of_key MaxDto = codes "max_dto"
 name_of_key ByteOrder = codes "byte_order"
 name_of_key Checksum = codes "checksum"
+name_of_key A2l = codes "a2l"
+name_of_key UploadA2l = codes "upload_a2l"
+name_of_key Overload = codes "overload"
 name_of_key Clock = codes "clock"
 name_of_key ClockSize = codes "size"
 name_of_key ClockUnit = codes "unit"
@@ -56,6 +59,9 @@ abbrev pub type_of_key : Key → List ℕ
 type_of_key Id = codes "a text"
 type_of_key ByteOrder = codes "a text"
 type_of_key Checksum = codes "a text"
+type_of_key A2l = codes "a text"
+type_of_key UploadA2l = codes "true or false"
+type_of_key Overload = codes "a text"
 type_of_key (Data n) = codes "a text"
 type_of_key (Name n) = codes "a text"
 type_of_key Segment = codes "an array of tables"
@@ -71,6 +77,9 @@ range_of_key MaxCto = codes ", 8 to 255"
 range_of_key MaxDto = codes ", 8 to 255"
 range_of_key ByteOrder = codes ": intel or motorola"
 range_of_key Checksum = codes ": ADD_11, ADD_12, ADD_14, ADD_22, ADD_24 or ADD_44"
+range_of_key A2l = codes " of 1 to 64 printable ASCII characters"
+range_of_key UploadA2l = []
+range_of_key Overload = codes ": event"
 range_of_key Clock = []
 range_of_key ClockSize = codes ": 1, 2 or 4"
 range_of_key ClockUnit = codes ", 0 to 12"

@@ -1,3 +1,4 @@
+pub mod A2lFiles
 pub mod EntryFaults
 pub mod EntryValues
 pub mod FaultWords

@@ -10,7 +10,7 @@ use Rattle.xcp_describe.specs.Places.{Place, no_table, table_named, member_of, P
 
 -- the keys that are read outside of the tables
 abbrev pub top_keys : List (List ℕ)
-top_keys = codes "id" ∷ codes "max_cto" ∷ codes "max_dto" ∷ codes "byte_order" ∷ codes "checksum" ∷ codes "clock" ∷ codes "segment" ∷ codes "signals" ∷ codes "event" ∷ codes "parameter" ∷ codes "measurement" ∷ []
+top_keys = codes "id" ∷ codes "max_cto" ∷ codes "max_dto" ∷ codes "byte_order" ∷ codes "checksum" ∷ codes "a2l" ∷ codes "upload_a2l" ∷ codes "overload" ∷ codes "clock" ∷ codes "segment" ∷ codes "signals" ∷ codes "event" ∷ codes "parameter" ∷ codes "measurement" ∷ []
 
 -- those of the clock, of a segment, of the signals and of an event channel
 abbrev pub clock_keys : List (List ℕ)

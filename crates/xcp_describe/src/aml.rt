@@ -3,15 +3,23 @@ use std::alloc::AllocError;
 
 /// Appends the block A2ML, by which a tool reads the IF_DATA blocks of this description: of the standard's grammar what these have.
 /// ASAM MCD-1 XCP, interface specification.
-pub(crate) fn put_grammar(has_time_stamps: bool, text: &mut String) -> Result<(), AllocError> {
+pub(crate) fn put_grammar(
+    has_later_commands: bool,
+    has_time_stamps: bool,
+    text: &mut String,
+) -> Result<(), AllocError> {
     text.push_str(FRONT)?;
+    if has_later_commands {
+        text.push_str(LATER_COMMANDS)?;
+    }
+    text.push_str(MIDDLE)?;
     if has_time_stamps {
         text.push_str(TIME_STAMPS)?;
     }
     text.push_str(BACK)
 }
 
-/// The block up to the place in the block DAQ where time stamps stand.
+/// The block up to the last of the commands that all versions of the standard have.
 const FRONT: &str = r#"
     /begin A2ML
       taggedstruct Common_Parameters {
@@ -82,7 +90,17 @@ const FRONT: &str = r#"
               "PROGRAM_FORMAT" = 0xCB,
               "PROGRAM_NEXT" = 0xCA,
               "PROGRAM_MAX" = 0xC9,
-              "PROGRAM_VERIFY" = 0xC8
+              "PROGRAM_VERIFY" = 0xC8"#;
+
+/// The commands that came with later versions.
+const LATER_COMMANDS: &str = r#",
+              "WRITE_DAQ_MULTIPLE" = 0xC7
+            })*;
+            ("OPTIONAL_LEVEL1_CMD" enum {
+              "GET_VERSION" = 0x00"#;
+
+/// What stands behind the commands, up to the place in the block DAQ where time stamps stand.
+const MIDDLE: &str = r#"
             })*;
             "COMMUNICATION_MODE_SUPPORTED" taggedunion {
               "BLOCK" taggedstruct {

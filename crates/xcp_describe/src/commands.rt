@@ -59,12 +59,29 @@ static OPTIONAL: [(u8, &str); 52] = [
     (0xC8, "PROGRAM_VERIFY"),
 ];
 
+/// The one that came with version 1.1 of the standard.
+const WRITE_DAQ_MULTIPLE: u8 = 0xC7;
+
+/// What level 1 commands begin with: one of them, GET_VERSION, came with version 1.4.
+const LEVEL_1: u8 = 0xC0;
+
+/// Whether the slave has one of the commands that came with later versions of the standard.
+pub(crate) fn has_later_commands(asked: &mut Asked) -> bool {
+    asked.has(WRITE_DAQ_MULTIPLE) || asked.has(LEVEL_1)
+}
+
 /// Appends a line for each optional command that the slave has.
 pub(crate) fn put_commands(asked: &mut Asked, text: &mut String) -> Result<(), AllocError> {
     for (code, name) in OPTIONAL.iter() {
         if asked.has(*code) {
             writeln!(text, "        OPTIONAL_CMD {name}")?;
         }
+    }
+    if asked.has(WRITE_DAQ_MULTIPLE) {
+        text.push_str("        OPTIONAL_CMD WRITE_DAQ_MULTIPLE\n")?;
+    }
+    if asked.has(LEVEL_1) {
+        text.push_str("        OPTIONAL_LEVEL1_CMD GET_VERSION\n")?;
     }
     Ok(())
 }

@@ -1,12 +1,13 @@
 //! The whole description.
-ghost use Rattle.std.specs.Prelude.{◌≡◌, ◌≢◌, ◌⊎◌, ◌↔◌, ◌+◌, ℕ, List, Some, None, OnOk, OnErr, IfOk, IfErr, string_bytes};
+ghost use Rattle.std.specs.Prelude.{◌≡◌, ◌≢◌, ◌⊎◌, ◌↔◌, ◌+◌, ℕ, List, Some, None, true, OnOk, OnErr, IfOk, IfErr, string_bytes};
 ghost use Rattle.std.specs.Io.KnownBytes.{Appends};
 ghost use Rattle.xcp_framing.specs.Prefix.{AppendsFront};
 ghost use Rattle.xcp_memory.specs.Layout.{LayoutValue};
 ghost use Rattle.xcp_config.specs.ConfigText.{HasLayout};
 ghost use Rattle.xcp_program.specs.ReplayOutcome.{IsFault};
+ghost use Rattle.xcp_describe.specs.A2lFiles.{IsFileOf};
 ghost use Rattle.xcp_describe.specs.EntryFaults.{IsFirstRefusal};
-ghost use Rattle.xcp_describe.specs.Files.{IsFile};
+ghost use Rattle.xcp_describe.specs.Files.{IsFile, TellsEpk, epk_line, epk_of};
 ghost use Rattle.xcp_describe.specs.Findings.{IsEntry};
 ghost use Rattle.xcp_describe.specs.Hosts.{IsHost};
 ghost use Rattle.xcp_describe.specs.private.Refusals.{IsEntryOrMemory};
@@ -14,7 +15,9 @@ ghost use Rattle.xcp_describe.specs.private.Refusals.{IsEntryOrMemory};
 use crate::aml::put_grammar;
 use crate::asking::Asked;
 use crate::clock::Clock;
+use crate::commands::has_later_commands;
 use crate::daq::Daq;
+use crate::epk::epk_line;
 use crate::host::is_host;
 use crate::memory::Paging;
 use crate::naming::put_tables;
@@ -51,7 +54,7 @@ pub fn describe<W: Write>(
     writer: &mut Watched<W>,
 ) -> Result<(), DescribeError>
     // What is written is one text, all of it or a front of it, and of a layout alone.
-    ensures written { OnOk result ((text : List ℕ) × IsFile text × Appends (W.contents writer.old.inner) (W.contents writer.new.inner) text) }
+    ensures written { OnOk result ((text : List ℕ) × IsFileOf config.now text × Appends (W.contents writer.old.inner) (W.contents writer.new.inner) text) }
     ensures layout { OnOk result ((l : LayoutValue) × HasLayout config.now l) }
     ensures host { (result ≡ Err DescribeError.Host) ↔ (¬ (IsHost host.now)) }
     ensures configuration { (f : Fault) → result ≡ Err (DescribeError.Program f) → (f ≡ Fault.Memory) ⊎ (f ≡ Fault.Stream 2) ⊎ IsFault config.now f }
@@ -77,7 +80,7 @@ pub fn describe<W: Write>(
 }
 
 /// The text of the description, for the layout that a layout file describes.
-fn described(
+pub(crate) fn described(
     alloc: Global,
     config: &str,
     layout: Layout,
@@ -85,7 +88,7 @@ fn described(
     port: u16,
 ) -> Result<String, DescribeError>
     requires { HasLayout config.now layout }
-    ensures written { IfOk result (λ text. IsFile (string_bytes text)) }
+    ensures written { IfOk result (λ text. IsFileOf config.now (string_bytes text)) }
     ensures refused { IfErr result IsEntryOrMemory }
     ensures entries { IfOk result (λ _. IsFirstRefusal config.now None) }
     ensures entry { IfErr result (λ e. IsEntry e → IsFirstRefusal config.now (Some e)) }
@@ -95,53 +98,68 @@ fn described(
     };
     let document = Value::Table(table);
     let tables = Tables::read(alloc, &document, &layout)?;
-    match text_of(alloc, layout, &tables, host, port) {
+    match text_of(alloc, config, layout, &tables, host, port) {
         Ok(text) => Ok(text),
         Err(_) => Err(DescribeError::Program(Fault::Memory)),
     }
 }
 
-/// The whole text: its first line, what the blocks of the module have, and the ends of the blocks around them.
+/// The whole text. Where tools get the file from the slave, it tells the EPK.
 fn text_of(
     alloc: Global,
+    config: &str,
     layout: Layout,
     tables: &Tables<'_>,
     host: &str,
     port: u16,
 ) -> Result<String, AllocError>
-    ensures { IfOk result (λ text. IsFile (string_bytes text)) }
+    ensures file { IfOk result (λ text. IsFile (string_bytes text)) }
+    ensures epk { layout.extras.uploads_a2l ≡ true → IfOk result (λ text. TellsEpk (epk_of config.now) (string_bytes text)) }
 {
+    let epk = epk_line(alloc, config, layout.extras().uploads_a2l())?;
     let signals = Signals {
         address: layout.signals_address(),
         length: layout.signals_length(),
     };
     let mut asked = Asked::new(alloc, layout)?;
-    let mut blocks = String::new(alloc);
-    put_module(&mut asked, signals, host, port, &mut blocks)?;
-    put_tables(tables, &mut blocks)?;
+    let protocol = Protocol::ask(&mut asked);
+    let mut front = String::new(alloc);
+    put_front(&mut asked, &protocol, &mut front)?;
+    let mut rest = String::new(alloc);
+    put_memory(&mut asked, signals, &mut rest)?;
+    put_interface(&mut asked, &protocol, host, port, &mut rest)?;
+    put_tables(tables, &mut rest)?;
+    whole(alloc, front.as_str(), epk.as_str(), rest.as_str())
+}
+
+/// The text with what stands before the block MOD_PAR, with the line of the EPK, and with what stands behind it: its first line, the
+/// head of that block, and the ends of the blocks around all.
+fn whole(alloc: Global, front: &str, epk: &str, rest: &str) -> Result<String, AllocError>
+    ensures file { IfOk result (λ text. IsFile (string_bytes text)) }
+    ensures told { (digits : List ℕ) → epk.now ≡ epk_line digits → IfOk result (λ text. TellsEpk digits (string_bytes text)) }
+{
     let mut text = String::from_str(alloc, "ASAP2_VERSION 1 60\n/begin PROJECT xcpd ")?;
-    text.push_str(blocks.as_str())?;
+    text.push_str(front)?;
+    text.push_str("    /begin MOD_PAR \"\"\n")?;
+    text.push_str(epk)?;
+    text.push_str(rest)?;
     text.push_str("  /end MODULE\n/end PROJECT\n")?;
     Ok(text)
 }
 
-/// Appends what stands behind the name of the block PROJECT, up to the entries in the block MODULE.
-fn put_module(
-    asked: &mut Asked,
-    signals: Signals,
-    host: &str,
-    port: u16,
-    text: &mut String,
-) -> Result<(), AllocError> {
-    let protocol = Protocol::ask(asked);
+/// Appends what stands behind the name of the block PROJECT, up to the block MOD_PAR.
+fn put_front(asked: &mut Asked, protocol: &Protocol, text: &mut String) -> Result<(), AllocError> {
     let id = identification(asked);
     put_quoted(text, id.as_slice(), id.len())?;
     text.push_str("\n  /begin MODULE slave ")?;
     put_quoted(text, id.as_slice(), id.len())?;
-    put_grammar(Clock::ask(asked).has_time_stamps(), text)?;
-    put_common(&protocol, text)?;
-    put_memory(asked, signals, text)?;
-    put_interface(asked, &protocol, host, port, text)
+    let has_later_commands = has_later_commands(asked);
+    put_grammar(
+        has_later_commands,
+        Clock::ask(asked).has_time_stamps(),
+        text,
+    )?;
+    put_common(protocol, text)
 }
 
 /// The identification: GET_ID points the MTA to it. It has fewer bytes than one UPLOAD reads.
@@ -162,9 +180,8 @@ fn put_common(protocol: &Protocol, text: &mut String) -> Result<(), AllocError> 
     writeln!(text, "    /end MOD_COMMON")
 }
 
-/// Appends the block MOD_PAR.
+/// Appends the areas of memory, and the end of the block MOD_PAR.
 fn put_memory(asked: &mut Asked, signals: Signals, text: &mut String) -> Result<(), AllocError> {
-    writeln!(text, "    /begin MOD_PAR \"\"")?;
     Paging::ask(asked).put_segments(asked, text)?;
     writeln!(text, "      /begin MEMORY_SEGMENT signals \"\"")?;
     writeln!(

@@ -14,12 +14,15 @@ use std::alloc::{AllocError, Global};
 use toml::{Table, Value};
 
 /// The keys of a layout file, outside its tables.
-const TOP_KEYS: [&str; 11] = [
+const TOP_KEYS: [&str; 14] = [
     "id",
     "max_cto",
     "max_dto",
     "byte_order",
     "checksum",
+    "a2l",
+    "upload_a2l",
+    "overload",
     "clock",
     "segment",
     "signals",

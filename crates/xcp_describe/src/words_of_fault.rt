@@ -92,6 +92,9 @@ fn name_of(key: Key) -> &'static str
         Key::MaxDto => "max_dto",
         Key::ByteOrder => "byte_order",
         Key::Checksum => "checksum",
+        Key::A2l => "a2l",
+        Key::UploadA2l => "upload_a2l",
+        Key::Overload => "overload",
         Key::Clock => "clock",
         Key::ClockSize => "size",
         Key::ClockTicks => "ticks",
@@ -114,7 +117,14 @@ fn kind_of(key: Key) -> &'static str
     ensures { result.now ≡ type_of_key key }
 {
     match key {
-        Key::Id | Key::ByteOrder | Key::Checksum | Key::Data(_) | Key::Name(_) => "a text",
+        Key::Id
+        | Key::ByteOrder
+        | Key::Checksum
+        | Key::A2l
+        | Key::Overload
+        | Key::Data(_)
+        | Key::Name(_) => "a text",
+        Key::UploadA2l => "true or false",
         Key::Segment | Key::Event => "an array of tables",
         Key::Signals | Key::Clock => "a table",
         _ => "an integer",
@@ -126,10 +136,11 @@ fn range_of(key: Key) -> &'static str
     ensures { result.now ≡ range_of_key key }
 {
     match key {
-        Key::Id => " of 1 to 64 printable ASCII characters",
+        Key::Id | Key::A2l => " of 1 to 64 printable ASCII characters",
         Key::MaxCto | Key::MaxDto => ", 8 to 255",
         Key::ByteOrder => ": intel or motorola",
         Key::Checksum => ": ADD_11, ADD_12, ADD_14, ADD_22, ADD_24 or ADD_44",
+        Key::Overload => ": event",
         Key::ClockSize => ": 1, 2 or 4",
         Key::ClockUnit => ", 0 to 12",
         Key::ClockTicks => ", 1 to 65535",
@@ -140,7 +151,7 @@ fn range_of(key: Key) -> &'static str
         Key::SignalsLength => ", 1 to 64",
         Key::Name(_) => " of 1 to 32 printable ASCII characters",
         Key::Cycle(_) | Key::Unit(_) | Key::Priority(_) => ", 0 to 255",
-        Key::Signals | Key::Clock => "",
+        Key::Signals | Key::Clock | Key::UploadA2l => "",
     }
 }
 

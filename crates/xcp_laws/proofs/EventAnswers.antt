@@ -1,25 +1,28 @@
 -- What an event is refused for, and which texts are uploaded.
-use Rattle.std.proofs.Common.{◌≡◌, ◌≢◌, ℕ, ◌+◌, ◌<◌, ◌≤◌, Bool, true, false, List, ◌∷◌, drop, get_or, length, take, refl, ap, ◌∙◌, nat_le, nat_lt, arith, inl, inr}
+use Rattle.std.proofs.Common.{◌≡◌, ◌≢◌, ℕ, ◌+◌, ◌<◌, ◌≤◌, Bool, true, false, List, ◌∷◌, drop, get_or, length, take, Option, Some, None, refl, ap, sym, ◌∙◌, nat_le, nat_lt, arith, inl, inr}
 use Rattle.std.specs.Prelude.{◌⊎◌, ◌==◌, MatchBool, if◌then◌else◌}
 use Rattle.std.proofs.lemmas.Bool.Decides.{nat_tests}
 use Rattle.std.proofs.lemmas.List.{take_all}
 use Rattle.arrayvec.specs.ArrayVec.{ArrayVec}
 use Rattle.xcp_packet.specs.ByteOrder.{double_bytes}
 use Rattle.xcp_packet.specs.declared.Command.TheVariants as commands
-use Rattle.xcp_memory.specs.Layout.{LayoutValue, no_event}
+use Rattle.xcp_memory.specs.Layout.{LayoutValue, IsPlain, no_event, epk, description}
+use Rattle.xcp_transfer.specs.declared.Mta.{Mta}
 use Rattle.xcp_transfer.specs.declared.Mta.TheVariants.{Text}
 use Rattle.xcp_transfer.specs.declared.TextId.{TextId}
-use Rattle.xcp_transfer.specs.declared.TextId.TheVariants.{Id, Name}
+use Rattle.xcp_transfer.specs.declared.TextId.TheVariants.{Id, Name, A2lName, A2lFile, Epk}
 use Rattle.xcp_transfer.specs.TransferValue.{text_of}
+use Rattle.xcp_transfer.specs.Uploads.{text_length, text_of_kind, text_start, with_bytes}
 use Rattle.xcp_slave.specs.AcceptedCommands.{Accepts}
 use Rattle.xcp_slave.specs.Outcomes.{Answer}
 use Rattle.xcp_slave.specs.SlaveValue.{SlaveValue, layout_of}
-use Rattle.xcp_slave.specs.Step.{Answers, outbox_size}
+use Rattle.xcp_slave.specs.Step.{Answers, outbox_size, with_overload}
 use Rattle.xcp_slave.specs.PacketQueue.{event_packets}
 use Rattle.xcp_slave.specs.declared.Outcome.TheVariants as answers
 use Rattle.xcp_slave.specs.declared.Request.TheVariants as requests
 use Rattle.xcp_slave.proofs.AcceptedCommandLaws.{accepted, event-mta, id-mta, upload-text-reads}
 use Rattle.xcp_slave.proofs.StepLaws.{either}
+use Rattle.xcp_slave.proofs.UnaffectedPartLaws.{plain-texts}
 use Rattle.xcp_laws.proofs.FirstRefusals.{first_case}
 use Rattle.xcp_laws.proofs.PositiveAnswers.{is-it, isnt}
 use Rattle.xcp_laws.proofs.ToldValues.{bytes-told}
@@ -41,7 +44,7 @@ pub event-taken : (v w : SlaveValue) (channel : ℕ) (signals : ArrayVec ℕ) (a
 event-taken v w channel signals a p q h =
     let here = first_case (nat_lt channel (length (layout_of v).events)) _ _ (grind (arith, nat_tests, p)) h in
     let sized = first_case (length signals.items == (layout_of v).signals_length) _ _ ((is-it _ _).1 q) here in
-    either (nat_le (length v.outbox + length (event_packets v channel signals.items)) outbox_size) _ _ _ sized
+    either (nat_le (length v.outbox + length (with_overload v.overloaded (event_packets v channel signals.items))) outbox_size) _ _ _ sized
     (λ m. (inr (_, m.0), ap (λ (x : SlaveValue). x.transfer.pages.signals) m.1))
     (λ m. (inl m.0, ap (λ (x : SlaveValue). x.transfer.pages.signals) m.1))
 
@@ -71,11 +74,69 @@ whole-id v m w told bytes k h =
 pub id-told : (v w : SlaveValue) (bytes : List ℕ) → Accepts v (commands.GetId 0) bytes w → bytes ≡ 0 ∷ 0 ∷ 0 ∷ double_bytes (layout_of v).order (length (layout_of v).id)
 id-told v w bytes h = bytes-told (commands.GetId 0) v bytes w h
 
-no-length : (t : Bool) (n : ℕ) → t ≡ false → (if t then n else 0) ≡ 0
-no-length true n e = cc
-no-length false n e = refl
+-- what GET_ID tells of a text
+told-of : SlaveValue → Option TextId → List ℕ
+told-of v id = 0 ∷ 0 ∷ 0 ∷ double_bytes (layout_of v).order (text_length (layout_of v) id)
 
-pub no-id-told : (v w : SlaveValue) (kind : ℕ) (bytes : List ℕ) → kind ≢ 0 → Accepts v (commands.GetId kind) bytes w → bytes ≡ 0 ∷ 0 ∷ 0 ∷ double_bytes (layout_of v).order 0
-no-id-told v w kind bytes other h =
-    bytes-told (commands.GetId kind) v bytes w h
-    ∙ ap (λ (n : ℕ). 0 ∷ 0 ∷ 0 ∷ double_bytes (layout_of v).order n) (no-length (kind == 0) (length (layout_of v).id) ((isnt kind 0).1 other))
+kind-told : (v w : SlaveValue) (kind : ℕ) (bytes : List ℕ) → Accepts v (commands.GetId kind) bytes w → bytes ≡ told-of v (text_of_kind (layout_of v) kind)
+unfolding told-of
+kind-told v w kind bytes h = bytes-told (commands.GetId kind) v bytes w h
+
+pub no-text-told : (v w : SlaveValue) (kind : ℕ) (bytes : List ℕ) → text_of_kind (layout_of v) kind ≡ None → Accepts v (commands.GetId kind) bytes w → bytes ≡ 0 ∷ 0 ∷ 0 ∷ double_bytes (layout_of v).order 0
+unfolding told-of
+no-text-told v w kind bytes e h = kind-told v w kind bytes h ∙ ap (told-of v) e
+
+pub no-id-told : (v w : SlaveValue) (kind : ℕ) (bytes : List ℕ) → IsPlain (layout_of v) → kind ≢ 0 → Accepts v (commands.GetId kind) bytes w → bytes ≡ 0 ∷ 0 ∷ 0 ∷ double_bytes (layout_of v).order 0
+no-id-told v w kind bytes plain other h = no-text-told v w kind bytes (plain-texts (layout_of v) kind plain other) h
+
+-- a text without bytes is told with length 0, as one that isn't there
+length-by : (none : Bool) (l : LayoutValue) (id : TextId) → (length (text_of l id) == 0) ≡ none → text_length l (if none then None else Some id) ≡ length (text_of l id)
+length-by true l id e = sym ((is-it (length (text_of l id)) 0).0 e)
+length-by false l id e = refl
+
+length-told : (l : LayoutValue) (id : TextId) → text_length l (with_bytes l id) ≡ length (text_of l id)
+length-told l id = length-by (length (text_of l id) == 0) l id refl
+
+-- what GET_ID of a kind whose text may be without bytes tells
+text-told : (v w : SlaveValue) (kind : ℕ) (id : TextId) (bytes : List ℕ) → text_of_kind (layout_of v) kind ≡ with_bytes (layout_of v) id → Accepts v (commands.GetId kind) bytes w → bytes ≡ 0 ∷ 0 ∷ 0 ∷ double_bytes (layout_of v).order (length (text_of (layout_of v) id))
+unfolding told-of
+text-told v w kind id bytes e h =
+    kind-told v w kind bytes h ∙ ap (told-of v) e ∙ ap (λ (n : ℕ). 0 ∷ 0 ∷ 0 ∷ double_bytes (layout_of v).order n) (length-told (layout_of v) id)
+
+pub a2l-name-told : (v w : SlaveValue) (bytes : List ℕ) → Accepts v (commands.GetId 1) bytes w → bytes ≡ 0 ∷ 0 ∷ 0 ∷ double_bytes (layout_of v).order (length (layout_of v).extras.a2l)
+a2l-name-told v w bytes h = text-told v w 1 A2lName bytes refl h
+
+pub a2l-file-told : (v w : SlaveValue) (bytes : List ℕ) → Accepts v (commands.GetId 4) bytes w → bytes ≡ 0 ∷ 0 ∷ 0 ∷ double_bytes (layout_of v).order (length (description (layout_of v).extras))
+a2l-file-told v w bytes h = text-told v w 4 A2lFile bytes refl h
+
+pub epk-told : (v w : SlaveValue) (bytes : List ℕ) → Accepts v (commands.GetId 5) bytes w → bytes ≡ 0 ∷ 0 ∷ 0 ∷ double_bytes (layout_of v).order (length (epk (layout_of v).extras))
+epk-told v w bytes h = text-told v w 5 Epk bytes refl h
+
+-- a text that has bytes is there
+there-by : (none : Bool) (id : TextId) → none ≡ false → (if none then None else Some id) ≡ Some id
+there-by true id e = cc
+there-by false id e = refl
+
+is-there : (l : LayoutValue) (id : TextId) → 0 < length (text_of l id) → with_bytes l id ≡ Some id
+is-there l id h = there-by (length (text_of l id) == 0) id (grind (arith, nat_tests, h))
+
+starts-at : SlaveValue → Option TextId → Mta
+starts-at v id = text_start v.transfer.mta id
+
+kind-start : (v w : SlaveValue) (kind : ℕ) (id : TextId) (bytes : List ℕ) → text_of_kind (layout_of v) kind ≡ Some id → Accepts v (commands.GetId kind) bytes w → w.transfer.mta ≡ Text id 0
+unfolding starts-at
+kind-start v w kind id bytes e h = ap (λ (x : SlaveValue). x.transfer.mta) (accepted (commands.GetId kind) v bytes w h).after ∙ ap (starts-at v) e
+
+-- the texts that begin where GET_ID of their kind leaves the MTA
+pub a2l-name-start : (v w : SlaveValue) (bytes : List ℕ) → 0 < length (layout_of v).extras.a2l → Accepts v (commands.GetId 1) bytes w → w.transfer.mta ≡ Text A2lName 0
+a2l-name-start v w bytes some h = kind-start v w 1 A2lName bytes (is-there (layout_of v) A2lName some) h
+
+pub a2l-file-start : (v w : SlaveValue) (bytes : List ℕ) → 0 < length (description (layout_of v).extras) → Accepts v (commands.GetId 4) bytes w → w.transfer.mta ≡ Text A2lFile 0
+a2l-file-start v w bytes some h = kind-start v w 4 A2lFile bytes (is-there (layout_of v) A2lFile some) h
+
+pub epk-start : (v w : SlaveValue) (bytes : List ℕ) → 0 < length (epk (layout_of v).extras) → Accepts v (commands.GetId 5) bytes w → w.transfer.mta ≡ Text Epk 0
+epk-start v w bytes some h = kind-start v w 5 Epk bytes (is-there (layout_of v) Epk some) h
+
+-- a part of the A2L file
+pub a2l-file-part : (v w : SlaveValue) (place n : ℕ) (bytes : List ℕ) → v.transfer.mta ≡ Text A2lFile place → Accepts v (commands.Upload n) bytes w → (place + n ≤ length (description (layout_of v).extras)) × (bytes ≡ take n (drop place (description (layout_of v).extras)))
+a2l-file-part v w place n bytes e h = upload-text-reads v w n place A2lFile bytes e h

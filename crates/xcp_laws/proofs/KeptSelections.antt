@@ -7,7 +7,7 @@ use Rattle.xcp_daq.specs.Sample.{after_event, counted}
 use Rattle.xcp_slave.specs.DueLists.{KeepsLists}
 use Rattle.xcp_slave.specs.PacketQueue.{event_packets}
 use Rattle.xcp_slave.specs.SlaveValue.{SlaveValue, layout_of}
-use Rattle.xcp_slave.specs.Step.{Answers, Fires, outbox_size}
+use Rattle.xcp_slave.specs.Step.{Answers, Fires, outbox_size, with_overload}
 use Rattle.xcp_slave.specs.Outcomes.{Answer}
 use Rattle.xcp_slave.specs.declared.Request.{Request}
 use Rattle.xcp_slave.specs.declared.Request.TheVariants as requests
@@ -35,7 +35,7 @@ fired v channel signals a w i k =
     let once : is_selected (after_event channel v.daq) i ≡ is_selected v.daq i = counts-selected channel v.daq.lists i in
     either (nat_lt channel (length (layout_of v).events)) _ _ _ k
     (λ m. either (length signals.items == (layout_of v).signals_length) _ _ _ m
-    (λ n. either (nat_le (length v.outbox + length (event_packets v channel signals.items)) outbox_size) _ _ _ n
+    (λ n. either (nat_le (length v.outbox + length (with_overload v.overloaded (event_packets v channel signals.items))) outbox_size) _ _ _ n
     (λ o. same-selected w.daq (after_event channel v.daq) i (ap (λ (x : SlaveValue). x.daq) o.1) ∙ once)
     (λ o. same-selected w.daq (after_event channel v.daq) i (ap (λ (x : SlaveValue). x.daq) o.1) ∙ once))
     (λ n. same-selected w.daq v.daq i (ap (λ (x : SlaveValue). x.daq) n.1)))

@@ -18,3 +18,6 @@ pub mod SpeltCommands
 pub mod NoCommands
 pub mod Stores
 pub mod TimelessRuns
+pub mod ManyElements
+pub mod LaterCommands
+pub mod PlainRuns

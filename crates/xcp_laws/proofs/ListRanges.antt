@@ -54,7 +54,7 @@ has-clock Word = (λ h e. cc, λ n. refl)
 has-clock Double = (λ h e. cc, λ n. refl)
 
 -- a test that holds
-holds : (b : Bool) → (not b ≡ false) ↔ (b ≡ true)
+pub holds : (b : Bool) → (not b ≡ false) ↔ (b ≡ true)
 holds b = (is_true b, not-false b)
 
 either-maps : {A B C D : Type 0} → (A → B) → (C → D) → A ⊎ C → B ⊎ D

@@ -108,7 +108,7 @@ all-pass p xs = (λ h i d b. none_passes p xs i d h b, λ h. list_any_none p xs 
 
 -- rows that refuse nothing
 
-past : {A : Type 0} (t : Bool) (x : A) (rows : List (Bool × A)) → t ≡ false → first_holding ((t, x) ∷ rows) ≡ first_holding rows
+pub past : {A : Type 0} (t : Bool) (x : A) (rows : List (Bool × A)) → t ≡ false → first_holding ((t, x) ∷ rows) ≡ first_holding rows
 past true x rows e = cc
 past false x rows e = refl
 

@@ -17,7 +17,7 @@ word-there : (order : Order) (a b : ℕ) (more : List ℕ) → word_of order a b
 word-there Intel a b more = omega arith
 word-there Motorola a b more = omega arith
 
-double-there : (order : Order) (a b c d : ℕ) (more : List ℕ) → double_of order a b c d ≡ double_at order 0 (a ∷ b ∷ c ∷ d ∷ more)
+pub double-there : (order : Order) (a b c d : ℕ) (more : List ℕ) → double_of order a b c d ≡ double_at order 0 (a ∷ b ∷ c ∷ d ∷ more)
 double-there Intel a b c d more = omega arith
 double-there Motorola a b c d more = omega arith
 
@@ -58,6 +58,9 @@ short-upload order n r extension a b c d more = (record { first = refl; enough =
 
 pub build-checksum : (order : Order) (r t u a b c d : ℕ) (more : List ℕ) → spells order (commands.BuildChecksum (double_of order a b c d)) (0xF3 ∷ r ∷ t ∷ u ∷ a ∷ b ∷ c ∷ d ∷ more)
 build-checksum order r t u a b c d more = (record { first = refl; enough = omega arith }, (double-there order a b c d more, tt))
+
+pub get-version : (order : Order) (items : ArrayVec ℕ) → spells order (commands.GetVersion items) (0xC0 ∷ items.items)
+get-version order items = (record { first = refl; enough = omega arith }, (refl, tt))
 
 pub download : (order : Order) (n : ℕ) (items : ArrayVec ℕ) → spells order (commands.Download n items) (0xF0 ∷ n ∷ items.items)
 download order n items = (record { first = refl; enough = omega arith }, (refl, (refl, tt)))
@@ -145,6 +148,9 @@ alloc-odt order r a b count more = (record { first = refl; enough = omega arith 
 
 pub alloc-odt-entry : (order : Order) (r a b odt count : ℕ) (more : List ℕ) → spells order (commands.AllocOdtEntry (word_of order a b) odt count) (0xD3 ∷ r ∷ a ∷ b ∷ odt ∷ count ∷ more)
 alloc-odt-entry order r a b odt count more = (record { first = refl; enough = omega arith }, (word-there order a b (odt ∷ count ∷ more), (refl, (refl, tt))))
+
+pub write-daq-multiple : (order : Order) (items : ArrayVec ℕ) → spells order (commands.WriteDaqMultiple items) (0xC7 ∷ items.items)
+write-daq-multiple order items = (record { first = refl; enough = omega arith }, (refl, tt))
 
 pub connect-short : (order : Order) (k : Command) → spells order k (0xFF ∷ []) → ⊥
 connect-short order k h = too-short order (commands.Connect 0) k _ (λ e. cc) refl (omega arith) h

@@ -1,5 +1,5 @@
 -- Slaves whose layout has no clock, at any time.
-use Rattle.std.proofs.Common.{◌≡◌, ℕ, zero, suc, ◌+◌, Bool, true, false, List, [], ◌∷◌, ◌++◌, length, map, get_or, slice_set, Option, Some, None, Result, Ok, Err, inl, inr, ap, sym, ◌∙◌, refl, subst, arith, All, nat_le, nat_lt}
+use Rattle.std.proofs.Common.{◌≡◌, ℕ, zero, suc, ◌+◌, Bool, true, false, List, [], ◌∷◌, ◌++◌, length, map, get_or, slice_set, drop, Option, Some, None, Result, Ok, Err, inl, inr, ap, sym, ◌∙◌, refl, subst, arith, All, nat_le, nat_lt}
 use Rattle.std.specs.Prelude.{◌==◌, ◌%◌, ◌&&◌, ◌||◌, not, replicate, if◌then◌else◌, MatchBool}
 use Rattle.std.specs.List.{flat_map, enumerate_from}
 use Rattle.std.proofs.lemmas.List.Elements.{All-head, All-tail, All-set, All-append, All-replicate, All-map}
@@ -12,14 +12,17 @@ use Rattle.xcp_packet.specs.declared.Refuse.{Refuse}
 use Rattle.xcp_packet.specs.declared.Refuse.TheVariants as refuses
 use Rattle.xcp_packet.specs.declared.Reply.{Reply}
 use Rattle.xcp_packet.specs.declared.Reply.TheVariants as replies
+use Rattle.xcp_packet.specs.ByteOrder.{byte_at}
+use Rattle.xcp_packet.specs.declared.Code.{Code}
 use Rattle.xcp_packet.specs.declared.Code.TheVariants.{CmdUnknown}
 use Rattle.xcp_packet.specs.Rows.{Meets, first_holding}
 use Rattle.xcp_memory.specs.Layout.{LayoutValue}
 use Rattle.xcp_memory.specs.Pages.{PagesValue}
+use Rattle.xcp_daq.specs.declared.DaqElement.{DaqElement}
 use Rattle.xcp_daq.specs.declared.Element.{Element}
 use Rattle.xcp_daq.specs.declared.Pointer.{Pointer}
 use Rattle.xcp_daq.specs.DaqLists.{DaqList, DaqValue, has_stamp, first_pid, list_at, no_list}
-use Rattle.xcp_daq.specs.Configuring.{moved_by, written_at}
+use Rattle.xcp_daq.specs.Configuring.{all_or_none, elements_in, moved_by, unless, write_daq_after, write_daq_refusal, write_daqs, written_at}
 use Rattle.xcp_daq.specs.Sample.{counted, due, list_packets, sampled, stamped_packets}
 use Rattle.xcp_daq.specs.Starting.{selected, started, stopped, synchronised}
 use Rattle.xcp_slave.specs.declared.Exchange.{Exchange}
@@ -32,7 +35,7 @@ use Rattle.xcp_slave.specs.Run.{Run}
 use Rattle.xcp_slave.specs.SlaveClock.{IsTimeless}
 use Rattle.xcp_slave.specs.SlaveInvariant.{IsSlave, IsStampOf}
 use Rattle.xcp_slave.specs.SlaveValue.{SlaveValue, layout_of, noblock}
-use Rattle.xcp_slave.specs.Step.{Answers, Drains, Fires, Heeds, Samples, Stores, at_time, found_by, is_connect, outbox_size, with_event, with_signals}
+use Rattle.xcp_slave.specs.Step.{Answers, Drains, Fires, Heeds, Samples, Stores, at_time, found_by, is_connect, outbox_size, with_event, with_overload, with_signals}
 use Rattle.xcp_slave.proofs.ClockLaws.{no-stamp, time-others}
 use Rattle.xcp_slave.proofs.LayoutKeptLemmas.{answers-layout}
 use Rattle.xcp_slave.proofs.StepLaws.{either}
@@ -95,7 +98,7 @@ lists-sampled channel time other pages d i (l ∷ lists) h =
 
 samples-timed : (channel : ℕ) (packets : List (ArrayVec ℕ)) (v : SlaveValue) (n : ℕ) (a : Answer) (w : SlaveValue) → Samples channel packets v a w → Samples channel packets (timed v n) a (timed w n)
 samples-timed channel packets v n a w k =
-    each-case (nat_le (length v.outbox + length packets) outbox_size) _ _ _ _ (λ m. (m.0, same-timed _ w n m.1)) (λ m. (m.0, same-timed _ w n m.1)) k
+    each-case (nat_le (length v.outbox + length (with_overload v.overloaded packets)) outbox_size) _ _ _ _ (λ m. (m.0, same-timed _ w n m.1)) (λ m. (m.0, same-timed _ w n m.1)) k
 
 fires-timed : (channel : ℕ) (signals : List ℕ) (v : SlaveValue) (n : ℕ) (a : Answer) (w : SlaveValue) → All IsPlain v.daq.lists → Fires channel signals v a w → Fires channel signals (timed v n) a (timed w n)
 fires-timed channel signals v n a w h k =
@@ -153,6 +156,18 @@ plain-written : (o : Option Pointer) (e : Element) (d : DaqValue) → All IsPlai
 plain-written None e d h = h
 plain-written (Some p) e d h = plain-set d p.list _ h refl
 
+-- WRITE_DAQs in turn
+
+plain-unless : (c : Option Code) (r : Result DaqValue Code) (d : DaqValue) → All IsPlain d.lists → All IsPlain (all_or_none d r).lists → All IsPlain (all_or_none d (unless c r)).lists
+plain-unless None r d h k = k
+plain-unless (Some code) r d h k = h
+
+plain-in-turn : (l : LayoutValue) (es : List DaqElement) (d u : DaqValue) → All IsPlain d.lists → All IsPlain u.lists → All IsPlain (all_or_none d (write_daqs l es u)).lists
+plain-in-turn l [] d u h k = k
+plain-in-turn l (e ∷ es) d u h k =
+    plain-unless (write_daq_refusal l e.offset e.size e.extension e.address u) (write_daqs l es (write_daq_after e.size e.address u)) d h
+    (plain-in-turn l es d (write_daq_after e.size e.address u) h (plain-written u.pointer (record { size = e.size; address = e.address }) u k))
+
 plain-moved : (o : Option Pointer) (d : DaqValue) → All IsPlain d.lists → All IsPlain (moved_by o d).lists
 plain-moved None d h = h
 plain-moved (Some p) d h = h
@@ -183,6 +198,8 @@ row-plain : (c : Command) (v : SlaveValue) → IsClockless v → All IsPlain (ro
 row-plain commands.Disconnect v h = no-lists
 row-plain (commands.ClearDaqList list) v h = plain-set v.daq list _ h.plain refl
 row-plain (commands.WriteDaq offset size extension address) v h = plain-written v.daq.pointer (record { size = size; address = address }) v.daq h.plain
+row-plain (commands.WriteDaqMultiple bytes) v h =
+    plain-in-turn (layout_of v) (elements_in (layout_of v).order (byte_at 0 bytes.items) (drop 1 bytes.items)) v.daq v.daq h.plain h.plain
 row-plain (commands.SetDaqListMode mode list event prescaler priority) v h = All-set IsPlain v.daq.lists list _ (plain-asked (mode == 0) (layout_of v).clock.stamp h.clock) h.plain
 row-plain (commands.StartStopDaqList mode list) v h = plain-set v.daq list _ h.plain (switched-stamp (mode == 0) (mode == 1) (list_at v.daq list))
 row-plain (commands.StartStopSynch mode) v h =
@@ -223,7 +240,7 @@ fires-plain channel signals v a w h k =
     let after : All IsPlain (with_event channel v).daq.lists = event-plain channel v.daq.lists h in
     either (nat_lt channel (length (layout_of v).events)) _ _ _ k
     (λ m. either (length signals == (layout_of v).signals_length) _ _ _ m
-    (λ n. either (nat_le (length v.outbox + length _) outbox_size) _ _ _ n (λ o. led-plain (with_event channel v).daq _ w o.1 refl after) (λ o. led-plain (with_event channel v).daq _ w o.1 refl after))
+    (λ n. either (nat_le (length v.outbox + length (with_overload v.overloaded _)) outbox_size) _ _ _ n (λ o. led-plain (with_event channel v).daq _ w o.1 refl after) (λ o. led-plain (with_event channel v).daq _ w o.1 refl after))
     (λ n. led-plain v.daq _ w n.1 refl h))
     (λ m. led-plain v.daq _ w m.1 refl h)
 

@@ -89,19 +89,19 @@ a-clock Byte n = refl
 a-clock Word n = refl
 a-clock Double n = refl
 
--- the lists and the event channels, behind properties that hang on whether there is a clock
+-- the lists and the event channels, behind properties that hang on whether there is a clock and whether lost samples are told
 daq-by : SlaveValue → Bool → List ℕ
-daq-by v b = (0x03 + (if b then 0x10 else 0)) ∷ (word_bytes (layout_of v).order (length v.daq.lists) ++ word_bytes (layout_of v).order (length (layout_of v).events) ++ 0 ∷ 0x00 ∷ [])
+daq-by v b = (0x03 + (if b then 0x10 else 0) + (if (layout_of v).extras.tells_overload then 0x80 else 0)) ∷ (word_bytes (layout_of v).order (length v.daq.lists) ++ word_bytes (layout_of v).order (length (layout_of v).events) ++ 0 ∷ 0x00 ∷ [])
 
 daq-bytes : (v w : SlaveValue) (bytes : List ℕ) → Accepts v commands.GetDaqProcessorInfo bytes w → bytes ≡ daq-by v (has_stamp (layout_of v).clock.stamp)
 unfolding daq-by
 daq-bytes v w bytes h = bytes-told commands.GetDaqProcessorInfo v bytes w h
 
-pub daq-told : (v w : SlaveValue) (bytes : List ℕ) → (layout_of v).clock.stamp ≡ Without → Accepts v commands.GetDaqProcessorInfo bytes w → bytes ≡ 0x03 ∷ (word_bytes (layout_of v).order (length v.daq.lists) ++ word_bytes (layout_of v).order (length (layout_of v).events) ++ 0 ∷ 0x00 ∷ [])
+pub daq-told : (v w : SlaveValue) (bytes : List ℕ) → (layout_of v).clock.stamp ≡ Without → Accepts v commands.GetDaqProcessorInfo bytes w → bytes ≡ (0x03 + (if (layout_of v).extras.tells_overload then 0x80 else 0)) ∷ (word_bytes (layout_of v).order (length v.daq.lists) ++ word_bytes (layout_of v).order (length (layout_of v).events) ++ 0 ∷ 0x00 ∷ [])
 unfolding daq-by
 daq-told v w bytes e h = daq-bytes v w bytes h ∙ ap (daq-by v) (no-clock (layout_of v).clock.stamp e)
 
-pub daq-clock-told : (v w : SlaveValue) (bytes : List ℕ) → (layout_of v).clock.stamp ≢ Without → Accepts v commands.GetDaqProcessorInfo bytes w → bytes ≡ 0x13 ∷ (word_bytes (layout_of v).order (length v.daq.lists) ++ word_bytes (layout_of v).order (length (layout_of v).events) ++ 0 ∷ 0x00 ∷ [])
+pub daq-clock-told : (v w : SlaveValue) (bytes : List ℕ) → (layout_of v).clock.stamp ≢ Without → Accepts v commands.GetDaqProcessorInfo bytes w → bytes ≡ (0x13 + (if (layout_of v).extras.tells_overload then 0x80 else 0)) ∷ (word_bytes (layout_of v).order (length v.daq.lists) ++ word_bytes (layout_of v).order (length (layout_of v).events) ++ 0 ∷ 0x00 ∷ [])
 unfolding daq-by
 daq-clock-told v w bytes n h = daq-bytes v w bytes h ∙ ap (daq-by v) (a-clock (layout_of v).clock.stamp n)
 

@@ -1,4 +1,5 @@
 pub mod AskedCommands
 pub mod ImagePlace
 pub mod NumberBytes
+pub mod PlainAnswers
 pub mod Timeless

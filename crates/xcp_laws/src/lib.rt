@@ -13,7 +13,9 @@ mod checksums;
 mod events;
 mod images;
 mod infos;
+mod many;
 mod measuring;
+mod plain;
 mod ranges;
 mod refusing;
 mod spelling;
@@ -30,18 +32,23 @@ pub use asking::{
 };
 pub use bits::bits_are_modified_one_by_one;
 pub use checksums::a_checksum_adds_each_number;
-pub use events::{a_text_is_uploaded_as_it_is, an_event_is_asked_for_its_channel_first};
+pub use events::{
+    a_text_is_uploaded_as_it_is, an_a2l_file_is_uploaded, an_event_is_asked_for_its_channel_first,
+};
 pub use images::an_image_has_the_controllers_bytes;
 pub use infos::{
-    a_page_is_told_as_it_is, a_session_begins_with_the_limits, numbers_are_told_in_their_order,
-    some_commands_are_never_refused, the_slave_is_told_as_it_is,
+    a_page_is_told_as_it_is, a_session_begins_with_the_limits, a_version_is_told,
+    numbers_are_told_in_their_order, some_commands_are_never_refused, the_slave_is_told_as_it_is,
 };
+pub use many::{many_are_ones_in_turn, one_of_many_is_one};
 pub use measuring::{
     a_list_has_the_mode_that_is_set, a_pointer_is_set, an_entry_is_written_and_read,
 };
+pub use plain::without_new_keys_there_is_nothing_new;
 pub use ranges::{
-    downloads_are_accepted_in_range, list_commands_are_accepted_in_range,
-    page_commands_are_accepted_in_range, transfers_are_accepted_in_range,
+    downloads_are_accepted_in_range, later_commands_are_accepted_in_range,
+    list_commands_are_accepted_in_range, page_commands_are_accepted_in_range,
+    transfers_are_accepted_in_range,
 };
 pub use refusing::{
     a_sequence_is_asked_for_first, a_stop_is_never_refused, connect_comes_first,

@@ -1,5 +1,5 @@
 //! When a command is accepted: exactly if each of its parameters is in its range, and the slave in a state for it.
-ghost use Rattle.std.specs.Prelude.{◌≡◌, ◌≢◌, ◌↔◌, ◌⊎◌, ◌+◌, ◌-◌, ◌<◌, ◌≤◌, ◌%◌, ◌*◌, ℕ, All, List, None, Some, [], ◌∷◌, bit_and, false, get_or, length, min, true};
+ghost use Rattle.std.specs.Prelude.{◌≡◌, ◌≢◌, ◌↔◌, ◌⊎◌, ◌+◌, ◌-◌, ◌<◌, ◌≤◌, ◌%◌, ◌*◌, ℕ, All, List, None, Some, [], ◌∷◌, bit_and, false, get_or, length, min, slice_index, true};
 ghost use Rattle.arrayvec.specs.ArrayVec.{ArrayVec};
 ghost use Rattle.xcp_packet.specs.declared.Command.{Command};
 ghost use Rattle.xcp_packet.specs.declared.Stamp.{Stamp};
@@ -99,4 +99,18 @@ pub fn list_commands_are_accepted_in_range()
     ensures alloc_daq { (v w : SlaveValue) (count : ℕ) (a : Answer) → IsAsked v (Command.AllocDaq count) a w → IsPositive a ↔ (((v.daq.last ≡ Some Allocation.FreeDaq) ⊎ (v.daq.last ≡ Some Allocation.AllocDaq)) × ((i : ℕ) → i < length v.daq.lists → (list_at v.daq i).running ≡ false) × (0 < count) × (length v.daq.lists + count ≤ 16)) }
     ensures alloc_odt { (v w : SlaveValue) (i count : ℕ) (a : Answer) → IsAsked v (Command.AllocOdt i count) a w → IsPositive a ↔ (((v.daq.last ≡ Some Allocation.AllocDaq) ⊎ (v.daq.last ≡ Some Allocation.AllocOdt)) × (i < length v.daq.lists) × ((k : ℕ) → k < length v.daq.lists → (list_at v.daq k).running ≡ false) × (0 < count) × (length (all_odts v.daq.lists) + count ≤ 64)) }
     ensures alloc_odt_entry { (v w : SlaveValue) (i j count : ℕ) (a : Answer) → IsAsked v (Command.AllocOdtEntry i j count) a w → IsPositive a ↔ (((v.daq.last ≡ Some Allocation.AllocOdt) ⊎ (v.daq.last ≡ Some Allocation.AllocOdtEntry)) × (i < length v.daq.lists) × (j < length (list_at v.daq i).odts) × ((list_at v.daq i).running ≡ false) × (0 < count) × (length (all_entries v.daq.lists) + count ≤ 256)) }
+{}
+
+/// GET_VERSION and WRITE_DAQ_MULTIPLE are commands of a slave whose layout asks for them. GET_VERSION is accepted exactly
+/// if its first byte, the level 1 command code, is 0; without that byte it isn't whole (ERR_CMD_SYNTAX), and any other code
+/// is unknown (ERR_CMD_UNKNOWN). WRITE_DAQ_MULTIPLE is accepted only if it has at least one DAQ element and eight bytes for
+/// each: with fewer bytes it isn't whole (ERR_CMD_SYNTAX), and without an element it is out of range (ERR_OUT_OF_RANGE).
+/// ASAM MCD-1 XCP, protocol layer, description of commands: GET_VERSION, WRITE_DAQ_MULTIPLE.
+pub fn later_commands_are_accepted_in_range()
+    ensures get_version { (v w : SlaveValue) (items : ArrayVec ℕ) (a : Answer) → IsAsked v (Command.GetVersion items) a w → IsPositive a ↔ (((layout_of v).extras.uploads_a2l ≡ true) × (0 < length items.items) × (slice_index items.items 0 ≡ 0)) }
+    ensures no_version { (v w : SlaveValue) (items : ArrayVec ℕ) (a : Answer) → (layout_of v).extras.uploads_a2l ≡ true → items.items ≡ [] → IsAsked v (Command.GetVersion items) a w → a ≡ Outcome.Packets ((0xFE ∷ 0x21 ∷ []) ∷ []) }
+    ensures other_version { (v w : SlaveValue) (items : ArrayVec ℕ) (a : Answer) → (layout_of v).extras.uploads_a2l ≡ true → 0 < length items.items → slice_index items.items 0 ≢ 0 → IsAsked v (Command.GetVersion items) a w → a ≡ Outcome.Packets ((0xFE ∷ 0x20 ∷ []) ∷ []) }
+    ensures write_daq_multiple { (v w : SlaveValue) (items : ArrayVec ℕ) (a : Answer) → IsAsked v (Command.WriteDaqMultiple items) a w → IsPositive a → ((layout_of v).extras.uploads_a2l ≡ true) × (0 < slice_index items.items 0) × (1 + 8 * slice_index items.items 0 ≤ length items.items) }
+    ensures multiple_short { (v w : SlaveValue) (items : ArrayVec ℕ) (a : Answer) → (layout_of v).extras.uploads_a2l ≡ true → length items.items < 1 + 8 * slice_index items.items 0 → IsAsked v (Command.WriteDaqMultiple items) a w → a ≡ Outcome.Packets ((0xFE ∷ 0x21 ∷ []) ∷ []) }
+    ensures multiple_of_none { (v w : SlaveValue) (items : ArrayVec ℕ) (a : Answer) → (layout_of v).extras.uploads_a2l ≡ true → 0 < length items.items → slice_index items.items 0 ≡ 0 → IsAsked v (Command.WriteDaqMultiple items) a w → a ≡ Outcome.Packets ((0xFE ∷ 0x22 ∷ []) ∷ []) }
 {}

@@ -7,8 +7,9 @@ ghost use Rattle.xcp_packet.specs.declared.Order.{Order};
 ghost use Rattle.xcp_laws.specs.NumberBytes.{double_of, word_of};
 
 /// The packets of the standard commands, byte by byte, as the standard's tables have them. Bytes without a name are
-/// reserved, and whatever comes behind the last parameter is passed over.
-/// ASAM MCD-1 XCP, protocol layer, description of commands: CONNECT to BUILD_CHECKSUM.
+/// reserved, and whatever comes behind the last parameter is passed over; all bytes behind the code of GET_VERSION are its
+/// own.
+/// ASAM MCD-1 XCP, protocol layer, description of commands: CONNECT to BUILD_CHECKSUM, GET_VERSION.
 pub fn standard_commands_have_their_bytes()
     ensures connect { (order : Order) (mode : ℕ) (more : List ℕ) → spells order (Command.Connect mode) (0xFF ∷ mode ∷ more) }
     ensures disconnect { (order : Order) (more : List ℕ) → spells order Command.Disconnect (0xFE ∷ more) }
@@ -21,6 +22,7 @@ pub fn standard_commands_have_their_bytes()
     ensures upload { (order : Order) (n : ℕ) (more : List ℕ) → spells order (Command.Upload n) (0xF5 ∷ n ∷ more) }
     ensures short_upload { (order : Order) (n r extension a b c d : ℕ) (more : List ℕ) → spells order (Command.ShortUpload n extension (double_of order a b c d)) (0xF4 ∷ n ∷ r ∷ extension ∷ a ∷ b ∷ c ∷ d ∷ more) }
     ensures build_checksum { (order : Order) (r t u a b c d : ℕ) (more : List ℕ) → spells order (Command.BuildChecksum (double_of order a b c d)) (0xF3 ∷ r ∷ t ∷ u ∷ a ∷ b ∷ c ∷ d ∷ more) }
+    ensures get_version { (order : Order) (items : ArrayVec ℕ) → spells order (Command.GetVersion items) (0xC0 ∷ items.items) }
 {}
 
 /// The same of the commands for calibration and for pages. All bytes behind the fixed part of a download are its data.
@@ -41,8 +43,8 @@ pub fn calibration_commands_have_their_bytes()
     ensures copy_cal_page { (order : Order) (source source_page target target_page : ℕ) (more : List ℕ) → spells order (Command.CopyCalPage source source_page target target_page) (0xE4 ∷ source ∷ source_page ∷ target ∷ target_page ∷ more) }
 {}
 
-/// The same of the commands for data acquisition.
-/// ASAM MCD-1 XCP, protocol layer, description of commands: CLEAR_DAQ_LIST to ALLOC_ODT_ENTRY.
+/// The same of the commands for data acquisition. All bytes behind the code of WRITE_DAQ_MULTIPLE are its own.
+/// ASAM MCD-1 XCP, protocol layer, description of commands: CLEAR_DAQ_LIST to ALLOC_ODT_ENTRY, WRITE_DAQ_MULTIPLE.
 pub fn list_commands_have_their_bytes()
     ensures clear_daq_list { (order : Order) (r a b : ℕ) (more : List ℕ) → spells order (Command.ClearDaqList (word_of order a b)) (0xE3 ∷ r ∷ a ∷ b ∷ more) }
     ensures set_daq_ptr { (order : Order) (r a b odt entry : ℕ) (more : List ℕ) → spells order (Command.SetDaqPtr (word_of order a b) odt entry) (0xE2 ∷ r ∷ a ∷ b ∷ odt ∷ entry ∷ more) }
@@ -60,6 +62,7 @@ pub fn list_commands_have_their_bytes()
     ensures alloc_daq { (order : Order) (r a b : ℕ) (more : List ℕ) → spells order (Command.AllocDaq (word_of order a b)) (0xD5 ∷ r ∷ a ∷ b ∷ more) }
     ensures alloc_odt { (order : Order) (r a b count : ℕ) (more : List ℕ) → spells order (Command.AllocOdt (word_of order a b) count) (0xD4 ∷ r ∷ a ∷ b ∷ count ∷ more) }
     ensures alloc_odt_entry { (order : Order) (r a b odt count : ℕ) (more : List ℕ) → spells order (Command.AllocOdtEntry (word_of order a b) odt count) (0xD3 ∷ r ∷ a ∷ b ∷ odt ∷ count ∷ more) }
+    ensures write_daq_multiple { (order : Order) (items : ArrayVec ℕ) → spells order (Command.WriteDaqMultiple items) (0xC7 ∷ items.items) }
 {}
 
 /// A packet that lacks the last byte of a command's last parameter is no command.

@@ -1,12 +1,13 @@
 -- Chapters that follow one another, one by one.
-use Rattle.std.proofs.Common.{◌≡◌, ◌<◌, ℕ, zero, suc, ◌+◌, ◌-◌, List, [], ◌∷◌, ◌++◌, length, take, get_or, refl, sym, ap, ◌∙◌, subst, arith, length-append, append_assoc}
+use Rattle.std.proofs.Common.{◌≡◌, ◌<◌, inl, inr, Some, ℕ, zero, suc, ◌+◌, ◌-◌, List, [], ◌∷◌, ◌++◌, length, take, get_or, refl, sym, ap, ◌∙◌, subst, arith, length-append, append_assoc}
+use Rattle.std.specs.Prelude.{slice_get}
 use Rattle.std.proofs.lemmas.List.{map-append, append-nil}
 use Rattle.xcp_memory.specs.Layout.{LayoutValue}
 use Rattle.xcp_slave.specs.declared.Exchange.{Exchange}
 use Rattle.xcp_slave.specs.Run.{Run}
 use Rattle.xcp_slave.specs.SlaveValue.{SlaveValue, opening}
 use Rattle.xcp_trace.specs.declared.Entry.{Entry}
-use Rattle.xcp_locked.specs.Chapters.{AreJoined, LeadTo, entries_of}
+use Rattle.xcp_locked.specs.Chapters.{AreJoined, Follows, IsFirstGap, LeadTo, entries_of}
 use Rattle.xcp_locked.specs.private.NoChapter.{no_chapter}
 use Rattle.xcp_locked.specs.Journal.{exchanges}
 use Rattle.xcp_locked.specs.LockedSlave.{ChapterValue, IsReached}
@@ -96,6 +97,24 @@ joined_all l cs k calls number before base a all is same follows reached =
       run = subst (λ (z : SlaveValue). Run (opening l) (exchanges (entries_of cs)) z) (sym at)
           (subst (λ (z : List ChapterValue). Run (opening l) (exchanges (entries_of z)) (end_before l cs k)) whole a.run);
     }
+
+-- where the first chapters end, if there is one
+pub end_is : (l : LayoutValue) (cs : List ChapterValue) (k : ℕ) → 0 < k → end_before l cs k ≡ (get_or cs (k - 1) no_chapter).last
+end_is l cs zero h = absurd (omega (arith, h))
+end_is l cs (suc k) h = let e : suc k - 1 ≡ k = omega arith in ap (λ (j : ℕ). (get_or cs j no_chapter).last) (sym e)
+
+got : (cs : List ChapterValue) (k : ℕ) (d : ChapterValue) → k < length cs → slice_get cs k ≡ Some (get_or cs k d)
+got [] k d h = absurd (omega (arith, h))
+got (c ∷ cs) zero d h = refl
+got (c ∷ cs) (suc k) d h = got cs k d (omega (arith, h))
+
+-- a chapter that doesn't follow the first k
+pub gap_here : (l : LayoutValue) (cs : List ChapterValue) (k calls number before : ℕ) (base : SlaveValue) (c : ChapterValue) → AreFirst l cs k calls → k < length cs → c ≡ get_or cs k c → ¬ (Follows k calls (end_before l cs k) c.number c.before c.base) → IsFirstGap l cs number before base k
+gap_here l cs k calls number before base c a low is off = record { calls = calls; at = end_before l cs k; lead = a.lead; gap = inl (c, got cs k c low ∙ ap (λ (x : ChapterValue). Some x) (sym is), off) }
+
+-- the open one, where all before it follow one another
+pub gap_open : (l : LayoutValue) (cs : List ChapterValue) (k calls number before : ℕ) (base : SlaveValue) → AreFirst l cs k calls → k ≡ length cs → ¬ (Follows k calls (end_before l cs k) number before base) → IsFirstGap l cs number before base (length cs)
+gap_open l cs k calls number before base a all off = subst (λ (j : ℕ). IsFirstGap l cs number before base j) all (record { calls = calls; at = end_before l cs k; lead = a.lead; gap = inr (all, off) })
 
 -- joined chapters and the open one are one run
 pub whole_run : (l : LayoutValue) (cs : List ChapterValue) (number before : ℕ) (base w : SlaveValue) (es : List Entry) → AreJoined l cs number before base → Run base (exchanges es) w → Run (opening l) (exchanges (entries_of cs ++ es)) w

@@ -16,7 +16,7 @@ use Rattle.xcp_memory.specs.LayoutParts.{Placed, placed_segment, areas, number, 
 use Rattle.xcp_memory.specs.declared.key.Key.TheVariants as key
 use Rattle.xcp_memory.specs.declared.key.LayoutFault.TheVariants.{Range, TooMany}
 use Rattle.xcp_packet.specs.Rows.{first_holding, must}
-use Rattle.xcp_memory.specs.Limits.{Limit, is_within, is_printable, is_text, is_apart, apart_limit, apart_limits, limits_in, segments_limits, signals_limits, event_limits, events_limits, own_limits, first_fault}
+use Rattle.xcp_memory.specs.Limits.{Limit, is_within, is_printable, is_text, is_text_or_none, is_apart, apart_limit, apart_limits, limits_in, segments_limits, signals_limits, event_limits, events_limits, own_limits, first_fault}
 use Rattle.xcp_packet.proofs.RowTestLemmas.{kept, none_both}
 
 -- each limit is kept
@@ -65,6 +65,14 @@ text most bytes h =
       most_of = grind (arith, nat_tests);
       printable_all = λ k d below. printable (get_or bytes k d) (AllPass-from_list_all is_printable bytes p.1 k d below);
     }
+
+-- up to `most` printable characters
+pub text_or_none : (most : ℕ) (bytes : List ℕ) → is_text_or_none most bytes ≡ true → (length bytes ≤ most) × All IsPrintable bytes
+text_or_none most bytes h =
+    let b = both _ _ h in
+    let most_of = b.0 in
+    let passes = AllPass-from_list_all is_printable bytes b.1 in
+    (grind (arith, nat_tests), λ k d l. printable (get_or bytes k d) (passes k d l))
 
 -- a fact of a list's first element and of the others
 pub all_cons : {A : Type 0} (P : A → Type 0) (x : A) (xs : List A) → P x → All P xs → All P (x ∷ xs)
@@ -227,8 +235,9 @@ lawful p h =
     let id = text 64 p.id.items (kept _ own.0) in
     let cto = within_number 8 255 p.max_cto (kept _ own.1.0) in
     let dto = within_number 8 255 p.max_dto (kept _ own.1.1.0) in
-    let unit = within_number 0 12 p.clock.unit (kept _ own.1.1.1.1.1.1.0) in
-    let ticks = within_number 1 65535 p.clock.ticks (kept _ own.1.1.1.1.1.1.1.0) in
+    let a2l = text_or_none 64 p.extras.a2l.items (kept _ own.1.1.1.1.0) in
+    let unit = within_number 0 12 p.clock.unit (kept _ own.1.1.1.1.1.1.1.0) in
+    let ticks = within_number 1 65535 p.clock.ticks (kept _ own.1.1.1.1.1.1.1.1.0) in
     let signals = all_kept (signals_limits p.signals_address p.signals_length) g.signals in
     let signals_number = within_number 1 64 p.signals_length (kept _ signals.1.0) in
     let signals_end : nat_le (number p.signals_address + number p.signals_length) 0xFFFF_FFFF ≡ true = kept _ signals.1.1.0 in
@@ -265,4 +274,5 @@ lawful p h =
       name_texts = All-map (λ e. All IsPrintable e.name) event_of_part es (λ k d b. (named k d b).printable_all);
       last = All-append Ends (map segment_extent l.segments) (signals_extent l ∷ []) last_segments last_signals;
       apart = apart_extents l g.apart;
+      extras = record { a2l_most = a2l.0; a2l_text = a2l.1; file = record { epk_most = omega arith; text_most = omega arith } };
     }

@@ -17,7 +17,7 @@ use Rattle.xcp_memory.specs.LayoutLaws.{IsNatural, IsByte, AreNumbers}
 use Rattle.xcp_memory.specs.Pages.{no_segment}
 use Rattle.xcp_memory.specs.LayoutParts.{Placed, areas, number, size, segment_of_part, event_of_part, layout_of}
 use Rattle.xcp_packet.specs.Rows.{first_holding}
-use Rattle.xcp_memory.specs.Limits.{Limit, is_within, is_printable, is_text, is_apart, apart_limit, apart_limits, limits_in, segment_counts, segments_limits, signals_limits, event_counts, event_limits, events_limits, own_limits, first_fault}
+use Rattle.xcp_memory.specs.Limits.{Limit, is_within, is_printable, is_text, is_text_or_none, is_apart, apart_limit, apart_limits, limits_in, segment_counts, segments_limits, signals_limits, event_counts, event_limits, events_limits, own_limits, first_fault}
 use Rattle.xcp_packet.proofs.RowTestLemmas.{kept, none_left, behind_4}
 use Rattle.xcp_memory.proofs.AreaLaws.{length-extents, extents-signals, segment_last}
 use Rattle.xcp_memory.proofs.LawfulLayoutLemmas.{AllKept, all_kept, all_cons, each_kept, IsGoodSegment, sum_of_parts, extents-areas, within_number, none_broken, counted, segments_counted, events_counted, lawful}
@@ -48,6 +48,10 @@ printable b h = and_from _ _ (at_most 0x20 b h.0) (at_most b 0x7E h.1)
 text : (most : ℕ) (bytes : List ℕ) → 1 ≤ length bytes → length bytes ≤ most → All IsPrintable bytes → is_text most bytes ≡ true
 text most bytes h k p =
     and_from _ _ (and_from _ _ (at_most 1 (length bytes) h) (at_most (length bytes) most k)) (list_all-from_AllPass is_printable bytes (λ i d l. printable (get_or bytes i d) (p i d l)))
+
+text_or_none : (most : ℕ) (bytes : List ℕ) → length bytes ≤ most → All IsPrintable bytes → is_text_or_none most bytes ≡ true
+text_or_none most bytes k p =
+    and_from _ _ (at_most (length bytes) most k) (list_all-from_AllPass is_printable bytes (λ i d l. printable (get_or bytes i d) (p i d l)))
 
 -- what holds of each part's value holds of each part
 of_each : {A B : Type 0} (P : B → Type 0) (f : A → B) (xs : List A) → All P (map f xs) → All (λ x. P (f x)) xs
@@ -173,10 +177,11 @@ own_keep p h n =
     let cto = within 8 255 p.max_cto n.cto h.cto_least h.cto_most in
     let dto = within 8 255 p.max_dto n.dto h.dto_least h.dto_most in
     let kind = within 1 6 p.checksum n.checksum n.kinds.0 n.kinds.1 in
+    let a2l = text_or_none 64 p.extras.a2l.items h.extras.a2l_most h.extras.a2l_text in
     let size = within 0 4 p.clock.size n.stamp_natural (omega arith) n.stamp_most in
     let unit = within 0 12 p.clock.unit n.unit (omega arith) h.unit_most in
     let ticks = within 1 65535 p.clock.ticks n.ticks h.ticks_least h.ticks_most in
-    keeps (own_limits p) (ap not id, (ap not cto, (ap not dto, (ap not kind, (ap not size, (not_three _ n.stamp_known, (ap not unit, (ap not ticks, tt))))))))
+    keeps (own_limits p) (ap not id, (ap not cto, (ap not dto, (ap not kind, (ap not a2l, (ap not size, (not_three _ n.stamp_known, (ap not unit, (ap not ticks, tt)))))))))
 
 keep : (p : Parts) → IsLayout (layout_of p) → AreNumbers p → first_fault p ≡ None
 keep p h n =
@@ -211,11 +216,11 @@ numbers p h =
       dto = natural 8 255 p.max_dto (kept _ own.1.1.0);
       checksum = natural 1 6 p.checksum (kept _ own.1.1.1.0);
       kinds = within_number 1 6 p.checksum (kept _ own.1.1.1.0);
-      stamp_natural = natural 0 4 p.clock.size (kept _ own.1.1.1.1.0);
-      stamp_most = (within_number 0 4 p.clock.size (kept _ own.1.1.1.1.0)).1;
-      stamp_known = is_other _ own.1.1.1.1.1.0;
-      unit = natural 0 12 p.clock.unit (kept _ own.1.1.1.1.1.1.0);
-      ticks = natural 1 65535 p.clock.ticks (kept _ own.1.1.1.1.1.1.1.0);
+      stamp_natural = natural 0 4 p.clock.size (kept _ own.1.1.1.1.1.0);
+      stamp_most = (within_number 0 4 p.clock.size (kept _ own.1.1.1.1.1.0)).1;
+      stamp_known = is_other _ own.1.1.1.1.1.1.0;
+      unit = natural 0 12 p.clock.unit (kept _ own.1.1.1.1.1.1.1.0);
+      ticks = natural 1 65535 p.clock.ticks (kept _ own.1.1.1.1.1.1.1.1.0);
       segments = each_kept (limits_in ss) (λ s. IsNatural s.address × IsNatural s.pages) (segment_numbers ss) 0 ss segments.behind;
       signals_address = natural 0 0xFFFF_FFFE p.signals_address (kept _ signals.0);
       signals_length = natural 1 64 p.signals_length (kept _ signals.1.0);

@@ -51,6 +51,7 @@ lawful_with l i bytes h k e =
       signals_most = h.signals_most;
       events_least = h.events_least;
       events_most = h.events_most;
+      extras = h.extras;
       names = h.names;
       name_texts = h.name_texts;
       last = subst (λ (xs : List Extent). All (λ (x : Extent). x.address + x.size ≤ 0xFFFF_FFFF) xs) (sym where') h.last;

@@ -1,5 +1,5 @@
 -- A layout: what a controller shows to a calibration tool.
-use Rattle.std.specs.Prelude.{ℕ, List, [], ◌∷◌, ◌++◌, length, map, sum_by, All, ◌+◌, ◌<◌, ◌≤◌, ◌⊎◌, slice_index_or as get_or}
+use Rattle.std.specs.Prelude.{◌≡◌, ℕ, Bool, false, Option, Some, None, List, [], ◌∷◌, ◌++◌, length, map, sum_by, All, ◌+◌, ◌<◌, ◌≤◌, ◌⊎◌, slice_index_or as get_or}
 use Rattle.xcp_packet.specs.declared.Order.{Order}
 use Rattle.xcp_memory.specs.declared.clock.Clock.{Clock}
 use Rattle.xcp_memory.specs.declared.checksum_kind.ChecksumKind.{ChecksumKind}
@@ -19,9 +19,49 @@ pub record EventValue : Type 0 where
   pub unit : ℕ
   pub priority : ℕ
 
+-- An A2L file: what identifies it, its EPK, and its text.
+pub record A2lFileValue : Type 0 where
+  pub epk : List ℕ
+  pub text : List ℕ
+
+-- the limits of an A2L file
+pub record IsA2lFile (f : A2lFileValue) : Type 0 where
+  pub epk_most : length f.epk ≤ 64
+  pub text_most : length f.text ≤ 1048576
+
+-- What a slave has beyond others, where its layout asks for it: the name of its A2L file, of no bytes if there is none; whether
+-- tools get the file from the slave, and may send the commands that came with later versions of the standard; whether a lost
+-- sample is told by an event packet; and the file, once it is made.
+-- (ASAM MCD-1 XCP, protocol layer, description of commands: GET_ID; event packets: EV_DAQ_OVERLOAD.)
+pub record ExtrasValue : Type 0 where
+  pub a2l : List ℕ
+  pub uploads_a2l : Bool
+  pub tells_overload : Bool
+  pub file : Option A2lFileValue
+
+-- the same file, or one without bytes
+abbrev pub file_or_none : Option A2lFileValue → A2lFileValue
+file_or_none None = record { epk = []; text = [] }
+file_or_none (Some file) = file
+
+-- what identifies the A2L file, its EPK, and its text: of no bytes where there is no file
+abbrev pub epk : ExtrasValue → List ℕ
+epk e = (file_or_none e.file).epk
+
+abbrev pub description : ExtrasValue → List ℕ
+description e = (file_or_none e.file).text
+
+-- nothing of it
+abbrev pub no_extras : ExtrasValue
+no_extras = record { a2l = []; uploads_a2l = false; tells_overload = false; file = None }
+
+-- the same with this A2L file
+abbrev pub with_file : A2lFileValue → ExtrasValue → ExtrasValue
+with_file file e = record e { file = Some file }
+
 -- The identification, the greatest lengths of command and data packets (MAX_CTO, MAX_DTO), the type of
 -- checksums, the byte order of words and double words in packets, the clock, the segments, where the signals stand that the
--- controller measures, and the event channels.
+-- controller measures, the event channels, and what the slave has beyond others.
 pub record LayoutValue : Type 0 where
   pub id : List ℕ
   pub max_cto : ℕ
@@ -33,6 +73,15 @@ pub record LayoutValue : Type 0 where
   pub signals_address : ℕ
   pub signals_length : ℕ
   pub events : List EventValue
+  pub extras : ExtrasValue
+
+-- The layout asks for nothing that only some slaves have.
+abbrev pub IsPlain : LayoutValue → Type 0
+IsPlain l = l.extras ≡ no_extras
+
+-- the layout with this A2L file
+abbrev pub described : A2lFileValue → LayoutValue → LayoutValue
+described file l = record l { extras = with_file file l.extras }
 
 -- where an area lies: its first address and how many bytes it has
 pub record Extent : Type 0 where
@@ -63,6 +112,12 @@ no_event = record { name = []; cycle = 0; unit = 0; priority = 0 }
 abbrev pub IsPrintable : ℕ → Type 0
 IsPrintable b = (0x20 ≤ b) × (b ≤ 0x7E)
 
+-- the limits of what a slave has beyond others
+pub record IsExtras (e : ExtrasValue) : Type 0 where
+  pub a2l_most : length e.a2l ≤ 64
+  pub a2l_text : All IsPrintable e.a2l
+  pub file : IsA2lFile (file_or_none e.file)
+
 -- the limits of a layout
 pub record IsLayout (l : LayoutValue) : Type 0 where
   pub cto_least : 8 ≤ l.max_cto
@@ -88,3 +143,4 @@ pub record IsLayout (l : LayoutValue) : Type 0 where
   pub name_texts : All (λ e. All IsPrintable e.name) l.events
   pub last : All (λ e. e.address + e.size ≤ 0xFFFF_FFFF) (extents l)
   pub apart : (i j : ℕ) → i < j → j < length (extents l) → IsApart (get_or (extents l) i no_extent) (get_or (extents l) j no_extent)
+  pub extras : IsExtras l.extras

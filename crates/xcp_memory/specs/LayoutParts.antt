@@ -1,5 +1,5 @@
 -- The layout that parts make.
-use Rattle.std.specs.Prelude.{ℕ, ℤ, pos, negsuc, List, [], ◌∷◌, ◌++◌, length, map, ◌==◌, if◌then◌else◌}
+use Rattle.std.specs.Prelude.{ℕ, ℤ, pos, negsuc, List, [], ◌∷◌, ◌++◌, length, map, ◌==◌, None, if◌then◌else◌}
 use Rattle.std.specs.List.{enumerate_from}
 use Rattle.xcp_memory.specs.declared.parts.Parts.{Parts}
 use Rattle.xcp_memory.specs.declared.parts.SegmentPart.{SegmentPart}
@@ -8,11 +8,12 @@ use Rattle.xcp_packet.specs.declared.Stamp.{Stamp}
 use Rattle.xcp_packet.specs.declared.Stamp.TheVariants.{Without, Byte, Word, Double}
 use Rattle.xcp_memory.specs.declared.clock.Clock.{Clock}
 use Rattle.xcp_memory.specs.declared.clock.ClockPart.{ClockPart}
+use Rattle.xcp_memory.specs.declared.extras.ExtrasPart.{ExtrasPart}
 use Rattle.xcp_memory.specs.declared.key.Area.{Area}
 use Rattle.xcp_memory.specs.declared.key.Area.TheVariants as area
 use Rattle.xcp_memory.specs.declared.checksum_kind.ChecksumKind.{ChecksumKind}
 use Rattle.xcp_memory.specs.declared.checksum_kind.ChecksumKind.TheVariants.{Add11, Add12, Add14, Add22, Add24, Add44}
-use Rattle.xcp_memory.specs.Layout.{LayoutValue, SegmentValue, EventValue, Extent, segment_extent, signals_extent}
+use Rattle.xcp_memory.specs.Layout.{LayoutValue, SegmentValue, EventValue, ExtrasValue, Extent, segment_extent, signals_extent}
 
 -- a number that isn't negative
 abbrev pub number : ℤ → ℕ
@@ -45,6 +46,10 @@ stamp_sized n =
 abbrev pub clock_of : ClockPart → Clock
 clock_of c = record { stamp = stamp_sized (number c.size); unit = number c.unit; ticks = number c.ticks }
 
+-- What a slave has beyond others, by this part: the A2L file is made later.
+abbrev pub extras_of : ExtrasPart → ExtrasValue
+extras_of e = record { a2l = e.a2l.items; uploads_a2l = e.uploads_a2l; tells_overload = e.tells_overload; file = None }
+
 abbrev pub segment_of_part : SegmentPart → SegmentValue
 segment_of_part s = record { address = number s.address; bytes = s.bytes.items; pages = number s.pages }
 
@@ -64,6 +69,7 @@ layout_of p = record {
   signals_address = number p.signals_address;
   signals_length = number p.signals_length;
   events = map event_of_part p.events.items;
+  extras = extras_of p.extras;
 }
 
 -- an area by its name, and where it lies

@@ -30,6 +30,10 @@ is_printable b = nat_le 0x20 b && nat_le b 0x7E
 abbrev pub is_text : ℕ → List ℕ → Bool
 is_text most bytes = nat_le 1 (length bytes) && nat_le (length bytes) most && list_all is_printable bytes
 
+-- up to `most` printable characters
+abbrev pub is_text_or_none : ℕ → List ℕ → Bool
+is_text_or_none most bytes = nat_le (length bytes) most && list_all is_printable bytes
+
 abbrev pub is_address : ℤ → Bool
 is_address a = is_within 0 0xFFFF_FFFE a
 
@@ -80,12 +84,17 @@ clock_limits c =
     ∷ number_limit 1 65535 key.ClockTicks c.ticks
     ∷ []
 
+-- the name of the A2L file, if there is one
+abbrev pub a2l_limit : List ℕ → Limit
+a2l_limit bytes = must (is_text_or_none 64 bytes) (Range key.A2l)
+
 abbrev pub own_limits : Parts → List Limit
 own_limits p =
     id_limit p.id.items
     ∷ max_cto_limit p.max_cto
     ∷ max_dto_limit p.max_dto
     ∷ number_limit 1 6 key.Checksum p.checksum
+    ∷ a2l_limit p.extras.a2l.items
     ∷ clock_limits p.clock
 
 -- how many segments there are; of segment i the first address, its bytes, the bytes in all with its own, and its pages

@@ -1,7 +1,7 @@
 //! Checks of single values.
 ghost use Rattle.std.specs.Prelude.{◌≡◌, true, false, IfOk, IfErr};
 ghost use Rattle.xcp_memory.specs.LayoutParts.{number as number_of};
-ghost use Rattle.xcp_memory.specs.Limits.{is_within, is_printable, is_text};
+ghost use Rattle.xcp_memory.specs.Limits.{is_within, is_printable, is_text, is_text_or_none};
 ghost use Rattle.std.specs.List.{list_all};
 
 use crate::{Key, LayoutFault};
@@ -46,6 +46,25 @@ pub(crate) fn check_text(bytes: &[u8], most: usize, key: Key) -> Result<(), Layo
     ensures refused { IfErr result (λ e. (is_text most bytes.now ≡ false) × (e ≡ LayoutFault.Range key)) }
 {
     if is_text(bytes, most) {
+        Ok(())
+    } else {
+        Err(LayoutFault::Range(key))
+    }
+}
+
+/// Whether there are up to `most` printable ASCII bytes.
+fn is_text_or_none(bytes: &[u8], most: usize) -> bool
+    ensures { result ≡ is_text_or_none most bytes.now }
+{
+    bytes.len() <= most && all_printable(bytes)
+}
+
+/// Checks that there are up to `most` printable ASCII bytes.
+pub(crate) fn check_text_or_none(bytes: &[u8], most: usize, key: Key) -> Result<(), LayoutFault>
+    ensures ok { IfOk result (λ _. is_text_or_none most bytes.now ≡ true) }
+    ensures refused { IfErr result (λ e. (is_text_or_none most bytes.now ≡ false) × (e ≡ LayoutFault.Range key)) }
+{
+    if is_text_or_none(bytes, most) {
         Ok(())
     } else {
         Err(LayoutFault::Range(key))

@@ -17,6 +17,12 @@ pub enum Key {
     ByteOrder,
     /// The type of checksums.
     Checksum,
+    /// The name of the A2L file.
+    A2l,
+    /// Whether tools get the A2L file from the slave.
+    UploadA2l,
+    /// How a lost sample is told.
+    Overload,
     /// The clock.
     Clock,
     /// How many bytes a time stamp has.

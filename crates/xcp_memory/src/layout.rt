@@ -2,7 +2,7 @@
 ghost use Rattle.std.specs.Prelude.{◌≡◌, ◌≢◌, MatchBool, ◌+◌, ◌<◌, ◌≤◌, ◌↔◌, length, All, Some, None, Ok, Err, IfOk, IfErr, IfSome, IsTrue, slice_index_or as get_or};
 ghost use Rattle.xcp_memory.specs.Pages.{no_segment};
 ghost use Rattle.xcp_memory.specs.ReferencePage.{with_reference};
-ghost use Rattle.xcp_memory.specs.Layout.{IsLayout, IsPrintable, signals_extent, no_event};
+ghost use Rattle.xcp_memory.specs.Layout.{IsLayout, IsPrintable, described, signals_extent, no_event};
 ghost use Rattle.xcp_memory.specs.declared.key.LayoutFault.{LayoutFault};
 ghost use Rattle.xcp_memory.specs.LayoutParts.{clock_of, layout_of, number, kind_numbered};
 ghost use Rattle.xcp_packet.specs.Rows.{first_holding};
@@ -12,16 +12,17 @@ ghost use Rattle.xcp_memory.specs.ComputedAccess.{segment_of, is_inside, Located
 use crate::areas::{areas_of, check_apart};
 use crate::event_channel::{EventChannel, copy_events, read_events, same_events};
 use crate::extent::{Extent, read_signals};
-use crate::limits::{MAX_EVENTS, MAX_ID, MAX_SEGMENTS, MIN_PACKET};
+use crate::limits::{MAX_A2L, MAX_EVENTS, MAX_ID, MAX_SEGMENTS, MIN_PACKET};
 use crate::segment::{Segment, copy_segments, read_segments, same_segments};
-use crate::{ChecksumKind, Clock, Key, LayoutFault, Parts, checks};
+use crate::{A2lFile, ChecksumKind, Clock, Extras, Key, LayoutFault, Parts, checks};
 use arrayvec::ArrayVec;
 use std::alloc::{AllocError, Global};
 use std::marker::Model;
 use xcp_packet::Order;
 
 /// What a controller shows to a calibration tool: the identification, the greatest lengths of packets, the type of
-/// checksums, the byte order in packets, the segments, the signals and the event channels. It is within all limits.
+/// checksums, the byte order in packets, the segments, the signals, the event channels, and what the slave has beyond others. It
+/// is within all limits.
 #[derive(Drop)]
 pub struct Layout {
     id: Vec<u8>,
@@ -33,6 +34,7 @@ pub struct Layout {
     segments: ArrayVec<Segment, MAX_SEGMENTS, Global>,
     signals: Extent,
     events: ArrayVec<EventChannel, MAX_EVENTS, Global>,
+    extras: Extras,
 }
 
 /// The values of the slave itself, but for the identification.
@@ -53,6 +55,7 @@ impl OwnValues {
         let max_cto = checks::byte(parts.max_cto, MIN_PACKET, u8::MAX, Key::MaxCto)?;
         let max_dto = checks::byte(parts.max_dto, MIN_PACKET, u8::MAX, Key::MaxDto)?;
         let number = checks::byte(parts.checksum, 1, 6, Key::Checksum)?;
+        checks::check_text_or_none(&parts.extras.a2l, MAX_A2L, Key::A2l)?;
         let clock = Clock::read(parts.clock)?;
         Ok(OwnValues {
             max_cto,
@@ -68,14 +71,14 @@ impl Model for Layout {
 
     ghost Value = { LayoutValue };
 
-    ghost view = { λ l. record { id = l.id.items; max_cto = l.max_cto; max_dto = l.max_dto; checksum = l.checksum; order = l.order; clock = l.clock; segments = l.segments.items; signals_address = l.signals.address; signals_length = l.signals.size; events = l.events.items } };
+    ghost view = { λ l. record { id = l.id.items; max_cto = l.max_cto; max_dto = l.max_dto; checksum = l.checksum; order = l.order; clock = l.clock; segments = l.segments.items; signals_address = l.signals.address; signals_length = l.signals.size; events = l.events.items; extras = l.extras } };
 
-    ghost invariant = { λ l. IsLayout (record { id = l.id.items; max_cto = l.max_cto; max_dto = l.max_dto; checksum = l.checksum; order = l.order; clock = l.clock; segments = l.segments.items; signals_address = l.signals.address; signals_length = l.signals.size; events = l.events.items }) };
+    ghost invariant = { λ l. IsLayout (record { id = l.id.items; max_cto = l.max_cto; max_dto = l.max_dto; checksum = l.checksum; order = l.order; clock = l.clock; segments = l.segments.items; signals_address = l.signals.address; signals_length = l.signals.size; events = l.events.items; extras = l.extras }) };
 }
 
 impl Layout {
     /// The layout that these parts make, or the first limit that they break, in this order: the identification,
-    /// MAX_CTO, MAX_DTO, the type of checksums, the clock; how many segments there are, and for each its first address, that it
+    /// MAX_CTO, MAX_DTO, the type of checksums, the A2L file's name, the clock; how many segments there are, and for each its first address, that it
     /// has a byte, the bytes so far, its last address and its number of pages; the signals' first address, length and
     /// last address; how many event channels there are, and for each its name, time cycle, time unit and priority; the
     /// first two areas that share an address. It takes no memory.
@@ -98,6 +101,7 @@ impl Layout {
             signals_address,
             signals_length,
             events,
+            extras,
             ..
         } = parts;
         let segments = read_segments(segments)?;
@@ -114,6 +118,7 @@ impl Layout {
             segments,
             signals,
             events,
+            extras: Extras::begin(extras),
         })
     }
 
@@ -124,6 +129,7 @@ impl Layout {
         let id = self.id.clone()?;
         let segments = copy_segments(alloc, &self.segments)?;
         let events = copy_events(alloc, &self.events)?;
+        let extras = self.extras.copy()?;
         Ok(Layout {
             id,
             max_cto: self.max_cto,
@@ -134,6 +140,7 @@ impl Layout {
             segments,
             signals: self.signals,
             events,
+            extras,
         })
     }
 
@@ -151,6 +158,7 @@ impl Layout {
             && self.signals.size() == other.signals.size()
             && same_segments(&self.segments, &other.segments)
             && same_events(&self.events, &other.events)
+            && self.extras.same(&other.extras)
     }
 
     /// Every layout is within the limits. A caller that proves something of a layout calls this; it does nothing.
@@ -324,6 +332,20 @@ impl Layout {
         ensures { result ≡ (get_or self.now.events event no_event).priority }
     {
         self.events[event].priority()
+    }
+
+    /// What the slave has beyond others.
+    pub fn extras(&self) -> &Extras
+        ensures { result.now ≡ self.now.extras }
+    {
+        &self.extras
+    }
+
+    /// Makes this the A2L file that tools get from the slave.
+    pub fn describe(&mut self, file: A2lFile)
+        ensures { self.new ≡ described file self.old }
+    {
+        self.extras.describe(file);
     }
 
     /// The segment in which n bytes from an address on lie. Sums of addresses don't wrap.

@@ -11,6 +11,7 @@ mod checksum_kind;
 mod clock;
 mod event_channel;
 mod extent;
+mod extras;
 mod key;
 mod layout;
 mod layout_laws;
@@ -28,6 +29,7 @@ pub use access_laws::{
 pub use checks::is_text;
 pub use checksum_kind::ChecksumKind;
 pub use clock::{Clock, ClockPart, NO_CLOCK};
+pub use extras::{A2lFile, Extras, ExtrasPart};
 pub use key::{Area, Key, LayoutFault};
 pub use layout::Layout;
 pub use layout_laws::{areas_share_no_address, kept_limits_make_a_layout, ranges_are_decided};

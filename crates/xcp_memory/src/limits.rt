@@ -24,6 +24,15 @@ pub const MAX_SIGNALS: u32 = 64;
 /// How long the identification is at most.
 pub const MAX_ID: usize = 64;
 
+/// How long the name of the A2L file is at most.
+pub const MAX_A2L: usize = 64;
+
+/// How long what identifies the A2L file is at most.
+pub const MAX_EPK: usize = 64;
+
+/// How long the A2L file is at most.
+pub const MAX_DESCRIPTION: usize = 1_048_576;
+
 /// How long the name of an event channel is at most.
 pub const MAX_NAME: usize = 32;
 

@@ -1,5 +1,5 @@
 //! The parts that a layout is made of.
-use crate::ClockPart;
+use crate::{ClockPart, ExtrasPart};
 use xcp_packet::Order;
 
 /// What a layout is made of, as it was read: no limit has been checked.
@@ -25,6 +25,8 @@ pub struct Parts {
     pub signals_length: i64,
     /// The event channels: 1 to 8.
     pub events: Vec<EventPart>,
+    /// What the slave has beyond others.
+    pub extras: ExtrasPart,
 }
 
 /// A segment.

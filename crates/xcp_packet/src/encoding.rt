@@ -139,7 +139,9 @@ impl Command {
             Command::Download { bytes, .. } | Command::DownloadNext { bytes, .. } => {
                 bytes.len() <= 253
             }
-            Command::DownloadMax { bytes } => bytes.len() <= 254,
+            Command::DownloadMax { bytes }
+            | Command::GetVersion { bytes }
+            | Command::WriteDaqMultiple { bytes } => bytes.len() <= 254,
             Command::ShortDownload { bytes, .. } => bytes.len() <= 247,
             _ => true,
         }

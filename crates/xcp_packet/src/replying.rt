@@ -216,6 +216,7 @@ pub fn write_reply(packet: &mut Packet, reply: &Reply, order: Order)
             unit,
             priority,
         } => write(packet, &[RES, 0x04, 0x10, *name, *cycle, *unit, *priority]),
+        Reply::Version => write(packet, &[RES, 0, 1, 4, 1, 4]),
         Reply::Error(code) => write_error(packet, *code),
         Reply::ErrorCount(code, count) => write_error_count(packet, *code, *count),
     }

@@ -1,7 +1,8 @@
--- The layout that a slave begins with: as the configuration describes it, with the stored pages of a file, if there is one.
-use Rattle.std.specs.Prelude.{◌≡◌, ◌≢◌, ℕ, List, Option, Some, None}
+-- The layout that a slave begins with: as the configuration describes it, with the stored pages of a file, if there is one, and
+-- with its A2L file, where it asks for one.
+use Rattle.std.specs.Prelude.{◌≡◌, ◌≢◌, ℕ, List, Option, Some, None, if◌then◌else◌}
 use Rattle.sha2.specs.Sha256.{sha256}
-use Rattle.xcp_memory.specs.Layout.{LayoutValue}
+use Rattle.xcp_memory.specs.Layout.{LayoutValue, A2lFileValue, described}
 use Rattle.xcp_config.specs.ConfigText.{HasLayout}
 use Rattle.xcp_flash.specs.FlashFile.{file_of}
 use Rattle.xcp_flash.specs.References.{AreReferences}
@@ -9,22 +10,30 @@ use Rattle.xcp_flash.specs.Restoring.{IsRestored}
 
 -- a layout with the pages that a file of this configuration keeps, or with its own where there is no file
 abbrev pub HasStored : List ℕ → LayoutValue → Option (List ℕ) → LayoutValue → Type 0
-HasStored config described None layout = layout ≡ described
-HasStored config described (Some bytes) layout = IsRestored described (sha256 config) bytes layout
+HasStored config own None layout = layout ≡ own
+HasStored config own (Some bytes) layout = IsRestored own (sha256 config) bytes layout
 
--- a slave of this configuration begins with this layout, where the file of the stored pages has these bytes, if there is one
-pub record Begins (config : List ℕ) (flash : Option (List ℕ)) (layout : LayoutValue) : Type 0 where
-  pub described : LayoutValue
-  pub has : HasLayout config described
-  pub stored : HasStored config described flash layout
+-- a layout with this A2L file, if there is one, where it asks that tools get it from the slave
+abbrev pub with_a2l : Option A2lFileValue → LayoutValue → LayoutValue
+with_a2l None layout = layout
+with_a2l (Some file) layout = if layout.extras.uploads_a2l then described file layout else layout
+
+-- a slave of this configuration begins with this layout, where this is its A2L file and the file of the stored pages has these
+-- bytes, each if there is one
+pub record Begins (config : List ℕ) (a2l : Option A2lFileValue) (flash : Option (List ℕ)) (layout : LayoutValue) : Type 0 where
+  pub own : LayoutValue
+  pub has : HasLayout config own
+  pub paged : LayoutValue
+  pub stored : HasStored config own flash paged
+  pub whole : layout ≡ with_a2l a2l paged
 
 -- the bytes are no file of pages that fit the layout
 abbrev pub FitsNone : List ℕ → LayoutValue → Option (List ℕ) → Type 0
-FitsNone config described None = ⊥
-FitsNone config described (Some bytes) = (pages : List (List ℕ)) → AreReferences pages described → bytes ≢ file_of (sha256 config) pages
+FitsNone config own None = ⊥
+FitsNone config own (Some bytes) = (pages : List (List ℕ)) → AreReferences pages own → bytes ≢ file_of (sha256 config) pages
 
 -- the configuration describes a layout, and there is a file, but of no pages that fit that layout
 pub record IsUnfit (config : List ℕ) (flash : Option (List ℕ)) : Type 0 where
-  pub described : LayoutValue
-  pub has : HasLayout config described
-  pub fits : FitsNone config described flash
+  pub own : LayoutValue
+  pub has : HasLayout config own
+  pub fits : FitsNone config own flash

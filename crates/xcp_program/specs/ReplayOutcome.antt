@@ -1,6 +1,7 @@
--- How a replay of a script ends, by a configuration text, the file of the stored pages, if there is one, and the script.
+-- How a replay of a script ends, by a configuration text, its A2L file and the file of the stored pages, if there are such, and
+-- the script.
 use Rattle.std.specs.Prelude.{◌≡◌, ◌⊎◌, ℕ, List, Option, Result, Ok, Err}
-use Rattle.xcp_memory.specs.Layout.{LayoutValue}
+use Rattle.xcp_memory.specs.Layout.{LayoutValue, A2lFileValue}
 use Rattle.xcp_slave.specs.SlaveValue.{SlaveValue, opening}
 use Rattle.xcp_slave.specs.Run.{Run, requests_of}
 use Rattle.xcp_slave.specs.declared.Exchange.{Exchange}
@@ -27,9 +28,9 @@ pub record AnswersScript (layout : LayoutValue) (script old new : Option (List �
   pub written : Tells ended old new (answers_text exchanges)
 
 -- the same, for the layout that the slave begins with
-pub record Replays (config : List ℕ) (flash : Option (List ℕ)) (script old new : Option (List ℕ)) (ended : Result ℕ ReplayError) : Type 0 where
+pub record Replays (config : List ℕ) (a2l : Option A2lFileValue) (flash : Option (List ℕ)) (script old new : Option (List ℕ)) (ended : Result ℕ ReplayError) : Type 0 where
   pub layout : LayoutValue
-  pub begins : Begins config flash layout
+  pub begins : Begins config a2l flash layout
   pub answers : AnswersScript layout script old new ended
 
 -- a run for which memory was short at a request of the script: the slave did not take it, or its answer has no text
@@ -38,9 +39,9 @@ pub record RunsShort (layout : LayoutValue) (script old new : Option (List ℕ))
   pub short : OfLines script (λ lines. EndsShort (asked layout.max_cto lines) answers.exchanges old new)
 
 -- the same, for the layout that the slave begins with
-pub record ReplaysShort (config : List ℕ) (flash : Option (List ℕ)) (script old new : Option (List ℕ)) : Type 0 where
+pub record ReplaysShort (config : List ℕ) (a2l : Option A2lFileValue) (flash : Option (List ℕ)) (script old new : Option (List ℕ)) : Type 0 where
   pub layout : LayoutValue
-  pub begins : Begins config flash layout
+  pub begins : Begins config a2l flash layout
   pub runs : RunsShort layout script old new
 
 -- the configuration has a fault of this number: 1 where its text is no document, else that of the first check that fails
@@ -56,15 +57,15 @@ IsFault config f = (n : ℕ) × (f ≡ faults.Configuration n) × IsFaulty confi
 -- What a replay did, by what it returned. Configuration(n): the configuration has the fault of that number, and nothing was
 -- written. Flash(1): the file of the stored pages is unfit, and nothing was written. An allocation may fail before a slave stands: then
 -- nothing was written either. A mismatch, a journal's fault or a refused clock is no end of a replay.
-abbrev pub Ends : List ℕ → Option (List ℕ) → Option (List ℕ) → Option (List ℕ) → Option (List ℕ) → Result ℕ Fault → Type 0
-Ends config flash script old new (Ok n) = Replays config flash script old new (Ok n)
-Ends config flash script old new (Err (faults.Configuration n)) = IsFaulty config n × (new ≡ old)
-Ends config flash script old new (Err (faults.Line k)) = Replays config flash script old new (Err (errors.Line k))
-Ends config flash script old new (Err (faults.Stream n)) = ((n ≡ 1) × Replays config flash script old new (Err errors.Read)) ⊎ ((n ≡ 2) × Replays config flash script old new (Err errors.Write))
-Ends config flash script old new (Err faults.Memory) = (new ≡ old) ⊎ Replays config flash script old new (Err errors.Memory)
-Ends config flash script old new (Err (faults.MismatchedChapter number)) = ⊥
-Ends config flash script old new (Err (faults.Mismatch caller at)) = ⊥
-Ends config flash script old new (Err (faults.MismatchedCall at)) = ⊥
-Ends config flash script old new (Err (faults.Journal n)) = ⊥
-Ends config flash script old new (Err (faults.Flash n)) = (n ≡ 1) × IsUnfit config flash × (new ≡ old)
-Ends config flash script old new (Err faults.Clock) = ⊥
+abbrev pub Ends : List ℕ → Option A2lFileValue → Option (List ℕ) → Option (List ℕ) → Option (List ℕ) → Option (List ℕ) → Result ℕ Fault → Type 0
+Ends config a2l flash script old new (Ok n) = Replays config a2l flash script old new (Ok n)
+Ends config a2l flash script old new (Err (faults.Configuration n)) = IsFaulty config n × (new ≡ old)
+Ends config a2l flash script old new (Err (faults.Line k)) = Replays config a2l flash script old new (Err (errors.Line k))
+Ends config a2l flash script old new (Err (faults.Stream n)) = ((n ≡ 1) × Replays config a2l flash script old new (Err errors.Read)) ⊎ ((n ≡ 2) × Replays config a2l flash script old new (Err errors.Write))
+Ends config a2l flash script old new (Err faults.Memory) = (new ≡ old) ⊎ Replays config a2l flash script old new (Err errors.Memory)
+Ends config a2l flash script old new (Err (faults.MismatchedChapter number)) = ⊥
+Ends config a2l flash script old new (Err (faults.Mismatch caller at)) = ⊥
+Ends config a2l flash script old new (Err (faults.MismatchedCall at)) = ⊥
+Ends config a2l flash script old new (Err (faults.Journal n)) = ⊥
+Ends config a2l flash script old new (Err (faults.Flash n)) = (n ≡ 1) × IsUnfit config flash × (new ≡ old)
+Ends config a2l flash script old new (Err faults.Clock) = ⊥

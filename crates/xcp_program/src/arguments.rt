@@ -3,6 +3,7 @@ ghost use Rattle.std.specs.Prelude.{◌≡◌, false, option_map};
 ghost use Rattle.clap.specs.Words.{rule_of};
 ghost use Rattle.xcp_program.specs.CommandLine.{choice_rule, config_rule, file_rule, flag_rule, host_rule, numeric_rule};
 
+use crate::defaults::DEFAULT_HOST;
 use clap::builder::ValueParser;
 use clap::{Arg, ArgAction};
 use std::alloc::Global;
@@ -81,7 +82,7 @@ pub fn host_option<'a>(alloc: Global, value: &'a str, help: &'a str) -> Arg<'a>
         .long("host")
         .value_name(value)
         .action(ArgAction::Set)
-        .default_value("127.0.0.1")
+        .default_value(DEFAULT_HOST)
         .help(help)
 }
 

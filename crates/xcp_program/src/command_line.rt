@@ -9,6 +9,7 @@ ghost use Rattle.xcp_program.specs.private.AppArguments.{AsksAudit, AsksDescript
 ghost use Rattle.xcp_program.specs.CommandLine.{audit_app, describe_app, program, replay_app};
 
 use crate::arguments::{choice, config_option, file_word, flag, host_option, numeric};
+use crate::defaults::DEFAULT_PORT_DIGITS;
 use crate::fault_words::help;
 use crate::matched::{choice_in, decimal_in, has_flag, text_in};
 use crate::purpose::{Options, OptionsFault};
@@ -81,9 +82,15 @@ fn describe_command<'a>(alloc: Global) -> Result<Command<'a>, AllocError>
         "HOST",
         "The host at which tools reach the slave",
     ))?;
-    let port = numeric(alloc, "port", "PORT", 1_024, 65_535, Some("5555")).help(
-        "The port at which they do, 1,024 to 65,535",
-    );
+    let port = numeric(
+        alloc,
+        "port",
+        "PORT",
+        1_024,
+        65_535,
+        Some(DEFAULT_PORT_DIGITS),
+    )
+    .help("The port at which they do, 1,024 to 65,535");
     let describe = describe.arg(port)?;
     Ok(describe.arg(flag(
         alloc,

@@ -7,7 +7,8 @@ use thiserror::Error;
 #[derive(Clone, Copy, Debug, PartialEq, Eq, Error)]
 pub enum Fault {
     /// The configuration: 0 where the file can't be read within 65,536 bytes, 1 to 6 where it
-    /// describes no layout, by the number of its first fault.
+    /// describes no layout, by the number of its first fault; 7 where it asks that tools get the A2L
+    /// file from the slave, and none can be made of it.
     #[error("configuration {0}")]
     Configuration(u8),
     /// The first faulty line, where all lines are counted from 1.

@@ -31,7 +31,8 @@ with one line there, and this status:" $($rest)*)
     ($before:tt configuration $($rest:tt)*) => {
         help!($before "
   1  configuration N: the file can't be read (0), is no TOML (1), lacks a key (2), has a value of the wrong
-     type (3), out of its range (4), areas that overlap (5), or too many segments, bytes or events (6)" $($rest)*)
+     type (3), out of its range (4), areas that overlap (5), or too many segments, bytes or events (6), or asks for
+     an A2L file that can't be made (7)" $($rest)*)
     };
     ($before:tt line $($rest:tt)*) => {
         help!($before "

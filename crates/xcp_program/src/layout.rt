@@ -3,7 +3,7 @@ ghost use Rattle.std.specs.Prelude.{◌≡◌, ◌⊎◌, Err, IfErr, IfOk, Matc
 ghost use Rattle.sha2.specs.Sha256.{sha256};
 ghost use Rattle.xcp_config.specs.ConfigText.{HasLayout};
 ghost use Rattle.xcp_flash.specs.Restoring.{IsRestored};
-ghost use Rattle.xcp_program.specs.Beginning.{Begins, FitsNone, IsUnfit};
+ghost use Rattle.xcp_program.specs.Beginning.{Begins, FitsNone, IsUnfit, with_a2l};
 ghost use Rattle.xcp_program.specs.ReplayOutcome.{IsFault};
 
 use crate::fault::Fault;
@@ -11,7 +11,7 @@ use sha2::{Digest, Sha256};
 use std::alloc::Global;
 use xcp_config::{ConfigError, read_layout};
 use xcp_flash::restore;
-use xcp_memory::Layout;
+use xcp_memory::{A2lFile, Layout};
 
 /// The layout that the text of a configuration file describes: `Configuration`, 1 to 6, where it
 /// describes none, by the number of its first fault; `Memory` where an allocation fails.
@@ -27,20 +27,38 @@ pub fn layout_of(alloc: Global, config: &str) -> Result<Layout, Fault>
 }
 
 /// The layout that a slave begins with: the one that the text of a configuration file describes, with the pages of the file of
-/// stored pages that has these bytes, if there is one. `Configuration` and `Memory` as of `layout_of`; then `Flash(1)` exactly
+/// stored pages that has these bytes, if there is one, and with this A2L file, where the layout asks that tools get it from the slave. `Configuration` and `Memory` as of `layout_of`; then `Flash(1)` exactly
 /// where the bytes are no file of pages that fit that layout.
-pub fn layout_stored(alloc: Global, config: &str, flash: Option<&[u8]>) -> Result<Layout, Fault>
-    ensures layout { IfOk result (λ l. Begins config.now (option_map (λ f. f.now) flash.entry) l) }
+pub fn layout_stored(
+    alloc: Global,
+    config: &str,
+    a2l: Option<A2lFile>,
+    flash: Option<&[u8]>,
+) -> Result<Layout, Fault>
+    ensures layout { IfOk result (λ l. Begins config.now a2l (option_map (λ f. f.now) flash.entry) l) }
     ensures refused { IfErr result (λ f. (f ≡ Fault.Memory) ⊎ (IsFault config.now f ⊎ (f ≡ Fault.Flash 1))) }
     ensures unfit { result ≡ Err (Fault.Flash 1) → IsUnfit config.now (option_map (λ f. f.now) flash.entry) }
     ensures told { IsUnfit config.now (option_map (λ f. f.now) flash.entry)
         → (result ≡ Err (Fault.Flash 1)) ⊎ (result ≡ Err Fault.Memory) }
 {
     let layout = layout_of(alloc, config)?;
-    match flash {
-        Some(file) => with_pages(layout, config, file),
-        None => Ok(layout),
+    let layout = match flash {
+        Some(file) => with_pages(layout, config, file)?,
+        None => layout,
+    };
+    Ok(with_a2l(layout, a2l))
+}
+
+/// A layout with this A2L file, if there is one, where it asks for it.
+fn with_a2l(mut layout: Layout, a2l: Option<A2lFile>) -> Layout
+    ensures { result ≡ with_a2l a2l layout }
+{
+    if let Some(file) = a2l {
+        if layout.extras().uploads_a2l() {
+            layout.describe(file);
+        }
     }
+    layout
 }
 
 /// A layout with the pages of a file of this configuration: `Flash(1)` exactly where the bytes are no file of pages that fit it.

@@ -9,6 +9,7 @@
 
 mod arguments;
 mod command_line;
+mod defaults;
 mod end_faults;
 mod fault;
 mod fault_words;
@@ -28,6 +29,7 @@ mod untimed;
 mod words;
 
 pub use command_line::options;
+pub use defaults::{DEFAULT_HOST, DEFAULT_PORT};
 pub use end_faults::{
     fault_at_end, fault_at_stop, fault_of_journal, fault_of_pages, fault_of_print, status_at_end,
 };

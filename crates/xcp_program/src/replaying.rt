@@ -9,13 +9,14 @@ use crate::layout::layout_stored;
 use std::alloc::Global;
 use std::io::{Read, Write};
 use xcp_framing::{Desk, Watched};
-use xcp_memory::Layout;
+use xcp_memory::{A2lFile, Layout};
 use xcp_script::{ReplayError, replay_on};
 use xcp_slave::Slave;
 
 /// Answers the lines of a script, one line each, on a new slave of the layout that the
-/// configuration describes, and returns the number of requests. Where there is a file of stored
-/// pages, these are its bytes, and the slave begins with the pages. The reader is read at most so
+/// configuration describes, and returns the number of requests. Where the layout asks that tools
+/// get its A2L file from the slave, this is the file. Where there is a file of stored pages, these
+/// are its bytes, and the slave begins with the pages. The reader is read at most so
 /// many times as there are turns; the answers of the lines that a read made whole are written
 /// before the next.
 ///
@@ -26,12 +27,13 @@ use xcp_slave::Slave;
 pub fn replay<R: Read, W: Write>(
     alloc: Global,
     config: &str,
+    a2l: Option<A2lFile>,
     flash: Option<&[u8]>,
     reader: &mut Watched<R>,
     writer: &mut Watched<W>,
     turns: u32,
 ) -> Result<u64, Fault>
-    ensures ends { Ends config.now (option_map (λ f. f.now) flash.entry) (R.remaining reader.old.inner) (W.contents writer.old.inner) (W.contents writer.new.inner) result }
+    ensures ends { Ends config.now a2l (option_map (λ f. f.now) flash.entry) (R.remaining reader.old.inner) (W.contents writer.old.inner) (W.contents writer.new.inner) result }
     // A fault of a stream comes only where that stream failed, or the turns are spent.
     ensures read { result ≡ Err (Fault.Stream 1) → (reader.old.failures < reader.new.failures) ⊎ (reader.new.calls ≡ reader.old.calls + turns) }
     ensures read_unfailed { result ≢ Err (Fault.Stream 1) → reader.new.failures ≡ reader.old.failures }
@@ -42,11 +44,11 @@ pub fn replay<R: Read, W: Write>(
     // Memory comes before anything is read or written, or at a request of the script.
     ensures memory { result ≡ Err Fault.Memory
         → ((reader.new ≡ reader.old) × (writer.new ≡ writer.old))
-        ⊎ ReplaysShort config.now (option_map (λ f. f.now) flash.entry) (R.remaining reader.old.inner) (W.contents writer.old.inner) (W.contents writer.new.inner) }
+        ⊎ ReplaysShort config.now a2l (option_map (λ f. f.now) flash.entry) (R.remaining reader.old.inner) (W.contents writer.old.inner) (W.contents writer.new.inner) }
     ensures configuration { (n : ℕ) → result ≡ Err (Fault.Configuration n) → (reader.new ≡ reader.old) × (writer.new ≡ writer.old) }
     ensures flash { (n : ℕ) → result ≡ Err (Fault.Flash n) → (reader.new ≡ reader.old) × (writer.new ≡ writer.old) }
 {
-    let layout = layout_stored(alloc, config, flash)?;
+    let layout = layout_stored(alloc, config, a2l, flash)?;
     match answer_script(alloc, layout, reader, writer, turns) {
         Ok(requests) => Ok(requests),
         Err(ReplayError::Line(number)) => Err(Fault::Line(number)),

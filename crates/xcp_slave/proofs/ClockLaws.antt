@@ -63,7 +63,7 @@ row-time _ v = refl
 
 pub time-others : (v : SlaveValue) (q : Request) (a : Answer) (w : SlaveValue) → IsTimeless q → Answers v q a w → w.time ≡ v.time
 time-others v (requests.Command p) a w h k = packet-part (λ x. x.time) (λ n. Unit {0}) v p.items a w refl (λ c n. row-time c v) tt k
-time-others v (requests.Event channel signals) a w h k = fires-part (λ x. x.time) channel signals.items v a w (λ o. refl) k
+time-others v (requests.Event channel signals) a w h k = fires-part (λ x. x.time) channel signals.items v a w (λ o lost. refl) k
 time-others v requests.Drain a w h k = drains-part (λ x. x.time) v.outbox v a w (λ o. refl) k
 time-others v requests.FinishStore a w h k = stores-part (λ x. x.time) v a w refl k
 time-others v requests.Hangup a w h k = ap (λ (x : SlaveValue). x.time) k.1
@@ -158,8 +158,8 @@ no-clock v p a w e on code some k =
     let done = taken-by v v.connected a w (Executes commands.GetDaqClock v a w) _ on heeded in
     refused-by v done.0 a w e done.1 done.2
 
-pub plain-properties : (layout : LayoutValue) → layout.clock.stamp ≡ Without → daq_properties layout ≡ 0x03
-plain-properties layout e = ap (λ (s : Stamp). 0x03 + (if has_stamp s then 0x10 else 0)) e
+pub plain-properties : (layout : LayoutValue) → layout.clock.stamp ≡ Without → daq_properties layout ≡ 0x03 + (if layout.extras.tells_overload then 0x80 else 0)
+plain-properties layout e = ap (λ (s : Stamp). 0x03 + (if has_stamp s then 0x10 else 0) + (if layout.extras.tells_overload then 0x80 else 0)) e
 
 pub plain-resolution : (layout : LayoutValue) → layout.clock.stamp ≡ Without → (timestamp_mode layout.clock ≡ 0) × (timestamp_ticks layout.clock ≡ 0)
 plain-resolution layout e = (

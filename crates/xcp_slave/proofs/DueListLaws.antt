@@ -21,7 +21,7 @@ use Rattle.xcp_slave.specs.DueLists.{KeepsLists, counted_as, events_of}
 use Rattle.xcp_slave.specs.Run.{Run}
 use Rattle.xcp_slave.specs.SlaveInvariant.{IsSlave}
 use Rattle.xcp_slave.specs.SlaveValue.{SlaveValue, layout_of}
-use Rattle.xcp_slave.specs.Step.{Answers, Fires, outbox_size}
+use Rattle.xcp_slave.specs.Step.{Answers, Fires, outbox_size, with_overload}
 use Rattle.xcp_slave.specs.PacketQueue.{event_packets}
 use Rattle.xcp_slave.proofs.AcceptedCommandLaws.{accepted}
 use Rattle.xcp_slave.proofs.ListInvariantLemmas.{none-holds, is_below, equal}
@@ -46,8 +46,8 @@ unfolding Counted
 event-counts v channel signals a w k =
     either (nat_lt channel (length (layout_of v).events)) _ _ _ k
     (λ m. either (length signals.items == (layout_of v).signals_length) _ _ _ m
-    (λ n. either (nat_le (length v.outbox + length (event_packets v channel signals.items)) outbox_size) _ _ _ n
-    (λ o. inl (daq-of _ w o.1, λ c. counted-with c channel signals (answers.Sampled (length (event_packets v channel signals.items))) a o.0))
+    (λ n. either (nat_le (length v.outbox + length (with_overload v.overloaded (event_packets v channel signals.items))) outbox_size) _ _ _ n
+    (λ o. inl (daq-of _ w o.1, λ c. counted-with c channel signals (answers.Sampled (length (with_overload v.overloaded (event_packets v channel signals.items)))) a o.0))
     (λ o. inl (daq-of _ w o.1, λ c. counted-with c channel signals answers.Overrun a o.0)))
     (λ n. inr (daq-of _ w n.1, λ c. counted-with c channel signals answers.BadSignals a n.0)))
     (λ m. inr (daq-of _ w m.1, λ c. counted-with c channel signals answers.NoChannel a m.0))

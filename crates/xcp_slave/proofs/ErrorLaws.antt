@@ -30,7 +30,7 @@ use Rattle.xcp_slave.specs.SlaveValue.{SlaveValue, layout_of, noblock}
 use Rattle.xcp_slave.specs.RefusalCodes.{is_code_of}
 use Rattle.xcp_slave.specs.RefusingAnswers.{IsErrorPacket, IsRefusing, is_refusal_code}
 use Rattle.xcp_slave.specs.Rows.{row}
-use Rattle.xcp_slave.specs.Step.{Answers, Heeds, Executes, Drains, Samples, outbox_size, with_signals, found_by, answer_of, sent_reply, is_connect}
+use Rattle.xcp_slave.specs.Step.{Answers, Heeds, Executes, Drains, Samples, outbox_size, with_overload, with_signals, found_by, answer_of, sent_reply, is_connect}
 use Rattle.xcp_slave.specs.SlaveInvariant.{IsSlave, IsWaiting}
 use Rattle.xcp_slave.proofs.StepLaws.{either}
 use Rattle.xcp_slave.proofs.RefusalLaws.{packets_told, error-leaves, row-synch}
@@ -41,7 +41,10 @@ no-response : (l : LayoutValue) (p : ArrayVec ℕ) → IsWaiting l p → (slice_
 no-response l p (inl e) =
     let first : slice_index p.items 0 ≡ 0xFD = ap (λ (x : ArrayVec ℕ). slice_index x.items 0) e in
     (λ k. omega arith, λ k. omega arith)
-no-response l p (inr d) = let b = d.pid in (λ k. omega arith, λ k. omega arith)
+no-response l p (inr (inl e)) =
+    let first : slice_index p.items 0 ≡ 0xFD = ap (λ (x : ArrayVec ℕ). slice_index x.items 0) e.1 in
+    (λ k. omega arith, λ k. omega arith)
+no-response l p (inr (inr d)) = let b = d.pid in (λ k. omega arith, λ k. omega arith)
 
 -- no packet that waits begins with FF or FE, as responses do
 pub waiting-responds : (v : SlaveValue) → IsSlave v → All (λ (p : ArrayVec ℕ). (slice_index p.items 0 ≢ 0xFF) × (slice_index p.items 0 ≢ 0xFE)) v.outbox
@@ -64,7 +67,7 @@ other-error : (x a : Answer) (R : Type 0) → is_packet x ≡ false → a ≡ x 
 other-error x a R n e r = let z : is_packet x ≡ true = ap (λ (y : Answer). is_packet y) (sym e ∙ r.packet) in let t : true ≡ false = sym z ∙ n in cc
 
 samples-error : (channel : ℕ) (packets : List (ArrayVec ℕ)) (v : SlaveValue) (a : Answer) (w : SlaveValue) (R : Type 0) → IsErrorPacket a → Samples channel packets v a w → R
-samples-error channel packets v a w R r k = either (nat_le (length v.outbox + length packets) outbox_size) _ _ _ k (λ o. other-error (answers.Sampled (length packets)) a _ refl o.0 r) (λ o. other-error answers.Overrun a _ refl o.0 r)
+samples-error channel packets v a w R r k = either (nat_le (length v.outbox + length (with_overload v.overloaded packets)) outbox_size) _ _ _ k (λ o. other-error (answers.Sampled (length (with_overload v.overloaded packets))) a _ refl o.0 r) (λ o. other-error answers.Overrun a _ refl o.0 r)
 
 -- an error packet other than FE 00 leaves the slave as it was but without a block, whatever the request
 pub every-error : (v : SlaveValue) (q : Request) (a : Answer) (w : SlaveValue) → IsSlave v → Answers v q a w → IsErrorPacket a → w ≡ noblock v

@@ -1,5 +1,5 @@
 -- No request changes the layout.
-use Rattle.std.proofs.Common.{◌≡◌, ℕ, ◌+◌, Bool, true, false, List, [], ◌∷◌, ◌++◌, length, ◌==◌, ◌&&◌, nat_le, nat_lt, refl, ap, ◌∙◌, Option, Some, None, Result, Ok, Err, ◌||◌}
+use Rattle.std.proofs.Common.{◌≡◌, ℕ, ◌+◌, Bool, true, false, List, [], ◌∷◌, length, ◌==◌, ◌&&◌, nat_le, nat_lt, refl, ap, ◌∙◌, Option, Some, None, Result, Ok, Err, ◌||◌}
 use Rattle.std.specs.Prelude.{if◌then◌else◌}
 use Rattle.arrayvec.specs.ArrayVec.{ArrayVec}
 use Rattle.xcp_packet.specs.declared.Command.{Command}
@@ -21,7 +21,7 @@ use Rattle.xcp_slave.specs.declared.request.Request.TheVariants as requests
 use Rattle.xcp_slave.specs.Outcomes.{Answer}
 use Rattle.xcp_slave.specs.SlaveValue.{SlaveValue, layout_of, noblock}
 use Rattle.xcp_slave.specs.Rows.{row}
-use Rattle.xcp_slave.specs.Step.{Answers, Heeds, Drains, Stores, Samples, Fires, outbox_size, stored, with_event, with_signals, found_by, is_connect}
+use Rattle.xcp_slave.specs.Step.{Answers, Heeds, Drains, Stores, Samples, Fires, outbox_size, stored, with_loss, with_overload, with_sample, with_signals, found_by, is_connect}
 use Rattle.xcp_slave.proofs.StepLaws.{either}
 
 written_by-layout : (o : Option ℕ) (p : PagesValue) (a : ℕ) (bytes : List ℕ) → (written_by o p a bytes).layout ≡ p.layout
@@ -82,9 +82,9 @@ stores-layout v a w h = either (v.connected && nat_le outbox_size (length v.outb
 
 samples-layout : (channel : ℕ) (packets : List (ArrayVec ℕ)) (v : SlaveValue) (a : Answer) (w : SlaveValue) → Samples channel packets v a w → layout_of w ≡ layout_of v
 samples-layout channel packets v a w h =
-    either (nat_le (length v.outbox + length packets) outbox_size) _ _ _ h
-    (λ k. led-layout v (record (with_event channel v) { outbox = v.outbox ++ packets }) w refl k.1)
-    (λ k. led-layout v (with_event channel v) w refl k.1)
+    either (nat_le (length v.outbox + length (with_overload v.overloaded packets)) outbox_size) _ _ _ h
+    (λ k. led-layout v (with_sample channel packets v) w refl k.1)
+    (λ k. led-layout v (with_loss channel v) w refl k.1)
 
 fires-layout : (channel : ℕ) (signals : List ℕ) (v : SlaveValue) (a : Answer) (w : SlaveValue) → Fires channel signals v a w → layout_of w ≡ layout_of v
 fires-layout channel signals v a w h =

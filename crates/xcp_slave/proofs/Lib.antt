@@ -27,3 +27,4 @@ pub mod PacketIdentifierLaws
 pub mod BlockDownloadLaws
 pub mod UploadLaws
 pub mod ClockLaws
+pub mod OverloadLaws

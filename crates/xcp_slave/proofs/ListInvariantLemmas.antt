@@ -1,5 +1,5 @@
 -- The lists after each command of data acquisition.
-use Rattle.std.proofs.Common.{◌≡◌, ◌≢◌, ℕ, zero, suc, ◌+◌, ◌<◌, ◌≤◌, Bool, true, false, List, [], ◌∷◌, ◌++◌, length, map, get_or, slice_set, Option, Some, None, inl, inr, ap, sym, ◌∙◌, refl, subst, arith, All, nat_le, nat_lt}
+use Rattle.std.proofs.Common.{◌≡◌, ◌≢◌, ℕ, zero, suc, ◌+◌, ◌<◌, ◌≤◌, Bool, true, false, List, [], ◌∷◌, ◌++◌, length, map, get_or, slice_set, Option, Some, None, Result, Ok, Err, inl, inr, ap, sym, ◌∙◌, refl, subst, arith, All, nat_le, nat_lt}
 use Rattle.std.specs.Prelude.{replicate, ◌==◌, not, ◌&&◌, ◌||◌, if◌then◌else◌}
 use Rattle.std.specs.List.{list_any}
 use Rattle.std.proofs.lemmas.Grind.{flat_map-append}
@@ -7,6 +7,7 @@ use Rattle.std.proofs.lemmas.Bool.Decides.{nat_tests}
 use Rattle.std.proofs.lemmas.List.{append-nil, length-set, get_or-map, get_or-set_same, length-map}
 use Rattle.std.proofs.lemmas.List.Folds.{list_any_at}
 use Rattle.std.proofs.lemmas.List.Elements.{All-set, All-append, All-replicate, All-map}
+use Rattle.xcp_packet.specs.declared.Code.{Code}
 use Rattle.xcp_packet.specs.declared.Code.TheVariants.{Sequence, OutOfRange, DaqActive, MemoryOverflow, DaqConfig, ModeNotValid}
 use Rattle.xcp_packet.specs.declared.Stamp.TheVariants.{Without}
 use Rattle.xcp_packet.specs.TimeStamps.{stamp_size}
@@ -15,6 +16,7 @@ use Rattle.xcp_memory.specs.ComputedAccess.{lies_inside}
 use Rattle.xcp_memory.proofs.AreaLaws.{inside_lies}
 use Rattle.xcp_packet.specs.Rows.{first_holding}
 use Rattle.xcp_transfer.proofs.AreaEndLemmas.{inside_last}
+use Rattle.xcp_daq.specs.declared.daq_element.DaqElement.{DaqElement}
 use Rattle.xcp_daq.specs.declared.element.Element.{Element}
 use Rattle.xcp_daq.specs.declared.pointer.Pointer.{Pointer}
 use Rattle.xcp_daq.specs.declared.mode.Mode.{Mode}
@@ -25,7 +27,7 @@ use Rattle.xcp_daq.specs.DaqInvariant.{IsList, IsPointer, IsPointerOf, IsDaq}
 use Rattle.xcp_daq.specs.Pools.{joined, list_of}
 use Rattle.xcp_daq.specs.AllocationSequence.{may_follow}
 use Rattle.xcp_daq.specs.Allocating.{alloc_daq_refusal, alloc_daq_after, alloc_odt_refusal, alloc_odt_after, alloc_odt_entry_refusal, alloc_odt_entry_after}
-use Rattle.xcp_daq.specs.Configuring.{clear_daq_list_refusal, clear_daq_list_after, cleared, set_daq_ptr_refusal, set_daq_ptr_after, write_daq_refusal, write_daq_after, written_at, moved_on, moved_by, has_no_pointer, pointed_list_runs, element_rows, is_mode, stamp_asked, read_daq_after, set_daq_list_mode_refusal, set_daq_list_mode_after}
+use Rattle.xcp_daq.specs.Configuring.{clear_daq_list_refusal, clear_daq_list_after, cleared, set_daq_ptr_refusal, set_daq_ptr_after, write_daq_refusal, write_daq_after, written_at, moved_on, moved_by, has_no_pointer, pointed_list_runs, element_rows, unless, write_daqs, multiple, all_or_none, write_daq_multiple_after, is_mode, stamp_asked, read_daq_after, set_daq_list_mode_refusal, set_daq_list_mode_after}
 use Rattle.xcp_daq.specs.Starting.{stopped, started, selected, switched, synchronised, start_stop_daq_list_refusal, start_stop_daq_list_after, start_stop_synch_refusal, start_stop_synch_after}
 use Rattle.xcp_daq.specs.Sample.{counts, counted, after_event}
 use Rattle.xcp_daq.proofs.DaqInvariantLemmas.{all_set, all_part, entries_by_list, lawful_last, lawful_pointer, lawful_added, lawful_map, lawful_more_odts, lawful_more_entries, lawful_entry, lawful_mode, lawful_bare, lawful_bound, lawful_stopped, lawful_started, lawful_selected, cleared_twice, stands_still, moved_in, grows_entry, room_of, lawful_synchronised, synchronised_odts, lawful_counted, counted_odts}
@@ -236,6 +238,25 @@ write-daq l offset size extension address v layout h r =
 read-by : (l : LayoutValue) (v : DaqValue) (o : Option Pointer) → IsLists l v → IsPointerOf v o → IsLists l (moved_by o v)
 read-by l v None h k = h
 read-by l v (Some p) h k = with-pointer l v (moved_on v p) h (moved_in v p k)
+
+unless-ok : (o : Option Code) (r : Result DaqValue Code) (w : DaqValue) → unless o r ≡ Ok w → (o ≡ None) × (r ≡ Ok w)
+unless-ok None r w h = (refl, h)
+unless-ok (Some code) r w h = cc
+
+-- WRITE_DAQs in turn of which none is refused keep the DAQ lists lawful
+write-turns : (l : LayoutValue) (es : List DaqElement) (v w : DaqValue) → IsLayout l → IsLists l v → write_daqs l es v ≡ Ok w → IsLists l w
+write-turns l [] v w layout h r = let same : v ≡ w = cc in subst (IsLists l) same h
+write-turns l (e ∷ es) v w layout h r =
+    let k = unless-ok _ _ w r in
+    write-turns l es (write_daq_after e.size e.address v) w layout (write-daq l e.offset e.size e.extension e.address v layout h k.0) k.1
+
+all-or-none : (l : LayoutValue) (v : DaqValue) (r : Result DaqValue Code) → IsLists l v → ((w : DaqValue) → r ≡ Ok w → IsLists l w) → IsLists l (all_or_none v r)
+all-or-none l v (Ok w) h k = k w refl
+all-or-none l v (Err code) h k = h
+
+-- WRITE_DAQ_MULTIPLE keeps the DAQ lists lawful
+pub write-multiple : (l : LayoutValue) (bytes : List ℕ) (v : DaqValue) → IsLayout l → IsLists l v → IsLists l (write_daq_multiple_after l bytes v)
+write-multiple l bytes v layout h = all-or-none l v (multiple l bytes v) h (λ w r. write-turns l _ v w layout h r)
 
 -- what READ_DAQ does keeps the DAQ lists lawful
 pub read-daq : (l : LayoutValue) (v : DaqValue) → IsLists l v → IsLists l (read_daq_after v)

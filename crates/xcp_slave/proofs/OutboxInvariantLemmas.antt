@@ -1,5 +1,5 @@
 -- The packets that wait.
-use Rattle.std.proofs.Common.{◌≡◌, ℕ, zero, suc, ◌+◌, ◌<◌, ◌≤◌, Bool, true, false, List, [], ◌∷◌, ◌++◌, length, take, get_or, Option, refl, subst, arith, length-append, All, inl, inr}
+use Rattle.std.proofs.Common.{◌≡◌, ℕ, zero, suc, ◌+◌, ◌<◌, ◌≤◌, Bool, true, false, List, [], ◌∷◌, ◌++◌, length, take, get_or, Option, refl, subst, arith, length-append, All, inl, inr, nat_lt}
 use Rattle.std.specs.Prelude.{◌==◌, if◌then◌else◌}
 use Rattle.std.specs.List.{flat_map, enumerate_from}
 use Rattle.std.proofs.lemmas.List.Elements.{All-append}
@@ -14,7 +14,7 @@ use Rattle.xcp_daq.specs.DaqLists.{DaqValue, DaqList, all_odts, odt_size, first_
 use Rattle.xcp_daq.specs.Sample.{due, odt_bytes, packet_of, stamped_packet, odt_packets, packets_from, stamped_packets, stamp_of, list_packets, sampled}
 use Rattle.xcp_daq.proofs.DueListLemmas.{first_true}
 use Rattle.xcp_daq.proofs.SampleLemmas.{short_odt}
-use Rattle.xcp_slave.specs.Step.{store_event}
+use Rattle.xcp_slave.specs.Step.{store_event, overload_event, with_overload, outbox_size}
 use Rattle.xcp_slave.specs.SlaveInvariant.{HasRoom, IsLists, IsDataPacket, IsWaiting}
 
 none : {A : Type 0} (P : A → Type 0) → All P []
@@ -82,9 +82,19 @@ sample l channel time pages v h =
     let same : k ≡ 0 + k = omega arith in
     (h.room k d below, subst (λ (n : ℕ). length (all_odts (take n v.lists)) + length (get_or v.lists k d).odts ≤ 64) same fact)))
 
--- packets that may wait, and data packets behind them, may all wait
-pub data-waits : (l : LayoutValue) (o ps : List (ArrayVec ℕ)) → All (IsWaiting l) o → All (IsDataPacket l) ps → All (IsWaiting l) (o ++ ps)
-data-waits l o ps h k = All-append (IsWaiting l) o ps h (λ j d below. inr (k j d below))
+beside-waits : (room : Bool) (l : LayoutValue) (p : ArrayVec ℕ) (ps : List (ArrayVec ℕ)) → l.extras.tells_overload ≡ true → All (IsDataPacket l) (p ∷ ps) → All (IsWaiting l) (if room then overload_event ∷ p ∷ ps else p ∷ ps)
+beside-waits true l p ps h k = All-append (IsWaiting l) (overload_event ∷ []) (p ∷ ps) (one (IsWaiting l) overload_event (inr (inl (h, refl)))) (λ j d below. inr (inr (k j d below)))
+beside-waits false l p ps h k = λ j d below. inr (inr (k j d below))
+
+-- what an event puts, its data packets and the event packet of a lost sample, where the layout asks for it, may wait
+told-waits : (l : LayoutValue) (overloaded : Bool) (ps : List (ArrayVec ℕ)) → (overloaded ≡ true → l.extras.tells_overload ≡ true) → All (IsDataPacket l) ps → All (IsWaiting l) (with_overload overloaded ps)
+told-waits l false ps h k = λ j d below. inr (inr (k j d below))
+told-waits l true [] h k = none (IsWaiting l)
+told-waits l true (p ∷ ps) h k = beside-waits (nat_lt (length (p ∷ ps)) outbox_size) l p ps (h refl) k
+
+-- packets that may wait, and what an event puts behind them, may all wait
+pub sample-waits : (l : LayoutValue) (overloaded : Bool) (o ps : List (ArrayVec ℕ)) → (overloaded ≡ true → l.extras.tells_overload ≡ true) → All (IsWaiting l) o → All (IsDataPacket l) ps → All (IsWaiting l) (o ++ with_overload overloaded ps)
+sample-waits l overloaded o ps t h k = All-append (IsWaiting l) o (with_overload overloaded ps) h (told-waits l overloaded ps t k)
 
 -- the same with the event packet of a store behind them
 pub event-waits : (l : LayoutValue) (o : List (ArrayVec ℕ)) → All (IsWaiting l) o → All (IsWaiting l) (o ++ store_event ∷ [])

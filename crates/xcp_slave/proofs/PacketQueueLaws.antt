@@ -16,7 +16,7 @@ use Rattle.xcp_slave.specs.declared.exchange.Exchange.{Exchange}
 use Rattle.xcp_slave.specs.SlaveValue.{SlaveValue, layout_of}
 use Rattle.xcp_slave.specs.Rows.{row}
 use Rattle.xcp_slave.specs.Run.{Run}
-use Rattle.xcp_slave.specs.Step.{Answers, Drains, Fires, outbox_size, store_event, stored, with_event, with_signals, found_by, at_time}
+use Rattle.xcp_slave.specs.Step.{Answers, Drains, Fires, outbox_size, store_event, stored, with_loss, with_overload, with_sample, with_signals, found_by, at_time}
 use Rattle.xcp_slave.specs.PacketQueue.{IsWithin, PutsIn, all_taken, event_packets, put_in, taken_out}
 use Rattle.xcp_slave.proofs.StepLaws.{either}
 use Rattle.xcp_slave.proofs.SlaveInvariantLaws.{either-test}
@@ -61,10 +61,14 @@ stores-queue v a w k =
     (λ n. as-these v requests.FinishStore (answers.Stored (frozen_count v.transfer.pages)) a (stored v) w n.0 n.1 (told-of v.connected v.outbox)))
     (λ m. as-these v requests.FinishStore answers.NoStore a v w m.0 m.1 (nothing-put v))
 
+-- what an event puts
+abbrev event_put : SlaveValue → ℕ → List ℕ → List (ArrayVec ℕ)
+event_put v channel signals = with_overload v.overloaded (event_packets v channel signals)
+
 -- what an event does: the four ways in which it ends
 pub record Fired (v : SlaveValue) (channel : ℕ) (signals : List ℕ) (a : Answer) (w : SlaveValue) : Type 0 where
-  pub ways : ((a ≡ answers.Sampled (length (event_packets v channel signals))) × (w.outbox ≡ v.outbox ++ event_packets v channel signals) × (length v.outbox + length (event_packets v channel signals) ≤ 64))
-      ⊎ ((w.outbox ≡ v.outbox) × ((a ≡ answers.Overrun) × (64 < length v.outbox + length (event_packets v channel signals)) ⊎ ((a ≡ answers.BadSignals) ⊎ (a ≡ answers.NoChannel))))
+  pub ways : ((a ≡ answers.Sampled (length (event_put v channel signals))) × (w.outbox ≡ v.outbox ++ event_put v channel signals) × (length v.outbox + length (event_put v channel signals) ≤ 64))
+      ⊎ ((w.outbox ≡ v.outbox) × ((a ≡ answers.Overrun) × (64 < length v.outbox + length (event_put v channel signals)) ⊎ ((a ≡ answers.BadSignals) ⊎ (a ≡ answers.NoChannel))))
 
 is-room : (n : ℕ) → nat_le n outbox_size ≡ true → n ≤ 64
 is-room n h = grind (arith, nat_tests, h)
@@ -80,9 +84,9 @@ pub fired : (v : SlaveValue) (channel : ℕ) (signals : List ℕ) (a : Answer) (
 fired v channel signals a w k =
     either (nat_lt channel (length (layout_of v).events)) _ _ _ k
     (λ m. either (length signals == (layout_of v).signals_length) _ _ _ m
-    (λ n. either-test (nat_le (length v.outbox + length (event_packets v channel signals)) outbox_size) _ _ _
-    (λ r o. record { ways = inl (o.0, outbox-of (record (with_event channel (with_signals signals v)) { outbox = v.outbox ++ event_packets v channel signals }) w o.1, is-room _ r) })
-    (λ r o. record { ways = inr (outbox-of (with_event channel (with_signals signals v)) w o.1, inl (o.0, no-room _ r)) }) n)
+    (λ n. either-test (nat_le (length v.outbox + length (event_put v channel signals)) outbox_size) _ _ _
+    (λ r o. record { ways = inl (o.0, outbox-of (with_sample channel (event_packets v channel signals) (with_signals signals v)) w o.1, is-room _ r) })
+    (λ r o. record { ways = inr (outbox-of (with_loss channel (with_signals signals v)) w o.1, inl (o.0, no-room _ r)) }) n)
     (λ n. record { ways = inr (outbox-of v w n.1, inr (inl n.0)) }))
     (λ m. record { ways = inr (outbox-of v w m.1, inr (inr m.0)) })
 
@@ -165,10 +169,10 @@ not-sampled : (n : ℕ) (x : Answer) (R : Type 0) → answers.Sampled n ≡ x �
 not-sampled n x R e h = let t : true ≡ false = ap (λ (y : Answer). is_sampled y) e ∙ h in cc
 
 -- a sampled event
-pub event-waits : (v : SlaveValue) (channel n : ℕ) (signals : ArrayVec ℕ) (w : SlaveValue) → Answers v (requests.Event channel signals) (answers.Sampled n) w → (n ≡ length (event_packets v channel signals.items)) × (w.outbox ≡ v.outbox ++ event_packets v channel signals.items) × (length w.outbox ≤ 64)
+pub event-waits : (v : SlaveValue) (channel n : ℕ) (signals : ArrayVec ℕ) (w : SlaveValue) → Answers v (requests.Event channel signals) (answers.Sampled n) w → (n ≡ length (event_put v channel signals.items)) × (w.outbox ≡ v.outbox ++ event_put v channel signals.items) × (length w.outbox ≤ 64)
 event-waits v channel n signals w k =
     elim (fired v channel signals.items (answers.Sampled n) w k).ways [
-      | inl s ↦ (ap (λ (b : Answer). said b) s.0, s.1, (let e = ap (λ (o : List (ArrayVec ℕ)). length o) s.1 in let l = length-append v.outbox (event_packets v channel signals.items) in let r = s.2 in omega arith))
+      | inl s ↦ (ap (λ (b : Answer). said b) s.0, s.1, (let e = ap (λ (o : List (ArrayVec ℕ)). length o) s.1 in let l = length-append v.outbox (event_put v channel signals.items) in let r = s.2 in omega arith))
       | inr s ↦ elim s.1 [
         | inl o ↦ not-sampled n answers.Overrun _ o.0 refl
         | inr o ↦ elim o [
@@ -179,7 +183,7 @@ event-waits v channel n signals w k =
     ]
 
 -- a sampled event is answered with the number of its packets, and all of them wait behind the others
-pub event-whole : (v : SlaveValue) (channel n : ℕ) (signals : ArrayVec ℕ) (w : SlaveValue) → Answers v (requests.Event channel signals) (answers.Sampled n) w → (n ≡ length (event_packets v channel signals.items)) × (w.outbox ≡ v.outbox ++ event_packets v channel signals.items)
+pub event-whole : (v : SlaveValue) (channel n : ℕ) (signals : ArrayVec ℕ) (w : SlaveValue) → Answers v (requests.Event channel signals) (answers.Sampled n) w → (n ≡ length (event_put v channel signals.items)) × (w.outbox ≡ v.outbox ++ event_put v channel signals.items)
 event-whole v channel n signals w k = let r = event-waits v channel n signals w k in (r.0, r.1)
 
 -- after a sampled event at most 64 packets wait
@@ -190,15 +194,15 @@ event-room v channel n signals w k = (event-waits v channel n signals w k).2
 pub event-none : (v : SlaveValue) (channel : ℕ) (signals : ArrayVec ℕ) (a : Answer) (w : SlaveValue) → Answers v (requests.Event channel signals) a w → ((n : ℕ) × (a ≡ answers.Sampled n)) ⊎ (w.outbox ≡ v.outbox)
 event-none v channel signals a w k =
     elim (fired v channel signals.items a w k).ways [
-      | inl s ↦ inl (length (event_packets v channel signals.items), s.0)
+      | inl s ↦ inl (length (event_put v channel signals.items), s.0)
       | inr s ↦ inr s.0
     ]
 
 -- an event overruns only where its packets and those that wait are more than 64
-pub event-overrun : (v : SlaveValue) (channel : ℕ) (signals : ArrayVec ℕ) (w : SlaveValue) → Answers v (requests.Event channel signals) answers.Overrun w → 64 < length v.outbox + length (event_packets v channel signals.items)
+pub event-overrun : (v : SlaveValue) (channel : ℕ) (signals : ArrayVec ℕ) (w : SlaveValue) → Answers v (requests.Event channel signals) answers.Overrun w → 64 < length v.outbox + length (event_put v channel signals.items)
 event-overrun v channel signals w k =
     elim (fired v channel signals.items answers.Overrun w k).ways [
-      | inl s ↦ not-sampled (length (event_packets v channel signals.items)) answers.Overrun _ (sym s.0) refl
+      | inl s ↦ not-sampled (length (event_put v channel signals.items)) answers.Overrun _ (sym s.0) refl
       | inr s ↦ elim s.1 [
         | inl o ↦ o.1
         | inr o ↦ elim o [

@@ -29,7 +29,7 @@ use Rattle.xcp_slave.specs.Outcomes.{Answer}
 use Rattle.xcp_slave.specs.declared.outcome.Outcome.TheVariants as answers
 use Rattle.xcp_slave.specs.SlaveValue.{SlaveValue, layout_of, noblock}
 use Rattle.xcp_slave.specs.Rows.{row}
-use Rattle.xcp_slave.specs.Step.{Answers, Heeds, Drains, Samples, Fires, outbox_size, with_signals, found_by, is_connect}
+use Rattle.xcp_slave.specs.Step.{Answers, Heeds, Drains, Samples, Fires, outbox_size, with_overload, with_signals, found_by, is_connect}
 use Rattle.xcp_slave.specs.SlaveInvariant.{IsSlave}
 use Rattle.xcp_slave.specs.AcceptedCommands.{Accepts, Concerns}
 use Rattle.xcp_slave.proofs.StepLaws.{either}
@@ -236,7 +236,7 @@ drains-store [] v a w h k = same-store v w h k.1
 drains-store (p ∷ rest) v a w h k = ap (λ (x : SlaveValue). x.store) k.1 ∙ h
 
 samples-store : (channel : ℕ) (packets : List (ArrayVec ℕ)) (v : SlaveValue) (a : Answer) (w : SlaveValue) → v.store ≡ true → Samples channel packets v a w → w.store ≡ true
-samples-store channel packets v a w h k = either (nat_le (length v.outbox + length packets) outbox_size) _ _ _ k (λ o. ap (λ (x : SlaveValue). x.store) o.1 ∙ h) (λ o. ap (λ (x : SlaveValue). x.store) o.1 ∙ h)
+samples-store channel packets v a w h k = either (nat_le (length v.outbox + length (with_overload v.overloaded packets)) outbox_size) _ _ _ k (λ o. ap (λ (x : SlaveValue). x.store) o.1 ∙ h) (λ o. ap (λ (x : SlaveValue). x.store) o.1 ∙ h)
 
 fires-store : (channel : ℕ) (signals : List ℕ) (v : SlaveValue) (a : Answer) (w : SlaveValue) → v.store ≡ true → Fires channel signals v a w → w.store ≡ true
 fires-store channel signals v a w h k =

@@ -92,7 +92,7 @@ row-mode _ v i h = refl
 -- a request that is no SET_SEGMENT_MODE keeps each segment's mode
 pub mode-kept : (v : SlaveValue) (q : Request) (a : Answer) (w : SlaveValue) (i : ℕ) → IsBeside mode_codes q → Answers v q a w → (segment_at w.transfer.pages i).freeze ≡ (segment_at v.transfer.pages i).freeze
 mode-kept v (requests.Command p) a w i b k = packet-part (λ x. (segment_at x.transfer.pages i).freeze) (IsNone mode_codes) v p.items a w refl (λ c h. row-mode c v i h) b k
-mode-kept v (requests.Event channel signals) a w i b k = fires-part (λ x. (segment_at x.transfer.pages i).freeze) channel signals.items v a w (λ o. refl) k
+mode-kept v (requests.Event channel signals) a w i b k = fires-part (λ x. (segment_at x.transfer.pages i).freeze) channel signals.items v a w (λ o lost. refl) k
 mode-kept v requests.Drain a w i b k = drains-part (λ x. (segment_at x.transfer.pages i).freeze) v.outbox v a w (λ o. refl) k
 mode-kept v requests.FinishStore a w i b k = stores-part (λ x. (segment_at x.transfer.pages i).freeze) v a w (frozen-part (λ s. s.freeze) freeze-beside v.transfer.pages i) k
 mode-kept v requests.Hangup a w i b k = ap (λ (x : SlaveValue). (segment_at x.transfer.pages i).freeze) k.1
@@ -117,7 +117,7 @@ row-ecu _ v i h = refl
 
 ecu-number : (v : SlaveValue) (q : Request) (a : Answer) (w : SlaveValue) (i : ℕ) → IsBeside switch_codes q → Answers v q a w → (segment_at w.transfer.pages i).ecu ≡ (segment_at v.transfer.pages i).ecu
 ecu-number v (requests.Command p) a w i b k = packet-part (λ x. (segment_at x.transfer.pages i).ecu) (IsNone switch_codes) v p.items a w refl (λ c h. row-ecu c v i h) b k
-ecu-number v (requests.Event channel signals) a w i b k = fires-part (λ x. (segment_at x.transfer.pages i).ecu) channel signals.items v a w (λ o. refl) k
+ecu-number v (requests.Event channel signals) a w i b k = fires-part (λ x. (segment_at x.transfer.pages i).ecu) channel signals.items v a w (λ o lost. refl) k
 ecu-number v requests.Drain a w i b k = drains-part (λ x. (segment_at x.transfer.pages i).ecu) v.outbox v a w (λ o. refl) k
 ecu-number v requests.FinishStore a w i b k = stores-part (λ x. (segment_at x.transfer.pages i).ecu) v a w (frozen-part (λ s. s.ecu) ecu-beside v.transfer.pages i) k
 ecu-number v requests.Hangup a w i b k = ap (λ (x : SlaveValue). (segment_at x.transfer.pages i).ecu) k.1
@@ -140,7 +140,7 @@ row-xcp _ v i h = refl
 
 xcp-number : (v : SlaveValue) (q : Request) (a : Answer) (w : SlaveValue) (i : ℕ) → IsBeside switch_codes q → Answers v q a w → (segment_at w.transfer.pages i).xcp ≡ (segment_at v.transfer.pages i).xcp
 xcp-number v (requests.Command p) a w i b k = packet-part (λ x. (segment_at x.transfer.pages i).xcp) (IsNone switch_codes) v p.items a w refl (λ c h. row-xcp c v i h) b k
-xcp-number v (requests.Event channel signals) a w i b k = fires-part (λ x. (segment_at x.transfer.pages i).xcp) channel signals.items v a w (λ o. refl) k
+xcp-number v (requests.Event channel signals) a w i b k = fires-part (λ x. (segment_at x.transfer.pages i).xcp) channel signals.items v a w (λ o lost. refl) k
 xcp-number v requests.Drain a w i b k = drains-part (λ x. (segment_at x.transfer.pages i).xcp) v.outbox v a w (λ o. refl) k
 xcp-number v requests.FinishStore a w i b k = stores-part (λ x. (segment_at x.transfer.pages i).xcp) v a w (frozen-part (λ s. s.xcp) xcp-beside v.transfer.pages i) k
 xcp-number v requests.Hangup a w i b k = ap (λ (x : SlaveValue). (segment_at x.transfer.pages i).xcp) k.1

@@ -1,5 +1,5 @@
 -- The codes that the rows of commands refuse with.
-use Rattle.std.proofs.Common.{◌≡◌, ℕ, ◌+◌, ◌-◌, Bool, true, false, not, ◌&&◌, ◌||◌, ◌==◌, nat_le, nat_lt, List, [], ◌∷◌, length, refl, subst, ap, ◌∙◌, arith, Option, Some, None}
+use Rattle.std.proofs.Common.{◌≡◌, ℕ, ◌+◌, ◌-◌, Bool, true, false, not, ◌&&◌, ◌||◌, ◌==◌, nat_le, nat_lt, List, [], ◌∷◌, ◌++◌, length, drop, refl, subst, ap, ◌∙◌, arith, Option, Some, None, Result, Ok, Err}
 use Rattle.std.specs.Prelude.{◌%◌, if◌then◌else◌}
 use Rattle.std.specs.List.{list_any}
 use Rattle.std.proofs.lemmas.Bool.Decides.{nat_tests}
@@ -11,11 +11,11 @@ use Rattle.xcp_packet.specs.declared.Command.TheVariants as commands
 use Rattle.xcp_packet.specs.declared.Reply.{Reply}
 use Rattle.xcp_packet.specs.declared.Reply.TheVariants as replies
 use Rattle.xcp_packet.specs.declared.Code.{Code}
-use Rattle.xcp_packet.specs.declared.Code.TheVariants.{OutOfRange, AccessDenied, WriteProtected, ModeNotValid, SegmentNotValid, PageNotValid, Sequence, DaqActive, DaqConfig, MemoryOverflow}
+use Rattle.xcp_packet.specs.declared.Code.TheVariants.{CmdUnknown, CmdSyntax, OutOfRange, AccessDenied, WriteProtected, ModeNotValid, SegmentNotValid, PageNotValid, Sequence, DaqActive, DaqConfig, MemoryOverflow}
 use Rattle.xcp_packet.specs.Rows.{first_holding, refused}
 use Rattle.xcp_memory.specs.declared.ChecksumKind.{ChecksumKind}
 use Rattle.xcp_memory.specs.Checksum.{unit, sum_refusal}
-use Rattle.xcp_memory.specs.Layout.{signals_extent}
+use Rattle.xcp_memory.specs.Layout.{LayoutValue, signals_extent}
 use Rattle.xcp_memory.specs.Pages.{PagesValue, segment_at}
 use Rattle.xcp_memory.specs.ComputedAccess.{segment_of, is_inside, write_refusal_by, lies_inside}
 use Rattle.xcp_memory.specs.PageSwitch.{is_switch_mode, names_none, lacks_page, concerned}
@@ -26,10 +26,12 @@ use Rattle.xcp_transfer.specs.declared.Mta.TheVariants.{Nowhere, Memory, Text}
 use Rattle.xcp_transfer.specs.TransferValue.{BlockValue, TransferValue}
 use Rattle.xcp_transfer.specs.MtaAccess.{write_refusal_at, sum_refusal_at}
 use Rattle.xcp_transfer.specs.Downloads.{next_row}
+use Rattle.xcp_packet.specs.ByteOrder.{byte_at}
+use Rattle.xcp_daq.specs.declared.DaqElement.{DaqElement}
 use Rattle.xcp_daq.specs.declared.Allocation.TheVariants.{AllocDaq, AllocOdt, AllocOdtEntry}
-use Rattle.xcp_daq.specs.DaqLists.{list_at, all_odts, all_entries, any_running, lacks_list, lacks_odt, lacks_entry, has_large_odt}
+use Rattle.xcp_daq.specs.DaqLists.{DaqValue, list_at, all_odts, all_entries, any_running, lacks_list, lacks_odt, lacks_entry, has_large_odt}
 use Rattle.xcp_daq.specs.AllocationSequence.{may_follow}
-use Rattle.xcp_daq.specs.Configuring.{has_no_pointer, pointed_list_runs, element_rows, is_mode}
+use Rattle.xcp_daq.specs.Configuring.{has_no_pointer, pointed_list_runs, element_rows, unless, write_daqs, multiple, multiple_rows, refused_in, elements_in, write_daq_refusal, write_daq_after, is_mode}
 use Rattle.xcp_slave.specs.SlaveValue.{SlaveValue, layout_of}
 use Rattle.xcp_slave.specs.RefusalCodes.{codes_of, is_code_of}
 use Rattle.xcp_slave.specs.RefusingAnswers.{is_refusal_code}
@@ -92,6 +94,18 @@ next-errors : (o : Option BlockValue) (remaining : ℕ) (bytes : ArrayVec ℕ) (
 next-errors None remaining bytes t = refl
 next-errors (Some b) remaining bytes t = refl
 
+unless-codes : (known : ℕ → Bool) (o : Option Code) (r : Result DaqValue Code) → are_errors known (refused o) ≡ true → are_codes known (refused_in r) ≡ true → are_codes known (refused_in (unless o r)) ≡ true
+unless-codes known None r h k = k
+unless-codes known (Some code) r h k = h
+
+-- WRITE_DAQs in turn are refused with the codes of one
+turn-codes : (bytes : ArrayVec ℕ) (l : LayoutValue) (es : List DaqElement) (v : DaqValue) → are_codes (is_code_of (commands.WriteDaqMultiple bytes)) (refused_in (write_daqs l es v)) ≡ true
+turn-codes bytes l [] v = refl
+turn-codes bytes l (e ∷ es) v =
+    unless-codes (is_code_of (commands.WriteDaqMultiple bytes)) (write_daq_refusal l e.offset e.size e.extension e.address v) (write_daqs l es (write_daq_after e.size e.address v))
+    (first (is_code_of (commands.WriteDaqMultiple bytes)) ((has_no_pointer v.pointer, DaqConfig) ∷ (pointed_list_runs v.pointer v, DaqActive) ∷ element_rows l e.offset e.size e.extension e.address) refl)
+    (turn-codes bytes l es (write_daq_after e.size e.address v))
+
 -- each refusal is an error packet with one of the command's codes
 row-errors : (c : Command) (v : SlaveValue) → are_errors (is_code_of c) (row c v).refusals ≡ true
 row-errors (commands.BuildChecksum size) v = sum-refused v.transfer.pages v.transfer.mta size
@@ -117,6 +131,9 @@ row-errors (commands.ClearDaqList list) v = first (is_code_of (commands.ClearDaq
 row-errors (commands.SetDaqPtr list odt entry) v = first (is_code_of (commands.SetDaqPtr list odt entry)) ((lacks_list v.daq list, OutOfRange) ∷ (lacks_odt v.daq list odt, OutOfRange) ∷ (lacks_entry v.daq list odt entry, OutOfRange) ∷ []) refl
 row-errors (commands.WriteDaq offset size extension address) v =
     first (is_code_of (commands.WriteDaq offset size extension address)) ((has_no_pointer v.daq.pointer, DaqConfig) ∷ (pointed_list_runs v.daq.pointer v.daq, DaqActive) ∷ element_rows (layout_of v) offset size extension address) refl
+row-errors (commands.GetVersion bytes) v = first (is_code_of (commands.GetVersion bytes)) ((length bytes.items == 0, CmdSyntax) ∷ (not (byte_at 0 bytes.items == 0), CmdUnknown) ∷ []) refl
+row-errors (commands.WriteDaqMultiple bytes) v =
+    first (is_code_of (commands.WriteDaqMultiple bytes)) (multiple_rows bytes.items ++ refused_in (multiple (layout_of v) bytes.items v.daq)) (turn-codes bytes (layout_of v) (elements_in (layout_of v).order (byte_at 0 bytes.items) (drop 1 bytes.items)) v.daq)
 row-errors (commands.SetDaqListMode mode list event prescaler priority) v =
     first (is_code_of (commands.SetDaqListMode mode list event prescaler priority)) ((not (is_mode (layout_of v) mode), ModeNotValid) ∷ (lacks_list v.daq list, OutOfRange) ∷ ((list_at v.daq list).running, DaqActive) ∷ (nat_le (length (layout_of v).events) event, OutOfRange) ∷ (prescaler == 0, OutOfRange) ∷ []) refl
 row-errors (commands.GetDaqListMode list) v = first (is_code_of (commands.GetDaqListMode list)) ((lacks_list v.daq list, OutOfRange) ∷ []) refl
@@ -162,6 +179,7 @@ are_refusals (c ∷ cs) = is_refusal_code c && are_refusals cs
 codes-refuse : (c : Command) → are_refusals (codes_of c) ≡ true
 codes-refuse (commands.SetRequest mode id) = refl
 codes-refuse (commands.SetMta extension address) = refl
+codes-refuse (commands.GetVersion bytes) = refl
 codes-refuse (commands.Upload n) = refl
 codes-refuse (commands.ShortUpload n extension address) = refl
 codes-refuse (commands.BuildChecksum size) = refl
@@ -180,6 +198,7 @@ codes-refuse (commands.CopyCalPage source source_page target target_page) = refl
 codes-refuse (commands.ClearDaqList list) = refl
 codes-refuse (commands.SetDaqPtr list odt entry) = refl
 codes-refuse (commands.WriteDaq offset size extension address) = refl
+codes-refuse (commands.WriteDaqMultiple bytes) = refl
 codes-refuse (commands.SetDaqListMode mode list event prescaler priority) = refl
 codes-refuse (commands.GetDaqListMode list) = refl
 codes-refuse (commands.StartStopDaqList mode list) = refl

@@ -26,7 +26,7 @@ use Rattle.xcp_slave.specs.DaqRows.{entry_reply}
 use Rattle.xcp_slave.specs.SlaveValue.{SlaveValue, layout_of, noblock}
 use Rattle.xcp_slave.specs.RefusingAnswers.{IsErrorPacket, IsRefusal}
 use Rattle.xcp_slave.specs.Rows.{row}
-use Rattle.xcp_slave.specs.Step.{Answers, Heeds, Executes, Drains, Stores, Samples, Fires, outbox_size, with_event, with_signals, found_by, sent_reply, answer_of, is_connect}
+use Rattle.xcp_slave.specs.Step.{Answers, Heeds, Executes, Drains, Stores, Samples, Fires, outbox_size, with_event, with_loss, with_overload, with_signals, found_by, sent_reply, answer_of, is_connect}
 use Rattle.xcp_slave.proofs.StepLaws.{either}
 
 differ : (n m : ℕ) → n ≡ 0xFF → m ≡ 0xFE → n ≡ m → ⊥
@@ -117,7 +117,7 @@ stores-refusal : (v : SlaveValue) (a : Answer) (w : SlaveValue) → Stores v a w
 stores-refusal v a w h r = either (v.connected && nat_le outbox_size (length v.outbox)) _ _ _ h (λ k. k.1) (λ k. absurd (subst IsRefusal k.0 r))
 
 samples-refusal : (channel : ℕ) (packets : List (ArrayVec ℕ)) (v u : SlaveValue) (a : Answer) (w : SlaveValue) → Samples channel packets u a w → IsRefusal a → w ≡ v
-samples-refusal channel packets v u a w h r = either (nat_le (length u.outbox + length packets) outbox_size) _ _ _ h (λ k. absurd (subst IsRefusal k.0 r)) (λ k. absurd (subst IsRefusal k.0 r))
+samples-refusal channel packets v u a w h r = either (nat_le (length u.outbox + length (with_overload u.overloaded packets)) outbox_size) _ _ _ h (λ k. absurd (subst IsRefusal k.0 r)) (λ k. absurd (subst IsRefusal k.0 r))
 
 fires-refusal : (channel : ℕ) (signals : List ℕ) (v : SlaveValue) (a : Answer) (w : SlaveValue) → Fires channel signals v a w → IsRefusal a → w ≡ v
 fires-refusal channel signals v a w h r =
@@ -126,11 +126,11 @@ fires-refusal channel signals v a w h r =
     (λ k. k.1)
 
 -- what an overrun leaves
-samples-overrun : (channel : ℕ) (packets : List (ArrayVec ℕ)) (v w : SlaveValue) → Samples channel packets v answers.Overrun w → w ≡ with_event channel v
-samples-overrun channel packets v w h = either (nat_le (length v.outbox + length packets) outbox_size) _ _ _ h (λ k. let e = k.0 in cc) (λ k. k.1)
+samples-overrun : (channel : ℕ) (packets : List (ArrayVec ℕ)) (v w : SlaveValue) → Samples channel packets v answers.Overrun w → w ≡ with_loss channel v
+samples-overrun channel packets v w h = either (nat_le (length v.outbox + length (with_overload v.overloaded packets)) outbox_size) _ _ _ h (λ k. let e = k.0 in cc) (λ k. k.1)
 
--- an event that overruns changes the signals and the lists' counts of events, and nothing else
-pub overrun-leaves : (v : SlaveValue) (channel : ℕ) (signals : ArrayVec ℕ) (w : SlaveValue) → Answers v (requests.Event channel signals) answers.Overrun w → w ≡ with_event channel (with_signals signals.items v)
+-- an event that overruns changes the signals, the lists' counts of events and whether the tool has to be told, and nothing else
+pub overrun-leaves : (v : SlaveValue) (channel : ℕ) (signals : ArrayVec ℕ) (w : SlaveValue) → Answers v (requests.Event channel signals) answers.Overrun w → w ≡ record (with_event channel (with_signals signals.items v)) { overloaded = (layout_of v).extras.tells_overload }
 overrun-leaves v channel signals w h =
     either (nat_lt channel (length (layout_of v).events)) _ _ _ h
     (λ k. either (length signals.items == (layout_of v).signals_length) _ _ _ k (samples-overrun channel _ (with_signals signals.items v) w) (λ l. let e = l.0 in cc))

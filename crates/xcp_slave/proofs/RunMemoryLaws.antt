@@ -24,7 +24,7 @@ use Rattle.xcp_slave.specs.Outcomes.{Answer}
 use Rattle.xcp_slave.specs.declared.exchange.Exchange.{Exchange}
 use Rattle.xcp_slave.specs.SlaveValue.{SlaveValue, layout_of, noblock, ended, opening}
 use Rattle.xcp_slave.specs.Rows.{row}
-use Rattle.xcp_slave.specs.Step.{Answers, Heeds, Drains, Samples, Fires, outbox_size, with_signals, found_by, is_connect, at_time}
+use Rattle.xcp_slave.specs.Step.{Answers, Heeds, Drains, Samples, Fires, outbox_size, with_overload, with_signals, found_by, is_connect, at_time}
 use Rattle.xcp_slave.specs.Run.{Run}
 use Rattle.xcp_slave.specs.SlaveInvariant.{IsSlave, IsOfBytes}
 use Rattle.xcp_slave.specs.MemoryEffects.{IsSteady, IsEventless, SameMemory, Write, Puts, Follows, byte_of, last_at, IsLeft}
@@ -83,7 +83,7 @@ drains-segments [] v a w k = ap (λ (y : SlaveValue). y.transfer.pages.segments)
 drains-segments (p ∷ rest) v a w k = ap (λ (y : SlaveValue). y.transfer.pages.segments) k.1
 
 samples-segments : (channel : ℕ) (packets : List (ArrayVec ℕ)) (v : SlaveValue) (a : Answer) (w : SlaveValue) → Samples channel packets v a w → w.transfer.pages.segments ≡ v.transfer.pages.segments
-samples-segments channel packets v a w k = either (nat_le (length v.outbox + length packets) outbox_size) _ _ _ k (λ o. ap (λ (y : SlaveValue). y.transfer.pages.segments) o.1) (λ o. ap (λ (y : SlaveValue). y.transfer.pages.segments) o.1)
+samples-segments channel packets v a w k = either (nat_le (length v.outbox + length (with_overload v.overloaded packets)) outbox_size) _ _ _ k (λ o. ap (λ (y : SlaveValue). y.transfer.pages.segments) o.1) (λ o. ap (λ (y : SlaveValue). y.transfer.pages.segments) o.1)
 
 fires-segments : (channel : ℕ) (signals : List ℕ) (v : SlaveValue) (a : Answer) (w : SlaveValue) → Fires channel signals v a w → w.transfer.pages.segments ≡ v.transfer.pages.segments
 fires-segments channel signals v a w k =

@@ -33,7 +33,7 @@ use Rattle.xcp_slave.specs.Outcomes.{Answer}
 use Rattle.xcp_slave.specs.declared.exchange.Exchange.{Exchange}
 use Rattle.xcp_slave.specs.SlaveValue.{SlaveValue, layout_of, noblock, ended, opening}
 use Rattle.xcp_slave.specs.Rows.{row}
-use Rattle.xcp_slave.specs.Step.{Answers, Heeds, Drains, Stores, Samples, Fires, outbox_size, stored, store_event, with_event, with_signals, found_by, is_connect, at_time}
+use Rattle.xcp_slave.specs.Step.{Answers, Heeds, Drains, Stores, Samples, Fires, outbox_size, stored, store_event, still_overloaded, with_loss, with_overload, with_sample, with_signals, found_by, is_connect, at_time}
 use Rattle.xcp_slave.specs.Run.{Run}
 use Rattle.xcp_slave.specs.SlaveInvariant.{IsLists, IsWaiting, IsSlave, IsOfBytes}
 use Rattle.xcp_slave.proofs.StepLaws.{either}
@@ -42,7 +42,7 @@ use Rattle.xcp_slave.proofs.ListInvariantLemmas as lists
 use Rattle.xcp_slave.proofs.ListInvariantLemmas.{NoneHolds, none-holds, is_below}
 use Rattle.xcp_slave.proofs.TransferInvariantLemmas as transfers
 use Rattle.xcp_slave.proofs.TransferInvariantLemmas.{none-refused}
-use Rattle.xcp_slave.proofs.OutboxInvariantLemmas.{sample, data-waits, event-waits, rest-waits}
+use Rattle.xcp_slave.proofs.OutboxInvariantLemmas.{sample, sample-waits, event-waits, rest-waits}
 
 -- the numbers of a command that are bytes
 abbrev HasBytes : Command → Type 0
@@ -86,6 +86,7 @@ row-lists commands.Disconnect v b l h r = lists.no-lists (layout_of v) None
 row-lists (commands.ClearDaqList list) v b l h r = lists.clear-list (layout_of v) list v.daq h (none-refused (clear_daq_list_refusal list v.daq) r)
 row-lists (commands.SetDaqPtr list odt entry) v b l h r = lists.set-pointer (layout_of v) list odt entry v.daq h (none-refused (set_daq_ptr_refusal list odt entry v.daq) r)
 row-lists (commands.WriteDaq offset size extension address) v b l h r = lists.write-daq (layout_of v) offset size extension address v.daq l h (none-refused (write_daq_refusal (layout_of v) offset size extension address v.daq) r)
+row-lists (commands.WriteDaqMultiple bytes) v b l h r = lists.write-multiple (layout_of v) bytes.items v.daq l h
 row-lists (commands.SetDaqListMode mode list event prescaler priority) v b l h r = lists.set-mode (layout_of v) mode list event prescaler priority v.daq l h b.0 b.1 (none-refused (set_daq_list_mode_refusal (layout_of v) mode list event prescaler v.daq) r)
 row-lists (commands.StartStopDaqList mode list) v b l h r = lists.start-stop (layout_of v) mode list v.daq l h (none-refused (start_stop_daq_list_refusal (layout_of v) mode list v.daq) r)
 row-lists (commands.StartStopSynch mode) v b l h r = lists.synch (layout_of v) mode v.daq l h (none-refused (start_stop_synch_refusal (layout_of v) mode v.daq) r)
@@ -116,7 +117,7 @@ row-idle _ v h e = absurd (idle-no v.connected h e)
 
 -- a slave within its limits is so without its block too
 pub noblock-kept : (v : SlaveValue) → IsSlave v → IsSlave (noblock v)
-noblock-kept v h = record { transfer = transfers.without v.transfer h.transfer; lists = h.lists; few = h.few; waiting = h.waiting; idle = λ e. ap noblock (h.idle e) }
+noblock-kept v h = record { transfer = transfers.without v.transfer h.transfer; lists = h.lists; few = h.few; waiting = h.waiting; asked = h.asked; idle = λ e. ap noblock (h.idle e) }
 
 -- and so it is as a command finds it
 pub found-kept : (c : Command) (v : SlaveValue) → IsSlave v → IsSlave (found_by c v)
@@ -127,6 +128,10 @@ found-connected : (c : Command) (v : SlaveValue) → (found_by c v).connected �
 found-connected (commands.DownloadNext remaining bytes) v = refl
 found-connected _ v = refl
 
+row-asked : (c : Command) (v : SlaveValue) → (row c v).after.overloaded ≡ true → v.overloaded ≡ true
+row-asked commands.Disconnect v e = cc
+row-asked _ v e = e
+
 row-kept : (c : Command) (v : SlaveValue) → HasBytes c → IsSlave v → (v.connected || is_connect c) ≡ true → first_holding (row c v).refusals ≡ None → IsSlave (row c v).after
 row-kept c v b h on r =
     let same = row-layout c v in
@@ -136,6 +141,7 @@ row-kept c v b h on r =
       lists = subst (λ (l : LayoutValue). IsLists l (row c v).after.daq) (sym same) (row-lists c v b h.transfer.layout h.lists r);
       few = waits.few;
       waiting = subst (λ (l : LayoutValue). All (IsWaiting l) (row c v).after.outbox) (sym same) waits.waiting;
+      asked = λ e. ap (λ (l : LayoutValue). l.extras.tells_overload) same ∙ h.asked (row-asked c v e);
       idle = row-idle c v on;
     }
 
@@ -171,6 +177,7 @@ drains-kept (packet ∷ rest) v a w e h k =
       lists = h.lists;
       few = omega arith;
       waiting = rest-waits (layout_of v) packet rest all;
+      asked = h.asked;
       idle = λ off. (let none : v.outbox ≡ [] = ap (λ (x : SlaveValue). x.outbox) (h.idle off) in let both : [] ≡ packet ∷ rest = sym none ∙ e in cc);
     }) k.1
 
@@ -191,38 +198,56 @@ stores-kept v a w h k =
       lists = h.lists;
       few = stored-few v.connected v.outbox h.few room;
       waiting = stored-waits (layout_of v) v.connected v.outbox h.waiting;
+      asked = h.asked;
       idle = λ off. moved-idle stored v (λ x. refl) (h.idle off);
     }) m.1)
     k
 
 signals-kept : (signals : List ℕ) (v : SlaveValue) → IsSlave v → length signals ≡ (layout_of v).signals_length → IsSlave (with_signals signals v)
-signals-kept signals v h e = record { transfer = transfers.signals-kept v.transfer signals h.transfer e; lists = h.lists; few = h.few; waiting = h.waiting; idle = λ off. moved-idle (with_signals signals) v (λ x. refl) (h.idle off) }
-
-event-kept : (channel : ℕ) (v : SlaveValue) → IsSlave v → IsSlave (with_event channel v)
-event-kept channel v h = record { transfer = h.transfer; lists = lists.event (layout_of v) channel v.daq h.lists; few = h.few; waiting = h.waiting; idle = λ off. moved-idle (with_event channel) v (λ x. refl) (h.idle off) }
+signals-kept signals v h e = record { transfer = transfers.signals-kept v.transfer signals h.transfer e; lists = h.lists; few = h.few; waiting = h.waiting; asked = h.asked; idle = λ off. moved-idle (with_signals signals) v (λ x. refl) (h.idle off) }
 
 -- with the packets of an event
 sampled-by : ℕ → SlaveValue → SlaveValue
-sampled-by channel v = record (with_event channel v) { outbox = v.outbox ++ sampled channel v.time v.transfer.pages v.daq }
+sampled-by channel v = with_sample channel (sampled channel v.time v.transfer.pages v.daq) v
 
 sampled-idle : (channel : ℕ) (v : SlaveValue) → v ≡ ended v → sampled-by channel v ≡ ended (sampled-by channel v)
 unfolding sampled-by
 sampled-idle channel v e = moved-idle (sampled-by channel) v (λ x. refl) e
 
+-- what an event puts has room
+abbrev has_room : ℕ → SlaveValue → Bool
+has_room channel v = nat_le (length v.outbox + length (with_overload v.overloaded (sampled channel v.time v.transfer.pages v.daq))) outbox_size
+
+-- so it has while nobody is connected: it is nothing
+idle-room : (channel : ℕ) (v : SlaveValue) → v ≡ ended v → has_room channel v ≡ false → ⊥
+idle-room channel v e full = let t : true ≡ false = sym (ap (has_room channel) e) ∙ full in cc
+
+was-overloaded : (overloaded : Bool) (ps : List (ArrayVec ℕ)) → still_overloaded overloaded ps ≡ true → overloaded ≡ true
+was-overloaded true ps e = refl
+was-overloaded false ps e = cc
+
 samples-kept : (channel : ℕ) (v : SlaveValue) (a : Answer) (w : SlaveValue) → IsSlave v → Samples channel (sampled channel v.time v.transfer.pages v.daq) v a w → IsSlave w
 unfolding sampled-by
 samples-kept channel v a w h k =
     let new : List (ArrayVec ℕ) = sampled channel v.time v.transfer.pages v.daq in
-    let after = event-kept channel v h in
-    either-test (nat_le (length v.outbox + length new) outbox_size) _ _ _
+    let all : List (ArrayVec ℕ) = with_overload v.overloaded new in
+    either-test (has_room channel v) _ _ _
     (λ room m. same-kept (sampled-by channel v) w (record {
       transfer = h.transfer;
-      lists = after.lists;
-      few = (let long = length-append v.outbox new in let fits : length v.outbox + length new ≤ 64 = grind (arith, nat_tests, room) in omega arith);
-      waiting = data-waits (layout_of v) v.outbox new h.waiting (sample (layout_of v) channel v.time v.transfer.pages v.daq h.lists);
+      lists = lists.event (layout_of v) channel v.daq h.lists;
+      few = (let long = length-append v.outbox all in let fits : length v.outbox + length all ≤ 64 = grind (arith, nat_tests, room) in omega arith);
+      waiting = sample-waits (layout_of v) v.overloaded v.outbox new h.asked h.waiting (sample (layout_of v) channel v.time v.transfer.pages v.daq h.lists);
+      asked = λ e. h.asked (was-overloaded v.overloaded new e);
       idle = λ off. sampled-idle channel v (h.idle off);
     }) m.1)
-    (λ full m. same-kept (with_event channel v) w after m.1)
+    (λ full m. same-kept (with_loss channel v) w (record {
+      transfer = h.transfer;
+      lists = lists.event (layout_of v) channel v.daq h.lists;
+      few = h.few;
+      waiting = h.waiting;
+      asked = λ e. e;
+      idle = λ off. absurd (idle-room channel v (h.idle off) full);
+    }) m.1)
     k
 
 fires-kept : (channel : ℕ) (signals : List ℕ) (v : SlaveValue) (a : Answer) (w : SlaveValue) → IsSlave v → Fires channel signals v a w → IsSlave w
@@ -235,10 +260,10 @@ fires-kept channel signals v a w h k =
     (λ m. same-kept v w h m.1)
 
 time-kept : (time : ℕ) (v : SlaveValue) → IsSlave v → IsSlave (at_time time v)
-time-kept time v h = record { transfer = h.transfer; lists = h.lists; few = h.few; waiting = h.waiting; idle = λ off. moved-idle (at_time time) v (λ x. refl) (h.idle off) }
+time-kept time v h = record { transfer = h.transfer; lists = h.lists; few = h.few; waiting = h.waiting; asked = h.asked; idle = λ off. moved-idle (at_time time) v (λ x. refl) (h.idle off) }
 
 ended-kept : (v : SlaveValue) → IsSlave v → IsSlave (ended v)
-ended-kept v h = record { transfer = transfers.nowhere v.transfer h.transfer; lists = lists.no-lists (layout_of v) None; few = omega arith; waiting = λ k d below. absurd (omega arith); idle = λ off. refl }
+ended-kept v h = record { transfer = transfers.nowhere v.transfer h.transfer; lists = lists.no-lists (layout_of v) None; few = omega arith; waiting = λ k d below. absurd (omega arith); asked = λ e. cc; idle = λ off. refl }
 
 spelt : (order : Order) (p : List ℕ) (d : Result Command Refuse) → All (λ byte. byte < 256) p → Decodes order p d → (c : Command) → d ≡ Ok c → HasBytes c
 spelt order p d b k c e = has-bytes order c p b (subst (Decodes order p) e k)
@@ -259,6 +284,7 @@ opening-slave l h = record {
   lists = lists.no-lists l None;
   few = omega arith;
   waiting = λ k d below. absurd (omega arith);
+  asked = λ e. cc;
   idle = λ off. refl;
 }
 

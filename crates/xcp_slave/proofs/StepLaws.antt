@@ -1,5 +1,5 @@
 -- For each slave and each request there is one answer and one slave after it.
-use Rattle.std.proofs.Common.{◌≡◌, ℕ, ◌+◌, Bool, true, false, List, [], ◌∷◌, ◌++◌, length, ◌==◌, ◌&&◌, nat_le, nat_lt, refl, sym, ap, ◌∙◌, subst, Option, Some, None, Result, Ok, Err, ◌||◌}
+use Rattle.std.proofs.Common.{◌≡◌, ℕ, ◌+◌, Bool, true, false, List, [], ◌∷◌, length, ◌==◌, ◌&&◌, nat_le, nat_lt, refl, sym, ap, ◌∙◌, subst, Option, Some, None, Result, Ok, Err, ◌||◌}
 use Rattle.std.specs.Prelude.{MatchBool}
 use Rattle.std.proofs.lemmas.Option.{none-some}
 use Rattle.xcp_packet.proofs.DecodingLaws.{decodes_once, decodes_total}
@@ -21,7 +21,7 @@ use Rattle.xcp_slave.specs.Outcomes.{Answer}
 use Rattle.xcp_slave.specs.declared.outcome.Outcome.TheVariants as answers
 use Rattle.xcp_slave.specs.SlaveValue.{SlaveValue, layout_of, noblock, ended}
 use Rattle.xcp_slave.specs.Rows.{row}
-use Rattle.xcp_slave.specs.Step.{Answers, Heeds, Executes, Ignores, Refuses, Drains, Stores, Samples, Fires, outbox_size, stored, with_event, with_signals, answer_of, sent_reply, found_by, is_connect, at_time}
+use Rattle.xcp_slave.specs.Step.{Answers, Heeds, Executes, Ignores, Refuses, Drains, Stores, Samples, Fires, outbox_size, stored, with_loss, with_overload, with_sample, with_signals, answer_of, sent_reply, found_by, is_connect, at_time}
 
 -- whichever way a test goes
 pub either : (t : Bool) (P Q R : Type 0) → MatchBool t P Q → (P → R) → (Q → R) → R
@@ -107,19 +107,15 @@ stores-some v =
     (answers.Later, v, (refl, refl))
     (answers.Stored (frozen_count v.transfer.pages), stored v, (refl, refl))
 
--- a slave whose packets of an event wait
-abbrev waits : ℕ → List (ArrayVec ℕ) → SlaveValue → SlaveValue
-waits channel packets v = record (with_event channel v) { outbox = v.outbox ++ packets }
-
 samples-single : (channel : ℕ) (packets : List (ArrayVec ℕ)) (v : SlaveValue) (a b : Answer) (w u : SlaveValue) → Samples channel packets v a w → Samples channel packets v b u → (a ≡ b) × (w ≡ u)
 samples-single channel packets v a b w u h k =
-    both (nat_le (length v.outbox + length packets) outbox_size) _ _ _ _ _ h k (settled (answers.Sampled (length packets)) (waits channel packets v) a b w u) (settled answers.Overrun (with_event channel v) a b w u)
+    both (nat_le (length v.outbox + length (with_overload v.overloaded packets)) outbox_size) _ _ _ _ _ h k (settled (answers.Sampled (length (with_overload v.overloaded packets))) (with_sample channel packets v) a b w u) (settled answers.Overrun (with_loss channel v) a b w u)
 
 samples-some : (channel : ℕ) (packets : List (ArrayVec ℕ)) (v : SlaveValue) → (a : Answer) × (w : SlaveValue) × Samples channel packets v a w
 samples-some channel packets v =
-    one_of (nat_le (length v.outbox + length packets) outbox_size) (λ a w. (a ≡ answers.Sampled (length packets)) × (w ≡ waits channel packets v)) (λ a w. (a ≡ answers.Overrun) × (w ≡ with_event channel v))
-    (answers.Sampled (length packets), waits channel packets v, (refl, refl))
-    (answers.Overrun, with_event channel v, (refl, refl))
+    one_of (nat_le (length v.outbox + length (with_overload v.overloaded packets)) outbox_size) (λ a w. (a ≡ answers.Sampled (length (with_overload v.overloaded packets))) × (w ≡ with_sample channel packets v)) (λ a w. (a ≡ answers.Overrun) × (w ≡ with_loss channel v))
+    (answers.Sampled (length (with_overload v.overloaded packets)), with_sample channel packets v, (refl, refl))
+    (answers.Overrun, with_loss channel v, (refl, refl))
 
 -- the sample of an event with its signals in place
 abbrev event_packets : ℕ → List ℕ → SlaveValue → List (ArrayVec ℕ)

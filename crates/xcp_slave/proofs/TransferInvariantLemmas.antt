@@ -23,11 +23,12 @@ use Rattle.xcp_memory.proofs.PageCopyLemmas.{is_pages-copied}
 use Rattle.xcp_memory.proofs.FreezeLemmas.{is_pages-frozen, same_writable}
 use Rattle.xcp_transfer.specs.declared.mta.Mta.{Mta}
 use Rattle.xcp_transfer.specs.declared.mta.Mta.TheVariants.{Nowhere, Memory, Text}
-use Rattle.xcp_transfer.specs.declared.mta.TextId.TheVariants.{Id, Name}
-use Rattle.xcp_transfer.specs.TransferValue.{TransferValue, BlockValue, IsMta, IsBlock, IsUnderWay}
+use Rattle.xcp_transfer.specs.declared.mta.TextId.{TextId}
+use Rattle.xcp_transfer.specs.declared.mta.TextId.TheVariants.{Id, Name, A2lName, A2lFile, Epk}
+use Rattle.xcp_transfer.specs.TransferValue.{TransferValue, BlockValue, text_of, IsText, IsMta, IsBlock, IsUnderWay}
 use Rattle.xcp_transfer.specs.MtaAccess.{is_readable, sum_refusal_at, write_refusal_at, written_at, moved}
 use Rattle.xcp_packet.specs.Rows.{first_holding, refused}
-use Rattle.xcp_transfer.specs.Uploads.{upload_row, short_upload_row, build_checksum_row, get_id_row}
+use Rattle.xcp_transfer.specs.Uploads.{upload_row, short_upload_row, build_checksum_row, get_id_row, text_of_kind, text_start, with_bytes}
 use Rattle.xcp_transfer.specs.Downloads.{download_row, download_next_row, next_row, download_max_row, short_download_row, modify_bits_row, packet_room, greatest_download, max_bs, block_begun, block_with, downloaded}
 use Rattle.xcp_transfer.specs.Laws.{IsLawful}
 use Rattle.xcp_slave.proofs.ListInvariantLemmas.{NoneHolds, none-holds, is_below, is_true}
@@ -210,13 +211,33 @@ pub build-checksum : (size : ℕ) (t : TransferValue) → IsLawful t → first_h
 build-checksum size t h r =
     lawful-of t.pages (moved t.mta size) (with-mta t.pages t.mta (moved t.mta size) (good t h) (moved-summed t.pages t.mta size (none-refused (sum_refusal_at t.pages t.mta size) r)))
 
-id-mta : (b : Bool) (l : LayoutValue) (m : Mta) → IsMta l m → IsMta l (if b then Text Id 0 else m)
-id-mta true l m h = (tt, omega arith)
-id-mta false l m h = h
+abbrev has-text : LayoutValue → Option TextId → Type 0
+has-text l None = Unit {0}
+has-text l (Some id) = IsText l id
+
+has-bytes : (b : Bool) (l : LayoutValue) (id : TextId) → IsText l id → has-text l (if b then None else Some id)
+has-bytes true l id h = tt
+has-bytes false l id h = h
+
+if-then : (b : Bool) (l : LayoutValue) (x y : Option TextId) → has-text l x → has-text l y → has-text l (if b then x else y)
+if-then true l x y h k = h
+if-then false l x y h k = k
+
+-- there is the text of each kind
+kind-text : (l : LayoutValue) (kind : ℕ) → has-text l (text_of_kind l kind)
+kind-text l kind =
+    if-then (kind == 0) l (Some Id) _ tt
+    (if-then (kind == 1) l (with_bytes l A2lName) _ (has-bytes (length (text_of l A2lName) == 0) l A2lName tt)
+    (if-then (kind == 4) l (with_bytes l A2lFile) _ (has-bytes (length (text_of l A2lFile) == 0) l A2lFile tt)
+    (if-then (kind == 5) l (with_bytes l Epk) None (has-bytes (length (text_of l Epk) == 0) l Epk tt) tt)))
+
+id-mta : (id : Option TextId) (l : LayoutValue) (m : Mta) → has-text l id → IsMta l m → IsMta l (text_start m id)
+id-mta (Some id) l m t h = (t, omega arith)
+id-mta None l m t h = h
 
 -- what GET_ID does leaves transfers lawful
 pub get-id : (kind : ℕ) (t : TransferValue) → IsLawful t → IsLawful (get_id_row kind t).after
-get-id kind t h = lawful-of t.pages _ (with-mta t.pages t.mta _ (good t h) (id-mta (kind == 0) t.pages.layout t.mta h.transfer.mta))
+get-id kind t h = lawful-of t.pages _ (with-mta t.pages t.mta _ (good t h) (id-mta (text_of_kind t.pages.layout kind) t.pages.layout t.mta (kind-text t.pages.layout kind) h.transfer.mta))
 
 -- a new MTA in the memory, or none
 pub set-mta : (address : ℕ) (t : TransferValue) → IsLawful t → IsLawful (record t { mta = Memory address })

@@ -1,5 +1,5 @@
 -- Parts of a slave that requests leave alone.
-use Rattle.std.proofs.Common.{◌≡◌, ◌≢◌, ℕ, ◌+◌, Bool, true, false, List, [], ◌∷◌, length, Option, None, Result, Ok, Err, ap, sym, ◌∙◌, refl, subst, arith, nat_le, nat_lt}
+use Rattle.std.proofs.Common.{◌≡◌, ◌≢◌, ℕ, ◌+◌, Bool, true, false, List, [], ◌∷◌, length, Option, Some, None, Result, Ok, Err, ap, sym, ◌∙◌, refl, subst, arith, nat_le, nat_lt}
 use Rattle.std.specs.Prelude.{◌==◌, ◌&&◌, ◌||◌, if◌then◌else◌}
 use Rattle.std.proofs.lemmas.Bool.Decides.{nat_tests}
 use Rattle.arrayvec.specs.ArrayVec.{ArrayVec}
@@ -13,16 +13,20 @@ use Rattle.xcp_packet.specs.declared.Refuse.{Refuse}
 use Rattle.xcp_packet.specs.declared.Refuse.TheVariants as refuses
 use Rattle.xcp_packet.specs.declared.Reply.{Reply}
 use Rattle.xcp_packet.proofs.ByteOrderLemmas.{length-bytes_of}
+use Rattle.xcp_memory.specs.Layout.{LayoutValue, ExtrasValue, IsPlain, epk, description}
 use Rattle.xcp_memory.specs.Memory.{Writes}
 use Rattle.xcp_memory.specs.Pages.{PagesValue}
 use Rattle.xcp_transfer.specs.declared.mta.Mta.TheVariants.{Nowhere, Memory, Text}
-use Rattle.xcp_transfer.specs.declared.mta.TextId.TheVariants.{Id, Name}
+use Rattle.xcp_transfer.specs.declared.mta.TextId.{TextId}
+use Rattle.xcp_transfer.specs.declared.mta.TextId.TheVariants.{Id, Name, A2lName, A2lFile, Epk}
+use Rattle.xcp_transfer.specs.TransferValue.{text_of}
+use Rattle.xcp_transfer.specs.Uploads.{text_of_kind, text_start, with_bytes}
 use Rattle.xcp_slave.specs.declared.request.Request.{Request}
 use Rattle.xcp_slave.specs.declared.request.Request.TheVariants as requests
 use Rattle.xcp_slave.specs.Outcomes.{Answer}
 use Rattle.xcp_slave.specs.SlaveValue.{SlaveValue, layout_of, noblock}
 use Rattle.xcp_slave.specs.Rows.{row}
-use Rattle.xcp_slave.specs.Step.{Answers, AnswersPacket, Heeds, Drains, Fires, outbox_size, stored, with_event, with_signals, found_by, is_connect}
+use Rattle.xcp_slave.specs.Step.{Answers, AnswersPacket, Heeds, Drains, Fires, outbox_size, stored, with_event, with_overload, with_signals, found_by, is_connect}
 use Rattle.xcp_slave.specs.SlaveInvariant.{IsSlave}
 use Rattle.xcp_slave.specs.AcceptedCommands.{Accepts}
 use Rattle.xcp_slave.specs.CodesByEffect.{IsNone, IsBeside, IsNoEvent, mta_codes, session_codes, list_codes, store_codes}
@@ -53,12 +57,12 @@ pub drains-part : {A : Type 0} (f : SlaveValue → A) (o : List (ArrayVec ℕ)) 
 drains-part f [] v a w h k = ap f k.1
 drains-part f (p ∷ rest) v a w h k = ap f k.1 ∙ h rest
 
--- an event leaves each part that its signals, counts of events and other packets that wait don't change
-pub fires-part : {A : Type 0} (f : SlaveValue → A) (channel : ℕ) (signals : List ℕ) (v : SlaveValue) (a : Answer) (w : SlaveValue) → ((packets : List (ArrayVec ℕ)) → f (record (with_event channel (with_signals signals v)) { outbox = packets }) ≡ f v) → Fires channel signals v a w → f w ≡ f v
+-- an event leaves each part that its signals, counts of events, other packets that wait and what has to be told don't change
+pub fires-part : {A : Type 0} (f : SlaveValue → A) (channel : ℕ) (signals : List ℕ) (v : SlaveValue) (a : Answer) (w : SlaveValue) → ((packets : List (ArrayVec ℕ)) (lost : Bool) → f (record (with_event channel (with_signals signals v)) { outbox = packets; overloaded = lost }) ≡ f v) → Fires channel signals v a w → f w ≡ f v
 fires-part f channel signals v a w h k =
     either (nat_lt channel (length (layout_of v).events)) _ _ _ k
     (λ m. either (length signals == (layout_of v).signals_length) _ _ _ m
-    (λ n. either (nat_le (length v.outbox + length _) outbox_size) _ _ _ n (λ o. ap f o.1 ∙ h _) (λ o. ap f o.1 ∙ h v.outbox))
+    (λ n. either (nat_le (length v.outbox + length (with_overload v.overloaded _)) outbox_size) _ _ _ n (λ o. ap f o.1 ∙ h _ _) (λ o. ap f o.1 ∙ h v.outbox _))
     (λ n. ap f n.1))
     (λ m. ap f m.1)
 
@@ -86,7 +90,7 @@ row-mta _ v h = refl
 -- a request that is no hangup and no command that moves the MTA keeps the MTA
 pub mta-kept : (v : SlaveValue) (q : Request) (a : Answer) (w : SlaveValue) → IsBeside mta_codes q → q ≢ requests.Hangup → Answers v q a w → w.transfer.mta ≡ v.transfer.mta
 mta-kept v (requests.Command p) a w b n k = packet-part (λ x. x.transfer.mta) (IsNone mta_codes) v p.items a w refl (λ c h. row-mta c v h) b k
-mta-kept v (requests.Event channel signals) a w b n k = fires-part (λ x. x.transfer.mta) channel signals.items v a w (λ o. refl) k
+mta-kept v (requests.Event channel signals) a w b n k = fires-part (λ x. x.transfer.mta) channel signals.items v a w (λ o lost. refl) k
 mta-kept v requests.Drain a w b n k = drains-part (λ x. x.transfer.mta) v.outbox v a w (λ o. refl) k
 mta-kept v requests.FinishStore a w b n k = stores-part (λ x. x.transfer.mta) v a w refl k
 mta-kept v requests.Hangup a w b n k = absurd (n refl)
@@ -102,7 +106,7 @@ row-session _ v h = refl
 -- a request that is no CONNECT, DISCONNECT or hangup keeps whether a tool is connected
 pub session-kept : (v : SlaveValue) (q : Request) (a : Answer) (w : SlaveValue) → IsBeside session_codes q → q ≢ requests.Hangup → Answers v q a w → w.connected ≡ v.connected
 session-kept v (requests.Command p) a w b n k = packet-part (λ x. x.connected) (IsNone session_codes) v p.items a w refl (λ c h. row-session c v h) b k
-session-kept v (requests.Event channel signals) a w b n k = fires-part (λ x. x.connected) channel signals.items v a w (λ o. refl) k
+session-kept v (requests.Event channel signals) a w b n k = fires-part (λ x. x.connected) channel signals.items v a w (λ o lost. refl) k
 session-kept v requests.Drain a w b n k = drains-part (λ x. x.connected) v.outbox v a w (λ o. refl) k
 session-kept v requests.FinishStore a w b n k = stores-part (λ x. x.connected) v a w refl k
 session-kept v requests.Hangup a w b n k = absurd (n refl)
@@ -115,6 +119,7 @@ row-lists commands.Disconnect v h = cc
 row-lists (commands.ClearDaqList list) v h = cc
 row-lists (commands.SetDaqPtr list odt entry) v h = cc
 row-lists (commands.WriteDaq offset size extension address) v h = cc
+row-lists (commands.WriteDaqMultiple bytes) v h = cc
 row-lists (commands.SetDaqListMode mode list event prescaler priority) v h = cc
 row-lists (commands.StartStopDaqList mode list) v h = cc
 row-lists (commands.StartStopSynch mode) v h = cc
@@ -143,7 +148,7 @@ row-store _ v h = refl
 -- a request that is no SET_REQUEST and no FinishStore keeps the store request
 pub store-kept : (v : SlaveValue) (q : Request) (a : Answer) (w : SlaveValue) → IsBeside store_codes q → q ≢ requests.FinishStore → Answers v q a w → w.store ≡ v.store
 store-kept v (requests.Command p) a w b n k = packet-part (λ x. x.store) (IsNone store_codes) v p.items a w refl (λ c h. row-store c v h) b k
-store-kept v (requests.Event channel signals) a w b n k = fires-part (λ x. x.store) channel signals.items v a w (λ o. refl) k
+store-kept v (requests.Event channel signals) a w b n k = fires-part (λ x. x.store) channel signals.items v a w (λ o lost. refl) k
 store-kept v requests.Drain a w b n k = drains-part (λ x. x.store) v.outbox v a w (λ o. refl) k
 store-kept v requests.FinishStore a w b n k = absurd (n refl)
 store-kept v requests.Hangup a w b n k = ap (λ (x : SlaveValue). x.store) k.1
@@ -155,12 +160,43 @@ store-kept v (requests.Time time) a w b n k = ap (λ (x : SlaveValue). x.store) 
 pub id-alone : (v w : SlaveValue) (bytes : List ℕ) → Accepts v (commands.GetId 0) bytes w → w ≡ record v { transfer = record v.transfer { mta = Text Id 0; block = None } }
 id-alone v w bytes h = (accepted (commands.GetId 0) v bytes w h).after
 
-is_other : (kind : ℕ) → kind ≢ 0 → (kind == 0) ≡ false
-is_other kind h = grind (arith, nat_tests, h)
+starts-at : SlaveValue → Option TextId → SlaveValue
+starts-at v id = record v { transfer = record v.transfer { mta = text_start v.transfer.mta id; block = None } }
+
+-- an accepted GET_ID of a kind that there is sets the MTA to its text, gives a block up, and changes nothing else
+pub text-alone : (v w : SlaveValue) (kind : ℕ) (id : TextId) (bytes : List ℕ) → text_of_kind (layout_of v) kind ≡ Some id → Accepts v (commands.GetId kind) bytes w → w ≡ record v { transfer = record v.transfer { mta = Text id 0; block = None } }
+unfolding starts-at
+text-alone v w kind id bytes e h = (accepted (commands.GetId kind) v bytes w h).after ∙ ap (λ (t : Option TextId). starts-at v t) e
 
 -- an accepted GET_ID of another kind gives a block up, and changes nothing else
-pub id-none : (v w : SlaveValue) (kind : ℕ) (bytes : List ℕ) → kind ≢ 0 → Accepts v (commands.GetId kind) bytes w → w ≡ record v { transfer = record v.transfer { block = None } }
-id-none v w kind bytes n h = (accepted (commands.GetId kind) v bytes w h).after ∙ ap (λ (b : Bool). record v { transfer = record v.transfer { mta = if b then Text Id 0 else v.transfer.mta; block = None } }) (is_other kind n)
+pub text-none : (v w : SlaveValue) (kind : ℕ) (bytes : List ℕ) → text_of_kind (layout_of v) kind ≡ None → Accepts v (commands.GetId kind) bytes w → w ≡ record v { transfer = record v.transfer { block = None } }
+unfolding starts-at
+text-none v w kind bytes e h = (accepted (commands.GetId kind) v bytes w h).after ∙ ap (λ (t : Option TextId). starts-at v t) e
+
+not-that : (kind n : ℕ) → kind ≢ n → (kind == n) ≡ false
+not-that kind n h = grind (arith, nat_tests, h)
+
+-- where no kind has a text
+none-at : (zero one four five : Bool) (a b c d : Option TextId) → zero ≡ false → b ≡ None → c ≡ None → d ≡ None → (if zero then a else (if one then b else (if four then c else (if five then d else None)))) ≡ None
+none-at zero true four five a b c d h i j k = rw h i
+none-at zero false true five a b c d h i j k = rw h j
+none-at zero false false true a b c d h i j k = rw h k
+none-at zero false false false a b c d h i j k = rw h refl
+
+none-there : (l : LayoutValue) (id : TextId) → text_of l id ≡ [] → with_bytes l id ≡ None
+none-there l id h = ap (λ (t : List ℕ). if length t == 0 then None else Some id) h
+
+-- A plain layout has the identification alone.
+pub plain-texts : (l : LayoutValue) (kind : ℕ) → IsPlain l → kind ≢ 0 → text_of_kind l kind ≡ None
+plain-texts l kind h n =
+    none-at (kind == 0) (kind == 1) (kind == 4) (kind == 5) (Some Id) (with_bytes l A2lName) (with_bytes l A2lFile) (with_bytes l Epk) (not-that kind 0 n)
+    (none-there l A2lName (ap (λ (e : ExtrasValue). e.a2l) h))
+    (none-there l A2lFile (ap (λ (e : ExtrasValue). description e) h))
+    (none-there l Epk (ap (λ (e : ExtrasValue). epk e) h))
+
+-- an accepted GET_ID of another kind than 0, of a plain layout
+pub id-none : (v w : SlaveValue) (kind : ℕ) (bytes : List ℕ) → IsPlain (layout_of v) → kind ≢ 0 → Accepts v (commands.GetId kind) bytes w → w ≡ record v { transfer = record v.transfer { block = None } }
+id-none v w kind bytes p n h = text-none v w kind bytes (plain-texts (layout_of v) kind p n) h
 
 -- an accepted GET_DAQ_EVENT_INFO sets the MTA to its channel's name, gives a block up, and changes nothing else
 pub event-alone : (v w : SlaveValue) (channel : ℕ) (bytes : List ℕ) → Accepts v (commands.GetDaqEventInfo channel) bytes w → w ≡ record v { transfer = record v.transfer { mta = Text (Name channel) 0; block = None } }
@@ -183,9 +219,9 @@ pub connect-alone : (v w : SlaveValue) (mode : ℕ) (bytes : List ℕ) → Accep
 connect-alone v w mode bytes h = (accepted (commands.Connect mode) v bytes w h).after
 
 -- an accepted DISCONNECT ends the session with its MTA, block, DAQ lists and outbox, and changes nothing else
-pub disconnect-alone : (v w : SlaveValue) (bytes : List ℕ) → Accepts v commands.Disconnect bytes w → w ≡ record v { connected = false; transfer = record v.transfer { mta = Nowhere; block = None }; daq = record { lists = []; pointer = None; last = None }; outbox = [] }
+pub disconnect-alone : (v w : SlaveValue) (bytes : List ℕ) → Accepts v commands.Disconnect bytes w → w ≡ record v { connected = false; transfer = record v.transfer { mta = Nowhere; block = None }; daq = record { lists = []; pointer = None; last = None }; outbox = []; overloaded = false }
 disconnect-alone v w bytes h = (accepted commands.Disconnect v bytes w h).after
 
 -- the same for a hangup
-pub hangup-alone : (v w : SlaveValue) (a : Answer) → Answers v requests.Hangup a w → w ≡ record v { connected = false; transfer = record v.transfer { mta = Nowhere; block = None }; daq = record { lists = []; pointer = None; last = None }; outbox = [] }
+pub hangup-alone : (v w : SlaveValue) (a : Answer) → Answers v requests.Hangup a w → w ≡ record v { connected = false; transfer = record v.transfer { mta = Nowhere; block = None }; daq = record { lists = []; pointer = None; last = None }; outbox = []; overloaded = false }
 hangup-alone v w a h = h.1

@@ -15,9 +15,9 @@ mta_codes = 0xFF ∷ 0xFE ∷ 0xFA ∷ 0xF6 ∷ 0xF5 ∷ 0xF4 ∷ 0xF3 ∷ 0xF0 
 
 -- The codes of the commands that change the DAQ lists or their pointer: DISCONNECT, CLEAR_DAQ_LIST, SET_DAQ_PTR,
 -- WRITE_DAQ, SET_DAQ_LIST_MODE, START_STOP_DAQ_LIST, START_STOP_SYNCH, READ_DAQ, FREE_DAQ, ALLOC_DAQ, ALLOC_ODT,
--- ALLOC_ODT_ENTRY.
+-- ALLOC_ODT_ENTRY, WRITE_DAQ_MULTIPLE.
 abbrev pub list_codes : List ℕ
-list_codes = 0xFE ∷ 0xE3 ∷ 0xE2 ∷ 0xE1 ∷ 0xE0 ∷ 0xDE ∷ 0xDD ∷ 0xDB ∷ 0xD6 ∷ 0xD5 ∷ 0xD4 ∷ 0xD3 ∷ []
+list_codes = 0xFE ∷ 0xE3 ∷ 0xE2 ∷ 0xE1 ∷ 0xE0 ∷ 0xDE ∷ 0xDD ∷ 0xDB ∷ 0xD6 ∷ 0xD5 ∷ 0xD4 ∷ 0xD3 ∷ 0xC7 ∷ []
 
 -- SET_REQUEST
 abbrev pub store_codes : List ℕ

@@ -1,5 +1,5 @@
 -- The rows of the commands of data acquisition (DAQ).
-use Rattle.std.specs.Prelude.{ℕ, ◌%◌, not, [], ◌∷◌, Option, Some, None}
+use Rattle.std.specs.Prelude.{ℕ, ◌%◌, not, List, [], ◌∷◌, Option, Some, None}
 use Rattle.xcp_packet.specs.declared.Reply.{Reply}
 use Rattle.xcp_packet.specs.declared.Reply.TheVariants as replies
 use Rattle.xcp_packet.specs.declared.Code.{Code}
@@ -13,6 +13,7 @@ use Rattle.xcp_daq.specs.declared.ProcessorInfo.{ProcessorInfo}
 use Rattle.xcp_daq.specs.declared.ResolutionInfo.{ResolutionInfo}
 use Rattle.xcp_daq.specs.declared.EventInfo.{EventInfo}
 use Rattle.xcp_daq.specs.DaqLists.{DaqValue, has_stamp}
+use Rattle.xcp_daq.specs.Configuring.{write_daq_multiple_refusal, write_daq_multiple_after}
 use Rattle.xcp_daq.specs.DaqInfo.{event_info_refusal, event_info_reply}
 use Rattle.xcp_slave.specs.SlaveValue.{SlaveValue, layout_of, noblock}
 
@@ -49,6 +50,15 @@ resolution_reply i = replies.DaqResolution i.greatest i.mode i.ticks
 -- (ASAM MCD-1 XCP, protocol layer, description of commands: GET_DAQ_EVENT_INFO.)
 abbrev pub event_reply : EventInfo → Reply
 event_reply e = replies.EventInfo e.name_length e.cycle e.unit e.priority
+
+-- WRITE_DAQ_MULTIPLE is a command of a slave whose layout asks for it; no other knows it.
+-- (ASAM MCD-1 XCP, protocol layer, description of commands: WRITE_DAQ_MULTIPLE.)
+abbrev pub write_daq_multiple_row : List ℕ → SlaveValue → Row SlaveValue
+write_daq_multiple_row bytes v = record {
+  refusals = (not (layout_of v).extras.uploads_a2l, replies.Error CmdUnknown) ∷ refused (write_daq_multiple_refusal (layout_of v) bytes v.daq);
+  reply = Some replies.Done;
+  after = record (noblock v) { daq = write_daq_multiple_after (layout_of v) bytes v.daq };
+}
 
 -- GET_DAQ_CLOCK tells the time, its lowest four bytes; a slave whose layout has no clock doesn't know the command.
 -- (ASAM MCD-1 XCP, protocol layer, description of commands: GET_DAQ_CLOCK.)

@@ -19,4 +19,5 @@ pub mod CodesByEffect
 pub mod DueLists
 pub mod SlaveClock
 pub mod StoredPages
+pub mod LostSamples
 pub mod private

@@ -9,17 +9,18 @@ use Rattle.xcp_slave.specs.declared.exchange.Exchange.{Exchange}
 use Rattle.xcp_slave.specs.declared.request.Request.{Request}
 use Rattle.xcp_slave.specs.declared.request.Request.TheVariants as requests
 use Rattle.xcp_slave.specs.SlaveValue.{SlaveValue}
-use Rattle.xcp_slave.specs.Step.{Answers, store_event, with_signals}
+use Rattle.xcp_slave.specs.Step.{Answers, store_event, with_overload, with_signals}
 
--- the packets of an event of this channel with these signals: its sample, once the signals are in their place
+-- the data packets of an event of this channel with these signals: its sample, once the signals are in their place
 abbrev pub event_packets : SlaveValue → ℕ → List ℕ → List (ArrayVec ℕ)
 event_packets v channel signals = sampled channel v.time (with_signals signals v).transfer.pages v.daq
 
--- The packets that a step puts behind those that wait: an event that is sampled all of its own, a finished store the
--- event packet that tells of it, where a tool is connected; any other step none.
+-- The packets that a step puts behind those that wait: an event that is sampled all of its own, behind the event packet that
+-- tells of a lost sample, where the tool has to be told; a finished store the event packet that tells of it, where a tool is
+-- connected; any other step none.
 -- (ASAM MCD-1 XCP, protocol layer: data packets, event packets.)
 abbrev pub put_in : SlaveValue → Request → Answer → List (ArrayVec ℕ)
-put_in v (requests.Event channel signals) (answers.Sampled n) = event_packets v channel signals.items
+put_in v (requests.Event channel signals) (answers.Sampled n) = with_overload v.overloaded (event_packets v channel signals.items)
 put_in v requests.FinishStore (answers.Stored n) = if v.connected then store_event ∷ [] else []
 put_in v _ _ = []
 

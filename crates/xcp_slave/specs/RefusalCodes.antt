@@ -12,6 +12,7 @@ use Rattle.xcp_packet.specs.declared.Command.TheVariants as commands
 abbrev pub codes_of : Command → List ℕ
 codes_of (commands.SetRequest mode id) = 0x22 ∷ []
 codes_of (commands.SetMta extension address) = 0x22 ∷ []
+codes_of (commands.GetVersion bytes) = 0x20 ∷ 0x21 ∷ []
 codes_of (commands.Upload n) = 0x22 ∷ 0x24 ∷ []
 codes_of (commands.ShortUpload n extension address) = 0x22 ∷ 0x24 ∷ []
 codes_of (commands.BuildChecksum size) = 0x22 ∷ 0x24 ∷ []
@@ -30,6 +31,7 @@ codes_of (commands.CopyCalPage source source_page target target_page) = 0x22 ∷
 codes_of (commands.ClearDaqList list) = 0x22 ∷ []
 codes_of (commands.SetDaqPtr list odt entry) = 0x22 ∷ []
 codes_of (commands.WriteDaq offset size extension address) = 0x11 ∷ 0x22 ∷ 0x24 ∷ 0x2A ∷ []
+codes_of (commands.WriteDaqMultiple bytes) = 0x11 ∷ 0x20 ∷ 0x21 ∷ 0x22 ∷ 0x24 ∷ 0x2A ∷ []
 codes_of (commands.SetDaqListMode mode list event prescaler priority) = 0x11 ∷ 0x22 ∷ 0x27 ∷ []
 codes_of (commands.GetDaqListMode list) = 0x22 ∷ []
 codes_of (commands.StartStopDaqList mode list) = 0x22 ∷ 0x27 ∷ 0x2A ∷ []

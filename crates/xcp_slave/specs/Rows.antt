@@ -1,14 +1,15 @@
 -- The row of each command: why it is refused, and else its reply and its effect.
-use Rattle.std.specs.Prelude.{ℕ, ◌+◌, true, [], ◌∷◌, Some, None, not, ◌==◌, if◌then◌else◌}
-use Rattle.xcp_packet.specs.ByteOrder.{byte_order}
+use Rattle.std.specs.Prelude.{ℕ, ◌+◌, true, List, [], ◌∷◌, length, Option, Some, None, not, ◌==◌, if◌then◌else◌}
+use Rattle.xcp_packet.specs.ByteOrder.{byte_order, byte_at}
 use Rattle.xcp_packet.specs.declared.Order.{Order}
 use Rattle.xcp_packet.specs.declared.Command.{Command}
 use Rattle.xcp_packet.specs.declared.Command.TheVariants as commands
 use Rattle.xcp_packet.specs.declared.Reply.TheVariants as replies
-use Rattle.xcp_packet.specs.declared.Code.TheVariants.{CmdSynch, OutOfRange}
+use Rattle.xcp_packet.specs.declared.Code.{Code}
+use Rattle.xcp_packet.specs.declared.Code.TheVariants.{CmdSynch, CmdUnknown, CmdSyntax, OutOfRange}
 use Rattle.xcp_transfer.specs.declared.Mta.TheVariants.{Nowhere, Memory}
 use Rattle.xcp_transfer.specs.TransferValue.{TransferValue}
-use Rattle.xcp_packet.specs.Rows.{Row, row_within}
+use Rattle.xcp_packet.specs.Rows.{Row, row_within, refused, first_holding}
 use Rattle.xcp_transfer.specs.Uploads.{upload_row, short_upload_row, build_checksum_row, get_id_row}
 use Rattle.xcp_transfer.specs.Downloads.{download_row, download_next_row, download_max_row, short_download_row, modify_bits_row}
 use Rattle.xcp_daq.specs.DaqLists.{any_running, first_pid}
@@ -16,9 +17,9 @@ use Rattle.xcp_daq.specs.Allocating.{free_daq_after, alloc_daq_refusal, alloc_da
 use Rattle.xcp_daq.specs.Configuring.{clear_daq_list_refusal, clear_daq_list_after, set_daq_ptr_refusal, set_daq_ptr_after, write_daq_refusal, write_daq_after, read_daq_refusal, read_daq_reply, read_daq_after, set_daq_list_mode_refusal, set_daq_list_mode_after}
 use Rattle.xcp_daq.specs.Starting.{start_stop_daq_list_refusal, start_stop_daq_list_after, start_stop_synch_refusal, start_stop_synch_after}
 use Rattle.xcp_daq.specs.DaqInfo.{daq_list_mode_refusal, daq_list_mode_reply, processor_info_reply, resolution_info_reply}
-use Rattle.xcp_slave.specs.SlaveValue.{SlaveValue, layout_of, ended}
+use Rattle.xcp_slave.specs.SlaveValue.{SlaveValue, layout_of, noblock, ended}
 use Rattle.xcp_slave.specs.PageRows.{set_cal_page_row, get_cal_page_row, get_pag_processor_info_row, get_segment_info_row, get_page_info_row, set_segment_mode_row, get_segment_mode_row, copy_cal_page_row, set_request_row}
-use Rattle.xcp_slave.specs.DaqRows.{daq_row, query_row, entry_reply, mode_reply, info_reply, resolution_reply, get_daq_clock_row, get_daq_event_info_row}
+use Rattle.xcp_slave.specs.DaqRows.{daq_row, query_row, entry_reply, mode_reply, info_reply, resolution_reply, write_daq_multiple_row, get_daq_clock_row, get_daq_event_info_row}
 
 -- a row of transfers as one of the slave: nothing but what transfers go by changes
 abbrev pub of_transfer : SlaveValue → Row TransferValue → Row SlaveValue
@@ -34,6 +35,11 @@ status_of v = (if v.store then 0x01 else 0) + (if any_running v.daq then 0x40 el
 -- (ASAM MCD-1 XCP, protocol layer, description of commands: CONNECT.)
 abbrev pub comm_mode_basic : Order → ℕ
 comm_mode_basic order = 0xC0 + byte_order order
+
+-- when the bytes of GET_VERSION are refused: they begin with the level 1 command code, which is 0
+-- (ASAM MCD-1 XCP, protocol layer, description of commands: GET_VERSION.)
+abbrev pub level_refusal : List ℕ → Option Code
+level_refusal bytes = first_holding ((length bytes == 0, CmdSyntax) ∷ (not (byte_at 0 bytes == 0), CmdUnknown) ∷ [])
 
 -- The row of a command for a slave v. (ASAM MCD-1 XCP, protocol layer, description of commands; which error comes when, and
 -- in which order, is this slave's choice.)
@@ -54,6 +60,12 @@ row commands.Synch v = record { refusals = []; reply = Some (replies.Error CmdSy
 row commands.GetCommModeInfo v = record { refusals = []; reply = Some replies.CommMode; after = v }
 -- GET_ID
 row (commands.GetId kind) v = of_transfer v (get_id_row kind v.transfer)
+-- GET_VERSION is a command of a slave whose layout asks for it; no other knows it.
+row (commands.GetVersion bytes) v = record {
+  refusals = (not (layout_of v).extras.uploads_a2l, replies.Error CmdUnknown) ∷ refused (level_refusal bytes.items);
+  reply = Some replies.Version;
+  after = noblock v;
+}
 -- SET_MTA takes any address of extension 0.
 row (commands.SetMta extension address) v = record {
   refusals = (not (extension == 0), replies.Error OutOfRange) ∷ [];
@@ -83,6 +95,7 @@ row (commands.SetRequest mode id) v = set_request_row mode v
 row (commands.ClearDaqList list) v = daq_row (clear_daq_list_refusal list v.daq) replies.Done (clear_daq_list_after list v.daq) v
 row (commands.SetDaqPtr list odt entry) v = daq_row (set_daq_ptr_refusal list odt entry v.daq) replies.Done (set_daq_ptr_after list odt entry v.daq) v
 row (commands.WriteDaq offset size extension address) v = daq_row (write_daq_refusal (layout_of v) offset size extension address v.daq) replies.Done (write_daq_after size address v.daq) v
+row (commands.WriteDaqMultiple bytes) v = write_daq_multiple_row bytes.items v
 row (commands.SetDaqListMode mode list event prescaler priority) v = daq_row (set_daq_list_mode_refusal (layout_of v) mode list event prescaler v.daq) replies.Done (set_daq_list_mode_after (layout_of v) mode list event prescaler priority v.daq) v
 row (commands.GetDaqListMode list) v = query_row (daq_list_mode_refusal list v.daq) (mode_reply (daq_list_mode_reply list v.daq)) v
 row (commands.StartStopDaqList mode list) v = daq_row (start_stop_daq_list_refusal (layout_of v) mode list v.daq) (replies.FirstPid (first_pid list v.daq)) (start_stop_daq_list_after mode list v.daq) v

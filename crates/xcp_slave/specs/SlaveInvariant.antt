@@ -13,7 +13,7 @@ use Rattle.xcp_daq.specs.DaqInvariant.{IsDaq}
 use Rattle.xcp_slave.specs.declared.request.Request.{Request}
 use Rattle.xcp_slave.specs.declared.request.Request.TheVariants as requests
 use Rattle.xcp_slave.specs.SlaveValue.{SlaveValue, layout_of, ended}
-use Rattle.xcp_slave.specs.Step.{store_event}
+use Rattle.xcp_slave.specs.Step.{store_event, overload_event}
 
 -- a written entry lies in one area of the layout
 abbrev pub LiesWritten : LayoutValue → Option Element → Type 0
@@ -44,17 +44,19 @@ pub record IsDataPacket (l : LayoutValue) (p : ArrayVec ℕ) : Type 0 where
   pub least : 2 ≤ length p.items
   pub most : length p.items ≤ l.max_dto
 
--- what waits is the event packet of a store, or a data packet
+-- What waits is the event packet of a store, or, where the layout asks for it, that of a lost sample, or a data packet.
 abbrev pub IsWaiting : LayoutValue → ArrayVec ℕ → Type 0
-IsWaiting l p = (p ≡ store_event) ⊎ IsDataPacket l p
+IsWaiting l p = (p ≡ store_event) ⊎ (((l.extras.tells_overload ≡ true) × (p ≡ overload_event)) ⊎ IsDataPacket l p)
 
--- A slave: its transfers and its lists are within their limits; at most 64 packets wait, each the event packet of a store
--- or a data packet; and while nobody is connected, the slave is as the end of a session leaves it.
+-- A slave: its transfers and its lists are within their limits; at most 64 packets wait, each of them an event packet or a
+-- data packet; a tool has to be told of a lost sample only where the layout asks for it; and while nobody is connected, the
+-- slave is as the end of a session leaves it.
 pub record IsSlave (v : SlaveValue) : Type 0 where
   pub transfer : IsLawful v.transfer
   pub lists : IsLists (layout_of v) v.daq
   pub few : length v.outbox ≤ 64
   pub waiting : All (IsWaiting (layout_of v)) v.outbox
+  pub asked : v.overloaded ≡ true → (layout_of v).extras.tells_overload ≡ true
   pub idle : v.connected ≡ false → v ≡ ended v
 
 -- a command packet is made of bytes

@@ -1,5 +1,5 @@
 -- The step relation: what a slave answers to a request, and what it is then.
-use Rattle.std.specs.Prelude.{◌≡◌, ℕ, ◌+◌, Bool, true, false, ◌&&◌, ◌||◌, ◌==◌, nat_le, nat_lt, List, [], ◌∷◌, ◌++◌, length, Option, Some, None, Result, Ok, Err, MatchBool, if◌then◌else◌}
+use Rattle.std.specs.Prelude.{◌≡◌, ℕ, ◌+◌, Bool, true, false, ◌&&◌, ◌||◌, ◌==◌, not, nat_le, nat_lt, List, [], ◌∷◌, ◌++◌, length, Option, Some, None, Result, Ok, Err, MatchBool, if◌then◌else◌}
 use Rattle.arrayvec.specs.ArrayVec.{ArrayVec}
 use Rattle.xcp_packet.specs.Decoding.{Decodes}
 use Rattle.xcp_packet.specs.ReplyInBytes.{packets_of}
@@ -108,14 +108,45 @@ with_signals signals v = record v { transfer = record v.transfer { pages = recor
 abbrev pub with_event : ℕ → SlaveValue → SlaveValue
 with_event channel v = record v { daq = after_event channel v.daq }
 
+-- EV_DAQ_OVERLOAD: a sample was lost
+-- (ASAM MCD-1 XCP, protocol layer, event packets: EV_DAQ_OVERLOAD.)
+abbrev pub overload_event : ArrayVec ℕ
+overload_event = record { items = 0xFD ∷ 0x06 ∷ [] }
+
+-- The packets that an event puts, where these are its sample: where the tool has to be told of a lost sample, the event packet
+-- stands before them. An event that samples nothing puts nothing; and a sample that takes all the room there is, or there would
+-- never be room for it, is put by itself.
+abbrev pub with_overload : Bool → List (ArrayVec ℕ) → List (ArrayVec ℕ)
+with_overload false packets = packets
+with_overload true [] = []
+with_overload true (packet ∷ rest) = if nat_lt (length (packet ∷ rest)) outbox_size then overload_event ∷ packet ∷ rest else packet ∷ rest
+
+-- whether the tool has to be told of a lost sample still, once they are put
+abbrev pub still_overloaded : Bool → List (ArrayVec ℕ) → Bool
+still_overloaded false packets = false
+still_overloaded true [] = true
+still_overloaded true (packet ∷ rest) = not (nat_lt (length (packet ∷ rest)) outbox_size)
+
+-- the slave once an event's packets wait
+abbrev pub with_sample : ℕ → List (ArrayVec ℕ) → SlaveValue → SlaveValue
+with_sample channel packets v = record (with_event channel v) {
+  outbox = v.outbox ++ with_overload v.overloaded packets;
+  overloaded = still_overloaded v.overloaded packets;
+}
+
+-- the slave once an event's sample is lost: where the layout asks for it, the tool has to be told
+abbrev pub with_loss : ℕ → SlaveValue → SlaveValue
+with_loss channel v = record (with_event channel v) { overloaded = (layout_of v).extras.tells_overload }
+
 -- An event of a channel that there is, with its signals in place: the packets of its sample wait, all of them, or none where
--- they have no room together. Lists have counted the event either way.
--- (ASAM MCD-1 XCP, protocol layer: DAQ, event channels, data packets.)
+-- they have no room together; nor do they without room for the event packet that tells of a lost sample, where it is due.
+-- Lists have counted the event either way.
+-- (ASAM MCD-1 XCP, protocol layer: DAQ, event channels, data packets; event packets: EV_DAQ_OVERLOAD.)
 abbrev pub Samples : ℕ → List (ArrayVec ℕ) → SlaveValue → Answer → SlaveValue → Type 0
 Samples channel packets v a w =
-    MatchBool (nat_le (length v.outbox + length packets) outbox_size)
-    ((a ≡ answers.Sampled (length packets)) × (w ≡ record (with_event channel v) { outbox = v.outbox ++ packets }))
-    ((a ≡ answers.Overrun) × (w ≡ with_event channel v))
+    MatchBool (nat_le (length v.outbox + length (with_overload v.overloaded packets)) outbox_size)
+    ((a ≡ answers.Sampled (length (with_overload v.overloaded packets))) × (w ≡ with_sample channel packets v))
+    ((a ≡ answers.Overrun) × (w ≡ with_loss channel v))
 
 -- An event: its channel has to be one of the layout's, and its signals as many bytes as the layout says; they become the
 -- content of the signals area first.

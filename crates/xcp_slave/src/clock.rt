@@ -1,5 +1,5 @@
 //! Laws of the time and of time stamps. Each is the contract of a function with an empty body.
-ghost use Rattle.std.specs.Prelude.{◌≡◌, ◌≢◌, ◌≤◌, ◌==◌, ◌↔◌, ◌⊎◌, ℕ, List, [], ◌∷◌, Option, true};
+ghost use Rattle.std.specs.Prelude.{◌≡◌, ◌≢◌, ◌≤◌, ◌==◌, ◌↔◌, ◌⊎◌, ◌+◌, ℕ, List, [], ◌∷◌, Option, true, if◌then◌else◌};
 ghost use Rattle.arrayvec.specs.ArrayVec.{ArrayVec};
 ghost use Rattle.xcp_packet.specs.ByteOrder.{byte_at};
 ghost use Rattle.xcp_packet.specs.declared.Stamp.{Stamp};
@@ -46,6 +46,6 @@ pub fn a_layout_without_a_clock_has_no_time_stamps()
     ensures lists { (v : SlaveValue) (i : ℕ) → IsSlave v → (layout_of v).clock.stamp ≡ Stamp.Without → (list_at v.daq i).stamp ≡ Stamp.Without }
     ensures modes { (layout : LayoutValue) (mode : ℕ) → layout.clock.stamp ≡ Stamp.Without → is_mode layout mode ≡ (mode == 0) }
     ensures clock { (v : SlaveValue) (p : ArrayVec ℕ) (a : Answer) (w : SlaveValue) → (layout_of v).clock.stamp ≡ Stamp.Without → v.connected ≡ true → byte_at 0 p.items ≡ 0xDC → p.items ≢ [] → Answers v (Request.Command p) a w → (a ≡ Outcome.Packets ((0xFE ∷ 0x20 ∷ []) ∷ [])) × (w ≡ noblock v) }
-    ensures properties { (layout : LayoutValue) → layout.clock.stamp ≡ Stamp.Without → daq_properties layout ≡ 0x03 }
+    ensures properties { (layout : LayoutValue) → layout.clock.stamp ≡ Stamp.Without → daq_properties layout ≡ 0x03 + (if layout.extras.tells_overload then 0x80 else 0) }
     ensures resolution { (layout : LayoutValue) → layout.clock.stamp ≡ Stamp.Without → (timestamp_mode layout.clock ≡ 0) × (timestamp_ticks layout.clock ≡ 0) }
 {}

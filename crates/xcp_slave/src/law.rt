@@ -26,11 +26,12 @@ pub fn each_run_has_one_outcome()
 
 /// A command's error packet other than SYNCH's leaves the slave as it was, but that a block under
 /// way is given up; an answer that says that nothing was done leaves the slave as it was. An overrun
-/// leaves the packets of the event behind, and no more: signals and counts of events have changed.
+/// leaves the packets of the event behind, and no more: signals and counts of events have changed, and
+/// the tool has to be told of the lost sample where the layout asks for it.
 pub fn refusals_leave_the_slave()
     ensures errors { (v : SlaveValue) (p : ArrayVec ℕ) (a : Answer) (w : SlaveValue) → Answers v (Request.Command p) a w → IsErrorPacket a → w ≡ noblock v }
     ensures others { (v : SlaveValue) (q : Request) (a : Answer) (w : SlaveValue) → Answers v q a w → IsRefusal a → w ≡ v }
-    ensures overrun { (v : SlaveValue) (channel : ℕ) (signals : ArrayVec ℕ) (w : SlaveValue) → Answers v (Request.Event channel signals) Outcome.Overrun w → w ≡ with_event channel (with_signals signals.items v) }
+    ensures overrun { (v : SlaveValue) (channel : ℕ) (signals : ArrayVec ℕ) (w : SlaveValue) → Answers v (Request.Event channel signals) Outcome.Overrun w → w ≡ record (with_event channel (with_signals signals.items v)) { overloaded = (layout_of v).extras.tells_overload } }
 {}
 
 /// An answer to a command has at least one packet, and each packet at least one byte and at most

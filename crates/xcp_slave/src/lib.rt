@@ -13,6 +13,7 @@ mod exchange;
 mod law;
 mod outbox;
 mod outcome;
+mod overload;
 mod packet;
 mod page_properties;
 mod queue;
@@ -43,6 +44,7 @@ pub use law::{
     refusals_leave_the_slave,
 };
 pub use outcome::{Answer, Cut, Outcome, Told};
+pub use overload::{a_layout_without_overload_events_has_none, a_tool_is_told_of_lost_samples};
 pub use page_properties::PageProperties;
 pub use queue::{
     a_list_is_due_by_its_prescaler, a_pid_names_one_odt, a_sample_has_the_controllers_bytes,

@@ -11,7 +11,7 @@ use xcp_memory::Pages;
 use xcp_packet::Packet;
 
 /// How many packets can wait.
-const CAPACITY: usize = 64;
+pub(crate) const CAPACITY: usize = 64;
 
 /// How many packets a row has before those that were taken out leave it.
 const LONG: usize = 128;

@@ -12,7 +12,8 @@ pub enum Outcome<P> {
     Silent,
     /// Packets for the tool.
     Packets(P),
-    /// An event was sampled into this many packets, 0 to 64.
+    /// An event was sampled, and this many packets wait since, 0 to 64: those of its sample, and before them the event packet
+    /// that tells of a lost one, where the tool had to be told.
     Sampled(u8),
     /// An event's packets found no room: none of them is kept.
     Overrun,

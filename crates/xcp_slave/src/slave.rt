@@ -54,6 +54,7 @@ pub struct Slave {
     outbox: Outbox,
     store: bool,
     time: u64,
+    overloaded: bool,
 }
 
 impl Model for Slave {
@@ -61,7 +62,7 @@ impl Model for Slave {
 
     ghost Value = { SlaveValue };
 
-    ghost view = { λ s. record { connected = s.connected; transfer = s.transfer; daq = s.daq; outbox = s.outbox; store = s.store; time = s.time } };
+    ghost view = { λ s. record { connected = s.connected; transfer = s.transfer; daq = s.daq; outbox = s.outbox; store = s.store; time = s.time; overloaded = s.overloaded } };
 }
 
 /// The bytes from a place on.
@@ -105,6 +106,7 @@ impl Slave {
             outbox,
             store: false,
             time: 0,
+            overloaded: false,
         })
     }
 
@@ -121,6 +123,7 @@ impl Slave {
             outbox,
             store: self.store,
             time: self.time,
+            overloaded: self.overloaded,
         })
     }
 
@@ -131,6 +134,7 @@ impl Slave {
         self.connected == other.connected
             && self.store == other.store
             && self.time == other.time
+            && self.overloaded == other.overloaded
             && self.daq.same(&other.daq)
             && self.outbox.same(&other.outbox)
             && self.transfer.same(&other.transfer)
@@ -327,5 +331,6 @@ impl Slave {
         self.transfer.set_mta(Mta::Nowhere);
         self.daq.reset();
         self.outbox.clear();
+        self.overloaded = false;
     }
 }

@@ -1,12 +1,12 @@
 -- What the tool's transfers go by, as contracts see it.
 use Rattle.std.specs.Prelude.{◌≡◌, ℕ, ◌+◌, ◌-◌, ◌<◌, ◌≤◌, List, length, Option, Some, None, slice_index_or as get_or}
-use Rattle.xcp_memory.specs.Layout.{LayoutValue, no_event}
+use Rattle.xcp_memory.specs.Layout.{LayoutValue, no_event, epk, description}
 use Rattle.xcp_memory.specs.Pages.{PagesValue}
 use Rattle.xcp_memory.specs.ComputedAccess.{write_refusal}
 use Rattle.xcp_transfer.specs.declared.mta.Mta.{Mta}
 use Rattle.xcp_transfer.specs.declared.mta.Mta.TheVariants.{Nowhere, Memory, Text}
 use Rattle.xcp_transfer.specs.declared.mta.TextId.{TextId}
-use Rattle.xcp_transfer.specs.declared.mta.TextId.TheVariants.{Id, Name}
+use Rattle.xcp_transfer.specs.declared.mta.TextId.TheVariants.{Id, Name, A2lName, A2lFile, Epk}
 
 -- A block of a DOWNLOAD under way: its first address, how many bytes are still expected, and the bytes so far.
 -- (ASAM MCD-1 XCP, protocol layer: master block transfer mode; description of commands: DOWNLOAD_NEXT.)
@@ -37,11 +37,17 @@ opening_transfer p = record { pages = p; mta = Nowhere; block = None }
 abbrev pub text_of : LayoutValue → TextId → List ℕ
 text_of l Id = l.id
 text_of l (Name i) = (get_or l.events i no_event).name
+text_of l A2lName = l.extras.a2l
+text_of l A2lFile = description l.extras
+text_of l Epk = epk l.extras
 
 -- there is such a text
 abbrev pub IsText : LayoutValue → TextId → Type 0
 IsText l Id = Unit {0}
 IsText l (Name i) = i < length l.events
+IsText l A2lName = Unit {0}
+IsText l A2lFile = Unit {0}
+IsText l Epk = Unit {0}
 
 -- a memory transfer address in a text stands inside it or at its end; any other is as it is set
 abbrev pub IsMta : LayoutValue → Mta → Type 0

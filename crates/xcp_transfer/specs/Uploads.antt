@@ -1,12 +1,15 @@
 -- The rows of the commands by which a tool reads.
-use Rattle.std.specs.Prelude.{ℕ, ◌-◌, not, ◌||◌, [], ◌∷◌, length, Some, None, nat_lt, ◌==◌, if◌then◌else◌}
+use Rattle.std.specs.Prelude.{ℕ, ◌-◌, not, ◌||◌, [], ◌∷◌, length, Option, Some, None, nat_lt, ◌==◌, if◌then◌else◌}
 use Rattle.xcp_packet.specs.declared.Reply.TheVariants.{Bytes, Checksum, Error}
 use Rattle.xcp_packet.specs.declared.Reply.TheVariants as replies
 use Rattle.xcp_packet.specs.declared.Code.TheVariants.{OutOfRange, AccessDenied}
+use Rattle.xcp_memory.specs.Layout.{LayoutValue}
 use Rattle.xcp_memory.specs.Checksum.{checksum_number}
+use Rattle.xcp_transfer.specs.declared.mta.Mta.{Mta}
 use Rattle.xcp_transfer.specs.declared.mta.Mta.TheVariants.{Memory, Text}
-use Rattle.xcp_transfer.specs.declared.mta.TextId.TheVariants.{Id}
-use Rattle.xcp_transfer.specs.TransferValue.{TransferValue}
+use Rattle.xcp_transfer.specs.declared.mta.TextId.{TextId}
+use Rattle.xcp_transfer.specs.declared.mta.TextId.TheVariants.{Id, A2lName, A2lFile, Epk}
+use Rattle.xcp_transfer.specs.TransferValue.{TransferValue, text_of}
 use Rattle.xcp_transfer.specs.MtaAccess.{is_readable, bytes_at, moved, sum_refusal_at, sum_at}
 use Rattle.xcp_packet.specs.Rows.{Row, refused}
 
@@ -42,12 +45,37 @@ build_checksum_row size v = record {
   after = record v { mta = moved v.mta size; block = None };
 }
 
--- GET_ID of kind 0 tells how long the identification is, and leaves the MTA at its first byte. No other kind is
--- there: length 0.
+-- a text that has bytes
+abbrev pub with_bytes : LayoutValue → TextId → Option TextId
+with_bytes l id = if length (text_of l id) == 0 then None else Some id
+
+-- The text that each kind of GET_ID asks for, where there is one: 0, the identification; 1, the A2L file's name without its
+-- path; 4, the A2L file itself, to upload; 5, what identifies it, its EPK.
+-- (ASAM MCD-1 XCP, protocol layer, description of commands: GET_ID, identification types.)
+abbrev pub text_of_kind : LayoutValue → ℕ → Option TextId
+text_of_kind l kind =
+    if kind == 0 then Some Id
+    else (if kind == 1 then with_bytes l A2lName
+    else (if kind == 4 then with_bytes l A2lFile
+    else (if kind == 5 then with_bytes l Epk
+    else None)))
+
+-- how long it is
+abbrev pub text_length : LayoutValue → Option TextId → ℕ
+text_length l None = 0
+text_length l (Some id) = length (text_of l id)
+
+-- the MTA at its first byte, or where it was if there is no such text
+abbrev pub text_start : Mta → Option TextId → Mta
+text_start mta None = mta
+text_start mta (Some id) = Text id 0
+
+-- GET_ID tells how long the text of this kind is, and leaves the MTA at its first byte. Where there is no such text it tells
+-- length 0.
 -- (ASAM MCD-1 XCP, protocol layer, description of commands: GET_ID.)
 abbrev pub get_id_row : ℕ → TransferValue → Row TransferValue
 get_id_row kind v = record {
   refusals = [];
-  reply = Some (replies.Id (if kind == 0 then length v.pages.layout.id else 0));
-  after = record v { mta = if kind == 0 then Text Id 0 else v.mta; block = None };
+  reply = Some (replies.Id (text_length v.pages.layout (text_of_kind v.pages.layout kind)));
+  after = record v { mta = text_start v.mta (text_of_kind v.pages.layout kind); block = None };
 }

@@ -56,7 +56,7 @@ fn read_through(pages: &Pages, mta: Mta, buffer: &mut [u8]) -> Result<Mta, Code>
         }
         Mta::Text(id, place) => {
             read_text(pages.layout(), id, place, buffer)?;
-            Ok(Mta::Text(id, place + n))
+            Ok(Mta::Text(id, place + u32::from(n)))
         }
     }
 }
@@ -74,11 +74,11 @@ fn read_memory(pages: &Pages, address: u32, buffer: &mut [u8]) -> Result<(), Cod
     Ok(())
 }
 
-fn read_text(layout: &Layout, id: TextId, place: u8, buffer: &mut [u8]) -> Result<(), Code>
+fn read_text(layout: &Layout, id: TextId, place: u32, buffer: &mut [u8]) -> Result<(), Code>
     requires text { IsText layout.now id }
     requires most { length buffer.old ≤ 255 }
     ensures ok { OnOk result ((nat_le (place + length buffer.old) (length (text_of layout.now id)) ≡ true) × (buffer.new ≡ take (length buffer.old) (drop place (text_of layout.now id)))) }
-    ensures last { OnOk result ((place + length buffer.old ≤ length (text_of layout.now id)) × (place + length buffer.old ≤ 64)) }
+    ensures last { OnOk result ((place + length buffer.old ≤ length (text_of layout.now id)) × (place + length buffer.old ≤ 1048576)) }
     ensures refused { IfErr result (λ code. (nat_le (place + length buffer.old) (length (text_of layout.now id)) ≡ false) × (code ≡ Code.AccessDenied)) }
 {
     let text = text(layout, id);
@@ -110,14 +110,17 @@ pub(crate) fn checksum(pages: &Pages, mta: Mta, size: u32) -> Result<(u32, Mta),
 }
 
 /// The bytes of a text.
-fn text(layout: &Layout, id: TextId) -> &[u8]
+pub(crate) fn text(layout: &Layout, id: TextId) -> &[u8]
     requires { IsText layout.now id }
     ensures value { result.now ≡ text_of layout.now id }
-    ensures most { length result.now ≤ 64 }
+    ensures most { length result.now ≤ 1048576 }
 {
     match id {
         TextId::Id => layout.id(),
         TextId::Name(event) => layout.event_name(event as usize),
+        TextId::A2lName => layout.extras().a2l(),
+        TextId::A2lFile => layout.extras().description(),
+        TextId::Epk => layout.extras().epk(),
     }
 }
 

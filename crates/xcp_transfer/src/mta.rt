@@ -7,6 +7,12 @@ pub enum TextId {
     Id,
     /// The name of the event channel with this number, which GET_DAQ_EVENT_INFO tells of.
     Name(u8),
+    /// The name of the A2L file, of which GET_ID tells.
+    A2lName,
+    /// The A2L file itself, of which GET_ID tells.
+    A2lFile,
+    /// What identifies the A2L file, its EPK, of which GET_ID tells.
+    Epk,
 }
 
 /// The memory transfer address (MTA): where the next transfer begins.
@@ -19,5 +25,5 @@ pub enum Mta {
     /// An address, of any value: the access checks it.
     Memory(u32),
     /// A text, and the place in it; the first byte has place 0.
-    Text(TextId, u8),
+    Text(TextId, u32),
 }

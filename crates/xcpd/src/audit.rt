@@ -5,6 +5,7 @@ use crate::text_of;
 use std::fs::File;
 use std::io;
 use xcp_audit::{Printer, print_audit};
+use xcp_describe::a2l_of;
 use xcp_framing::Watched;
 use xcp_program::{Fault, layout_stored};
 
@@ -19,7 +20,8 @@ pub fn audit_by(
 ) -> Result<(), Fault> {
     let text = text_of(rt, config)?;
     let stored = stored_in(rt, flash)?;
-    let layout = layout_stored(rt.alloc(), text.as_str(), stored.as_deref())?;
+    let a2l = a2l_of(rt.alloc(), text.as_str())?;
+    let layout = layout_stored(rt.alloc(), text.as_str(), a2l, stored.as_deref())?;
     let Ok(file) = File::open(rt, path) else {
         return Err(Fault::Journal(0));
     };

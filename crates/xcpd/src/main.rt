@@ -36,7 +36,7 @@ use std::process::ExitCode;
 use std::sync::Wait;
 use std::thread::Threads;
 use std::time::Clock;
-use xcp_describe::{DescribeError, Findings, check, describe};
+use xcp_describe::{DescribeError, Findings, a2l_of, check, describe};
 use xcp_framing::Watched;
 use xcp_locked::Unnamed;
 use xcp_program::{
@@ -60,12 +60,14 @@ pub fn text_of(rt: &HostRuntime, path: &str) -> Result<String, Fault> {
 /// Replays standard input by the configuration file.
 fn run(rt: &HostRuntime, path: &str, flash: &Option<String>) -> Result<u64, Fault> {
     let text = text_of(rt, path)?;
+    let a2l = a2l_of(rt.alloc(), text.as_str())?;
     let stored = stored_in(rt, flash)?;
     let mut reader = Watched::new(rt.reader());
     let mut writer = Watched::new(io::writer(rt));
     replay(
         rt.alloc(),
         text.as_str(),
+        a2l,
         stored.as_deref(),
         &mut reader,
         &mut writer,

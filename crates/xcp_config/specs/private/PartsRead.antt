@@ -4,10 +4,10 @@ use Rattle.toml.specs.Data.{Data, get}
 use Rattle.xcp_memory.specs.declared.SegmentPart.{SegmentPart}
 use Rattle.xcp_memory.specs.declared.EventPart.{EventPart}
 use Rattle.xcp_memory.specs.declared.Parts.{Parts}
-use Rattle.xcp_memory.specs.LayoutParts.{number, kind_numbered}
+use Rattle.xcp_memory.specs.LayoutParts.{number, kind_numbered, extras_of}
 use Rattle.xcp_memory.specs.Limits.{is_within}
 use Rattle.xcp_config.specs.TomlValues.{text_of, integer_of}
-use Rattle.xcp_config.specs.TableLayout.{order_in, checksum_in, clock_in, clock_key, segments_of, signals_of, events_of, address_of, data_of, pages_of, length_of, setting}
+use Rattle.xcp_config.specs.TableLayout.{order_in, checksum_in, extras_in, clock_in, clock_key, segments_of, signals_of, events_of, address_of, data_of, pages_of, length_of, setting}
 
 -- a segment before its limits are looked at
 pub record Segment : Type 0 where
@@ -47,6 +47,7 @@ pub record Reads (p : Parts) (t : Data) : Type 0 where
   pub checksum : kind_numbered (number p.checksum) ≡ checksum_in t
   pub known : is_within 1 6 p.checksum ≡ true
   pub order : p.order ≡ order_in t
+  pub extras : extras_of p.extras ≡ extras_in t
   pub clock : p.clock ≡ clock_in (clock_key t)
   pub segments : map segment_read p.segments.items ≡ map segment_written (segments_of t)
   pub signals_address : p.signals_address ≡ address_of (signals_of t)

@@ -2,10 +2,12 @@
 ghost use Rattle.std.specs.Prelude.{◌≡◌, ◌<◌, ◌≤◌, length, map, None, Some, OnOk, IfOk, IfErr, false};
 ghost use Rattle.xcp_memory.specs.FirstRefusal.{Checks};
 ghost use Rattle.xcp_daq.specs.DaqLists.{list_at, with_list};
+ghost use Rattle.xcp_daq.specs.DaqInvariant.{IsPointer, IsPointerOf};
 ghost use Rattle.xcp_daq.specs.Configuring.{clear_daq_list_refusal, clear_daq_list_after, set_daq_ptr_refusal, set_daq_ptr_after, write_daq_refusal, write_daq_after, written_at, moved_on, read_daq_refusal, read_daq_reply, read_daq_after, is_mode, stamp_asked, set_daq_list_mode_refusal, set_daq_list_mode_after};
 ghost use Rattle.xcp_daq.specs.private.ElementRefusal.{element_refusal};
 
 use super::Daq;
+use crate::daq_element::DaqElement;
 use crate::element::lies_inside;
 use crate::mode::Mode;
 use crate::{Element, Pointer};
@@ -137,14 +139,41 @@ impl Daq {
         ensures ok { IfOk result (λ p. (write_daq_refusal layout.now offset size extension address self.now ≡ None) × (self.now.pointer ≡ Some p) × ((list_at self.now p.list).running ≡ false) × (1 ≤ size) × (size ≤ 254)) }
         ensures refused { IfErr result (λ code. write_daq_refusal layout.now offset size extension address self.now ≡ Some code) }
     {
-        let Some(pointer) = self.pointer else {
+        self.audit();
+        let element = DaqElement {
+            offset,
+            size,
+            extension,
+            address,
+        };
+        self.check_at(layout, self.pointer, element)
+    }
+
+    /// The refusals of WRITE_DAQ where the DAQ pointer is this one.
+    pub(super) fn check_at(
+        &self,
+        layout: &Layout,
+        pointer: Option<Pointer>,
+        element: DaqElement,
+    ) -> Result<Pointer, Code>
+        requires { IsPointerOf self.now pointer }
+        ensures ok { IfOk result (λ p. (write_daq_refusal layout.now element.offset element.size element.extension element.address (record self.now { pointer = pointer }) ≡ None) × (pointer ≡ Some p) × ((list_at self.now p.list).running ≡ false) × (1 ≤ element.size) × (element.size ≤ 254)) }
+        ensures refused { IfErr result (λ code. write_daq_refusal layout.now element.offset element.size element.extension element.address (record self.now { pointer = pointer }) ≡ Some code) }
+    {
+        let Some(at) = pointer else {
             return Err(Code::DaqConfig);
         };
-        if self.runs(pointer.list as usize) {
+        if self.runs(at.list as usize) {
             return Err(Code::DaqActive);
         }
-        check_element(layout, offset, size, extension, address)?;
-        Ok(pointer)
+        check_element(
+            layout,
+            element.offset,
+            element.size,
+            element.extension,
+            element.address,
+        )?;
+        Ok(at)
     }
 
     fn check_set_daq_list_mode(
@@ -200,7 +229,7 @@ impl Daq {
         self.odts.unwrite(i);
     }
 
-    fn write_entry(&mut self, pointer: Pointer, size: u8, address: u32)
+    pub(super) fn write_entry(&mut self, pointer: Pointer, size: u8, address: u32)
         requires pointer { self.old.pointer ≡ Some pointer }
         requires still { (list_at self.old pointer.list).running ≡ false }
         requires some { 1 ≤ size }
@@ -231,11 +260,10 @@ impl Daq {
     }
 
     /// The pointer on the next entry.
-    fn behind(&self, pointer: Pointer) -> Option<Pointer>
-        requires { self.now.pointer ≡ Some pointer }
+    pub(super) fn behind(&self, pointer: Pointer) -> Option<Pointer>
+        requires { IsPointer self.now pointer }
         ensures { result ≡ moved_on self.now pointer }
     {
-        self.audit();
         let next = pointer.entry as usize + 1;
         if next < self.entries_of(pointer.list as usize, pointer.odt as usize) {
             return Some(Pointer {
@@ -250,6 +278,7 @@ impl Daq {
         requires { self.old.pointer ≡ Some pointer }
         ensures { self.new ≡ read_daq_after self.old }
     {
+        self.audit();
         self.pointer = self.behind(pointer);
     }
 

@@ -84,20 +84,26 @@ impl Daq {
     }
 }
 
-/// DAQ_PROPERTIES, but for time stamps: lists are allocated, and have prescalers.
+/// DAQ_PROPERTIES, but for time stamps and lost samples: lists are allocated, and have prescalers.
 const PROPERTIES: u8 = 0x03;
 
 /// TIMESTAMP_SUPPORTED of DAQ_PROPERTIES.
 const TIMESTAMP_SUPPORTED: u8 = 0x10;
 
+/// OVERLOAD_EVENT of DAQ_PROPERTIES: an event packet tells of a lost sample.
+const OVERLOAD_EVENT: u8 = 0x80;
+
 fn properties(layout: &Layout) -> u8
     ensures { result ≡ daq_properties layout.now }
 {
+    let mut properties = PROPERTIES;
     if layout.clock().stamp.size() > 0 {
-        PROPERTIES + TIMESTAMP_SUPPORTED
-    } else {
-        PROPERTIES
+        properties += TIMESTAMP_SUPPORTED;
     }
+    if layout.extras().tells_overload() {
+        properties += OVERLOAD_EVENT;
+    }
+    properties
 }
 
 /// TIMESTAMP_MODE.

@@ -5,7 +5,7 @@ use Rattle.xcp_packet.specs.CommandForms.{code, least}
 use Rattle.xcp_packet.specs.CommandSpelling.{spells}
 use Rattle.xcp_packet.specs.declared.order.Order.{Order}
 use Rattle.xcp_packet.specs.declared.command.Command.{Command}
-use Rattle.xcp_packet.specs.declared.command.Command.TheVariants.{Connect, Disconnect, GetStatus, Synch, GetCommModeInfo, GetId, SetRequest, SetMta, Upload, ShortUpload, BuildChecksum, Download, DownloadNext, DownloadMax, ShortDownload, ModifyBits, SetCalPage, GetCalPage, GetPagProcessorInfo, GetSegmentInfo, GetPageInfo, SetSegmentMode, GetSegmentMode, CopyCalPage, ClearDaqList, SetDaqPtr, WriteDaq, SetDaqListMode, GetDaqListMode, StartStopDaqList, StartStopSynch, GetDaqClock, ReadDaq, GetDaqProcessorInfo, GetDaqResolutionInfo, GetDaqEventInfo, FreeDaq, AllocDaq, AllocOdt, AllocOdtEntry}
+use Rattle.xcp_packet.specs.declared.command.Command.TheVariants.{Connect, Disconnect, GetStatus, Synch, GetCommModeInfo, GetId, SetRequest, SetMta, Upload, ShortUpload, BuildChecksum, Download, DownloadNext, DownloadMax, ShortDownload, ModifyBits, SetCalPage, GetCalPage, GetPagProcessorInfo, GetSegmentInfo, GetPageInfo, SetSegmentMode, GetSegmentMode, CopyCalPage, ClearDaqList, SetDaqPtr, WriteDaq, SetDaqListMode, GetDaqListMode, StartStopDaqList, StartStopSynch, GetDaqClock, ReadDaq, GetDaqProcessorInfo, GetDaqResolutionInfo, GetDaqEventInfo, FreeDaq, AllocDaq, AllocOdt, AllocOdtEntry, GetVersion, WriteDaqMultiple}
 use Rattle.xcp_packet.specs.declared.refuse.Refuse.{Refuse}
 use Rattle.xcp_packet.specs.declared.refuse.Refuse.TheVariants.{Empty, Unknown, Short}
 
@@ -52,6 +52,8 @@ readings order p =
     AllocDaq (word_at order 2 p) ∷
     AllocOdt (word_at order 2 p) (byte_at 4 p) ∷
     AllocOdtEntry (word_at order 2 p) (byte_at 4 p) (byte_at 5 p) ∷
+    GetVersion (record { items = drop 1 p }) ∷
+    WriteDaqMultiple (record { items = drop 1 p }) ∷
     []
 
 -- the first command of these with the code x

@@ -50,6 +50,20 @@ impl Slave {
         }
     }
 
+    pub(super) fn write_daq_multiple(&mut self, bytes: &[u8], packet: &mut Packet) -> Handled
+        ensures { TellsRow (Command.WriteDaqMultiple (record { items = bytes.now })) self.old result packet.new.items self.new }
+    {
+        self.transfer.give_up_block();
+        let layout = self.transfer.pages().layout();
+        if !layout.extras().uploads_a2l() {
+            return Err(Fault::Code(Code::CmdUnknown));
+        }
+        match self.daq.write_daq_multiple(layout, bytes) {
+            Ok(()) => Ok(self.done(packet)),
+            Err(code) => Err(Fault::Code(code)),
+        }
+    }
+
     pub(super) fn set_daq_list_mode(
         &mut self,
         mode: u8,

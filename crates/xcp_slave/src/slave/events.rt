@@ -1,11 +1,12 @@
 //! What the controller and the transport ask: events, packets that wait, and stores.
-ghost use Rattle.std.specs.Prelude.{◌≡◌, ℕ, MatchBool};
+ghost use Rattle.std.specs.Prelude.{◌≡◌, ℕ, MatchBool, [], ◌∷◌};
 ghost use Rattle.arrayvec.specs.ArrayVec.{ArrayVec};
-ghost use Rattle.xcp_slave.specs.Step.{Drains, Fires, Samples, Stores, store_event};
+ghost use Rattle.xcp_slave.specs.Step.{Drains, Fires, Samples, Stores, overload_event, store_event};
 ghost use Rattle.xcp_slave.specs.AnswerInBytes.{answer_in};
 ghost use Rattle.xcp_daq.specs.Sample.{sampled};
 
 use super::Slave;
+use crate::outbox::CAPACITY;
 use crate::{Cut, Outcome, Told};
 use xcp_packet::Packet;
 
@@ -13,6 +14,8 @@ use xcp_packet::Packet;
 const EVENT: u8 = 0xFD;
 
 const EV_STORE_CAL: u8 = 0x03;
+
+const EV_DAQ_OVERLOAD: u8 = 0x06;
 
 impl Slave {
     /// An event channel fires: its signals are taken over, and the lists that are due are sampled.
@@ -30,15 +33,23 @@ impl Slave {
         self.sample(channel)
     }
 
-    /// All packets of a sample wait, or none: without room for them the event is counted alone, and nothing is sampled.
+    /// All packets of a sample wait, or none: without room for them the event is counted alone, and nothing is sampled. Before
+    /// them the tool is told of a sample that was lost, if they leave room for that at all.
     fn sample(&mut self, channel: u16) -> Told
         ensures { (packet : ArrayVec ℕ) → Samples channel (sampled channel self.old.time self.old.transfer.pages self.old.daq) self.old (answer_in result packet) self.new }
     {
         let pages = self.transfer.pages();
-        let count = self.daq.sample_len(channel, pages);
+        let own = self.daq.sample_len(channel, pages);
+        let tells = self.overloaded && own > 0 && own < CAPACITY;
+        let count = own + usize::from(tells);
         if count > self.outbox.room() {
             self.daq.count_event(channel);
+            self.overloaded = pages.layout().extras().tells_overload();
             return Told::Overrun;
+        }
+        if tells {
+            self.outbox.push(overload_packet());
+            self.overloaded = false;
         }
         self.outbox.sample(&mut self.daq, channel, self.time, pages);
         Told::Sampled(count as u8)
@@ -78,8 +89,22 @@ impl Slave {
 fn stored_packet() -> Packet
     ensures { result ≡ store_event }
 {
+    event_packet(EV_STORE_CAL)
+}
+
+/// The event packet that tells of a lost sample.
+fn overload_packet() -> Packet
+    ensures { result ≡ overload_event }
+{
+    event_packet(EV_DAQ_OVERLOAD)
+}
+
+/// The event packet of this code, with nothing more.
+fn event_packet(code: u8) -> Packet
+    ensures { result ≡ record { items = 0xFD ∷ code ∷ [] } }
+{
     let mut packet = Packet::new();
     packet.push(EVENT);
-    packet.push(EV_STORE_CAL);
+    packet.push(code);
     packet
 }

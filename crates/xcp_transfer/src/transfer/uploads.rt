@@ -1,12 +1,40 @@
 //! The commands by which a tool reads: UPLOAD, SHORT_UPLOAD, BUILD_CHECKSUM, GET_ID.
+ghost use Rattle.std.specs.Prelude.{◌≡◌, IfSome};
 ghost use Rattle.xcp_packet.specs.Rows.{Tells};
-ghost use Rattle.xcp_transfer.specs.Uploads.{upload_row, short_upload_row, build_checksum_row, get_id_row};
-ghost use Rattle.xcp_transfer.specs.TransferValue.{response_room, without_block};
+ghost use Rattle.xcp_transfer.specs.Uploads.{upload_row, short_upload_row, build_checksum_row, get_id_row, with_bytes, text_of_kind};
+ghost use Rattle.xcp_transfer.specs.TransferValue.{response_room, without_block, IsText};
 
 use super::Transfer;
-use crate::access::{checksum, read, read_block};
+use crate::access::{checksum, read, read_block, text};
 use crate::{Mta, TextId};
+use xcp_memory::Layout;
 use xcp_packet::{Code, Fault, Packet, Reply, Sent, Width, write_reply};
+
+/// A text that has bytes.
+fn with_bytes(layout: &Layout, id: TextId) -> Option<TextId>
+    requires { IsText layout.now id }
+    ensures { result ≡ with_bytes layout.now id }
+{
+    if text(layout, id).is_empty() {
+        None
+    } else {
+        Some(id)
+    }
+}
+
+/// The text that a kind of GET_ID asks for, where there is one.
+fn text_of_kind(layout: &Layout, kind: u8) -> Option<TextId>
+    ensures value { result ≡ text_of_kind layout.now kind }
+    ensures text { IfSome result (λ id. IsText layout.now id) }
+{
+    match kind {
+        0 => Some(TextId::Id),
+        1 => with_bytes(layout, TextId::A2lName),
+        4 => with_bytes(layout, TextId::A2lFile),
+        5 => with_bytes(layout, TextId::Epk),
+        _ => None,
+    }
+}
 
 impl Transfer {
     /// UPLOAD: reads n bytes from the MTA on, and moves it on by n. More than MAX_CTO - 1 bytes are
@@ -72,8 +100,9 @@ impl Transfer {
         Ok(Sent::Lent)
     }
 
-    /// GET_ID: of kind 0, tells how long the identification is, and leaves the MTA at its first
-    /// byte. Of any other kind, length 0. It is never refused.
+    /// GET_ID: tells how long the text of this kind is, and leaves the MTA at its first byte: of
+    /// kind 0 the identification, of kind 1 the name of the A2L file, of kind 4 the file, of kind 5
+    /// its EPK. Where there is no such text, length 0. It is never refused.
     ///
     /// ASAM MCD-1 XCP, protocol layer, description of commands: GET_ID.
     pub fn get_id(&mut self, kind: u8, packet: &mut Packet) -> Result<Sent, Fault>
@@ -81,9 +110,9 @@ impl Transfer {
     {
         self.give_up_block();
         let mut length = 0;
-        if kind == 0 {
-            self.mta = Mta::Text(TextId::Id, 0);
-            length = self.pages.layout().id().len() as u32;
+        if let Some(id) = text_of_kind(self.pages.layout(), kind) {
+            length = text(self.pages.layout(), id).len() as u32;
+            self.mta = Mta::Text(id, 0);
         }
         write_reply(packet, &Reply::Id(length), self.order());
         Ok(Sent::Lent)

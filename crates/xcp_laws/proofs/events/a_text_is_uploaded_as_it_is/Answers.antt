@@ -1,4 +1,4 @@
-use Rattle.xcp_laws.proofs.EventAnswers.{name-uploaded, whole-name, id-uploaded, whole-id, id-told, no-id-told}
+use Rattle.xcp_laws.proofs.EventAnswers.{name-uploaded, whole-name, id-uploaded, whole-id, id-told, no-text-told, no-id-told}
 use Rattle.xcp_laws.proofs.events.a_text_is_uploaded_as_it_is.Goals as goal
 
 pub returns-clause-name : goal.returns-clause-name
@@ -18,3 +18,6 @@ returns-clause-id_told c = id-told
 
 pub returns-clause-no_id : goal.returns-clause-no_id
 returns-clause-no_id c = no-id-told
+
+pub returns-clause-no_text : goal.returns-clause-no_text
+returns-clause-no_text c = no-text-told

@@ -1,4 +1,4 @@
-use Rattle.xcp_laws.proofs.SpeltCommands.{clear-daq-list, set-daq-ptr, write-daq, set-daq-list-mode, get-daq-list-mode, start-stop-daq-list, start-stop-synch, get-daq-clock, read-daq, get-daq-processor-info, get-daq-resolution-info, get-daq-event-info, free-daq, alloc-daq, alloc-odt, alloc-odt-entry}
+use Rattle.xcp_laws.proofs.SpeltCommands.{clear-daq-list, set-daq-ptr, write-daq, set-daq-list-mode, get-daq-list-mode, start-stop-daq-list, start-stop-synch, get-daq-clock, read-daq, get-daq-processor-info, get-daq-resolution-info, get-daq-event-info, free-daq, alloc-daq, alloc-odt, alloc-odt-entry, write-daq-multiple}
 use Rattle.xcp_laws.proofs.spelling.list_commands_have_their_bytes.Goals as goal
 
 pub returns-clause-clear_daq_list : goal.returns-clause-clear_daq_list
@@ -48,3 +48,6 @@ returns-clause-alloc_odt c = alloc-odt
 
 pub returns-clause-alloc_odt_entry : goal.returns-clause-alloc_odt_entry
 returns-clause-alloc_odt_entry c = alloc-odt-entry
+
+pub returns-clause-write_daq_multiple : goal.returns-clause-write_daq_multiple
+returns-clause-write_daq_multiple c = write-daq-multiple

@@ -1,4 +1,4 @@
-use Rattle.xcp_laws.proofs.SpeltCommands.{connect, disconnect, get-status, synch, get-comm-mode-info, get-id, set-request, set-mta, upload, short-upload, build-checksum}
+use Rattle.xcp_laws.proofs.SpeltCommands.{connect, disconnect, get-status, synch, get-comm-mode-info, get-id, set-request, set-mta, upload, short-upload, build-checksum, get-version}
 use Rattle.xcp_laws.proofs.spelling.standard_commands_have_their_bytes.Goals as goal
 
 pub returns-clause-connect : goal.returns-clause-connect
@@ -33,3 +33,6 @@ returns-clause-short_upload c = short-upload
 
 pub returns-clause-build_checksum : goal.returns-clause-build_checksum
 returns-clause-build_checksum c = build-checksum
+
+pub returns-clause-get_version : goal.returns-clause-get_version
+returns-clause-get_version c = get-version

@@ -1,4 +1,4 @@
-use Rattle.xcp_slave.proofs.UnaffectedPartLaws.{id-alone, id-none, event-alone, bits-alone}
+use Rattle.xcp_slave.proofs.UnaffectedPartLaws.{id-alone, text-alone, text-none, id-none, event-alone, bits-alone}
 use Rattle.xcp_slave.proofs.beside.requests_beside_change_their_own.Goals as goal
 
 pub returns-clause-id : goal.returns-clause-id
@@ -12,3 +12,9 @@ returns-clause-event_info c = event-alone
 
 pub returns-clause-bits : goal.returns-clause-bits
 returns-clause-bits c = bits-alone
+
+pub returns-clause-text : goal.returns-clause-text
+returns-clause-text c = text-alone
+
+pub returns-clause-no_text : goal.returns-clause-no_text
+returns-clause-no_text c = text-none

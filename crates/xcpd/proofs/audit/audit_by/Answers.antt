@@ -3,4 +3,4 @@ use Rattle.xcpd.proofs.audit.audit_by.Goals as goal
 
 -- the layout begins with the stored pages of the file, or with none
 pub print_audit-requires : goal.print_audit-requires
-print_audit-requires c = (option_map (λ (f : Bor (List ℕ)). f.now) c.as_deref.result, search rules)
+print_audit-requires c = (c.in_ok-a2l.a2l, option_map (λ (f : Bor (List ℕ)). f.now) c.as_deref.result, search rules)

@@ -9,6 +9,9 @@ use Rattle.xcp_daq.proofs.DaqListLemmas.{count_of, odts_at_is, odts_set}
 use Rattle.xcp_daq.proofs.DaqInvariantLemmas.{pointer_in, lawful_entry, lawful_pointer, grows_entry}
 use Rattle.xcp_daq.proofs.daq.Daq.write_entry.Goals as goal
 
+pub behind-next-requires : goal.behind-next-requires
+behind-next-requires c = pointer_in _ c.args.pointer c.audit.ensures c.requires.pointer
+
 pub write-requires-clause-list : goal.write-requires-clause-list
 write-requires-clause-list c = omega (arith, (pointer_in _ c.args.pointer c.audit.ensures c.requires.pointer).list, count_of _ _ _ _ _ c.self.view_is c.self.invariant.0, c.self.invariant.0)
 

@@ -6,7 +6,7 @@ use Rattle.xcp_memory.specs.Layout.{IsLayout}
 use Rattle.xcp_packet.specs.Rows.{first_holding}
 use Rattle.xcp_memory.specs.Limits.{apart_limits}
 use Rattle.xcp_memory.proofs.LawfulLayoutLemmas.{lawful}
-use Rattle.xcp_memory.proofs.LimitGroupLemmas.{fault_of_own, fault_of_segments, fault_of_signals, fault_of_events, fault_of_areas, areas_built, layout_built}
+use Rattle.xcp_memory.proofs.LimitGroupLemmas.{fault_of_own, fault_of_segments, fault_of_signals, fault_of_events, fault_of_areas, areas_built, layout_built, a2l_kept}
 use Rattle.xcp_memory.proofs.layout.Layout.build.Goals as goal
 
 pub returns-in_err-own-clause-refused : goal.returns-in_err-own-clause-refused
@@ -62,7 +62,7 @@ returns-clause-ok c =
     let named = c.deref-2.ensures.0 ∙ c.areas_of.ensures ∙ areas_built c.args.parts _ _ segments signals in
     let all = fault_of_areas c.args.parts c.in_ok-own.ensures.ok.0 c.in_ok-segments.ensures.ok.0 limits c.in_ok-events.ensures.ok.0 in
     let own = c.in_ok-own.ensures.ok in
-    let built = layout_built c.args.parts _ _ _ _ _ _ _ own.1 own.2 own.3 own.4 c.in_ok-segments.ensures.ok.1 signals c.in_ok-events.ensures.ok.1 in
+    let built = layout_built c.args.parts _ _ _ _ _ _ _ _ own.1 own.2 own.3 own.4 c.in_ok-segments.ensures.ok.1 signals c.in_ok-events.ensures.ok.1 c.begin.ensures in
     (all ∙ ap (λ ps. first_holding (apart_limits ps)) (sym named) ∙ c.in_ok-check_apart.ensures.ok, built)
 
 pub invariant_of-result : goal.invariant_of-result
@@ -76,5 +76,8 @@ invariant_of-result c =
     let all = fault_of_areas c.args.parts c.in_ok-own.ensures.ok.0 c.in_ok-segments.ensures.ok.0 limits c.in_ok-events.ensures.ok.0 in
     let none = all ∙ ap (λ ps. first_holding (apart_limits ps)) (sym named) ∙ c.in_ok-check_apart.ensures.ok in
     let own = c.in_ok-own.ensures.ok in
-    let built = layout_built c.args.parts _ _ _ _ _ _ _ own.1 own.2 own.3 own.4 c.in_ok-segments.ensures.ok.1 signals c.in_ok-events.ensures.ok.1 in
+    let built = layout_built c.args.parts _ _ _ _ _ _ _ _ own.1 own.2 own.3 own.4 c.in_ok-segments.ensures.ok.1 signals c.in_ok-events.ensures.ok.1 c.begin.ensures in
     subst IsLayout (sym built) (lawful c.args.parts none)
+
+pub begin-requires : goal.begin-requires
+begin-requires c = a2l_kept c.args.parts c.in_ok-own.ensures.ok.0

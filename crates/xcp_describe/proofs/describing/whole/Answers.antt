@@ -1,0 +1,35 @@
+use Rattle.std.proofs.Common.{string_bytes}
+use Rattle.xcp_describe.proofs.FileLemmas.{IsJoined, joined_is_file, joined_tells}
+use Rattle.xcp_describe.proofs.describing.whole.Goals as goal
+
+pub returns-clause-file : goal.returns-clause-file
+returns-clause-file c =
+    joined_is_file c.args.front.now c.args.epk.now c.args.rest.now _ (record {
+      first = _;
+      second = _;
+      third = _;
+      fourth = _;
+      fifth = _;
+      begun = c.in_ok-text.ensures.ok;
+      fronted = c.in_ok-push_str.ensures.bytes;
+      headed = c.in_ok-push_str-2.ensures.bytes;
+      told = c.in_ok-push_str-3.ensures.bytes;
+      gone_on = c.in_ok-push_str-4.ensures.bytes;
+      ended = c.in_ok-push_str-5.ensures.bytes;
+    })
+
+pub returns-clause-told : goal.returns-clause-told
+returns-clause-told c = λ digits e.
+    joined_tells c.args.front.now c.args.epk.now c.args.rest.now _ digits (record {
+      first = _;
+      second = _;
+      third = _;
+      fourth = _;
+      fifth = _;
+      begun = c.in_ok-text.ensures.ok;
+      fronted = c.in_ok-push_str.ensures.bytes;
+      headed = c.in_ok-push_str-2.ensures.bytes;
+      told = c.in_ok-push_str-3.ensures.bytes;
+      gone_on = c.in_ok-push_str-4.ensures.bytes;
+      ended = c.in_ok-push_str-5.ensures.bytes;
+    }) e
