@@ -23,9 +23,9 @@
  * WHAT A CALL COSTS, AND INTERRUPTS
  *   - Each call is proved to end, and no call waits for another thread: none takes a lock. No proof says after how many
  *     nanoseconds or instructions. What each call took on one machine stands in docs/measurements/README.md, under "The
- *     library for C", with its bytes of stack; those of xcp_open_stored and xcp_stored_pages don't yet.
- *   - xcp_open, xcp_open_stored and xcp_framer_open take memory, and as counted no other call does. xcp_close,
- *     xcp_reader_close and xcp_framer_close free it.
+ *     library for C", with its bytes of stack; those of the openings with stored pages and of xcp_stored_pages don't yet.
+ *   - The openings of a slave and of a framer take memory, and as counted no other call does. xcp_close, xcp_reader_close and
+ *     xcp_framer_close free it.
  *   - A call is many steps. An interrupt that comes in the midst of one calls nothing of the library, as a signal handler
  *     doesn't: it may read what a task of yours got from xcp_read, and leave a mark for a thread that then calls xcp_event.
  *   - A thread of higher priority may come in the midst of another one's call, with a handle of its own, or under the
@@ -71,8 +71,40 @@ enum {
     XCP_STORED_SIZE = 14,   /* it is cut short or too long, or has other sizes than the segments */
     XCP_STORED_DIGEST = 15, /* it was altered */
     XCP_LONG_TEXT = 16,     /* the text has more than XCP_TEXT_BYTES */
-    XCP_NO_ROOM = 17        /* the file has more bytes than there is room for */
+    XCP_NO_ROOM = 17,       /* the file has more bytes than there is room for */
+    XCP_OTHER_BYTES = 18    /* there are more or fewer reference bytes than the segments have in all */
 };
+
+/* A layout without a text, for a controller that has it in constant data: docs/LAYOUT.md has each value, its range, and what
+ * it is for. What is 0 or false is what a layout file needn't say, so an initializer names only what is otherwise. A text ends
+ * with its first 0. `segments` and `channels` say how many of each there are. */
+enum { XCP_SEGMENTS = 4, XCP_CHANNELS = 8 };
+enum { XCP_ADD_11 = 1, XCP_ADD_12 = 2, XCP_ADD_14 = 3, XCP_ADD_22 = 4, XCP_ADD_24 = 5, XCP_ADD_44 = 6 };
+
+typedef struct {
+    uint32_t address, bytes; /* the first address, and how many bytes */
+    uint8_t pages;           /* 2 to 4, or 0 for 2 */
+} xcp_segment;
+
+typedef struct {
+    char name[33];
+    uint8_t cycle, unit, priority;
+} xcp_channel;
+
+typedef struct {
+    char id[65];
+    char a2l[65];                              /* the A2L file's name, or none */
+    uint8_t max_cto, max_dto;
+    uint8_t checksum;                          /* XCP_ADD_11 to XCP_ADD_44, or 0 for XCP_ADD_14 */
+    bool motorola, upload_a2l, overload_event; /* the library has no A2L file: GET_ID tells none */
+    uint8_t clock_size, clock_unit;            /* 1, 2 or 4 bytes of a time stamp, or 0 for no clock */
+    uint16_t clock_ticks;                      /* 1 to 65,535, or 0 for 1 */
+    uint32_t signals_address;
+    uint8_t signals_bytes;
+    uint8_t segments, channels;
+    xcp_segment segment[XCP_SEGMENTS];
+    xcp_channel channel[XCP_CHANNELS];
+} xcp_parts;
 
 /* What an xcp_answer tells. */
 enum {
@@ -117,13 +149,23 @@ typedef struct {
 /* ---- The slave: under your lock ---- */
 
 /* Opens a slave by the text of a layout file, `length` bytes: XCP_OPENED, or a fault. All memory that the slave and its
- * readers ever take is taken here. Of all calls it and xcp_open_stored want the most stack, tens of kilobytes. */
+ * readers ever take is taken here. Of all calls the openings of a slave want the most stack, nearly 60 kilobytes. */
 uint8_t xcp_open(const uint8_t *text, size_t length, xcp_slave *slave);
 
-/* The same with a file of stored pages, which xcp_stored_pages wrote out for this very text: each page of a segment begins
+/* The same by a layout in a struct. `reference` has the `length` bytes of all segments' reference pages, one segment behind the
+ * other. XCP_TOO_MANY comes first where there are more segments or channels than the struct has room for, then XCP_OTHER_BYTES,
+ * and then the first of the text's faults 4 to 6. A program that opens so alone, and is linked with --gc-sections, has nothing of
+ * TOML in it. Struct and bytes may go once it has returned. */
+uint8_t xcp_open_parts(const xcp_parts *parts, const uint8_t *reference, size_t length, xcp_slave *slave);
+
+/* xcp_open with a file of stored pages, which xcp_stored_pages wrote out for this very text: each page of a segment begins
  * with the stored one. What is wrong with the text comes first; then XCP_STORED_HEAD, XCP_STORED_LAYOUT, XCP_STORED_SIZE
  * or XCP_STORED_DIGEST for the file. Where there is no file yet, call xcp_open. */
 uint8_t xcp_open_stored(const uint8_t *text, size_t length, const uint8_t *file, size_t file_length, xcp_slave *slave);
+
+/* And xcp_open_parts so: the file is that of a slave that was opened by parts, with the same addresses, lengths and reference
+ * bytes of the segments; what else the struct says may be new. */
+uint8_t xcp_open_parts_stored(const xcp_parts *parts, const uint8_t *reference, size_t length, const uint8_t *file, size_t file_length, xcp_slave *slave);
 
 /* Writes out the file of the slave's reference pages, for xcp_open_stored at a later start: XCP_OPENED, and `used` bytes of
  * `out` are the file; or XCP_NO_ROOM, and it has `used` bytes, which are more than `room`; or XCP_SLAVE_CLOSED. With

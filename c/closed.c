@@ -1,5 +1,5 @@
 /* Each call, on handles that were never opened, and on handles that were closed. */
-#include "common.h"
+#include "parts.h"
 
 static xcp_slave slave = XCP_CLOSED;
 static xcp_reader reader = XCP_CLOSED;
@@ -42,6 +42,8 @@ int main(int argc, char **argv) {
         /* What is open isn't opened again. */
         want(xcp_open(layout, layout_length, &slave) == XCP_IS_OPEN, "xcp_open again");
         want(xcp_open_stored(layout, layout_length, layout, 0, &slave) == XCP_IS_OPEN, "xcp_open_stored again");
+        want(xcp_open_parts(&engine_parts, ENGINE_PAGES, &slave) == XCP_IS_OPEN, "xcp_open_parts again");
+        want(xcp_open_parts_stored(&engine_parts, ENGINE_PAGES, layout, 0, &slave) == XCP_IS_OPEN, "xcp_open_parts_stored again");
         want(xcp_reader_open(&slave, &reader) == XCP_IS_OPEN, "xcp_reader_open again");
         want(xcp_framer_open(64, &framer) == XCP_IS_OPEN, "xcp_framer_open again");
         xcp_reader_close(&reader);

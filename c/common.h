@@ -14,7 +14,7 @@
 static uint8_t layout[65536];
 static size_t layout_length;
 
-static void read_layout(int argc, char **argv) {
+static inline void read_layout(int argc, char **argv) {
     FILE *file = argc > 1 ? fopen(argv[1], "rb") : NULL;
     if (!file) {
         fprintf(stderr, "usage: %s LAYOUT\n", argv[0]);

@@ -1,6 +1,6 @@
 /* Each allocation of the openings fails in turn, and no other call takes memory. Linked with
  * -Wl,--wrap=malloc,--wrap=realloc,--wrap=free. */
-#include "common.h"
+#include "parts.h"
 #ifdef __cplusplus
 extern "C" {
 #endif
@@ -16,7 +16,7 @@ void __wrap_free(void *place);
 
 static uint8_t stored[XCP_STORED_BYTES];
 static size_t stored_length;
-static bool counting;
+static bool by_parts, counting;
 static long asked, refused_one, blocks;
 
 static bool refuses(void) { return counting && ++asked == refused_one; }
@@ -40,13 +40,20 @@ void __wrap_free(void *place) {
     __real_free(place);
 }
 
+static uint8_t opens(xcp_slave *slave) {
+    if (by_parts && stored_length) return xcp_open_parts_stored(&engine_parts, ENGINE_PAGES, stored, stored_length, slave);
+    if (by_parts) return xcp_open_parts(&engine_parts, ENGINE_PAGES, slave);
+    if (stored_length) return xcp_open_stored(layout, layout_length, stored, stored_length, slave);
+    return xcp_open(layout, layout_length, slave);
+}
+
 /* Opens all, with the nth allocation refused, and closes it again. True while there was an nth one. */
 static bool opens_without(long nth, long *told, long *done_without) {
     xcp_slave slave = XCP_CLOSED;
     xcp_reader reader = XCP_CLOSED;
     xcp_framer framer = XCP_CLOSED;
     asked = 0, refused_one = nth, blocks = 0, counting = true;
-    uint8_t first = stored_length ? xcp_open_stored(layout, layout_length, stored, stored_length, &slave) : xcp_open(layout, layout_length, &slave);
+    uint8_t first = opens(&slave);
     uint8_t second = first ? first : xcp_reader_open(&slave, &reader);
     uint8_t third = first ? first : xcp_framer_open(xcp_max_cto(&slave), &framer);
     want(!slave.at == !!first && !reader.at == !!second && !framer.at == !!third, "a handle owns what was opened");
@@ -76,7 +83,7 @@ static long all_calls(long rounds) {
     xcp_fed fed = {0, 0, 0, 0, {0}};
     uint8_t image[XCP_IMAGE_BYTES];
     uint64_t number;
-    want(!xcp_open(layout, layout_length, &slave) && !xcp_framer_open(xcp_max_cto(&slave), &framer), "a slave and a framer");
+    want(!opens(&slave) && !xcp_framer_open(xcp_max_cto(&slave), &framer), "a slave and a framer");
     asked = 0, refused_one = 0, counting = true;
     want(!xcp_reader_open(&slave, &reader), "a reader");
     for (long i = 0; i < rounds; i++) {
@@ -98,15 +105,21 @@ static long all_calls(long rounds) {
     return asked;
 }
 
-int main(int argc, char **argv) {
-    read_layout(argc, argv);
+static void each_refused(const char *what) {
     long told = 0, done_without = 0, nth = 1;
     while (opens_without(nth, &told, &done_without)) nth++;
-    fprintf(stderr, "%ld allocations, %ld refusals told, %ld done without\n", nth - 1, told, done_without);
-    printf("each refused allocation is told or done without, and nothing is lost\n");
+    fprintf(stderr, "%s: %ld allocations, %ld refusals told, %ld done without\n", what, nth - 1, told, done_without);
+    printf("%s: each refused allocation is told or done without, and nothing is lost\n", what);
+}
+
+int main(int argc, char **argv) {
+    read_layout(argc, argv);
+    each_refused("by a text");
     printf("allocations of all other calls: %ld\n", all_calls(500));
-    told = 0, done_without = 0, nth = 1;
-    while (opens_without(nth, &told, &done_without)) nth++;
-    printf("and so of openings with stored pages\n");
+    each_refused("with stored pages");
+    by_parts = true, stored_length = 0;
+    each_refused("by parts");
+    printf("allocations of all other calls: %ld\n", all_calls(500));
+    each_refused("by parts with stored pages");
     return 0;
 }

@@ -1,5 +1,5 @@
 /* Bytes of stack that each call takes. */
-#include "common.h"
+#include "parts.h"
 
 static xcp_slave slave = XCP_CLOSED, other = XCP_CLOSED;
 static xcp_reader reader = XCP_CLOSED;
@@ -30,6 +30,9 @@ CALL(drains, xcp_drain(&slave, &answer))
 CALL(keeps, xcp_stored_pages(&slave, stored, sizeof stored, &stored_length))
 CALL(opens_stored, xcp_open_stored(layout, layout_length, stored, stored_length, &other))
 CALL(closes_other, xcp_close(&other))
+CALL(opens_parts, xcp_open_parts(&engine_parts, ENGINE_PAGES, &other))
+CALL(keeps_other, xcp_stored_pages(&other, stored, sizeof stored, &stored_length))
+CALL(opens_parts_stored, xcp_open_parts_stored(&engine_parts, ENGINE_PAGES, stored, stored_length, &other))
 CALL(acquires, xcp_acquire(&reader))
 CALL(reads, xcp_read(&reader, 0, image, sizeof image))
 CALL(numbers, xcp_number(&reader, &number))
@@ -61,10 +64,11 @@ int main(int argc, char **argv) {
         {"xcp_open", opens}, {"xcp_reader_open", reader_opens}, {"xcp_framer_open", framer_opens}, {"CONNECT", connect_it},
         {"SET_CAL_PAGE", switches}, {"SHORT_DOWNLOAD", writes}, {"SET_MTA", sets}, {"UPLOAD, a block", uploads}, {"xcp_packet", packs},
         {"xcp_event", fires}, {"xcp_drain", drains}, {"xcp_stored_pages", keeps}, {"xcp_open_stored", opens_stored}, {"xcp_close", closes_other},
+        {"xcp_open_parts", opens_parts}, {"xcp_stored_pages", keeps_other}, {"xcp_close", closes_other}, {"xcp_open_parts_stored", opens_parts_stored}, {"xcp_close", closes_other},
         {"xcp_acquire", acquires}, {"xcp_read, an image", reads}, {"xcp_number", numbers},
         {"xcp_frame", frames}, {"xcp_feed", feeds}, {"xcp_reader_close", reader_closes}, {"xcp_close", closes}};
     used(nothing);
     long base = used(nothing);
-    for (size_t i = 0; i < sizeof calls / sizeof *calls; i++) printf("%-20s %7ld bytes\n", calls[i].name, used(calls[i].body) - base);
+    for (size_t i = 0; i < sizeof calls / sizeof *calls; i++) printf("%-21s %7ld bytes\n", calls[i].name, used(calls[i].body) - base);
     return 0;
 }

@@ -1,6 +1,6 @@
 /* Nanoseconds that each call takes: the least of 90 rounds. With a word behind the layout there are two short rounds, and a tool
  * that counts instructions finds the second between round_begins and round_ends. */
-#include "common.h"
+#include "parts.h"
 #include <time.h>
 
 static double now(void) {
@@ -65,6 +65,7 @@ int main(int argc, char **argv) {
     TIME("xcp_stored_pages", 500, xcp_stored_pages(&slave, stored, sizeof stored, &used));
     xcp_slave other = XCP_CLOSED;
     TIME("xcp_open_stored and xcp_close", 20, xcp_open_stored(layout, layout_length, stored, used, &other); xcp_close(&other));
+    TIME("xcp_open_parts and xcp_close", 20, xcp_open_parts(&engine_parts, ENGINE_PAGES, &other); xcp_close(&other));
     xcp_acquire(&reader);
     uint64_t number;
     TIME("xcp_acquire, the same image", 20000, xcp_acquire(&reader));

@@ -6,3 +6,4 @@ pub mod Crossing
 pub mod Tested
 pub mod OpenSlaveLemmas
 pub mod OpeningLemmas
+pub mod PartsLemmas

@@ -2,6 +2,8 @@ pub mod Answered
 pub mod Held
 pub mod OpenValue
 pub mod Openings
+pub mod PartsInC
+pub mod PartsOpenings
 pub mod Readers
 pub mod Requests
 pub mod StoredPages

@@ -18,16 +18,20 @@ use Rattle.xcp_c.specs.Held.{IsOpen}
 use Rattle.xcp_c.specs.OpenValue.{OpenValue}
 use Rattle.xcp_c.specs.StoredPages.{number_of_stored}
 
--- What an opening by this text gives: a slave with this layout at its opening, whose image of 2,040 bytes is published, and six
--- readers to be taken, which hold nothing.
-pub record IsOpening (text : List ℕ) (l : LayoutValue) (slave : Option OpenValue) : Type 0 where
+-- What an opening by something with this SHA-256 gives: a slave with this layout at its opening, whose image of 2,040 bytes is
+-- published, and six readers to be taken, which hold nothing.
+pub record IsOpeningBy (digest : List ℕ) (l : LayoutValue) (slave : Option OpenValue) : Type 0 where
   pub value : OpenValue
   pub is : slave ≡ Some value
   pub opened : value.controller.slave ≡ opening l
   pub size : image_bytes value.controller.writer.bank ≡ 2040
   pub writer : value.controller.writer ≡ new_writer value.controller.writer.bank (image_of (opening l))
   pub six : value.controller.spare ≡ six_readers value.controller.writer.bank (image_of (opening l))
-  pub digest : value.digest ≡ sha256 text
+  pub digested : value.digest ≡ digest
+
+-- the same by this text
+abbrev pub IsOpening : List ℕ → LayoutValue → Option OpenValue → Type 0
+IsOpening text l slave = IsOpeningBy (sha256 text) l slave
 
 -- UTF-8 of at most 65,536 bytes
 abbrev pub IsText : List ℕ → Type 0

@@ -5,16 +5,18 @@
 //! it, or nothing, and then the pointer is null. What takes a slave's handle the C program calls under
 //! a lock of its own; a reader's or a framer's handle is one thread's at a time, and needs no lock.
 //!
-//! `specs/Held.antt` has what a handle owns, `specs/Answered.antt` what an answer tells, and
-//! `specs/Requests.antt`, `specs/Openings.antt`, `specs/Readers.antt` and `specs/Wire.antt` what the
-//! calls promise.
+//! `specs/Held.antt` has what a handle owns, `specs/Answered.antt` what an answer tells,
+//! `specs/PartsInC.antt` what a layout in a struct says, and `specs/Requests.antt`, `specs/Openings.antt`,
+//! `specs/PartsOpenings.antt`, `specs/Readers.antt` and `specs/Wire.antt` what the calls promise.
 #![tactic(auto)]
 
 mod answer;
 mod asking;
+mod by_parts;
 mod framer_handle;
 mod open_slave;
 mod opening;
+mod parts;
 mod place;
 mod reader_handle;
 mod reading;

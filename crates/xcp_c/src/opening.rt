@@ -2,7 +2,7 @@
 ghost use Rattle.std.specs.Prelude.{◌≡◌, ◌⊎◌, IfErr, IfOk, MatchResult, None};
 ghost use Rattle.sha2.specs.Sha256.{sha256};
 ghost use Rattle.xcp_config.specs.ConfigText.{HasLayout};
-ghost use Rattle.xcp_c.specs.Openings.{IsFaultOf, IsFaultOfFile, IsOpened, IsOpenedWith, IsOpening, IsText, OpensBy, OpensReader, OpensStored, TellsFile, TellsText};
+ghost use Rattle.xcp_c.specs.Openings.{IsFaultOf, IsFaultOfFile, IsOpened, IsOpenedWith, IsOpening, IsOpeningBy, IsText, OpensBy, OpensReader, OpensStored, TellsFile, TellsText};
 
 use crate::open_slave::OpenSlave;
 use crate::reader_handle::ReaderHandle;
@@ -167,7 +167,15 @@ fn begin(alloc: Global, layout: Layout, text: &[u8]) -> Result<SlaveHandle, u8>
     ensures opened { IfOk result (λ h. IsOpening text.now layout h.value) }
     ensures fault { IfErr result (λ n. n ≡ 7) }
 {
-    let Ok(opened) = OpenSlave::new(alloc, layout, Sha256::digest(text)) else {
+    hold(alloc, layout, Sha256::digest(text))
+}
+
+/// The same, by what has this SHA-256.
+pub(crate) fn hold(alloc: Global, layout: Layout, digest: [u8; 32]) -> Result<SlaveHandle, u8>
+    ensures opened { IfOk result (λ h. IsOpeningBy digest layout h.value) }
+    ensures fault { IfErr result (λ n. n ≡ 7) }
+{
+    let Ok(opened) = OpenSlave::new(alloc, layout, digest) else {
         return Err(MEMORY);
     };
     match Box::new(alloc, opened) {

@@ -1,4 +1,4 @@
-use Rattle.std.proofs.Common.{◌≡◌, ℕ, inr, None}
+use Rattle.std.proofs.Common.{◌≡◌, inr, None}
 use Rattle.xcp_c.specs.Openings.{IsOpening, TellsFile}
 use Rattle.xcp_c.proofs.OpeningLemmas.{either, fault_of_file, tells_fault, tells_memory, tells_opened}
 use Rattle.xcp_c.proofs.opening.open_stored.Goals as goal
