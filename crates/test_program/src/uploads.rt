@@ -49,13 +49,13 @@ fn tools_get_the_file_that_is_described(rt: HostRuntime) -> Result<(), Fail> {
     Ok(())
 }
 
-/// Whether there is an A2L file of a layout with so many measurements, or the fault. Each takes 843 bytes of it.
+/// Whether there is an A2L file of a layout with so many measurements, or the fault. Each takes 810 bytes of it.
 fn of_many(alloc: Global, measurements: usize) -> Result<Result<bool, Fault>, AllocError> {
     let mut config = String::from_str(alloc, ASKING)?;
     for number in 0..measurements {
         write!(
             config,
-            "[[measurement]]\nname = 'm{number:0127}'\naddress = 0x8000\ntype = 'UBYTE'\nunit = '{0:0128}'\nabout = '{0:0128}'\n",
+            "[[measurement]]\nname = 'm{number:0116}'\naddress = 0x8000\ntype = 'UBYTE'\nunit = '{0:0128}'\nabout = '{0:0128}'\n",
             0
         )?;
     }

@@ -1,6 +1,7 @@
 -- The faults of the parameters and measurements of a layout file, in the order in which they are looked for: first the parameters and
--- then the measurements, each in the order of the file; and of an entry key by key.
-use Rattle.std.specs.Prelude.{◌≡◌, ℕ, ◌+◌, Bool, true, false, List, [], ◌∷◌, ◌++◌, map, take, codes, Option, Some, is_some, unwrap_or, option_and_then}
+-- then the measurements, each in the order of the file; and of an entry key by key. The axes of the parameters are looked at once all
+-- parameters are read, since a parameter behind may be one.
+use Rattle.std.specs.Prelude.{◌≡◌, ℕ, Bool, true, false, List, [], ◌∷◌, ◌++◌, map, take, codes, Option, Some, is_some, unwrap_or, option_and_then}
 use Rattle.std.specs.List.{flat_map, enumerate_from}
 use Rattle.std.specs.Float.{Float, float_zero}
 use lib.Ieee.{eq}
@@ -16,17 +17,24 @@ use Rattle.xcp_describe.specs.declared.refusal.Why.{Why}
 use Rattle.xcp_describe.specs.declared.refusal.Why.TheVariants as why
 use Rattle.xcp_describe.specs.declared.refusal.DescribeError.{DescribeError}
 use Rattle.xcp_describe.specs.declared.refusal.DescribeError.TheVariants.{Parameter, Measurement}
-use Rattle.xcp_describe.specs.EntryValues.{are_limits, bounds_of, bytes_in, factor_in, factor_of, first_of, high_in, is_name, is_count, is_text_or_none, low_in, name_of, none_or, offset_in, some_and, type_in}
+use Rattle.xcp_describe.specs.EntryValues.{are_limits, bounds_of, bytes_in, factor_in, factor_of, first_of, high_in, is_name, is_count, is_shape, is_text_or_none, low_in, name_of, none_or, offset_in, some_and, type_in}
+use Rattle.xcp_describe.specs.Axes.{Form, form_of, has_axes}
 use Rattle.xcp_describe.specs.UnreadKeys.{is_among}
 
--- the faults of name, address, type and count; only a parameter has a count
+-- the faults of the count, and of columns and rows, of a parameter; a measurement has neither
+abbrev pub shape_faults : Bool → Data → List (Bool × Why)
+shape_faults many d =
+    must (is_count many d) why.Count
+    ∷ must (is_shape many d) why.Shape
+    ∷ []
+
+-- those of name, address and type, and of the shape behind them
 abbrev pub key_faults : Bool → Data → List (Bool × Why)
 key_faults many d =
     must (some_and is_name (option_and_then as_str (get (codes "name") d))) why.Name
     ∷ must (some_and (is_within 0 0xFFFF_FFFF) (option_and_then as_integer (get (codes "address") d))) why.Address
     ∷ must (is_some (type_in d)) why.Kind
-    ∷ must (is_count many d) why.Count
-    ∷ []
+    ∷ shape_faults many d
 
 -- those of the factor and the offset
 abbrev pub scale_faults : Data → List (Bool × Why)
@@ -82,6 +90,16 @@ parameter_checks l ds (i, d) = map (placed_at (Parameter i)) (parameter_faults l
 abbrev pub measurement_checks : LayoutValue → List (List ℕ) → List Data → ℕ × Data → List (Bool × DescribeError)
 measurement_checks l names ds (i, d) = map (placed_at (Measurement i)) (measurement_faults l (names ++ map name_of (take i ds)) d)
 
+-- the fault of the axes of parameter i of these
+abbrev pub axis_faults : List Form → Form → List (Bool × Why)
+axis_faults ps p = must (has_axes ps p) why.Axis ∷ []
+
+abbrev pub axis_checks : List Form → ℕ × Form → List (Bool × DescribeError)
+axis_checks ps (i, p) = map (placed_at (Parameter i)) (axis_faults ps p)
+
+abbrev pub axes_checks : List Form → List (Bool × DescribeError)
+axes_checks ps = flat_map (axis_checks ps) (enumerate_from 0 ps)
+
 -- the tables of parameters and of measurements: arrays, if they are there
 abbrev pub is_array_or_none : Option Data → Bool
 is_array_or_none v = none_or (λ x. is_some (as_array x)) v
@@ -92,10 +110,12 @@ parameters_in t = members_of (get (codes "parameter") t)
 abbrev pub measurements_in : Data → List Data
 measurements_in t = members_of (get (codes "measurement") t)
 
+-- those of the parameters: of each by itself, and behind all of these, of the axes of each
 unfoldable pub parameters_checks : LayoutValue → Data → List (Bool × DescribeError)
 parameters_checks l t =
     must (is_array_or_none (get (codes "parameter") t)) (Parameter 0 why.Table)
     ∷ flat_map (parameter_checks l (parameters_in t)) (enumerate_from 0 (parameters_in t))
+    ++ axes_checks (map form_of (parameters_in t))
 
 unfoldable pub measurements_checks : LayoutValue → Data → List (Bool × DescribeError)
 measurements_checks l t =

@@ -1,14 +1,14 @@
 -- What a layout file says of a parameter or a measurement, key by key (docs/LAYOUT.md, "Names for tools").
-use Rattle.std.specs.Prelude.{ℕ, ◌*◌, ℤ, pos, negsuc, Bool, true, false, not, ◌&&◌, List, [], ◌∷◌, length, codes, Option, Some, None, if◌then◌else◌, unwrap_or, option_and_then, slice_get, nat_le, nat_lt, ◌==◌, ◌||◌, ◌^◌}
+use Rattle.std.specs.Prelude.{ℕ, ◌*◌, ℤ, pos, negsuc, Bool, true, false, not, ◌&&◌, List, [], ◌∷◌, length, codes, Option, Some, None, if◌then◌else◌, is_some, unwrap_or, option_map, option_and_then, slice_get, nat_le, nat_lt, ◌==◌, ◌||◌, ◌^◌}
 use Rattle.std.specs.List.{list_all}
 use Rattle.std.specs.Char.{is_ascii_alphanumeric, is_ascii_digit}
 use Rattle.std.specs.Float.{Float, fin, binary64, float_is_finite, float_zero, float_one}
 use lib.Ieee.{add, le, mul, of_int}
-use Rattle.toml.specs.Data.{Data, as_float, as_integer, as_str, get, integer}
+use Rattle.toml.specs.Data.{Data, as_float, as_integer, as_str, get}
 use Rattle.xcp_memory.specs.LayoutParts.{number}
 use Rattle.xcp_memory.specs.Limits.{is_text, is_within}
 use Rattle.xcp_config.specs.TableLayout.{address_of}
-use Rattle.xcp_config.specs.TomlValues.{integer_of, named, optional, text_of}
+use Rattle.xcp_config.specs.TomlValues.{integer_of, named, text_of}
 
 -- a value that is there and passes a test
 abbrev pub some_and : {A : Type 0} → (A → Bool) → Option A → Bool
@@ -20,13 +20,14 @@ abbrev pub none_or : {A : Type 0} → (A → Bool) → Option A → Bool
 none_or test None = true
 none_or test (Some x) = test x
 
--- an identifier: letters, digits and underscores, at most 128, and no digit first
+-- an identifier: letters, digits and underscores, and no digit first; at most 117 of them, since with `_conversion` behind it, it is an
+-- identifier too, which has at most 128
 -- (ASAM MCD-2 MC: identifiers.)
 abbrev pub is_name_character : ℕ → Bool
 is_name_character c = is_ascii_alphanumeric c || c == 95
 
 abbrev pub is_name : List ℕ → Bool
-is_name s = some_and (λ c. not (is_ascii_digit c)) (slice_get s 0) && nat_le (length s) 128 && list_all is_name_character s
+is_name s = some_and (λ c. not (is_ascii_digit c)) (slice_get s 0) && nat_le (length s) 117 && list_all is_name_character s
 
 abbrev pub name_of : Data → List ℕ
 name_of d = text_of (get (codes "name") d)
@@ -90,12 +91,39 @@ type_in d = option_and_then (named value_types) (option_and_then as_str (get (co
 abbrev pub type_of : Data → ValueType
 type_of d = unwrap_or (type_in d) ubyte
 
--- how many values stand one behind the other: a parameter may say it, and else there is one
+-- what stands at a key that is looked at in a parameter alone
+abbrev pub given : Bool → List ℕ → Data → Option Data
+given many key d = if many then get key d else None
+
+-- a number of values, 1 to 2040, if it is given
+abbrev pub is_size : Bool → List ℕ → Data → Bool
+is_size many key d = none_or (λ v. some_and (is_within 1 2040) (as_integer v)) (given many key d)
+
+abbrev pub size_in : Bool → List ℕ → Data → Option ℕ
+size_in many key d = option_map (λ v. number (integer_of (Some v))) (given many key d)
+
+-- how many values stand one behind the other
 abbrev pub is_count : Bool → Data → Bool
-is_count many d = not many || none_or (λ v. some_and (is_within 1 2040) (as_integer v)) (get (codes "count") d)
+is_count many d = is_size many (codes "count") d
+
+-- The values may stand in rows instead: so many in a row, and so many rows. There are no rows without columns, no count beside them,
+-- and at most 2040 values.
+abbrev pub are_rows : Option ℕ → Option ℕ → Option ℕ → Bool
+are_rows count None rows = not (is_some rows)
+are_rows count (Some n) rows = not (is_some count) && nat_le (n * unwrap_or rows 1) 2040
+
+abbrev pub is_shape : Bool → Data → Bool
+is_shape many d =
+    is_size many (codes "columns") d
+    && is_size many (codes "rows") d
+    && are_rows (size_in many (codes "count") d) (size_in many (codes "columns") d) (size_in many (codes "rows") d)
+
+-- how many values there are in all: each of the three numbers is 1 where it isn't given
+abbrev pub values_of : Option ℕ → Option ℕ → Option ℕ → ℕ
+values_of count columns rows = unwrap_or count 1 * (unwrap_or columns 1 * unwrap_or rows 1)
 
 abbrev pub count_of : Bool → Data → ℕ
-count_of many d = if many then number (integer_of (optional (integer (pos 1)) (get (codes "count") d))) else 1
+count_of many d = values_of (size_in many (codes "count") d) (size_in many (codes "columns") d) (size_in many (codes "rows") d)
 
 -- the first address, and how many bytes all values have
 abbrev pub first_of : Data → ℕ

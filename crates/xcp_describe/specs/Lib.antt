@@ -1,4 +1,5 @@
 pub mod A2lFiles
+pub mod Axes
 pub mod EntryFaults
 pub mod EntryValues
 pub mod FaultWords

@@ -10,17 +10,19 @@ use Rattle.xcp_describe.specs.declared.refusal.DescribeError.TheVariants.{Host, 
 -- what is wrong with an entry
 abbrev pub why_words : Why → List ℕ
 why_words why.Table = codes "it has to be a table"
-why_words why.Name = codes "name has to be an identifier: letters, digits and underscores, no digit first"
+why_words why.Name = codes "name has to be an identifier: letters, digits and underscores, no digit first, at most 117 characters"
 why_words why.Taken = codes "its name is an earlier one's"
 why_words why.Address = codes "address has to be an integer, 0 to 0xFFFFFFFF"
 why_words why.Kind = codes "type has to be UBYTE, SBYTE, UWORD, SWORD, ULONG, SLONG, FLOAT32_IEEE or FLOAT64_IEEE"
 why_words why.Count = codes "count has to be an integer, 1 to 2040"
+why_words why.Shape = codes "columns and rows have to be integers, 1 to 2040, with at most 2040 values in all, without count, and rows only beside columns"
 why_words why.Number = codes "low, high, factor and offset have to be finite numbers, integers of 32 bits at most"
 why_words why.Factor = codes "factor can't be 0"
 why_words why.Limits = codes "low and high have to be values of its type, and low not above high"
 why_words why.Unit = codes "unit has to be a text of printable ASCII, at most 128 characters"
 why_words why.About = codes "about has to be a text of printable ASCII, at most 128 characters"
 why_words why.NoSegment = codes "its bytes lie in no segment"
+why_words why.Axis = codes "x_axis and y_axis have to name parameters of as many values as it has columns and rows, and an x_axis beside rows needs a y_axis"
 why_words why.NoMemory = codes "its bytes lie neither in one segment nor in the signals"
 
 -- a refused entry: its table, its number in it, from 0, and what is wrong with it

@@ -1,7 +1,6 @@
 -- The keys of a layout file that nothing reads, each with its place. `crates/xcp_config/specs/TableChecks.antt` reads those of the document, of its clock,
 -- of its segments, of its signals and of its event channels; a description reads those of its parameters and measurements.
-use Rattle.std.specs.Prelude.{ℕ, Bool, not, List, [], ◌∷◌, ◌++◌, map, filter, codes, Option, Some, None, unwrap_or, if◌then◌else◌}
-use Rattle.std.specs.Option.{option_and_then}
+use Rattle.std.specs.Prelude.{ℕ, Bool, List, [], ◌∷◌, ◌++◌, codes, unwrap_or, if◌then◌else◌}
 use Rattle.std.specs.List.{list_any, flat_map, enumerate_from}
 use Rattle.std.specs.Str.{bytes_eq}
 use Rattle.toml.specs.Data.{Data, table, Members, no_members, member, as_table, get}
@@ -27,7 +26,7 @@ event_keys = codes "name" ∷ codes "cycle" ∷ codes "unit" ∷ codes "priority
 
 -- those of a parameter, and of a measurement, which has no count
 abbrev pub parameter_keys : List (List ℕ)
-parameter_keys = codes "name" ∷ codes "address" ∷ codes "type" ∷ codes "count" ∷ codes "unit" ∷ codes "about" ∷ codes "factor" ∷ codes "offset" ∷ codes "low" ∷ codes "high" ∷ []
+parameter_keys = codes "name" ∷ codes "address" ∷ codes "type" ∷ codes "count" ∷ codes "columns" ∷ codes "rows" ∷ codes "x_axis" ∷ codes "y_axis" ∷ codes "unit" ∷ codes "about" ∷ codes "factor" ∷ codes "offset" ∷ codes "low" ∷ codes "high" ∷ []
 
 abbrev pub measurement_keys : List (List ℕ)
 measurement_keys = codes "name" ∷ codes "address" ∷ codes "type" ∷ codes "unit" ∷ codes "about" ∷ codes "factor" ∷ codes "offset" ∷ codes "low" ∷ codes "high" ∷ []

@@ -1,24 +1,29 @@
 //! One parameter or measurement: what the layout file says of it.
-ghost use Rattle.std.specs.Prelude.{◌≡◌, ◌*◌, codes, Some, None, true, false, IfOk, IfErr, is_some, unwrap_or, option_and_then};
+ghost use Rattle.std.specs.Prelude.{◌≡◌, ◌*◌, codes, Some, None, true, false, IfOk, IfErr, is_some, unwrap_or, option_and_then, option_map};
 ghost use Rattle.std.specs.Float.{binary64};
-ghost use Rattle.std.specs.List.{list_all};
+ghost use Rattle.std.specs.List.{list_all, list_any};
 ghost use lib.Ieee.{of_int};
 ghost use Rattle.toml.specs.Data.{as_integer, as_str, get};
 ghost use Rattle.toml.specs.View.{view};
 ghost use Rattle.xcp_packet.specs.Rows.{first_holding};
 ghost use Rattle.xcp_memory.specs.Limits.{is_within};
 ghost use Rattle.xcp_memory.specs.ComputedAccess.{lies_inside, segment_of};
-ghost use Rattle.xcp_describe.specs.EntryValues.{count_of, factor_in, first_of, in_order, in_unit, is_count, is_name, is_name_character, is_of_32_bits, is_text_or_none, name_of, number_or, offset_in, some_and, type_in};
+ghost use Rattle.xcp_describe.specs.Axes.{axis_in, has_axes, has_axis, is_axis};
+ghost use Rattle.xcp_describe.specs.EntryValues.{factor_in, first_of, in_order, in_unit, is_name, is_name_character, is_of_32_bits, is_text_or_none, name_of, number_or, offset_in, some_and, type_in};
 ghost use Rattle.xcp_describe.specs.EntryFaults.{entry_faults, limit_faults};
-ghost use Rattle.xcp_describe.specs.private.EntriesRead.{IsRead, type_named};
+ghost use Rattle.xcp_describe.specs.private.EntriesRead.{IsRead, form_read, forms_of, type_named};
 ghost use Rattle.xcp_describe.specs.private.FiniteNumbers.{HasFiniteNumbers, IsFinite};
 
 use crate::kind::Kind;
 use crate::refusal::Why;
+use crate::shape::Shape;
 use toml::Value;
 use xcp_memory::{Layout, is_text};
 
-/// The most characters of a name, and of a text.
+/// The most characters of a name: with `_conversion` behind them an identifier of ASAP2 has no more than 128.
+const MOST_OF_NAME: usize = 117;
+
+/// The most characters of a text.
 const MOST_CHARACTERS: usize = 128;
 
 /// A parameter or a measurement.
@@ -27,8 +32,11 @@ pub(crate) struct Entry<'a> {
     pub(crate) name: &'a str,
     pub(crate) address: u32,
     pub(crate) kind: Kind,
-    /// How many values stand one behind the other; none is said of a single one.
-    pub(crate) count: Option<u16>,
+    pub(crate) shape: Shape,
+    /// The name of the parameter that says what each place in a row stands for, if one is given.
+    pub(crate) x_axis: Option<&'a str>,
+    /// The name of the parameter that says what each row stands for, if one is given.
+    pub(crate) y_axis: Option<&'a str>,
     pub(crate) unit: &'a str,
     pub(crate) about: &'a str,
     /// A value in its unit is its number in memory times the factor, and the offset.
@@ -50,7 +58,7 @@ impl<'a> Entry<'a> {
         let name = name_in(table)?;
         let address = address_in(table)?;
         let kind = kind_in(table)?;
-        let count = count_in(table, many)?;
+        let shape = Shape::read(table, many)?;
         let factor = factor_in(table)?;
         let offset = offset_in(table)?;
         let (low, high) = limits_in(table, scaled(kind.bounds(), factor, offset), factor)?;
@@ -58,7 +66,9 @@ impl<'a> Entry<'a> {
             name,
             address,
             kind,
-            count,
+            shape,
+            x_axis: axis_in(table, "x_axis", many),
+            y_axis: axis_in(table, "y_axis", many),
             unit: text_in(table, "unit", Why::Unit)?,
             about: text_in(table, "about", Why::About)?,
             factor,
@@ -70,24 +80,68 @@ impl<'a> Entry<'a> {
 
     /// How many bytes all its values have.
     fn length(&self) -> usize
-        ensures { result ≡ (type_named self.now.kind).size * unwrap_or self.now.count 1 }
+        ensures { result ≡ (type_named self.now.kind).size * unwrap_or self.now.shape.count 1 }
     {
-        usize::from(self.kind.size()) * usize::from(self.count.unwrap_or(1))
+        usize::from(self.kind.size()) * usize::from(self.shape.count.unwrap_or(1))
     }
 
     /// Whether all its bytes lie in one segment.
     pub(crate) fn is_in_segments(&self, layout: &Layout) -> bool
-        ensures { result ≡ is_some (segment_of layout.now self.now.address ((type_named self.now.kind).size * unwrap_or self.now.count 1)) }
+        ensures { result ≡ is_some (segment_of layout.now self.now.address ((type_named self.now.kind).size * unwrap_or self.now.shape.count 1)) }
     {
         layout.segment_of(self.address, self.length()).is_some()
     }
 
     /// Whether all its bytes lie in one segment, or in the signals.
     pub(crate) fn is_in_memory(&self, layout: &Layout) -> bool
-        ensures { result ≡ lies_inside layout.now self.now.address ((type_named self.now.kind).size * unwrap_or self.now.count 1) }
+        ensures { result ≡ lies_inside layout.now self.now.address ((type_named self.now.kind).size * unwrap_or self.now.shape.count 1) }
     {
         self.is_in_segments(layout) || layout.is_in_signals(self.address, self.length())
     }
+
+    /// Whether it may be an axis of so many values, by this name.
+    fn is_axis(&self, name: &str, count: u16) -> bool
+        ensures { result ≡ is_axis count name.now (form_read self.now) }
+    {
+        name == self.name
+            && self.shape.count.unwrap_or(1) == count
+            && self.shape.columns.is_none()
+            && self.x_axis.is_none()
+            && self.y_axis.is_none()
+    }
+
+    /// Whether it has the axes that it needs, and they are parameters of as many values as it has columns and rows.
+    pub(crate) fn has_axes(&self, parameters: &[Entry<'_>]) -> bool
+        ensures { result ≡ has_axes (forms_of parameters.now) (form_read self.now) }
+    {
+        let needs_y_axis = self.x_axis.is_some() && self.shape.rows.is_some();
+        has_axis(parameters, self.shape.columns, self.x_axis)
+            && has_axis(parameters, self.shape.rows, self.y_axis)
+            && self.y_axis.is_some() == needs_y_axis
+    }
+}
+
+/// Whether one of these is the axis that is named, if one is.
+fn has_axis(parameters: &[Entry<'_>], count: Option<u16>, axis: Option<&str>) -> bool
+    ensures { result ≡ has_axis (forms_of parameters.now) count (option_map (λ s. s.now) axis.entry) }
+{
+    match (count, axis) {
+        (_, None) => true,
+        (None, Some(_)) => false,
+        (Some(count), Some(name)) => has_axis_of(parameters, count, name),
+    }
+}
+
+/// Whether one of these is an axis of so many values, by this name.
+fn has_axis_of(parameters: &[Entry<'_>], count: u16, name: &str) -> bool
+    ensures { result ≡ list_any (is_axis count name.now) (forms_of parameters.now) }
+{
+    for parameter in parameters {
+        if parameter.is_axis(name, count) {
+            return true;
+        }
+    }
+    false
 }
 
 /// The limits, those of the type where none are given. They are looked at once all four numbers are read, the factor first.
@@ -151,7 +205,7 @@ fn is_name(bytes: &[u8]) -> bool
     let Some(first) = bytes.first() else {
         return false;
     };
-    !first.is_ascii_digit() && bytes.len() <= MOST_CHARACTERS && are_name_characters(bytes)
+    !first.is_ascii_digit() && bytes.len() <= MOST_OF_NAME && are_name_characters(bytes)
 }
 
 /// Whether all are letters, digits and underscores.
@@ -188,22 +242,16 @@ fn kind_in(table: &Value) -> Result<Kind, Why>
     Kind::named(name).ok_or(Why::Kind)
 }
 
-/// How many values there are, 1 to 2,040, if it is said, and it may be.
-fn count_in(table: &Value, many: bool) -> Result<Option<u16>, Why>
-    ensures passes { IfOk result (λ _. is_count many (view table.now) ≡ true) }
-    ensures value { IfOk result (λ n. unwrap_or n 1 ≡ count_of many (view table.now)) }
-    ensures refused { IfErr result (λ e. (e ≡ Why.Count) × (is_count many (view table.now) ≡ false)) }
+/// The name of an axis, if one is given, and it may be. What is no text is an empty one, which no parameter has as its name.
+fn axis_in<'a>(table: &'a Value, key: &str, many: bool) -> Option<&'a str>
+    ensures { option_map (λ s. s.now) result ≡ axis_in many key.now (view table.now) }
 {
     if !many {
-        return Ok(None);
+        return None;
     }
-    let number = match table.get("count") {
-        Some(value) => value.as_integer().ok_or(Why::Count)?,
-        None => return Ok(None),
-    };
-    match u16::try_from(number) {
-        Ok(count) if 1 <= count && count <= 2_040 => Ok(Some(count)),
-        _ => Err(Why::Count),
+    match table.get(key) {
+        Some(value) => Some(value.as_str().unwrap_or("")),
+        None => None,
     }
 }
 

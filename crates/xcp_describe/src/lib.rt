@@ -23,6 +23,7 @@ mod place;
 mod plain;
 mod protocol;
 mod refusal;
+mod shape;
 mod tables;
 mod text;
 mod unread;

@@ -1,18 +1,27 @@
 //! The blocks of parameters and measurements.
 use crate::entry::Entry;
 use crate::kind::KINDS;
+use crate::shape::Shape;
 use crate::tables::Tables;
 use crate::text::put_quoted;
 use std::alloc::AllocError;
 
 /// Appends a block for each parameter and each measurement, and what these blocks name.
 pub(crate) fn put_tables(tables: &Tables<'_>, text: &mut String) -> Result<(), AllocError> {
-    if !tables.parameters.is_empty() {
+    let parameters = tables.parameters.as_slice();
+    if !parameters.is_empty() {
         put_records(text)?;
     }
-    for entry in tables.parameters.iter() {
+    if parameters.iter().any(|entry| entry.x_axis.is_some()) {
+        put_axis_records(text)?;
+    }
+    for entry in parameters {
         put_conversion(entry, text)?;
-        put_characteristic(entry, text)?;
+        if is_axis(parameters, entry.name) {
+            put_axis(entry, text)?;
+        } else {
+            put_characteristic(entry, parameters, text)?;
+        }
     }
     for entry in tables.measurements.iter() {
         put_conversion(entry, text)?;
@@ -30,6 +39,35 @@ fn put_records(text: &mut String) -> Result<(), AllocError> {
         writeln!(text, "    /end RECORD_LAYOUT")?;
     }
     Ok(())
+}
+
+/// Appends a RECORD_LAYOUT for the axes of each type: their values one behind the other, and nothing else.
+fn put_axis_records(text: &mut String) -> Result<(), AllocError> {
+    for kind in KINDS.iter() {
+        let name = kind.name();
+        writeln!(text, "    /begin RECORD_LAYOUT {name}_AXIS")?;
+        writeln!(text, "      AXIS_PTS_X 1 {name} INDEX_INCR DIRECT")?;
+        writeln!(text, "    /end RECORD_LAYOUT")?;
+    }
+    Ok(())
+}
+
+/// Whether a parameter names this one as an axis.
+fn is_axis(parameters: &[Entry<'_>], name: &str) -> bool {
+    for entry in parameters {
+        if is_it(entry.x_axis, name) || is_it(entry.y_axis, name) {
+            return true;
+        }
+    }
+    false
+}
+
+/// Whether the axis that is named, if one is, is the one with this name.
+fn is_it(axis: Option<&str>, name: &str) -> bool {
+    match axis {
+        Some(axis) => axis == name,
+        None => false,
+    }
 }
 
 /// Appends the COMPU_METHOD of an entry.
@@ -53,27 +91,94 @@ fn put_conversion(entry: &Entry<'_>, text: &mut String) -> Result<(), AllocError
     writeln!(text, "\n    /end COMPU_METHOD")
 }
 
-/// Appends the CHARACTERISTIC of a parameter.
-fn put_characteristic(entry: &Entry<'_>, text: &mut String) -> Result<(), AllocError> {
-    write!(text, "    /begin CHARACTERISTIC {} ", entry.name)?;
+/// Appends the AXIS_PTS of a parameter that is an axis.
+fn put_axis(entry: &Entry<'_>, text: &mut String) -> Result<(), AllocError> {
+    write!(text, "    /begin AXIS_PTS {} ", entry.name)?;
     put_quoted(text, entry.about.as_bytes(), entry.about.len())?;
-    let kind = if entry.count.is_some() {
-        "VAL_BLK"
-    } else {
-        "VALUE"
-    };
     writeln!(
         text,
-        "\n      {kind} 0x{:08X} {}_VALUES 0 {}_conversion",
+        "\n      0x{:08X} NO_INPUT_QUANTITY {}_AXIS 0 {}_conversion {} {:?} {:?}",
+        entry.address,
+        entry.kind.name(),
+        entry.name,
+        entry.shape.count.unwrap_or(1),
+        entry.low,
+        entry.high
+    )?;
+    writeln!(text, "    /end AXIS_PTS")
+}
+
+/// Appends the CHARACTERISTIC of a parameter that is no axis.
+fn put_characteristic(
+    entry: &Entry<'_>,
+    parameters: &[Entry<'_>],
+    text: &mut String,
+) -> Result<(), AllocError> {
+    write!(text, "    /begin CHARACTERISTIC {} ", entry.name)?;
+    put_quoted(text, entry.about.as_bytes(), entry.about.len())?;
+    writeln!(
+        text,
+        "\n      {} 0x{:08X} {}_VALUES 0 {}_conversion",
+        kind_of(entry),
         entry.address,
         entry.kind.name(),
         entry.name
     )?;
     writeln!(text, "      {:?} {:?}", entry.low, entry.high)?;
-    if let Some(count) = entry.count {
-        writeln!(text, "      NUMBER {count}")?;
+    if entry.x_axis.is_some() {
+        put_axis_of(entry.x_axis, parameters, text)?;
+        put_axis_of(entry.y_axis, parameters, text)?;
+    } else {
+        put_sizes(entry.shape, text)?;
     }
     writeln!(text, "    /end CHARACTERISTIC")
+}
+
+/// What a parameter is: values along two axes, along one, in a block, or a single one.
+fn kind_of(entry: &Entry<'_>) -> &'static str {
+    match (entry.x_axis, entry.y_axis, entry.shape.count) {
+        (Some(_), Some(_), _) => "MAP",
+        (Some(_), None, _) => "CURVE",
+        (None, _, Some(_)) => "VAL_BLK",
+        (None, _, None) => "VALUE",
+    }
+}
+
+/// Appends how many values a block has, and in what rows they stand, if they do.
+fn put_sizes(shape: Shape, text: &mut String) -> Result<(), AllocError> {
+    if let Some(count) = shape.count {
+        writeln!(text, "      NUMBER {count}")?;
+    }
+    if let Some(columns) = shape.columns {
+        let rows = shape.rows.unwrap_or(1);
+        writeln!(text, "      MATRIX_DIM {columns} {rows} 1")?;
+    }
+    Ok(())
+}
+
+/// Appends the AXIS_DESCR of an axis, if one is named: it is the parameter with that name.
+fn put_axis_of(
+    axis: Option<&str>,
+    parameters: &[Entry<'_>],
+    text: &mut String,
+) -> Result<(), AllocError> {
+    let Some(name) = axis else {
+        return Ok(());
+    };
+    for entry in parameters {
+        if entry.name == name {
+            writeln!(
+                text,
+                "      /begin AXIS_DESCR COM_AXIS NO_INPUT_QUANTITY {name}_conversion {} {:?} {:?}",
+                entry.shape.count.unwrap_or(1),
+                entry.low,
+                entry.high
+            )?;
+            writeln!(text, "        AXIS_PTS_REF {name}")?;
+            return writeln!(text, "      /end AXIS_DESCR");
+        }
+    }
+    Ok(())
 }
 
 /// Appends the MEASUREMENT of a measurement.

@@ -33,6 +33,8 @@ pub enum Why {
     Kind,
     /// Its count is out of its range.
     Count,
+    /// Its columns or rows are out of their range, have too many values in all, or stand where they may not.
+    Shape,
     /// One of its four numbers is none.
     Number,
     /// Its factor is 0.
@@ -45,6 +47,8 @@ pub enum Why {
     About,
     /// Not all its bytes lie in one segment.
     NoSegment,
+    /// One of its axes is no parameter of as many values as it has columns or rows, or it has one alone where it needs both or none.
+    Axis,
     /// Not all its bytes lie in one segment or in the signals.
     NoMemory,
 }
@@ -76,12 +80,14 @@ impl fmt::Display for Why {
         f.write_str(match self {
             Why::Table => "it has to be a table",
             Why::Name =>
-                "name has to be an identifier: letters, digits and underscores, no digit first",
+                "name has to be an identifier: letters, digits and underscores, no digit first, at most 117 characters",
             Why::Taken => "its name is an earlier one's",
             Why::Address => "address has to be an integer, 0 to 0xFFFFFFFF",
             Why::Kind =>
                 "type has to be UBYTE, SBYTE, UWORD, SWORD, ULONG, SLONG, FLOAT32_IEEE or FLOAT64_IEEE",
             Why::Count => "count has to be an integer, 1 to 2040",
+            Why::Shape =>
+                "columns and rows have to be integers, 1 to 2040, with at most 2040 values in all, without count, and rows only beside columns",
             Why::Number =>
                 "low, high, factor and offset have to be finite numbers, integers of 32 bits at most",
             Why::Factor => "factor can't be 0",
@@ -89,6 +95,8 @@ impl fmt::Display for Why {
             Why::Unit => "unit has to be a text of printable ASCII, at most 128 characters",
             Why::About => "about has to be a text of printable ASCII, at most 128 characters",
             Why::NoSegment => "its bytes lie in no segment",
+            Why::Axis =>
+                "x_axis and y_axis have to name parameters of as many values as it has columns and rows, and an x_axis beside rows needs a y_axis",
             Why::NoMemory => "its bytes lie neither in one segment nor in the signals",
         })
     }

@@ -6,10 +6,11 @@ ghost use Rattle.toml.specs.View.{view};
 ghost use Rattle.xcp_packet.specs.Rows.{first_holding};
 ghost use Rattle.xcp_config.specs.TableLayout.{layout_in};
 ghost use Rattle.xcp_config.specs.TomlValues.{members_of};
-ghost use Rattle.xcp_describe.specs.EntryFaults.{first_refusal, is_array_or_none, measurement_checks, measurement_faults, measurements_checks, parameter_checks, parameter_faults, parameters_checks, parameters_in};
+ghost use Rattle.xcp_describe.specs.EntryFaults.{axes_checks, first_refusal, is_array_or_none, measurement_checks, measurement_faults, measurements_checks, parameter_checks, parameter_faults, parameters_checks, parameters_in};
+ghost use Rattle.xcp_describe.specs.Axes.{form_of};
 ghost use Rattle.xcp_describe.specs.EntryValues.{name_of};
 ghost use Rattle.xcp_describe.specs.UnreadKeys.{is_among};
-ghost use Rattle.xcp_describe.specs.private.EntriesRead.{names_of};
+ghost use Rattle.xcp_describe.specs.private.EntriesRead.{form_read, forms_of, names_of};
 ghost use Rattle.xcp_describe.specs.private.Refusals.{IsEntryOrMemory, Refuses};
 
 use crate::entry::Entry;
@@ -58,10 +59,12 @@ fn read_parameters<'a>(
     ensures names { IfOk result (λ es. names_of es.items ≡ map name_of (parameters_in (view document.now))) }
     ensures refused { IfErr result (λ e. Refuses (first_holding (parameters_checks layout.now (view document.now))) e) }
 {
-    match members_in(document, "parameter") {
-        Some(members) => each_parameter(alloc, members, layout),
-        None => Err(DescribeError::Parameter(0, Why::Table)),
-    }
+    let Some(members) = members_in(document, "parameter") else {
+        return Err(DescribeError::Parameter(0, Why::Table));
+    };
+    let parameters = each_parameter(alloc, members, layout)?;
+    check_axes(parameters.as_slice())?;
+    Ok(parameters)
 }
 
 /// The parameters that these tables describe.
@@ -72,6 +75,7 @@ fn each_parameter<'a>(
 ) -> Result<Vec<Entry<'a>>, DescribeError>
     ensures passes { IfOk result (λ _. first_holding (flat_map (parameter_checks layout.now (map view members.now)) (enumerate_from 0 (map view members.now))) ≡ None) }
     ensures names { IfOk result (λ es. names_of es.items ≡ map name_of (map view members.now)) }
+    ensures forms { IfOk result (λ es. forms_of es.items ≡ map form_of (map view members.now)) }
     ensures refused { IfErr result (λ e. Refuses (first_holding (flat_map (parameter_checks layout.now (map view members.now)) (enumerate_from 0 (map view members.now)))) e) }
 {
     let mut entries = Vec::new(alloc);
@@ -82,6 +86,19 @@ fn each_parameter<'a>(
         }
     }
     Ok(entries)
+}
+
+/// Looks at the axes of these parameters, each of which may be one of another. The first parameter with a fault is refused.
+fn check_axes(parameters: &[Entry<'_>]) -> Result<(), DescribeError>
+    ensures passes { IfOk result (λ _. first_holding (axes_checks (forms_of parameters.now)) ≡ None) }
+    ensures refused { IfErr result (λ e. Refuses (first_holding (axes_checks (forms_of parameters.now))) e) }
+{
+    for (i, parameter) in parameters.iter().enumerate() {
+        if !parameter.has_axes(parameters) {
+            return Err(DescribeError::Parameter(i, Why::Axis));
+        }
+    }
+    Ok(())
 }
 
 /// The measurements of a layout file that has these parameters.
@@ -130,6 +147,7 @@ fn parameter<'a>(
 ) -> Result<Entry<'a>, Why>
     ensures passes { IfOk result (λ _. first_holding (parameter_faults layout.now (names_of earlier.now) (view member.now)) ≡ None) }
     ensures name { IfOk result (λ e. e.name.now ≡ name_of (view member.now)) }
+    ensures form { IfOk result (λ e. form_read e ≡ form_of (view member.now)) }
     ensures refused { IfErr result (λ e. first_holding (parameter_faults layout.now (names_of earlier.now) (view member.now)) ≡ Some e) }
 {
     let entry = Entry::read(member, true)?;
@@ -186,6 +204,7 @@ fn has_name(entries: &[Entry<'_>], name: &str) -> bool
 
 fn keep<'a>(entries: &mut Vec<Entry<'a>>, entry: Entry<'a>) -> Result<(), DescribeError>
     ensures kept { IfOk result (λ _. names_of entries.new.items ≡ names_of entries.old.items ++ entry.entry.name.now ∷ []) }
+    ensures forms { IfOk result (λ _. forms_of entries.new.items ≡ forms_of entries.old.items ++ form_read entry.entry ∷ []) }
     ensures refused { IfErr result (λ e. e ≡ DescribeError.Program Fault.Memory) }
 {
     match entries.push(entry) {

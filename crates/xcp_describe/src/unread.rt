@@ -44,8 +44,9 @@ const SIGNALS_KEYS: [&str; 2] = ["address", "length"];
 const EVENT_KEYS: [&str; 4] = ["name", "cycle", "unit", "priority"];
 
 /// Those of a parameter.
-const PARAMETER_KEYS: [&str; 10] = [
-    "name", "address", "type", "count", "unit", "about", "factor", "offset", "low", "high",
+const PARAMETER_KEYS: [&str; 14] = [
+    "name", "address", "type", "count", "columns", "rows", "x_axis", "y_axis", "unit", "about",
+    "factor", "offset", "low", "high",
 ];
 
 /// Those of a measurement.

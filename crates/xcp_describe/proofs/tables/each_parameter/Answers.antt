@@ -7,7 +7,8 @@ use Rattle.xcp_describe.specs.declared.refusal.Why.{Why}
 use Rattle.xcp_describe.specs.declared.refusal.DescribeError.TheVariants.{Parameter}
 use Rattle.xcp_describe.specs.EntryFaults.{parameter_faults}
 use Rattle.xcp_describe.specs.EntryValues.{name_of}
-use Rattle.xcp_describe.specs.private.EntriesRead.{names_of}
+use Rattle.xcp_describe.specs.Axes.{form_of}
+use Rattle.xcp_describe.specs.private.EntriesRead.{form_read, names_of}
 use Rattle.xcp_describe.proofs.EntryLemmas.{entry_failed, entry_passed, one_more, seen}
 use Rattle.xcp_describe.proofs.tables.each_parameter.Goals as goal
 
@@ -38,4 +39,9 @@ loop-i-preserved c =
           ∙ ap (λ ns. ns ++ c.in-Ok.entry.name.now ∷ []) c.loop-i.invariant.names
           ∙ ap (λ n. map name_of (take c.loop-i.i ds) ++ n ∷ []) c.in-Ok.ensures.name
           ∙ sym (one_more name_of ds c.loop-i.i d m.below m.is);
+      forms =
+          c.in_ok-keep-in-Ok.ensures.forms
+          ∙ ap (λ fs. fs ++ form_read c.in-Ok.entry ∷ []) c.loop-i.invariant.forms
+          ∙ ap (λ f. map form_of (take c.loop-i.i ds) ++ f ∷ []) c.in-Ok.ensures.form
+          ∙ sym (one_more form_of ds c.loop-i.i d m.below m.is);
     }

@@ -1,14 +1,15 @@
-use Rattle.std.proofs.Common.{◌≡◌, ◌∙◌, sym, rules, Option, Some, None, ap, unwrap_or}
+use Rattle.std.proofs.Common.{◌≡◌, ◌∙◌, ◌∷◌, sym, rules, Bool, true, codes, Option, Some, None, ap, is_some, unwrap_or, option_and_then}
 use Rattle.std.proofs.lemmas.Result.{err_from_is_err_and}
 use Rattle.std.specs.Float.{Float, float_one, float_zero}
-use Rattle.toml.specs.Data.{Data}
+use Rattle.toml.specs.Data.{Data, as_integer, as_str, get}
 use Rattle.toml.specs.View.{view}
-use Rattle.xcp_packet.specs.Rows.{first_holding}
-use Rattle.xcp_packet.proofs.RowTestLemmas.{behind_3, holding_3_of_4}
+use Rattle.xcp_packet.specs.Rows.{first_holding, must}
+use Rattle.xcp_packet.proofs.RowTestLemmas.{behind_3, holding_1_of_4, holding_3_of_4}
+use Rattle.xcp_memory.specs.Limits.{is_within}
 use Rattle.xcp_describe.specs.declared.refusal.Why.{Why}
-use Rattle.xcp_describe.specs.declared.refusal.Why.TheVariants.{About, Unit}
-use Rattle.xcp_describe.specs.EntryValues.{ValueType, bounds_in, bounds_of, factor_in, factor_of, in_order, in_unit, offset_in, offset_of, type_in, type_of, ubyte}
-use Rattle.xcp_describe.specs.EntryFaults.{entry_faults, key_faults, limit_faults, scale_faults, text_faults}
+use Rattle.xcp_describe.specs.declared.refusal.Why.TheVariants.{About, Address, Kind, Name, Unit}
+use Rattle.xcp_describe.specs.EntryValues.{ValueType, bounds_in, bounds_of, factor_in, factor_of, in_order, in_unit, is_name, offset_in, offset_of, some_and, type_in, type_of, ubyte}
+use Rattle.xcp_describe.specs.EntryFaults.{entry_faults, key_faults, limit_faults, scale_faults, shape_faults, text_faults}
 use Rattle.xcp_describe.proofs.entry.Entry.read.Goals as goal
 
 -- the faults of limits that are read with these bounds and this factor
@@ -27,6 +28,21 @@ bounds_are d t b r f o ht hb hf ho hr =
 
 factor_is : (d : Data) (f : Float) → factor_in d ≡ Some f → f ≡ factor_of d
 factor_is d f h = sym (ap (λ x. unwrap_or x float_one) h)
+
+-- behind a name, an address and a type the fault of the shape is the first
+shape_comes_next : (many : Bool) (d : Data) (t : ValueType) → some_and is_name (option_and_then as_str (get (codes "name") d)) ≡ true → some_and (is_within 0 0xFFFF_FFFF) (option_and_then as_integer (get (codes "address") d)) ≡ true → type_in d ≡ Some t → first_holding (key_faults many d) ≡ first_holding (shape_faults many d)
+shape_comes_next many d t name address type =
+    ap (λ b. first_holding (must b Name ∷ must (some_and (is_within 0 0xFFFF_FFFF) (option_and_then as_integer (get (codes "address") d))) Address ∷ must (is_some (type_in d)) Kind ∷ shape_faults many d)) name
+    ∙ ap (λ b. first_holding (must b Address ∷ must (is_some (type_in d)) Kind ∷ shape_faults many d)) address
+    ∙ ap (λ v. first_holding (must (is_some v) Kind ∷ shape_faults many d)) type
+
+pub returns-in_err-shape-clause-refused : goal.returns-in_err-shape-clause-refused
+unfolding entry_faults
+returns-in_err-shape-clause-refused c =
+    let d = view c.args.table.now in
+    let p = err_from_is_err_and c.from_residual-in_err-shape.result c.from_residual-in_err-shape.ensures.1 in
+    let next = shape_comes_next c.args.many d _ c.in_ok-name.ensures.passes c.in_ok-address.ensures.passes c.in_ok-kind.ensures.value in
+    rw (p.1, p.2) (holding_1_of_4 (key_faults c.args.many d) (scale_faults d) (limit_faults (bounds_of d) (factor_of d) d) (text_faults d) _ (next ∙ c.in_err-shape.ensures.refused))
 
 pub returns-in_err-low-clause-refused : goal.returns-in_err-low-clause-refused
 unfolding entry_faults

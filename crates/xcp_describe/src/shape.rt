@@ -1,0 +1,82 @@
+//! How many values a parameter has, and how they stand.
+ghost use Rattle.std.specs.Prelude.{◌≡◌, codes, Some, None, true, false, IfOk, IfErr, unwrap_or};
+ghost use Rattle.toml.specs.View.{view};
+ghost use Rattle.xcp_packet.specs.Rows.{first_holding};
+ghost use Rattle.xcp_describe.specs.EntryFaults.{shape_faults};
+ghost use Rattle.xcp_describe.specs.EntryValues.{are_rows, count_of, is_size, size_in, values_of};
+
+use crate::refusal::Why;
+use toml::Value;
+
+/// The most values that an entry may have.
+const MOST_VALUES: u16 = 2_040;
+
+/// How many values an entry has, and how they stand.
+#[derive(Clone, Copy)]
+pub(crate) struct Shape {
+    /// All its values, which stand one behind the other; none is said of a single one.
+    pub(crate) count: Option<u16>,
+    /// How many stand in a row, where they stand in rows.
+    pub(crate) columns: Option<u16>,
+    /// How many rows there are, if it is said.
+    pub(crate) rows: Option<u16>,
+}
+
+impl Shape {
+    /// The shape that a table gives its entry; only where `many` may it have several values.
+    pub(crate) fn read(table: &Value, many: bool) -> Result<Shape, Why>
+        ensures passes { IfOk result (λ _. first_holding (shape_faults many (view table.now)) ≡ None) }
+        ensures count { IfOk result (λ s. unwrap_or s.count 1 ≡ count_of many (view table.now)) }
+        ensures columns { IfOk result (λ s. s.columns ≡ size_in many (codes "columns") (view table.now)) }
+        ensures rows { IfOk result (λ s. s.rows ≡ size_in many (codes "rows") (view table.now)) }
+        ensures refused { IfErr result (λ e. first_holding (shape_faults many (view table.now)) ≡ Some e) }
+    {
+        let count = size_in(table, "count", many, Why::Count)?;
+        let columns = size_in(table, "columns", many, Why::Shape)?;
+        let rows = size_in(table, "rows", many, Why::Shape)?;
+        Ok(Shape {
+            count: values_in(count, columns, rows)?,
+            columns,
+            rows,
+        })
+    }
+}
+
+/// A number of values, 1 to 2,040, if it is given, and it may be.
+fn size_in(table: &Value, key: &str, many: bool, why: Why) -> Result<Option<u16>, Why>
+    ensures passes { IfOk result (λ _. is_size many key.now (view table.now) ≡ true) }
+    ensures value { IfOk result (λ n. n ≡ size_in many key.now (view table.now)) }
+    ensures refused { IfErr result (λ e. (e ≡ why) × (is_size many key.now (view table.now) ≡ false)) }
+{
+    if !many {
+        return Ok(None);
+    }
+    let number = match table.get(key) {
+        Some(value) => value.as_integer().ok_or(why)?,
+        None => return Ok(None),
+    };
+    match u16::try_from(number) {
+        Ok(size) if 1 <= size && size <= MOST_VALUES => Ok(Some(size)),
+        _ => Err(why),
+    }
+}
+
+/// How many values there are in all, if it is said: their number, or that of the columns times that of the rows.
+fn values_in(
+    count: Option<u16>,
+    columns: Option<u16>,
+    rows: Option<u16>,
+) -> Result<Option<u16>, Why>
+    ensures passes { IfOk result (λ _. are_rows count columns rows ≡ true) }
+    ensures value { IfOk result (λ n. unwrap_or n 1 ≡ values_of count columns rows) }
+    ensures refused { IfErr result (λ e. (e ≡ Why.Shape) × (are_rows count columns rows ≡ false)) }
+{
+    match (count, columns, rows) {
+        (_, None, None) => Ok(count),
+        (None, Some(columns), _) => match columns.checked_mul(rows.unwrap_or(1)) {
+            Some(values) if values <= MOST_VALUES => Ok(Some(values)),
+            _ => Err(Why::Shape),
+        },
+        _ => Err(Why::Shape),
+    }
+}
