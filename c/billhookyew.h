@@ -67,7 +67,7 @@ enum {
     XCP_IS_OPEN = 10,       /* the handle that is to be opened owns something already */
     XCP_SLAVE_CLOSED = 11,  /* the slave's handle owns none */
     XCP_STORED_HEAD = 12,   /* the file doesn't begin as one of stored pages, of version 1 */
-    XCP_STORED_LAYOUT = 13, /* it is of another text */
+    XCP_STORED_LAYOUT = 13, /* it is of other segments */
     XCP_STORED_SIZE = 14,   /* it is cut short or too long, or has other sizes than the segments */
     XCP_STORED_DIGEST = 15, /* it was altered */
     XCP_LONG_TEXT = 16,     /* the text has more than XCP_TEXT_BYTES */
@@ -158,8 +158,8 @@ uint8_t xcp_open(const uint8_t *text, size_t length, xcp_slave *slave);
  * TOML in it. Struct and bytes may go once it has returned. */
 uint8_t xcp_open_parts(const xcp_parts *parts, const uint8_t *reference, size_t length, xcp_slave *slave);
 
-/* xcp_open with a file of stored pages, which xcp_stored_pages wrote out for this very text: each page of a segment begins
- * with the stored one. What is wrong with the text comes first; then XCP_STORED_HEAD, XCP_STORED_LAYOUT, XCP_STORED_SIZE
+/* xcp_open with a file of stored pages, which xcp_stored_pages wrote out for segments of these addresses, sizes and reference
+ * bytes, whatever else the text says: each page of a segment begins with the stored one. What is wrong with the text comes first; then XCP_STORED_HEAD, XCP_STORED_LAYOUT, XCP_STORED_SIZE
  * or XCP_STORED_DIGEST for the file. Where there is no file yet, call xcp_open. */
 uint8_t xcp_open_stored(const uint8_t *text, size_t length, const uint8_t *file, size_t file_length, xcp_slave *slave);
 

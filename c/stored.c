@@ -79,7 +79,11 @@ static void each_fault(void) {
     }
     memcpy(text, layout, layout_length);
     text[layout_length] = '\n'; /* the same layout, by another text */
-    want(xcp_open_stored(text, layout_length + 1, file, length, &other) == XCP_STORED_LAYOUT && !other.at, "another text");
+    want(xcp_open_stored(text, layout_length + 1, file, length, &other) == XCP_OPENED, "another text of the same segments");
+    xcp_close(&other);
+    char *digit = strstr((char *)text, "data = \"") + 8;
+    *digit = *digit == '0' ? '1' : '0'; /* another reference byte */
+    want(xcp_open_stored(text, layout_length + 1, file, length, &other) == XCP_STORED_LAYOUT && !other.at, "another reference byte");
     want(xcp_open(text, layout_length + 1, &other) == XCP_OPENED, "which opens a slave by itself");
     want(xcp_open_stored(text, layout_length, file, 0, &other) == XCP_IS_OPEN, "an open handle comes first");
     xcp_close(&other);

@@ -11,7 +11,7 @@ use sha2::{Digest, Sha256};
 use std::alloc::{AllocError, Global};
 use std::fmt::Write;
 use test_playing::{Row, Section, Trouble};
-use xcp_audit::{Printer, print_audit};
+use xcp_audit::{Printer, head_of, print_audit};
 use xcp_describe::a2l_of;
 use xcp_flash::restore;
 use xcp_framing::Watched;
@@ -69,7 +69,15 @@ fn audited(
     let layout = layout_stored(alloc, text, a2l, section.pages)?;
     let mut reader = Watched::new(file);
     let mut printer = Printer::new(alloc, Vec::new(alloc));
-    let said = print_audit(alloc, text, layout, &mut reader, &mut printer, lines);
+    let said = print_audit(
+        alloc,
+        text,
+        layout,
+        head_of(file),
+        &mut reader,
+        &mut printer,
+        lines,
+    );
     Ok(text_of(alloc, printer.into_stream().as_slice(), said)?)
 }
 

@@ -4,7 +4,7 @@ use crate::audited::{CONFIG, LINES, file};
 use crate::failing::{Failing, Full};
 use std::alloc::{AllocError, Global};
 use std::fmt::Write;
-use xcp_audit::{Printer, Trouble, print_audit};
+use xcp_audit::{HEAD_BYTES, Printer, Trouble, from_head, print_audit, read_head};
 use xcp_framing::Watched;
 use xcp_program::{Fault, layout_stored};
 
@@ -23,13 +23,28 @@ fn audited(
     room: usize,
 ) -> Option<(Result<(), Fault>, Vec<u8>)> {
     let layout = layout_stored(alloc, config, None, flash).ok()?;
-    let mut reader = Watched::new(Failing { text: file, good });
+    let mut file = Watched::new(Failing { text: file, good });
     let full = Full {
         bytes: Vec::new(alloc),
         room,
     };
     let mut printer = Printer::new(alloc, full);
-    let said = print_audit(alloc, config, layout, &mut reader, &mut printer, lines);
+    let mut bytes = [0; HEAD_BYTES];
+    let said = match read_head(&mut file, &mut bytes) {
+        Ok(head) => {
+            let mut reader = from_head(head, file);
+            print_audit(
+                alloc,
+                config,
+                layout,
+                head,
+                &mut reader,
+                &mut printer,
+                lines,
+            )
+        }
+        Err(fault) => Err(fault),
+    };
     match (printer.trouble(), said) {
         (None, _) | (Some(Trouble::Write), Err(Fault::Stream(2))) => {
             Some((said, printer.into_stream().bytes))

@@ -1,9 +1,7 @@
 //! Tests of a server that stays, by public calls alone: tools over TCP that come and go, and whose the session is; chapters that are cut, settled
-//! and dropped meanwhile, stores that wait for their shelf, times that are told, and the line that ends it.
+//! and dropped meanwhile, and the line that ends it. Times are shown by `bin/check-service`, and stores by `bin/check-flash`.
 #![tactic(auto)]
 
-#[cfg(test)]
-mod clocks;
 #[cfg(test)]
 mod crowd;
 #[cfg(test)]
@@ -18,8 +16,6 @@ mod posting;
 mod sessions;
 #[cfg(test)]
 mod silent;
-#[cfg(test)]
-mod storing;
 #[cfg(test)]
 mod turns;
 #[cfg(test)]

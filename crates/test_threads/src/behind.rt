@@ -8,11 +8,14 @@ use std::thread::{Threads, join};
 use std::time::{Clock, Duration};
 use xcp_behind::{Backlog, Behind, Opened, Progress, WriteEnd, open_backlog};
 
-// Takes bytes until its room is spent. From then on each write fails. A write takes three bytes at most.
+// Takes bytes until its room is spent. From then on each write fails. A write takes three bytes at most. It counts how often it is flushed;
+// of a stream whose disk is broken no flush succeeds.
 #[derive(Drop)]
 struct Short {
     bytes: Vec<u8>,
     room: usize,
+    flushes: usize,
+    is_broken: bool,
 }
 
 impl Write for Short {
@@ -27,6 +30,10 @@ impl Write for Short {
     }
 
     fn flush(&mut self) -> io::Result<()> {
+        self.flushes = self.flushes.saturating_add(1);
+        if self.is_broken {
+            return Err(io::ErrorKind::Other.into());
+        }
         Ok(())
     }
 }
@@ -35,8 +42,20 @@ impl Write for Short {
 fn begun(alloc: Global, room: usize) -> Result<Opened<Short>, AllocError>
     ensures { IfOk result (λ o. o.end.relay ≡ o.behind.giver.relay) }
 {
-    let bytes = Vec::new(alloc);
-    open_backlog(alloc, Short { bytes, room })
+    begun_on(alloc, room, false)
+}
+
+// The same, of a stream whose disk may be broken.
+fn begun_on(alloc: Global, room: usize, is_broken: bool) -> Result<Opened<Short>, AllocError>
+    ensures { IfOk result (λ o. o.end.relay ≡ o.behind.giver.relay) }
+{
+    let stream = Short {
+        bytes: Vec::new(alloc),
+        room,
+        flushes: 0,
+        is_broken,
+    };
+    open_backlog(alloc, stream)
 }
 
 // Puts the numbers up to this one, each as a piece of as many bytes: how many were taken in.
@@ -89,16 +108,56 @@ fn pieces_are_written_in_order_up_to_a_failed_write(rt: HostRuntime) {
     assert!(&rt; wrong.is_none(), "{wrong:?}");
 }
 
-// Of forty pieces those that find room, and whether a short one is taken in behind them.
+// Puts so many pieces of a byte each: how many were taken in.
+fn put_bytes<R: Wait>(rt: &R, behind: &mut Behind, count: usize) -> usize {
+    let mut put: usize = 0;
+    for _piece in 0..count {
+        if behind.put(rt, b"z") {
+            put = put.saturating_add(1);
+        }
+    }
+    put
+}
+
+// Of 600 pieces those that find room, and whether a short one is taken in behind them.
 fn pieces_with_room<R: Wait>(rt: &R, alloc: Global) -> Option<(usize, bool)> {
     let mut opened = begun(alloc, 9000).ok()?;
-    let put = put_numbers(rt, &mut opened.behind, 40);
+    let put = put_bytes(rt, &mut opened.behind, 600);
     Some((put, opened.behind.put(rt, b"z")))
 }
 
 #[test]
-fn thirty_two_pieces_find_room(rt: HostRuntime) {
-    assert!(&rt; pieces_with_room(&rt, rt.alloc()) == Some((32, false)));
+fn five_hundred_and_twelve_pieces_find_room(rt: HostRuntime) {
+    assert!(&rt; pieces_with_room(&rt, rt.alloc()) == Some((512, false)));
+}
+
+// Of so many pieces that wait: whether a write or a flush failed, how many bytes are written, with how many flushes, and how many pieces are
+// told to be written.
+fn flushed<R: Wait>(
+    rt: &R,
+    alloc: Global,
+    count: usize,
+    is_broken: bool,
+) -> Option<(bool, usize, usize, u64)> {
+    let Opened {
+        mut behind,
+        end,
+        backlog,
+    } = begun_on(alloc, 9000, is_broken).ok()?;
+    let _ = put_bytes(rt, &mut behind, count);
+    backlog.close(rt);
+    let end = end.write_all(rt);
+    let (failed, stream) = (end.has_failed(), end.into_stream());
+    let written = backlog.written(rt);
+    Some((failed, stream.bytes.len(), stream.flushes, written))
+}
+
+#[test]
+fn pieces_that_wait_are_flushed_together(rt: HostRuntime) {
+    assert!(&rt; flushed(&rt, rt.alloc(), 1, false) == Some((false, 1, 1, 1)));
+    assert!(&rt; flushed(&rt, rt.alloc(), 256, false) == Some((false, 256, 1, 256)));
+    assert!(&rt; flushed(&rt, rt.alloc(), 300, false) == Some((false, 300, 2, 300)));
+    assert!(&rt; flushed(&rt, rt.alloc(), 300, true) == Some((true, 256, 1, 0)));
 }
 
 // So many bytes.

@@ -1,2 +1,4 @@
+mod HeadLemmas
 mod NameLemmas
+mod NamingLemmas
 mod PrintedAuditLemmas

@@ -1,7 +1,6 @@
 -- What is printed of an audit, and what is answered.
 use Rattle.std.specs.Prelude.{◌≡◌, ◌≢◌, ◌<◌, ℕ, Bool, List, [], ◌++◌, Option, Some, None, Result, Ok, Err, IfSome, if◌then◌else◌, codes, decimal}
 use Rattle.std.specs.Io.KnownBytes.{Consumes, IsAtEnd}
-use Rattle.sha2.specs.Sha256.{sha256}
 use Rattle.xcp_memory.specs.Layout.{LayoutValue}
 use Rattle.xcp_slave.specs.SlaveValue.{opening}
 use Rattle.xcp_trace.specs.declared.Entry.{Entry}
@@ -17,6 +16,7 @@ use Rattle.xcp_program.specs.declared.Fault.TheVariants as faults
 use Rattle.xcp_audit.specs.declared.printer.Trouble.{Trouble}
 use Rattle.xcp_audit.specs.declared.printer.Trouble.TheVariants as troubles
 use Rattle.xcp_audit.specs.CallLine.{lines_of}
+use Rattle.xcp_audit.specs.Naming.{IsReadBy, Names, named_in}
 use Rattle.xcp_audit.specs.Printing.{Prints, Stand}
 
 -- that a whole file is settled, and how it ends
@@ -60,17 +60,22 @@ pub record ReadsTo (old new : Reading) (said : Result Settled AuditFault) : Type
   pub failed : said ≡ Err found.Read → old.failures < new.failures
   pub unfailed : said ≢ Err found.Read → new.failures ≡ old.failures
 
--- An audit of a file by a new slave of this layout, whose file has these bytes. What it says is printed, and where lines are wanted the
--- lines of its calls before that, with the names of their callers by the roster of the file, if it has one; then it is answered.
-pub record PrintsAudit (config : List ℕ) (layout : LayoutValue) (before after : Reading) (lines : Bool) (old new : Stand) (result : Result (Unit {0}) Fault) : Type 0 where
+-- An audit of a file that begins with this head by a new slave of this layout, which the layout file of this text describes. It is by one
+-- SHA-256; what it says of another layout it says of neither, and of a run in a file that names either it says that it is settled. What it says
+-- is printed, and where lines are wanted the lines of its calls before that, with the names of their callers by the roster of the file, if it
+-- has one; then it is answered.
+pub record PrintsAudit (config : List ℕ) (layout : LayoutValue) (head : List ℕ) (before after : Reading) (lines : Bool) (old new : Stand) (result : Result (Unit {0}) Fault) : Type 0 where
   pub said : Result Settled AuditFault
+  pub digest : List ℕ
+  pub read_by : IsReadBy config layout (named_in head) digest
   pub read : List ℕ
   pub consumed : Consumes before.left after.left read
   pub roster : Option Roster
-  pub audits : Audits roster (sha256 config) (opening layout) (IsAtEnd after.left) read said
-  pub settles : IfSome before.left (λ all. (r : Option Roster) (n : ℕ) (ending : Ending) → HoldsRun r (sha256 config) (opening layout) all n ending → SaysSettled n ending said)
+  pub audits : Audits roster digest (opening layout) (IsAtEnd after.left) read said
+  pub others : IfSome before.left (λ all. said ≡ Err found.OtherLayout → Names config layout (named_in all) → ⊥)
+  pub settles : IfSome before.left (λ all. (d : List ℕ) (r : Option Roster) (n : ℕ) (ending : Ending) → Names config layout d → HoldsRun r d (opening layout) all n ending → SaysSettled n ending said)
   pub reads : ReadsTo before after said
   pub calls : List Entry
-  pub hears : Hears roster (sha256 config) read said calls
+  pub hears : Hears roster digest read said calls
   pub printed : Prints old new ((if lines then lines_of roster calls else []) ++ end_of said)
   pub answered : result ≡ answer_after new.trouble said

@@ -1,5 +1,5 @@
 //! An audit whose outcome is printed.
-ghost use Rattle.std.specs.Prelude.{◌≡◌, ◌≢◌, ◌<◌, ◌⊎◌, ◌++◌, [], ℕ, List, Option, Err, IfOk, IfSome, if◌then◌else◌, codes, decimal, string_bytes};
+ghost use Rattle.std.specs.Prelude.{◌≡◌, ◌≢◌, ◌<◌, ◌⊎◌, ◌++◌, [], ℕ, List, Option, Err, IfOk, IfSome, if◌then◌else◌, codes, decimal, string_bytes, take};
 ghost use Rattle.std.specs.Io.KnownBytes.{Consumes, IsAtEnd};
 ghost use Rattle.xcp_memory.specs.Layout.{A2lFileValue};
 ghost use Rattle.xcp_slave.specs.SlaveValue.{SlaveValue};
@@ -12,8 +12,8 @@ ghost use Rattle.xcp_audit.specs.CallLine.{lines_of};
 ghost use Rattle.xcp_audit.specs.Printing.{Prints, stand_of};
 ghost use Rattle.xcp_audit.specs.PrintedAudit.{PrintsAudit, ReadsTo, answer_after, end_of, settled_in, verdict_of};
 
+use crate::head::digest_for;
 use crate::printer::{Printer, Trouble};
-use sha2::{Digest, Sha256};
 use std::alloc::{AllocError, Global};
 use std::io::{Read, Write};
 use xcp_framing::Watched;
@@ -27,27 +27,32 @@ use xcp_slave::Slave;
 /// where the file isn't whole behind so many good calls; before that each call as a line, where lines are wanted, which begins with the
 /// caller's name by the roster of the file, or with its number in a file without a roster.
 ///
+/// `head` are the first 38 bytes of the file, or all that it has: they say whether it names the layout by the SHA-256 of the text, or by that of
+/// what decides the answers. The reader begins with them.
+///
 /// Faults: `Stream(2)` where a write failed; `Memory` at any place; `MismatchedCall`; `Journal`, 1 and 3 to 6.
 pub fn print_audit<R: Read, W: Write>(
     alloc: Global,
     config: &str,
     layout: Layout,
+    head: &[u8],
     reader: &mut Watched<R>,
     printer: &mut Printer<W>,
     lines: bool,
 ) -> Result<(), Fault>
-    requires { (a2l : Option A2lFileValue) × (flash : Option (List ℕ)) × Begins config.now a2l flash layout }
+    requires begins { (a2l : Option A2lFileValue) × (flash : Option (List ℕ)) × Begins config.now a2l flash layout }
+    requires head { IfSome (R.remaining reader.old.inner) (λ all. head.now ≡ take 38 all) }
     // Memory may be short before anything is read or printed.
     ensures ends { ((result ≡ Err Fault.Memory) × (reader.new ≡ reader.old) × (printer.new ≡ printer.old))
-        ⊎ PrintsAudit config.now layout
+        ⊎ PrintsAudit config.now layout head.now
         (record { left = R.remaining reader.old.inner; failures = reader.old.failures })
         (record { left = R.remaining reader.new.inner; failures = reader.new.failures })
         lines (stand_of W.contents printer.old) (stand_of W.contents printer.new) result }
 {
+    let digest = digest_for(config, &layout, head);
     let Ok(slave) = Slave::new(alloc, layout) else {
         return Err(Fault::Memory);
     };
-    let digest = Sha256::digest(config.as_bytes());
     let said = audited(alloc, slave, &digest, reader, printer, lines);
     print_end(alloc, &said, printer);
     match printer.trouble() {

@@ -6,10 +6,6 @@ use denote.Struct.Struct.{Struct}
 use Rattle.std.proofs.Crossing.{crosses}
 use Rattle.std.specs.declared.io.traits.Write as Write
 use Rattle.relay.proofs.ends.Taker.TheSendSync as taker
-use Rattle.xcp_framing.specs.contracts.record.Record as Record
-use Rattle.xcp_framing.specs.contracts.tally.Tally as Tally
-use Rattle.xcp_framing.specs.contracts.watched.Watched as Watched
-use Rattle.xcp_framing.specs.contracts.watched.Watched.TheInside as WatchedInside
 use Rattle.xcp_behind.proofs.backlog.Backlog.TheSendSync as backlog
 use Rattle.xcp_behind.proofs.piece.Piece.TheSendSync as piece
 use Rattle.xcp_behind.specs.contracts.write_end.WriteEnd as WriteEnd
@@ -19,20 +15,9 @@ use Rattle.xcp_behind.specs.contracts.write_end.WriteEnd.TheInside as WriteEndIn
 struct_crosses : (T : declared.Declared) → AllSend (declared.fields T) → IsSend (declared.row T)
 struct_crosses T all = recorded_send (Struct (declared.shape T)) T.D T.to T.to_one (struct_send (declared.shape T) all)
 
--- a tally owns nothing
-tally_crosses : IsSend Tally.the_field.row
-tally_crosses = search (sendable, crosses) depth 20
-
--- nor does a record of bytes
-record_crosses : IsSend Record.the_field.row
-record_crosses = search (sendable, crosses) depth 20
-
-watched_crosses : (T : RattleType) → IsSend T → IsSend (Watched.the_row T)
-watched_crosses T s = view_send (WatchedInside.the_row T) _ _ _ _ (struct_crosses (WatchedInside.the_type T) (s, (tally_crosses, (tally_crosses, (record_crosses, (record_crosses, tt))))))
-
 -- where its stream may
 pub write_end_crosses : (W : RattleType) (g : Write.Ghosts W.Denot) → IsSend W → IsSend (WriteEnd.the_row W g)
 write_end_crosses W g w =
     view_send (WriteEndInside.the_row W g) _ _ _ _
     (struct_crosses (WriteEndInside.the_type W g)
-    (search (sendable, crosses, backlog.the_send, backlog.the_sync) depth 20, (search (sendable, crosses, taker.the_send, piece.the_send) depth 20, (watched_crosses W w, (search (sendable, crosses) depth 20, (search sendable, tt))))))
+    (search (sendable, crosses, backlog.the_send, backlog.the_sync) depth 20, (search (sendable, crosses, taker.the_send, piece.the_send) depth 20, (w, (search (sendable, crosses) depth 20, (search sendable, tt))))))

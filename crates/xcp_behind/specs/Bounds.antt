@@ -3,7 +3,7 @@ use Rattle.std.specs.Prelude.{ℕ}
 
 -- the most pieces, the one that is being written among them
 abbrev pub most_pieces : ℕ
-most_pieces = 32
+most_pieces = 512
 
 -- the most bytes of these: 18 MiB
 abbrev pub most_bytes : ℕ

@@ -65,13 +65,27 @@ impl Backlog {
         self.relay.wait_and_take(rt, taker)
     }
 
-    /// A piece of so many bytes is written.
-    pub(crate) fn note_written(&self, rt: &impl Wait, size: usize) {
-        self.room.lock(rt).note_written(size);
+    /// Whether more pieces than so many were taken in that aren't told to be written, and none was refused: they lie here, or are about to.
+    pub(crate) fn has_more(&self, rt: &impl Wait, pieces: usize) -> bool {
+        self.room.lock(rt).has_more(pieces)
+    }
+
+    /// So many pieces, of so many bytes, are written and flushed.
+    pub(crate) fn note_written(&self, rt: &impl Wait, pieces: usize, bytes: usize) {
+        self.room.lock(rt).note_written(pieces, bytes);
         self.changed.notify_all();
     }
 
-    /// A write failed: nothing more is written, or taken in.
+    /// No more pieces come. The last so many are written, and flushed if this could be done.
+    pub(crate) fn note_end(&self, rt: &impl Wait, is_flushed: bool, pieces: usize, bytes: usize) {
+        if is_flushed {
+            self.note_written(rt, pieces, bytes);
+        } else {
+            self.stop(rt);
+        }
+    }
+
+    /// A write or a flush failed: nothing more is written, or taken in.
     pub(crate) fn stop(&self, rt: &impl Wait) {
         self.room.lock(rt).stop();
         self.changed.notify_all();

@@ -1,11 +1,11 @@
 //! What finds room among that which waits to be written.
-ghost use Rattle.std.specs.Prelude.{◌≡◌, ◌+◌, ◌-◌, ◌^◌, MatchBool, min, true, false};
+ghost use Rattle.std.specs.Prelude.{◌≡◌, ◌+◌, ◌-◌, ◌^◌, ◌<◌, ◌≤◌, ◌⊎◌, MatchBool, min, true, false};
 ghost use Rattle.xcp_behind.specs.Room.{HasRoom, IsFull, IsProgress};
 
 use crate::room::{Progress, Room};
 
 /// The most pieces that wait, the one that is being written among them.
-const MOST_PIECES: usize = 32;
+const MOST_PIECES: usize = 512;
 
 /// The most bytes of these pieces: 18 MiB.
 const MOST_BYTES: usize = 18_874_368;
@@ -53,15 +53,24 @@ impl Room {
         true
     }
 
-    /// A piece of so many bytes is written.
-    pub fn note_written(&mut self, size: usize)
-        ensures less { (self.new.pieces ≡ self.old.pieces - 1) × (self.new.bytes ≡ self.old.bytes - size) }
-        ensures more { self.new.written ≡ min (self.old.written + 1) (2 ^ 64 - 1) }
+    /// Whether more than so many pieces wait, and none was refused.
+    pub fn has_more(&self, pieces: usize) -> bool
+        ensures { MatchBool result
+            ((pieces < self.now.pieces) × (self.now.given_up ≡ false))
+            ((self.now.pieces ≤ pieces) ⊎ (self.now.given_up ≡ true)) }
+    {
+        !self.given_up && self.pieces > pieces
+    }
+
+    /// So many pieces, of so many bytes, are written.
+    pub fn note_written(&mut self, pieces: usize, bytes: usize)
+        ensures less { (self.new.pieces ≡ self.old.pieces - pieces) × (self.new.bytes ≡ self.old.bytes - bytes) }
+        ensures more { self.new.written ≡ min (self.old.written + pieces) (2 ^ 64 - 1) }
         ensures kept { (self.new.given_up ≡ self.old.given_up) × (self.new.stopped ≡ self.old.stopped) }
     {
-        self.pieces = self.pieces.saturating_sub(1);
-        self.bytes = self.bytes.saturating_sub(size);
-        self.written = self.written.saturating_add(1);
+        self.pieces = self.pieces.saturating_sub(pieces);
+        self.bytes = self.bytes.saturating_sub(bytes);
+        self.written = self.written.saturating_add(pieces as u64);
     }
 
     /// No piece is taken in any more.

@@ -14,13 +14,16 @@ use std::snapshot::Snapshot;
 use std::sync::{Arc, Wait};
 use xcp_framing::Watched;
 
+/// The most pieces that are flushed together: fewer than wait, so that some find room meanwhile.
+const MOST_TOGETHER: usize = 256;
+
 /// Writes pieces to a stream, in the order in which they were taken in. What it took stands in the stream, each piece once and whole; where
-/// a write failed, all pieces but the last that it took do, and of that one the first bytes.
+/// a write or a flush failed, all pieces but the last that it took do, and of that one the first bytes.
 #[derive(Drop)]
 pub struct WriteEnd<W: Write> {
     backlog: Arc<Backlog>,
     taker: Taker<Piece>,
-    writer: Watched<W>,
+    stream: W,
     start: Snapshot<W>,
     failed: bool,
 }
@@ -33,9 +36,9 @@ impl<W: Write> Model for WriteEnd<W> {
 
     ghost Value = { WriteEndValue };
 
-    ghost view = { λ e. record { relay = e.taker.relay; taken = items_of 0 e.taker.taken; failed = e.failed; before = W.contents e.start.value; after = W.contents e.writer.inner } };
+    ghost view = { λ e. record { relay = e.taker.relay; taken = items_of 0 e.taker.taken; failed = e.failed; before = W.contents e.start.value; after = W.contents e.stream } };
 
-    ghost invariant = { λ e. (e.taker.relay ≡ (arc_value e.backlog).relay) × (e.taker.givers ≡ 1) × Stands e.failed (W.contents e.start.value) (W.contents e.writer.inner) (items_of 0 e.taker.taken) };
+    ghost invariant = { λ e. (e.taker.relay ≡ (arc_value e.backlog).relay) × (e.taker.givers ≡ 1) × Stands e.failed (W.contents e.start.value) (W.contents e.stream) (items_of 0 e.taker.taken) };
 }
 
 impl<W: Write> WriteEnd<W> {
@@ -48,14 +51,15 @@ impl<W: Write> WriteEnd<W> {
         WriteEnd {
             backlog,
             taker,
-            writer: Watched::new(stream),
+            stream,
             start,
             failed: false,
         }
     }
 
-    /// Writes what is taken in, piece by piece, and waits for it, until no more comes or a write fails. After a failed write nothing more
-    /// is written.
+    /// Writes what is taken in, piece by piece, and waits for it, until no more comes or a write or a flush fails. After that nothing more
+    /// is written. Where more pieces lie there, they are flushed together, [`MOST_TOGETHER`] at most: what waits behind a slow flush costs
+    /// one more.
     pub fn write_all(self, rt: &impl Wait) -> WriteEnd<W>
         ensures stands { Stands result.failed result.before result.after result.taken }
         ensures same { (result.relay ≡ self.relay) × (result.before ≡ self.before) }
@@ -66,36 +70,47 @@ impl<W: Write> WriteEnd<W> {
         let WriteEnd {
             backlog,
             mut taker,
-            mut writer,
+            mut stream,
             start,
             failed,
         } = self;
+        let (mut pieces, mut bytes) = (0, 0);
         for _turn in rt.forever() {
             let Some((_tag, piece)) = backlog.take(rt, &mut taker) else {
+                let is_flushed = pieces == 0 || stream.flush().is_ok();
+                backlog.note_end(rt, is_flushed, pieces, bytes);
                 return WriteEnd {
                     backlog,
                     taker,
-                    writer,
+                    stream,
                     start,
                     failed,
                 };
             };
-            if !write_whole(&mut writer, &piece) {
+            pieces = pieces.saturating_add(1);
+            bytes = bytes.saturating_add(piece.len());
+            let is_last = pieces >= MOST_TOGETHER || !backlog.has_more(rt, pieces);
+            let (written, is_written) = write_whole(stream, &piece, is_last);
+            stream = written;
+            if !is_written {
                 backlog.stop(rt);
                 return WriteEnd {
                     backlog,
                     taker,
-                    writer,
+                    stream,
                     start,
                     failed: true,
                 };
             }
-            backlog.note_written(rt, piece.len());
+            if is_last {
+                backlog.note_written(rt, pieces, bytes);
+                (pieces, bytes) = (0, 0);
+            }
         }
         unreachable!()
     }
 
-    /// Whether a write failed.
+    /// Whether a write or a flush failed.
     pub fn has_failed(&self) -> bool
         ensures { result ≡ self.now.failed }
     {
@@ -117,15 +132,23 @@ impl<W: Write> WriteEnd<W> {
     pub fn into_stream(self) -> W
         ensures { W.contents result ≡ self.after }
     {
-        let WriteEnd { writer, .. } = self;
-        writer.into_inner()
+        let WriteEnd { stream, .. } = self;
+        stream
     }
 }
 
-/// Writes a piece, and answers whether it could.
-fn write_whole<W: Write>(writer: &mut Watched<W>, piece: &Piece) -> bool
-    ensures whole { result ≡ true → Appends (W.contents writer.old.inner) (W.contents writer.new.inner) piece.now }
-    ensures front { result ≡ false → AppendsFront (W.contents writer.old.inner) (W.contents writer.new.inner) piece.now }
+/// Writes a piece, and flushes it where it is the last of those that are flushed together. The stream comes back, and whether all of this
+/// could be done.
+fn write_whole<W: Write>(stream: W, piece: &Piece, is_last: bool) -> (W, bool)
+    ensures whole { result.1 ≡ true → Appends (W.contents stream) (W.contents result.0) piece.now }
+    ensures front { result.1 ≡ false → AppendsFront (W.contents stream) (W.contents result.0) piece.now }
 {
-    writer.write_all(piece.bytes()).is_ok()
+    let mut writer = Watched::new(stream);
+    let is_written = writer.write_all(piece.bytes()).is_ok();
+    let mut stream = writer.into_inner();
+    if is_written && is_last {
+        let is_flushed = stream.flush().is_ok();
+        return (stream, is_flushed);
+    }
+    (stream, is_written)
 }

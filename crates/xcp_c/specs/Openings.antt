@@ -8,9 +8,10 @@ use Rattle.xcp_controller.specs.ControllerValue.{image_of}
 use Rattle.xcp_config.specs.ConfigText.{HasFault, HasLayout, IsNoDocument}
 use Rattle.xcp_config.specs.FaultNumbers.{number_of}
 use Rattle.xcp_config.specs.declared.config_error.ConfigError.{ConfigError}
+use Rattle.xcp_flash.specs.Decided.{pages_decided}
 use Rattle.xcp_flash.specs.FlashFile.{file_of}
 use Rattle.xcp_flash.specs.References.{AreReferences, with_references}
-use Rattle.xcp_flash.specs.Restoring.{IsFault, IsRestored}
+use Rattle.xcp_flash.specs.Restoring.{IsFaultOfBoth, IsRestoredByEither}
 use Rattle.xcp_flash.specs.declared.fault.FlashError.{FlashError}
 use Rattle.xcp_memory.specs.Layout.{LayoutValue}
 use Rattle.xcp_slave.specs.SlaveValue.{opening}
@@ -29,9 +30,9 @@ pub record IsOpeningBy (digest : List ℕ) (l : LayoutValue) (slave : Option Ope
   pub six : value.controller.spare ≡ six_readers value.controller.writer.bank (image_of (opening l))
   pub digested : value.digest ≡ digest
 
--- the same by this text
-abbrev pub IsOpening : List ℕ → LayoutValue → Option OpenValue → Type 0
-IsOpening text l slave = IsOpeningBy (sha256 text) l slave
+-- the same by what decides which stored pages are those of this layout of its own: l is it, or the same with stored pages
+abbrev pub IsOpening : LayoutValue → LayoutValue → Option OpenValue → Type 0
+IsOpening own l slave = IsOpeningBy (sha256 (pages_decided own)) l slave
 
 -- UTF-8 of at most 65,536 bytes
 abbrev pub IsText : List ℕ → Type 0
@@ -50,7 +51,7 @@ IsFaultOf text n =
 
 -- the text describes a layout, and the slave is that of its opening
 abbrev pub IsOpened : List ℕ → Option OpenValue → Type 0
-IsOpened text slave = (l : LayoutValue) × IsText text × HasLayout text l × IsOpening text l slave
+IsOpened text slave = (l : LayoutValue) × IsText text × HasLayout text l × IsOpening l l slave
 
 -- Opening by this text: the handle owned a slave, 10, and is as it was; or it owned nothing, the text describes a layout, and the
 -- slave is that of its opening; or this is the number of the text's fault, and it still owns nothing.
@@ -61,17 +62,20 @@ OpensBy text n old new =
 
 -- Where a text describes a layout, a slave of it is opened, or there is no memory: no other fault is told.
 abbrev pub TellsText : List ℕ → ℕ → Option OpenValue → Type 0
-TellsText text n new = (l : LayoutValue) → IsText text → HasLayout text l → (n ≡ 7) ⊎ ((n ≡ 0) × IsOpening text l new)
+TellsText text n new = (l : LayoutValue) → IsText text → HasLayout text l → (n ≡ 7) ⊎ ((n ≡ 0) × IsOpening l l new)
 
--- the text describes a layout, of which this file is: the slave is that of its opening with the file's pages as reference pages
+-- the text describes a layout, of which this file is, by what decides which stored pages are its, or, of a file of before, by the text:
+-- the slave is that of its opening with the file's pages as reference pages
 abbrev pub IsOpenedWith : List ℕ → List ℕ → Option OpenValue → Type 0
 IsOpenedWith text file slave =
-    (l with_pages : LayoutValue) × IsText text × HasLayout text l × IsRestored l (sha256 text) file with_pages × IsOpening text with_pages slave
+    (l with_pages : LayoutValue) × IsText text × HasLayout text l × IsRestoredByEither l (sha256 (pages_decided l)) (sha256 text) file with_pages
+    × IsOpening l with_pages slave
 
 -- the text describes a layout, and this is the number of the file's fault beside it
 abbrev pub IsFaultOfFile : List ℕ → List ℕ → ℕ → Type 0
 IsFaultOfFile text file n =
-    (l : LayoutValue) × IsText text × HasLayout text l × (e : FlashError) × IsFault l (sha256 text) file e × (n ≡ number_of_stored e)
+    (l : LayoutValue) × IsText text × HasLayout text l × (e : FlashError)
+    × IsFaultOfBoth l (sha256 (pages_decided l)) (sha256 text) file e × (n ≡ number_of_stored e)
 
 -- The same by this text and this file of stored pages, whose faults come behind the text's.
 abbrev pub OpensStored : List ℕ → List ℕ → ℕ → Option OpenValue → Option OpenValue → Type 0
@@ -86,8 +90,10 @@ OpensStored text file n old new =
 abbrev pub TellsFile : List ℕ → List ℕ → ℕ → Option OpenValue → Type 0
 TellsFile text file n new =
     (l : LayoutValue) → IsText text → HasLayout text l
-    → ((pages : List (List ℕ)) → AreReferences pages l → file ≡ file_of (sha256 text) pages → (n ≡ 7) ⊎ ((n ≡ 0) × IsOpening text (with_references pages l) new))
-    × ((e : FlashError) → IsFault l (sha256 text) file e → (n ≡ 7) ⊎ (n ≡ number_of_stored e))
+    → ((pages : List (List ℕ)) → AreReferences pages l
+    → (file ≡ file_of (sha256 (pages_decided l)) pages) ⊎ (file ≡ file_of (sha256 text) pages)
+    → (n ≡ 7) ⊎ ((n ≡ 0) × IsOpening l (with_references pages l) new))
+    × ((e : FlashError) → IsFaultOfBoth l (sha256 (pages_decided l)) (sha256 text) file e → (n ≡ 7) ⊎ (n ≡ number_of_stored e))
 
 -- This reader of images of 2,040 bytes, which nobody had taken, is taken, and the slave is as it was.
 pub record Takes (old new : Option OpenValue) (taken : ReaderEnd) : Type 0 where

@@ -1,12 +1,11 @@
 -- Opening by a layout in a struct.
-use Rattle.std.specs.Prelude.{◌≡◌, ◌≢◌, ◌⊎◌, ◌≤◌, ◌<◌, ◌+◌, ℕ, List, ◌++◌, length, sum_by, Option, Some, None}
-use Rattle.std.specs.Int.{w32, to_le_bytes}
-use Rattle.std.specs.List.{flat_map}
+use Rattle.std.specs.Prelude.{◌≡◌, ◌≢◌, ◌⊎◌, ◌≤◌, ◌<◌, ◌+◌, ℕ, List, length, sum_by, Option, Some, None}
 use Rattle.sha2.specs.Sha256.{sha256}
+use Rattle.xcp_flash.specs.Decided.{pages_decided}
 use Rattle.xcp_flash.specs.Restoring.{IsFault, IsRestored}
 use Rattle.xcp_flash.specs.declared.fault.FlashError.{FlashError}
 use Rattle.xcp_memory.specs.FaultNumbers.{number_of}
-use Rattle.xcp_memory.specs.Layout.{LayoutValue, SegmentValue}
+use Rattle.xcp_memory.specs.Layout.{LayoutValue}
 use Rattle.xcp_memory.specs.LayoutParts.{layout_of}
 use Rattle.xcp_memory.specs.Limits.{first_fault}
 use Rattle.xcp_memory.specs.declared.key.LayoutFault.{LayoutFault}
@@ -17,14 +16,6 @@ use Rattle.xcp_c.specs.Openings.{IsOpeningBy}
 use Rattle.xcp_c.specs.PartsInC.{Says, bytes_said, segments_said}
 use Rattle.xcp_c.specs.StoredPages.{number_of_stored}
 use Rattle.xcp_c.specs.declared.parts.XcpParts.{XcpParts}
-
--- What decides which stored pages are a layout's: of each segment its first address and how many bytes it has, four bytes each, the
--- low one first, and its reference bytes.
-unfoldable pub segment_decided : SegmentValue → List ℕ
-segment_decided s = to_le_bytes w32 s.address ++ to_le_bytes w32 (length s.bytes) ++ s.bytes
-
-abbrev pub pages_decided : LayoutValue → List ℕ
-pages_decided l = flat_map segment_decided l.segments
 
 -- the struct has room for what it says, and there are as many reference bytes as the segments have in all
 pub record IsWhole (c : XcpParts) (reference : List ℕ) : Type 0 where

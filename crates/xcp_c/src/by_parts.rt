@@ -1,15 +1,13 @@
 //! A slave that is opened by a layout in a struct.
-ghost use Rattle.std.specs.Prelude.{◌≡◌, ◌⊎◌, IfErr, IfOk};
-ghost use Rattle.sha2.specs.Sha256.{sha256};
-ghost use Rattle.xcp_c.specs.PartsOpenings.{Describes, IsFaultOfFileOfParts, IsFaultOfParts, IsOpenedByParts, IsOpenedByPartsWith, OpensByParts, OpensPartsStored, pages_decided};
+ghost use Rattle.std.specs.Prelude.{◌⊎◌, IfErr, IfOk};
+ghost use Rattle.xcp_c.specs.PartsOpenings.{Describes, IsFaultOfFileOfParts, IsFaultOfParts, IsOpenedByParts, IsOpenedByPartsWith, OpensByParts, OpensPartsStored};
 
 use crate::opening::{MEMORY, OPEN, hold};
 use crate::parts::{MAX_CHANNELS, MAX_SEGMENTS, XcpParts, have_bytes, parts_of};
 use crate::slave_handle::SlaveHandle;
 use crate::storing::number_of;
-use sha2::{Digest, Sha256};
 use std::alloc::Global;
-use xcp_flash::restore;
+use xcp_flash::{pages_digest, restore};
 use xcp_memory::Layout;
 
 /// The number of a fault where there are more segments or event channels than there is room for.
@@ -74,7 +72,7 @@ fn open(alloc: Global, parts: &XcpParts, reference: &[u8]) -> Result<SlaveHandle
         Ok(layout) => layout,
         Err(fault) => return Err(fault),
     };
-    let decided = digest_of(&layout);
+    let decided = pages_digest(&layout);
     hold(alloc, layout, decided)
 }
 
@@ -91,7 +89,7 @@ fn open_with(
         Ok(layout) => layout,
         Err(fault) => return Err(fault),
     };
-    let digest = digest_of(&layout);
+    let digest = pages_digest(&layout);
     if let Err(fault) = restore(&mut layout, &digest, file) {
         return Err(number_of(fault));
     }
@@ -117,18 +115,4 @@ fn describe(alloc: Global, parts: &XcpParts, reference: &[u8]) -> Result<Layout,
         Ok(layout) => Ok(layout),
         Err(fault) => Err(3 + fault.number()),
     }
-}
-
-/// The SHA-256 of what decides which stored pages are a layout's.
-#[tactic(auto, unfolding(crate::specs::PartsOpenings::segment_decided))]
-fn digest_of(layout: &Layout) -> [u8; 32]
-    ensures { result ≡ sha256 (pages_decided layout.now) }
-{
-    let mut hasher = Sha256::new();
-    for segment in 0..layout.segment_count() {
-        hasher.update(&layout.segment_address(segment).to_le_bytes());
-        hasher.update(&(layout.segment_size(segment) as u32).to_le_bytes());
-        hasher.update(layout.segment_bytes(segment));
-    }
-    hasher.finalize()
 }

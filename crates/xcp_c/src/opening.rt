@@ -12,7 +12,7 @@ use sha2::{Digest, Sha256};
 use std::alloc::Global;
 use std::{mem, str};
 use xcp_config::read_layout;
-use xcp_flash::restore;
+use xcp_flash::{pages_digest, restore_either};
 use xcp_memory::Layout;
 
 /// The most bytes that a text may have.
@@ -125,7 +125,7 @@ fn open(alloc: Global, text: &[u8]) -> Result<SlaveHandle, u8>
     ensures tells { MatchResult result (λ h. TellsText text.now 0 h.value) (λ n. TellsText text.now n None) }
 {
     match read(alloc, text) {
-        Ok(layout) => begin(alloc, layout, text),
+        Ok(layout) => begin(alloc, layout),
         Err(fault) => Err(fault),
     }
 }
@@ -139,10 +139,11 @@ fn open_stored(alloc: Global, text: &[u8], file: &[u8]) -> Result<SlaveHandle, u
         Ok(layout) => layout,
         Err(fault) => return Err(fault),
     };
-    if let Err(fault) = restore(&mut layout, &Sha256::digest(text), file) {
+    let decided = pages_digest(&layout);
+    if let Err(fault) = restore_either(&mut layout, &decided, &Sha256::digest(text), file) {
         return Err(number_of(fault));
     }
-    begin(alloc, layout, text)
+    hold(alloc, layout, decided)
 }
 
 /// The layout that a text describes, or the number of the text's fault.
@@ -162,12 +163,13 @@ fn read(alloc: Global, text: &[u8]) -> Result<Layout, u8>
     }
 }
 
-/// A handle of a slave at the opening of this layout, by this text; or the number of a failed allocation.
-fn begin(alloc: Global, layout: Layout, text: &[u8]) -> Result<SlaveHandle, u8>
-    ensures opened { IfOk result (λ h. IsOpening text.now layout h.value) }
+/// A handle of a slave at the opening of this layout; or the number of a failed allocation.
+fn begin(alloc: Global, layout: Layout) -> Result<SlaveHandle, u8>
+    ensures opened { IfOk result (λ h. IsOpening layout layout h.value) }
     ensures fault { IfErr result (λ n. n ≡ 7) }
 {
-    hold(alloc, layout, Sha256::digest(text))
+    let own = pages_digest(&layout);
+    hold(alloc, layout, own)
 }
 
 /// The same, by what has this SHA-256.

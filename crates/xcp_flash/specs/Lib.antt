@@ -1,3 +1,4 @@
+pub mod Decided
 pub mod FlashFile
 pub mod References
 pub mod Restoring

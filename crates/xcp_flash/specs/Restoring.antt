@@ -1,5 +1,5 @@
 -- Which files are restored, and what is wrong with the others.
-use Rattle.std.specs.Prelude.{◌≡◌, ◌≢◌, ◌≤◌, ℕ, List, ◌++◌, length, take}
+use Rattle.std.specs.Prelude.{◌≡◌, ◌≢◌, ◌≤◌, ◌⊎◌, ℕ, List, ◌++◌, length, take}
 use Rattle.sha2.specs.Sha256.{sha256}
 use Rattle.xcp_memory.specs.Layout.{LayoutValue}
 use Rattle.xcp_flash.specs.declared.fault.FlashError.{FlashError}
@@ -31,3 +31,23 @@ IsFault l layout_digest file errors.Size =
     (take 6 file ≡ magic) × (38 ≤ length file → take 38 file ≡ head layout_digest) × (HasPages l layout_digest file → ⊥)
 IsFault l layout_digest file errors.Digest =
     (found : HasPages l layout_digest file) × (found.digest ≢ sha256 (body_of layout_digest found.pages))
+
+-- Of a file that may be of either digest: it is restored as one of the first, or as one of the other.
+abbrev pub IsRestoredByEither : LayoutValue → List ℕ → List ℕ → List ℕ → LayoutValue → Type 0
+IsRestoredByEither l layout_digest other file new = IsRestored l layout_digest file new ⊎ IsRestored l other file new
+
+-- of two faults of a file, as one of the first digest and as one of the other, the one that is told: the first, but where it says no more
+-- than that the digest is another
+abbrev pub told_of : FlashError → FlashError → FlashError
+told_of errors.Head second = errors.Head
+told_of errors.Layout second = second
+told_of errors.Size second = errors.Size
+told_of errors.Digest second = errors.Digest
+
+-- it is a file of neither, and this is what is wrong with it
+pub record IsFaultOfBoth (l : LayoutValue) (layout_digest other file : List ℕ) (e : FlashError) : Type 0 where
+  pub first : FlashError
+  pub second : FlashError
+  pub of_first : IsFault l layout_digest file first
+  pub of_other : IsFault l other file second
+  pub told : e ≡ told_of first second

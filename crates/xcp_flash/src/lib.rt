@@ -3,10 +3,12 @@
 //!
 //! [`References`] are the pages to keep, and spell the file: the reference pages that a slave has, or, while a store is requested, those
 //! that it will have then. [`restore`] puts a file's pages into the layout, before the
-//! slave is opened. `specs/FlashFile.antt` has the bytes, `specs/References.antt` which pages they are, and
-//! `specs/Restoring.antt` what may be wrong with a file.
+//! slave is opened. A file names what its pages belong to by 32 bytes: [`pages_digest`] are those of a layout's segments.
+//! `specs/FlashFile.antt` has the bytes, `specs/References.antt` which pages they are, `specs/Restoring.antt` what may be wrong with a
+//! file, and `specs/Decided.antt` which pages are a layout's.
 #![tactic(auto)]
 
+mod deciding;
 mod fault;
 mod fitting;
 mod head;
@@ -16,9 +18,10 @@ mod reading;
 mod references;
 mod restoring;
 
+pub use deciding::pages_digest;
 pub use fault::FlashError;
 pub use law::{
     a_file_has_one_content, what_is_kept_is_what_a_store_leaves, what_is_stored_is_restored,
 };
 pub use references::References;
-pub use restoring::restore;
+pub use restoring::{restore, restore_either};

@@ -1,8 +1,8 @@
 //! A file's pages become those of a layout.
-ghost use Rattle.std.specs.Prelude.{◌≡◌, ◌↔◌, ℕ, List, Err, IfOk, IfErr, IsOk, OnOk, OnErr};
+ghost use Rattle.std.specs.Prelude.{◌≡◌, ◌↔◌, ◌⊎◌, ℕ, List, Err, IfOk, IfErr, IsOk, OnOk, OnErr};
 ghost use Rattle.xcp_flash.specs.FlashFile.{file_of};
 ghost use Rattle.xcp_flash.specs.References.{AreReferences, with_references};
-ghost use Rattle.xcp_flash.specs.Restoring.{IsFault, IsRestored};
+ghost use Rattle.xcp_flash.specs.Restoring.{IsFault, IsFaultOfBoth, IsRestored, IsRestoredByEither, told_of};
 ghost use Rattle.xcp_flash.specs.declared.fault.FlashError.{FlashError};
 ghost use Rattle.xcp_flash.specs.private.Reading.{BeginsWithPages, IsWhole};
 
@@ -26,6 +26,40 @@ pub fn restore(layout: &mut Layout, layout_digest: &[u8; 32], file: &[u8]) -> Re
             Ok(())
         }
         Err(fault) => Err(fault),
+    }
+}
+
+/// The same of a file that may be of either SHA-256, as one that was written before names what it belongs to in another way. An `Err` is
+/// the first fault of the file as one of the first SHA-256, or, where that is the SHA-256 itself, as one of the other.
+pub fn restore_either(
+    layout: &mut Layout,
+    layout_digest: &[u8; 32],
+    other: &[u8; 32],
+    file: &[u8],
+) -> Result<(), FlashError>
+    ensures ok { OnOk result (IsRestoredByEither layout.old layout_digest.now other.now file.now layout.new) }
+    ensures whole { (pages : List (List ℕ)) → AreReferences pages layout.old
+        → (file.now ≡ file_of layout_digest.now pages) ⊎ (file.now ≡ file_of other.now pages)
+        → IsOk result × (layout.new ≡ with_references pages layout.old) }
+    ensures err { OnErr result (layout.new ≡ layout.old) }
+    ensures fault { (e : FlashError) → (result ≡ Err e) ↔ IsFaultOfBoth layout.old layout_digest.now other.now file.now e }
+{
+    let Err(first) = restore(layout, layout_digest, file) else {
+        return Ok(());
+    };
+    let Err(second) = restore(layout, other, file) else {
+        return Ok(());
+    };
+    Err(told_of(first, second))
+}
+
+/// Of two faults the one that is told.
+fn told_of(first: FlashError, second: FlashError) -> FlashError
+    ensures { result ≡ told_of first second }
+{
+    match first {
+        FlashError::Layout => second,
+        _ => first,
     }
 }
 

@@ -1,3 +1,4 @@
+mod DecidedLemmas
 pub mod SourceLemmas
 pub mod CommandLineLemmas
 pub mod ClapRowLemmas

@@ -4,14 +4,16 @@ use Rattle.std.specs.Prelude.{◌≡◌, ◌≢◌, ℕ, List, Option, Some, Non
 use Rattle.sha2.specs.Sha256.{sha256}
 use Rattle.xcp_memory.specs.Layout.{LayoutValue, A2lFileValue, described}
 use Rattle.xcp_config.specs.ConfigText.{HasLayout}
+use Rattle.xcp_flash.specs.Decided.{pages_decided}
 use Rattle.xcp_flash.specs.FlashFile.{file_of}
 use Rattle.xcp_flash.specs.References.{AreReferences}
-use Rattle.xcp_flash.specs.Restoring.{IsRestored}
+use Rattle.xcp_flash.specs.Restoring.{IsRestoredByEither}
 
--- a layout with the pages that a file of this configuration keeps, or with its own where there is no file
+-- A layout with the pages that a file keeps, or with its own where there is no file. The file is of what decides which stored pages are
+-- the layout's, or, as files of before are, of the configuration's text.
 abbrev pub HasStored : List ℕ → LayoutValue → Option (List ℕ) → LayoutValue → Type 0
 HasStored config own None layout = layout ≡ own
-HasStored config own (Some bytes) layout = IsRestored own (sha256 config) bytes layout
+HasStored config own (Some bytes) layout = IsRestoredByEither own (sha256 (pages_decided own)) (sha256 config) bytes layout
 
 -- a layout with this A2L file, if there is one, where it asks that tools get it from the slave
 abbrev pub with_a2l : Option A2lFileValue → LayoutValue → LayoutValue
@@ -30,7 +32,9 @@ pub record Begins (config : List ℕ) (a2l : Option A2lFileValue) (flash : Optio
 -- the bytes are no file of pages that fit the layout
 abbrev pub FitsNone : List ℕ → LayoutValue → Option (List ℕ) → Type 0
 FitsNone config own None = ⊥
-FitsNone config own (Some bytes) = (pages : List (List ℕ)) → AreReferences pages own → bytes ≢ file_of (sha256 config) pages
+FitsNone config own (Some bytes) =
+    (pages : List (List ℕ)) → AreReferences pages own
+    → (bytes ≢ file_of (sha256 (pages_decided own)) pages) × (bytes ≢ file_of (sha256 config) pages)
 
 -- the configuration describes a layout, and there is a file, but of no pages that fit that layout
 pub record IsUnfit (config : List ℕ) (flash : Option (List ℕ)) : Type 0 where

@@ -1,5 +1,7 @@
 pub mod Beginning
 pub mod CommandLine
+pub mod Decided
+pub mod DecidingLaws
 pub mod EndFaults
 pub mod ExitStatus
 pub mod Hosts

@@ -1,16 +1,14 @@
 //! The layout that the configuration describes, and the one that a slave begins with.
 ghost use Rattle.std.specs.Prelude.{◌≡◌, ◌⊎◌, Err, IfErr, IfOk, MatchResult, Some, option_map};
-ghost use Rattle.sha2.specs.Sha256.{sha256};
 ghost use Rattle.xcp_config.specs.ConfigText.{HasLayout};
-ghost use Rattle.xcp_flash.specs.Restoring.{IsRestored};
-ghost use Rattle.xcp_program.specs.Beginning.{Begins, FitsNone, IsUnfit, with_a2l};
+ghost use Rattle.xcp_program.specs.Beginning.{Begins, FitsNone, HasStored, IsUnfit, with_a2l};
 ghost use Rattle.xcp_program.specs.ReplayOutcome.{IsFault};
 
 use crate::fault::Fault;
 use sha2::{Digest, Sha256};
 use std::alloc::Global;
 use xcp_config::{ConfigError, read_layout};
-use xcp_flash::restore;
+use xcp_flash::{pages_digest, restore_either};
 use xcp_memory::{A2lFile, Layout};
 
 /// The layout that the text of a configuration file describes: `Configuration`, 1 to 6, where it
@@ -61,13 +59,15 @@ fn with_a2l(mut layout: Layout, a2l: Option<A2lFile>) -> Layout
     layout
 }
 
-/// A layout with the pages of a file of this configuration: `Flash(1)` exactly where the bytes are no file of pages that fit it.
+/// A layout with the pages of a file that is of its segments or, as files of before are, of this configuration's text: `Flash(1)` exactly
+/// where the bytes are no file of pages that fit it.
 fn with_pages(mut layout: Layout, config: &str, file: &[u8]) -> Result<Layout, Fault>
-    ensures { MatchResult result (λ l. IsRestored layout (sha256 config.now) file.now l)
+    ensures { MatchResult result (λ l. HasStored config.now layout (Some file.now) l)
         (λ f. (f ≡ Fault.Flash 1) × FitsNone config.now layout (Some file.now)) }
 {
-    let digest = Sha256::digest(config.as_bytes());
-    match restore(&mut layout, &digest, file) {
+    let decided = pages_digest(&layout);
+    let text = Sha256::digest(config.as_bytes());
+    match restore_either(&mut layout, &decided, &text, file) {
         Ok(()) => Ok(layout),
         Err(_) => Err(Fault::Flash(1)),
     }

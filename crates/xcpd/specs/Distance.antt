@@ -3,7 +3,7 @@ use Rattle.std.specs.Prelude.{ℕ, ◌%◌, ◌-◌, List, slice_index, nat_lt, 
 
 -- where the number of calls with this chapter stands, of the numbers that are kept
 abbrev pub place_of : ℕ → ℕ
-place_of chapter = chapter % 64
+place_of chapter = chapter % 1024
 
 -- How many calls stand in the file where so many pieces are written: the first one is its head, and each further one a chapter.
 abbrev pub calls_with : List ℕ → ℕ → ℕ

@@ -4,7 +4,7 @@ use crate::flash::stored_in;
 use crate::text_of;
 use std::fs::File;
 use std::io;
-use xcp_audit::{Printer, print_audit};
+use xcp_audit::{HEAD_BYTES, Printer, from_head, print_audit, read_head};
 use xcp_describe::a2l_of;
 use xcp_framing::Watched;
 use xcp_program::{Fault, layout_stored};
@@ -25,12 +25,16 @@ pub fn audit_by(
     let Ok(file) = File::open(rt, path) else {
         return Err(Fault::Journal(0));
     };
-    let mut reader = Watched::new(file);
+    let mut file = Watched::new(file);
+    let mut bytes = [0; HEAD_BYTES];
+    let head = read_head(&mut file, &mut bytes)?;
+    let mut reader = from_head(head, file);
     let mut printer = Printer::new(rt.alloc(), io::writer(rt));
     print_audit(
         rt.alloc(),
         text.as_str(),
         layout,
+        head,
         &mut reader,
         &mut printer,
         lines,

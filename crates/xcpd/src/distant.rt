@@ -1,11 +1,14 @@
 //! The file of a journal that a thread of its own writes.
 ghost use Rattle.std.specs.Prelude.{◌≡◌, ◌<◌, [], ⊤, None, IfOk, MatchOption};
 ghost use Rattle.sha2.specs.Sha256.{sha256};
+ghost use Rattle.xcp_program.specs.Decided.{answers_decided};
 ghost use Rattle.xcp_scribe.specs.Scribing.{HasWritten};
 ghost use Rattle.xcpd.specs.Distance.{calls_with, place_of};
 
+use crate::flushed::Flushed;
 use crate::journal::{begin_recording, new_file, print_calls};
 use crate::lines::Lines;
+use crate::named::Named;
 use crate::teller::Alarm;
 use std::io::{self, ErrorKind, Write};
 use std::sync::{Arc, Wait};
@@ -14,7 +17,7 @@ use std::time::{Clock, Duration};
 use xcp_behind::{Backlog, Behind, Opened, Progress, WriteEnd, open_backlog};
 use xcp_program::{Fault, Recorded, fault_of_journal};
 use xcp_record::Roster;
-use xcp_scribe::{Recording, Scribe, Synced};
+use xcp_scribe::{Recording, Scribe};
 use xcp_slave::Slave;
 use xcp_trace::Entries;
 
@@ -22,7 +25,7 @@ use xcp_trace::Entries;
 const LAST: u64 = 1000;
 
 /// Of how many chapters at least it is known how many calls the file has with them: of more than can wait.
-const KEPT: usize = 64;
+const KEPT: usize = 1024;
 
 /// What has a server's journal written down, if the words name a file.
 pub type Distant<'a, R> = Option<Counting<'a, R>>;
@@ -54,7 +57,7 @@ impl<R: Wait> Write for Handing<'_, R> {
 pub struct Counting<'a, R> {
     recording: Recording<Handing<'a, R>>,
     chapters: u64,
-    calls: [u64; KEPT],
+    calls: Box<[u64; KEPT]>,
 }
 
 impl<R: Wait> Scribe for Counting<'_, R> {
@@ -91,7 +94,7 @@ fn place_of(chapter: u64) -> usize
 impl<R: Wait> Counting<'_, R> {
     /// How many calls stand in the file where the thread has written so many pieces: the head, and chapters behind it.
     fn calls_with(&self, pieces: u64) -> u64
-        ensures { result ≡ calls_with self.now.calls pieces }
+        ensures { result ≡ calls_with self.now.calls.value pieces }
     {
         match pieces.checked_sub(2) {
             Some(chapter) => self.calls[place_of(chapter)],
@@ -105,7 +108,7 @@ impl<R: Wait> Counting<'_, R> {
 pub fn distant_at<'a, R: Threads + Wait + Clock + Copy + Send + 'static>(
     rt: &HostRuntime,
     handle: &'a R,
-    text: &str,
+    named: &Named,
     path: &Option<String>,
     flash: &Option<String>,
     roster: Roster,
@@ -113,16 +116,19 @@ pub fn distant_at<'a, R: Threads + Wait + Clock + Copy + Send + 'static>(
 ) -> Result<(Distant<'a, R>, Option<Arc<Backlog>>), Fault>
     ensures begun { IfOk result (λ r. MatchOption r.0 ⊤ (λ c. HasWritten (λ _. None) c.recording [])) }
     ensures roster { IfOk result (λ r. MatchOption r.0 ⊤ (λ c. c.recording.roster ≡ roster)) }
-    ensures layout { IfOk result (λ r. MatchOption r.0 ⊤ (λ c. c.recording.layout ≡ sha256 text.now)) }
+    ensures layout { IfOk result (λ r. MatchOption r.0 ⊤ (λ c. c.recording.layout ≡ sha256 (answers_decided named.now.layout.value))) }
 {
     let Some(path) = path else {
         return Ok((None, None));
     };
     let file = new_file(rt, path, flash)?;
-    let Ok((stream, backlog, alarm)) = begin_writing(rt, handle, Synced::new(file), lines) else {
+    let Ok((stream, backlog, alarm)) = begin_writing(rt, handle, Flushed::new(file), lines) else {
         return Err(Fault::Memory);
     };
-    let recording = begin_recording(rt, text, roster, stream)?;
+    let Ok(calls) = Box::new(rt.alloc(), [0; KEPT]) else {
+        return Err(Fault::Memory);
+    };
+    let recording = begin_recording(rt, named, roster, stream)?;
     if backlog.wait(handle, Duration::from_millis(LAST)) == Progress::Stopped {
         return Err(Fault::Journal(1));
     }
@@ -130,7 +136,7 @@ pub fn distant_at<'a, R: Threads + Wait + Clock + Copy + Send + 'static>(
     let counting = Counting {
         recording,
         chapters: 0,
-        calls: [0; KEPT],
+        calls,
     };
     Ok((Some(counting), Some(backlog)))
 }
@@ -139,7 +145,7 @@ pub fn distant_at<'a, R: Threads + Wait + Clock + Copy + Send + 'static>(
 fn begin_writing<'a, R: Threads + Wait + Copy + Send + 'static>(
     rt: &HostRuntime,
     handle: &'a R,
-    file: Synced,
+    file: Flushed,
     lines: &Arc<Lines>,
 ) -> io::Result<(Handing<'a, R>, Arc<Backlog>, Arc<Alarm>)> {
     let alarm = Arc::new(rt.alloc(), Alarm::new(rt.alloc(), lines.clone()?))?;
@@ -159,7 +165,7 @@ fn begin_writing<'a, R: Threads + Wait + Copy + Send + 'static>(
 }
 
 /// Writes what comes. The first write that fails is told, and the last.
-fn write_on<R: Wait>(handle: &R, end: WriteEnd<Synced>, alarm: &Alarm) {
+fn write_on<R: Wait>(handle: &R, end: WriteEnd<Flushed>, alarm: &Alarm) {
     if end.write_all(handle).has_failed() {
         alarm.ring(handle);
     }

@@ -1,12 +1,13 @@
 //! The file of a server's journal, by the program's words.
 ghost use Rattle.std.specs.Prelude.{◌≡◌, ⊤, [], Bool, IfOk, MatchBool, MatchOption, None, is_none};
 ghost use Rattle.sha2.specs.Sha256.{sha256};
+ghost use Rattle.xcp_program.specs.Decided.{answers_decided};
 ghost use Rattle.xcp_program.specs.EndFaults.{fault_of_journal};
 ghost use Rattle.xcp_scribe.specs.Scribing.{AreEnded, HasBegun, HasWritten};
 ghost use Rattle.xcpd.specs.Faults.{fault_of_head};
 
+use crate::named::Named;
 use crate::teller::Teller;
-use sha2::{Digest, Sha256};
 use std::fs::{self, File};
 use std::io::{self, Write};
 use std::os::unix::fs::MetadataExt;
@@ -39,11 +40,11 @@ impl<R: Wait> Write for Telling<'_, R> {
     }
 }
 
-/// Makes the file of a journal, if it is named, of the layout file that has this text, and of these callers: it must not be there yet, and
-/// be none of those of the stored pages.
+/// Makes the file of a journal, if it is named, of the layout that these bytes name, and of these callers: it must not be there yet, and be
+/// none of those of the stored pages.
 pub fn journal_at<'a, R: Wait>(
     rt: &HostRuntime,
-    text: &str,
+    named: &Named,
     path: &Option<String>,
     flash: &Option<String>,
     roster: Roster,
@@ -51,7 +52,7 @@ pub fn journal_at<'a, R: Wait>(
 ) -> Result<Written<'a, R>, Fault>
     ensures begun { IfOk result HasBegun }
     ensures roster { IfOk result (λ w. MatchOption w ⊤ (λ r. r.roster ≡ roster)) }
-    ensures layout { IfOk result (λ w. MatchOption w ⊤ (λ r. r.layout ≡ sha256 text.now)) }
+    ensures layout { IfOk result (λ w. MatchOption w ⊤ (λ r. r.layout ≡ sha256 (answers_decided named.now.layout.value))) }
 {
     let Some(path) = path else {
         return Ok(None);
@@ -61,22 +62,21 @@ pub fn journal_at<'a, R: Wait>(
         file: Synced::new(file),
         teller,
     };
-    Ok(Some(begin_recording(rt, text, roster, stream)?))
+    Ok(Some(begin_recording(rt, named, roster, stream)?))
 }
 
-/// A recording to this stream, of the layout file that has this text, and of these callers.
+/// A recording to this stream, of the layout that these bytes name, and of these callers.
 pub fn begin_recording<W: Write + Drop>(
     rt: &HostRuntime,
-    text: &str,
+    named: &Named,
     roster: Roster,
     stream: W,
 ) -> Result<Recording<W>, Fault>
     ensures begun { IfOk result (λ r. HasWritten W.contents r []) }
     ensures roster { IfOk result (λ r. r.roster ≡ roster) }
-    ensures layout { IfOk result (λ r. r.layout ≡ sha256 text.now) }
+    ensures layout { IfOk result (λ r. r.layout ≡ sha256 (answers_decided named.now.layout.value)) }
 {
-    let layout = Sha256::digest(text.as_bytes());
-    match Recording::new(rt.alloc(), stream, layout, roster) {
+    match Recording::new(rt.alloc(), stream, named.digest(), roster) {
         Ok(recording) => Ok(recording),
         Err(NotBegun { fault, .. }) => Err(fault_of_head(fault)),
     }

@@ -8,15 +8,19 @@ mod callers;
 mod counts;
 mod distant;
 mod flash;
+mod flushed;
 mod journal;
 mod lines;
 mod log;
+mod named;
 mod stack;
 mod stay;
 mod teller;
 
 ghost use Rattle.std.specs.Prelude.{◌≡◌, ◌<◌, ◌≤◌, ◌+◌, ⊤, IfOk, MatchOption, vec_len};
+ghost use Rattle.sha2.specs.Sha256.{sha256};
 ghost use Rattle.xcp_program.specs.CommandLine.{InRange};
+ghost use Rattle.xcp_program.specs.Decided.{answers_decided};
 ghost use Rattle.xcp_scribe.specs.Flashing.{KeepsNone};
 ghost use Rattle.xcp_scribe.specs.Scribing.{HasBegun};
 ghost use Rattle.xcpd.specs.Counted.{told_at_end};
@@ -26,6 +30,7 @@ use crate::callers::{callers_of, roster_of};
 use crate::counts::counts_at_end;
 use crate::flash::{Kept, begin_with, fault_of_keeping, stored_in};
 use crate::journal::{Written, journal_at, print_recorded};
+use crate::named::Named;
 use crate::stack::{deepen, has_room};
 use crate::stay::stay_by;
 use crate::teller::Teller;
@@ -150,21 +155,23 @@ fn admit<'a, R: Wait>(
     flash: &Option<String>,
 ) -> Result<Admitted<'a, R>, Fault>
     requires { (1 ≤ tools) × (tools ≤ 2) × (tasks ≤ 6) }
-    ensures { IfOk result (λ r. (vec_len r.3 ≡ tools) × (r.0.callers ≡ tools + tasks + tools) × HasBegun r.2.first × KeepsNone r.2.second
+    ensures admitted { IfOk result (λ r. (vec_len r.3 ≡ tools) × (r.0.callers ≡ tools + tasks + tools) × HasBegun r.2.first × KeepsNone r.2.second
         × MatchOption r.2.first ⊤ (λ w. w.roster.tools + w.roster.tasks + w.roster.pumps + w.roster.clocks ≡ r.0.callers)) }
+    ensures journal { IfOk result (λ r. MatchOption r.2.first ⊤ (λ w. w.layout ≡ sha256 (answers_decided r.0.layout))) }
 {
     let text = text_of(rt, path)?;
     let (layout, kept) = begin_with(rt, text.as_str(), flash, Teller::new(rt, handle, None))?;
     refuse_clock(&layout)?;
     let periods = periods_of(&layout, pace, period);
     let roster = roster_of(tools, tasks, 0);
+    let named = Named::of(&layout);
     let Ok(unnamed) = Unnamed::new(rt.alloc(), layout, callers_of(&roster)) else {
         return Err(Fault::Memory);
     };
     let listener = listen(rt, host, port)?;
     let written = journal_at(
         rt,
-        text.as_str(),
+        &named,
         journal,
         flash,
         roster,

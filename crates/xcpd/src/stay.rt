@@ -11,6 +11,7 @@ use crate::distant::{Distant, distant_at, finish_writing, print_distant};
 use crate::flash::{Kept, begin_with, fault_of_keeping};
 use crate::lines::{Lines, begin_lines};
 use crate::log::Log;
+use crate::named::Named;
 use crate::stack::deepen;
 use crate::teller::Teller;
 use crate::{end, listen, text_of};
@@ -100,6 +101,7 @@ fn stay_with<R: Threads + Wait + Clock + Copy + Send + Sync + 'static>(
     )?;
     let plan = plan_of(staying, &layout);
     let roster = roster_of(plan.tools, plan.tasks, timekeepers(&layout));
+    let named = Named::of(&layout);
     let Ok(unnamed) = Unnamed::new(rt.alloc(), layout, callers_of(&roster)) else {
         return Err(Fault::Memory);
     };
@@ -107,7 +109,7 @@ fn stay_with<R: Threads + Wait + Clock + Copy + Send + Sync + 'static>(
     let Ok(halt) = halt_by_input(rt, handle, staying.reads_input) else {
         return Err(Fault::Memory);
     };
-    let (written, backlog) = distant_at(rt, handle, text.as_str(), journal, flash, roster, lines)?;
+    let (written, backlog) = distant_at(rt, handle, &named, journal, flash, roster, lines)?;
     let scribe = Both {
         first: written,
         second: kept,

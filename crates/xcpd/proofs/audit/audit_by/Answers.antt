@@ -2,5 +2,5 @@ use Rattle.std.proofs.Common.{ℕ, List, Bor, option_map, rules}
 use Rattle.xcpd.proofs.audit.audit_by.Goals as goal
 
 -- the layout begins with the stored pages of the file, or with none
-pub print_audit-requires : goal.print_audit-requires
-print_audit-requires c = (c.in_ok-a2l.a2l, option_map (λ (f : Bor (List ℕ)). f.now) c.as_deref.result, search rules)
+pub print_audit-requires-clause-begins : goal.print_audit-requires-clause-begins
+print_audit-requires-clause-begins c = (c.in_ok-a2l.a2l, option_map (λ (f : Bor (List ℕ)). f.now) c.as_deref.result, search rules)

@@ -10,4 +10,4 @@ invariant-loop-turn g l =
     (l.taker.relay ≡ (arc_value l.backlog).relay)
     × (l.taker.givers ≡ 1)
     × (l.taker.relay ≡ l.fn.self.relay)
-    × Appends (g.W.Write.contents l.start.value) (g.W.Write.contents l.writer.inner) (bytes_of (items_of 0 l.taker.taken))
+    × Appends (g.W.Write.contents l.start.value) (g.W.Write.contents l.stream) (bytes_of (items_of 0 l.taker.taken))

@@ -1,8 +1,8 @@
 use Rattle.std.proofs.Common.{take}
 use Rattle.std.specs.List.{flat_map}
 use Rattle.sha2.specs.Hashers.{Holds256}
-use Rattle.xcp_c.specs.PartsOpenings.{segment_decided}
-use Rattle.xcp_c.proofs.by_parts.digest_of.Given as goal
+use Rattle.xcp_flash.specs.Decided.{segment_decided}
+use Rattle.xcp_flash.proofs.deciding.pages_digest.Given as goal
 
 -- it has been given the segments so far
 abbrev pub invariant-loop-segment : goal.invariant-loop-segment
