@@ -151,7 +151,12 @@ class Calibrator:
     def stored_pages(self):
         """The bytes of the file that has the reference pages."""
         with open(self.layout.path, "rb") as file:
-            content = b"XCPF\x01\x00" + hashlib.sha256(file.read()).digest()
+            segments = tomllib.load(file)["segment"]
+        decided = b""
+        for it in segments:
+            reference = bytes.fromhex(it["data"])
+            decided += struct.pack("<II", it["address"], len(reference)) + reference
+        content = b"XCPF\x01\x00" + hashlib.sha256(decided).digest()
         for segment in self.segments:
             content += struct.pack("<I", segment.size) + segment.pages[0]
         return content + hashlib.sha256(content).digest()

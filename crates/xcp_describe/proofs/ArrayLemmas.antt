@@ -3,7 +3,7 @@ use Rattle.std.proofs.Common.{◌≡◌, List, [], ◌∷◌, Option, Some, refl
 use Rattle.toml.specs.Data.{Data, as_array}
 use Rattle.toml.specs.View.{items_of}
 use Rattle.xcp_config.specs.TomlValues.{list_of, members_of}
-use Rattle.xcp_describe.specs.EntryFaults.{is_array_or_none}
+use Rattle.xcp_describe.specs.EntryValues.{is_array_or_none}
 
 -- a list, as items and back
 list_of_items : (ds : List Data) → list_of (items_of ds) ≡ ds

@@ -11,9 +11,11 @@ use Rattle.xcp_describe.specs.declared.refusal.Why.{Why}
 use Rattle.xcp_describe.specs.declared.refusal.Why.TheVariants.{Table}
 use Rattle.xcp_describe.specs.declared.refusal.DescribeError.{DescribeError}
 use Rattle.xcp_describe.specs.declared.refusal.DescribeError.TheVariants.{Host, Program, Parameter, Measurement}
-use Rattle.xcp_describe.specs.EntryFaults.{axes_checks, is_array_or_none, parameter_checks, parameters_checks, parameters_in, placed_at}
+use Rattle.xcp_describe.specs.EntryFaults.{axes_checks, parameter_checks, parameters_checks, parameters_in, placed_at}
 use Rattle.xcp_describe.specs.Findings.{IsEntry}
 use Rattle.xcp_describe.specs.declared.entry.Entry.{Entry}
+use Rattle.xcp_describe.specs.declared.meaning.Meaning.{Meaning}
+use Rattle.xcp_describe.specs.EntryValues.{is_array_or_none, mask_in}
 use Rattle.xcp_describe.specs.Axes.{Form, form_of}
 use Rattle.xcp_describe.specs.private.EntriesRead.{IsRead, form_read}
 use Rattle.xcp_describe.specs.private.Refusals.{IsEntryOrMemory, Refuses}
@@ -50,8 +52,8 @@ map_push f [] x = refl
 map_push f (y ∷ ys) x = ap (λ zs. f y ∷ zs) (map_push f ys x)
 
 -- a parameter that is read has its axes as its table has them
-pub form_is : (d : Data) (e : Entry) → IsRead true d e → form_read e ≡ form_of d
-form_is d e r = rw (r.name, r.count, r.columns, r.rows, r.x_axis, r.y_axis) refl
+pub form_is : (d : Data) (e : Entry) (m : Meaning) → IsRead true d e → m.bits ≡ mask_in d → form_read (record e { meaning = m }) ≡ form_of d
+form_is d e m r bits = rw (r.name, r.count, r.columns, r.rows, bits, r.x_axis, r.y_axis) refl
 
 -- one more name
 pub one_more : {A B : Type 0} (f : A → B) (xs : List A) (i : ℕ) (x : A) → i < length xs → x ≡ get_or xs i x → map f (take (i + 1) xs) ≡ map f (take i xs) ++ f x ∷ []

@@ -1,11 +1,11 @@
 -- The faults of the parameters and measurements of a layout file, in the order in which they are looked for: first the parameters and
 -- then the measurements, each in the order of the file; and of an entry key by key. The axes of the parameters are looked at once all
 -- parameters are read, since a parameter behind may be one.
-use Rattle.std.specs.Prelude.{◌≡◌, ℕ, Bool, true, false, List, [], ◌∷◌, ◌++◌, map, take, codes, Option, Some, is_some, unwrap_or, option_and_then}
+use Rattle.std.specs.Prelude.{◌≡◌, ℕ, Bool, List, [], ◌∷◌, ◌++◌, length, map, take, codes, Option, Some, is_some, unwrap_or, option_and_then}
 use Rattle.std.specs.List.{flat_map, enumerate_from}
 use Rattle.std.specs.Float.{Float, float_zero}
 use lib.Ieee.{eq}
-use Rattle.toml.specs.Data.{Data, Members, table, as_array, as_integer, as_str, get}
+use Rattle.toml.specs.Data.{Data, Members, table, as_integer, as_str, get}
 use Rattle.toml.specs.Parse.{parse_document}
 use Rattle.xcp_packet.specs.Rows.{first_holding, must}
 use Rattle.xcp_memory.specs.Layout.{LayoutValue}
@@ -17,24 +17,25 @@ use Rattle.xcp_describe.specs.declared.refusal.Why.{Why}
 use Rattle.xcp_describe.specs.declared.refusal.Why.TheVariants as why
 use Rattle.xcp_describe.specs.declared.refusal.DescribeError.{DescribeError}
 use Rattle.xcp_describe.specs.declared.refusal.DescribeError.TheVariants.{Parameter, Measurement}
-use Rattle.xcp_describe.specs.EntryValues.{are_limits, bounds_of, bytes_in, factor_in, factor_of, first_of, high_in, is_name, is_count, is_shape, is_text_or_none, low_in, name_of, none_or, offset_in, some_and, type_in}
+use Rattle.xcp_describe.specs.EntryValues.{ValueType, are_limits, bounds_of, bytes_in, factor_in, factor_of, first_of, high_in, is_array_or_none, is_event, is_group, is_mask, is_name, is_count, is_shape, is_text_or_none, low_in, name_of, offset_in, some_and, type_in, type_of}
+use Rattle.xcp_describe.specs.NumberNames.{are_names}
 use Rattle.xcp_describe.specs.Axes.{Form, form_of, has_axes}
 use Rattle.xcp_describe.specs.UnreadKeys.{is_among}
 
--- the faults of the count, and of columns and rows, of a parameter; a measurement has neither
-abbrev pub shape_faults : Bool → Data → List (Bool × Why)
-shape_faults many d =
-    must (is_count many d) why.Count
-    ∷ must (is_shape many d) why.Shape
+-- the faults of the count, and of columns and rows
+abbrev pub shape_faults : Data → List (Bool × Why)
+shape_faults d =
+    must (is_count d) why.Count
+    ∷ must (is_shape d) why.Shape
     ∷ []
 
 -- those of name, address and type, and of the shape behind them
-abbrev pub key_faults : Bool → Data → List (Bool × Why)
-key_faults many d =
+abbrev pub key_faults : Data → List (Bool × Why)
+key_faults d =
     must (some_and is_name (option_and_then as_str (get (codes "name") d))) why.Name
     ∷ must (some_and (is_within 0 0xFFFF_FFFF) (option_and_then as_integer (get (codes "address") d))) why.Address
     ∷ must (is_some (type_in d)) why.Kind
-    ∷ shape_faults many d
+    ∷ shape_faults d
 
 -- those of the factor and the offset
 abbrev pub scale_faults : Data → List (Bool × Why)
@@ -60,24 +61,33 @@ text_faults d =
     ∷ []
 
 -- those of an entry by itself
-unfoldable pub entry_faults : Bool → Data → List (Bool × Why)
-entry_faults many d = key_faults many d ++ scale_faults d ++ limit_faults (bounds_of d) (factor_of d) d ++ text_faults d
+unfoldable pub entry_faults : Data → List (Bool × Why)
+entry_faults d = key_faults d ++ scale_faults d ++ limit_faults (bounds_of d) (factor_of d) d ++ text_faults d
+
+-- those of what its values mean to tools, behind all others: of a type
+abbrev pub meaning_faults : ValueType → Data → List (Bool × Why)
+meaning_faults t d =
+    must (is_mask t d) why.Bits
+    ∷ must (are_names t d) why.Values
+    ∷ must (is_group d) why.Group
+    ∷ []
 
 -- those of a parameter behind entries of these names: all its bytes lie in one segment
 abbrev pub parameter_faults : LayoutValue → List (List ℕ) → Data → List (Bool × Why)
 parameter_faults l earlier d =
-    entry_faults true d
+    entry_faults d
     ++ (is_among (name_of d) earlier, why.Taken)
-    ∷ must (is_some (segment_of l (first_of d) (bytes_in true d))) why.NoSegment
-    ∷ []
+    ∷ must (is_some (segment_of l (first_of d) (bytes_in d))) why.NoSegment
+    ∷ meaning_faults (type_of d) d
 
--- those of a measurement: all its bytes lie in one segment or in the signals
+-- those of a measurement: all its bytes lie in one segment or in the signals, and its event channel is one of the layout
 abbrev pub measurement_faults : LayoutValue → List (List ℕ) → Data → List (Bool × Why)
 measurement_faults l earlier d =
-    entry_faults false d
+    entry_faults d
     ++ (is_among (name_of d) earlier, why.Taken)
-    ∷ must (lies_inside l (first_of d) (bytes_in false d)) why.NoMemory
-    ∷ []
+    ∷ must (lies_inside l (first_of d) (bytes_in d)) why.NoMemory
+    ∷ must (is_event (length l.events) d) why.Event
+    ∷ meaning_faults (type_of d) d
 
 -- a fault of an entry, with the entry's table and number
 abbrev pub placed_at : (Why → DescribeError) → Bool × Why → Bool × DescribeError
@@ -100,10 +110,7 @@ axis_checks ps (i, p) = map (placed_at (Parameter i)) (axis_faults ps p)
 abbrev pub axes_checks : List Form → List (Bool × DescribeError)
 axes_checks ps = flat_map (axis_checks ps) (enumerate_from 0 ps)
 
--- the tables of parameters and of measurements: arrays, if they are there
-abbrev pub is_array_or_none : Option Data → Bool
-is_array_or_none v = none_or (λ x. is_some (as_array x)) v
-
+-- the tables of parameters and of measurements
 abbrev pub parameters_in : Data → List Data
 parameters_in t = members_of (get (codes "parameter") t)
 

@@ -4,7 +4,7 @@ use Rattle.std.specs.List.{list_all}
 use Rattle.std.specs.Char.{is_ascii_alphanumeric, is_ascii_digit}
 use Rattle.std.specs.Float.{Float, fin, binary64, float_is_finite, float_zero, float_one}
 use lib.Ieee.{add, le, mul, of_int}
-use Rattle.toml.specs.Data.{Data, as_float, as_integer, as_str, get}
+use Rattle.toml.specs.Data.{Data, as_array, as_float, as_integer, as_str, get}
 use Rattle.xcp_memory.specs.LayoutParts.{number}
 use Rattle.xcp_memory.specs.Limits.{is_text, is_within}
 use Rattle.xcp_config.specs.TableLayout.{address_of}
@@ -20,6 +20,10 @@ abbrev pub none_or : {A : Type 0} → (A → Bool) → Option A → Bool
 none_or test None = true
 none_or test (Some x) = test x
 
+-- an array, if it is there
+abbrev pub is_array_or_none : Option Data → Bool
+is_array_or_none v = none_or (λ x. is_some (as_array x)) v
+
 -- an identifier: letters, digits and underscores, and no digit first; at most 117 of them, since with `_conversion` behind it, it is an
 -- identifier too, which has at most 128
 -- (ASAM MCD-2 MC: identifiers.)
@@ -32,6 +36,13 @@ is_name s = some_and (λ c. not (is_ascii_digit c)) (slice_get s 0) && nat_le (l
 abbrev pub name_of : Data → List ℕ
 name_of d = text_of (get (codes "name") d)
 
+-- the name of the group that an entry is in, if it is given: an identifier
+abbrev pub is_group : Data → Bool
+is_group d = none_or (λ v. some_and is_name (as_str v)) (get (codes "group") d)
+
+abbrev pub group_in : Data → Option (List ℕ)
+group_in d = option_map (λ v. text_of (Some v)) (get (codes "group") d)
+
 -- a text of at most 128 printable characters, if it is there
 abbrev pub is_short_text : List ℕ → Bool
 is_short_text s = length s == 0 || is_text 128 s
@@ -39,38 +50,39 @@ is_short_text s = length s == 0 || is_text 128 s
 abbrev pub is_text_or_none : Option Data → Bool
 is_text_or_none v = none_or (λ x. some_and is_short_text (as_str x)) v
 
--- The type of a value: how many bytes it has, and the least and the greatest number. `fin s m e` is m times two to the e, and negative
+-- The type of a value: how many bytes it has, the mask of all its bits, 0 of a float, and the least and the greatest number. `fin s m e` is m times two to the e, and negative
 -- where s is true.
 -- (ASAM MCD-2 MC: data types.)
 pub record ValueType : Type 0 where
   pub size : ℕ
+  pub mask : ℕ
   pub least : Float
   pub greatest : Float
 
 abbrev pub ubyte : ValueType
-ubyte = record { size = 1; least = float_zero; greatest = fin false 255 (pos 0) }
+ubyte = record { size = 1; mask = 0xFF; least = float_zero; greatest = fin false 255 (pos 0) }
 
 abbrev pub sbyte : ValueType
-sbyte = record { size = 1; least = fin true 1 (pos 7); greatest = fin false 127 (pos 0) }
+sbyte = record { size = 1; mask = 0xFF; least = fin true 1 (pos 7); greatest = fin false 127 (pos 0) }
 
 abbrev pub uword : ValueType
-uword = record { size = 2; least = float_zero; greatest = fin false 65535 (pos 0) }
+uword = record { size = 2; mask = 0xFFFF; least = float_zero; greatest = fin false 65535 (pos 0) }
 
 abbrev pub sword : ValueType
-sword = record { size = 2; least = fin true 1 (pos 15); greatest = fin false 32767 (pos 0) }
+sword = record { size = 2; mask = 0xFFFF; least = fin true 1 (pos 15); greatest = fin false 32767 (pos 0) }
 
 abbrev pub ulong : ValueType
-ulong = record { size = 4; least = float_zero; greatest = fin false 4294967295 (pos 0) }
+ulong = record { size = 4; mask = 0xFFFF_FFFF; least = float_zero; greatest = fin false 4294967295 (pos 0) }
 
 abbrev pub slong : ValueType
-slong = record { size = 4; least = fin true 1 (pos 31); greatest = fin false 2147483647 (pos 0) }
+slong = record { size = 4; mask = 0xFFFF_FFFF; least = fin true 1 (pos 31); greatest = fin false 2147483647 (pos 0) }
 
 -- 24 and 53 binary digits, all of them 1, and the greatest exponent
 abbrev pub float32 : ValueType
-float32 = record { size = 4; least = fin true 0xFF_FFFF (pos 104); greatest = fin false 0xFF_FFFF (pos 104) }
+float32 = record { size = 4; mask = 0; least = fin true 0xFF_FFFF (pos 104); greatest = fin false 0xFF_FFFF (pos 104) }
 
 abbrev pub float64 : ValueType
-float64 = record { size = 8; least = fin true 0x1F_FFFF_FFFF_FFFF (pos 971); greatest = fin false 0x1F_FFFF_FFFF_FFFF (pos 971) }
+float64 = record { size = 8; mask = 0; least = fin true 0x1F_FFFF_FFFF_FFFF (pos 971); greatest = fin false 0x1F_FFFF_FFFF_FFFF (pos 971) }
 
 -- the types by their names
 abbrev pub value_types : List (List ℕ × ValueType)
@@ -91,20 +103,16 @@ type_in d = option_and_then (named value_types) (option_and_then as_str (get (co
 abbrev pub type_of : Data → ValueType
 type_of d = unwrap_or (type_in d) ubyte
 
--- what stands at a key that is looked at in a parameter alone
-abbrev pub given : Bool → List ℕ → Data → Option Data
-given many key d = if many then get key d else None
-
 -- a number of values, 1 to 2040, if it is given
-abbrev pub is_size : Bool → List ℕ → Data → Bool
-is_size many key d = none_or (λ v. some_and (is_within 1 2040) (as_integer v)) (given many key d)
+abbrev pub is_size : List ℕ → Data → Bool
+is_size key d = none_or (λ v. some_and (is_within 1 2040) (as_integer v)) (get key d)
 
-abbrev pub size_in : Bool → List ℕ → Data → Option ℕ
-size_in many key d = option_map (λ v. number (integer_of (Some v))) (given many key d)
+abbrev pub size_in : List ℕ → Data → Option ℕ
+size_in key d = option_map (λ v. number (integer_of (Some v))) (get key d)
 
 -- how many values stand one behind the other
-abbrev pub is_count : Bool → Data → Bool
-is_count many d = is_size many (codes "count") d
+abbrev pub is_count : Data → Bool
+is_count d = is_size (codes "count") d
 
 -- The values may stand in rows instead: so many in a row, and so many rows. There are no rows without columns, no count beside them,
 -- and at most 2040 values.
@@ -112,25 +120,43 @@ abbrev pub are_rows : Option ℕ → Option ℕ → Option ℕ → Bool
 are_rows count None rows = not (is_some rows)
 are_rows count (Some n) rows = not (is_some count) && nat_le (n * unwrap_or rows 1) 2040
 
-abbrev pub is_shape : Bool → Data → Bool
-is_shape many d =
-    is_size many (codes "columns") d
-    && is_size many (codes "rows") d
-    && are_rows (size_in many (codes "count") d) (size_in many (codes "columns") d) (size_in many (codes "rows") d)
+abbrev pub is_shape : Data → Bool
+is_shape d =
+    is_size (codes "columns") d
+    && is_size (codes "rows") d
+    && are_rows (size_in (codes "count") d) (size_in (codes "columns") d) (size_in (codes "rows") d)
 
 -- how many values there are in all: each of the three numbers is 1 where it isn't given
 abbrev pub values_of : Option ℕ → Option ℕ → Option ℕ → ℕ
 values_of count columns rows = unwrap_or count 1 * (unwrap_or columns 1 * unwrap_or rows 1)
 
-abbrev pub count_of : Bool → Data → ℕ
-count_of many d = values_of (size_in many (codes "count") d) (size_in many (codes "columns") d) (size_in many (codes "rows") d)
+abbrev pub count_of : Data → ℕ
+count_of d = values_of (size_in (codes "count") d) (size_in (codes "columns") d) (size_in (codes "rows") d)
 
 -- the first address, and how many bytes all values have
 abbrev pub first_of : Data → ℕ
 first_of d = number (address_of d)
 
-abbrev pub bytes_in : Bool → Data → ℕ
-bytes_in many d = (type_of d).size * count_of many d
+abbrev pub bytes_in : Data → ℕ
+bytes_in d = (type_of d).size * count_of d
+
+-- the number of an event channel, of so many, if it is given
+abbrev pub is_below : ℕ → ℤ → Bool
+is_below n (pos k) = nat_lt k n
+is_below n (negsuc k) = false
+
+abbrev pub is_event : ℕ → Data → Bool
+is_event channels d = none_or (λ v. some_and (is_below channels) (as_integer v)) (get (codes "event") d)
+
+abbrev pub event_in : Data → Option ℕ
+event_in d = option_map (λ v. number (integer_of (Some v))) (get (codes "event") d)
+
+-- a mask of the bits of a value that count, if it is given: one of them at least, and none that a type of integers hasn't
+abbrev pub is_mask : ValueType → Data → Bool
+is_mask t d = none_or (λ v. some_and (is_within 1 t.mask) (as_integer v)) (get (codes "bits") d)
+
+abbrev pub mask_in : Data → Option ℕ
+mask_in d = option_map (λ v. number (integer_of (Some v))) (get (codes "bits") d)
 
 -- an integer of 32 bits, signed or not
 abbrev pub is_of_32_bits : ℤ → Bool

@@ -6,6 +6,7 @@ pub mod FaultWords
 pub mod Files
 pub mod FindingsText
 pub mod Hosts
+pub mod NumberNames
 pub mod Places
 pub mod RefusalWords
 pub mod TimeStampText

@@ -22,8 +22,12 @@ why_words why.Limits = codes "low and high have to be values of its type, and lo
 why_words why.Unit = codes "unit has to be a text of printable ASCII, at most 128 characters"
 why_words why.About = codes "about has to be a text of printable ASCII, at most 128 characters"
 why_words why.NoSegment = codes "its bytes lie in no segment"
-why_words why.Axis = codes "x_axis and y_axis have to name parameters of as many values as it has columns and rows, and an x_axis beside rows needs a y_axis"
+why_words why.Axis = codes "x_axis and y_axis have to name parameters without bits, of as many values as it has columns and rows, and an x_axis beside rows needs a y_axis"
 why_words why.NoMemory = codes "its bytes lie neither in one segment nor in the signals"
+why_words why.Event = codes "event has to be an integer, the number of an event channel from 0"
+why_words why.Bits = codes "bits has to be an integer, not 0, within the bits of its type, which is one of integers"
+why_words why.Values = codes "values has to be an array of at most 256 pairs, each an array of a number of its type, which is one of integers, and a text of 1 to 100 printable ASCII characters, no number twice, without factor and offset"
+why_words why.Group = codes "group has to be an identifier: letters, digits and underscores, no digit first, at most 117 characters"
 
 -- a refused entry: its table, its number in it, from 0, and what is wrong with it
 abbrev pub entry_words : List ℕ → ℕ → Why → List ℕ

@@ -24,12 +24,12 @@ signals_keys = codes "address" ∷ codes "length" ∷ []
 abbrev pub event_keys : List (List ℕ)
 event_keys = codes "name" ∷ codes "cycle" ∷ codes "unit" ∷ codes "priority" ∷ []
 
--- those of a parameter, and of a measurement, which has no count
+-- those of a parameter, and of a measurement, which has an event channel and no axes
 abbrev pub parameter_keys : List (List ℕ)
-parameter_keys = codes "name" ∷ codes "address" ∷ codes "type" ∷ codes "count" ∷ codes "columns" ∷ codes "rows" ∷ codes "x_axis" ∷ codes "y_axis" ∷ codes "unit" ∷ codes "about" ∷ codes "factor" ∷ codes "offset" ∷ codes "low" ∷ codes "high" ∷ []
+parameter_keys = codes "name" ∷ codes "address" ∷ codes "type" ∷ codes "count" ∷ codes "columns" ∷ codes "rows" ∷ codes "x_axis" ∷ codes "y_axis" ∷ codes "bits" ∷ codes "values" ∷ codes "group" ∷ codes "unit" ∷ codes "about" ∷ codes "factor" ∷ codes "offset" ∷ codes "low" ∷ codes "high" ∷ []
 
 abbrev pub measurement_keys : List (List ℕ)
-measurement_keys = codes "name" ∷ codes "address" ∷ codes "type" ∷ codes "unit" ∷ codes "about" ∷ codes "factor" ∷ codes "offset" ∷ codes "low" ∷ codes "high" ∷ []
+measurement_keys = codes "name" ∷ codes "address" ∷ codes "type" ∷ codes "count" ∷ codes "columns" ∷ codes "rows" ∷ codes "event" ∷ codes "bits" ∷ codes "values" ∷ codes "group" ∷ codes "unit" ∷ codes "about" ∷ codes "factor" ∷ codes "offset" ∷ codes "low" ∷ codes "high" ∷ []
 
 -- the key is one of these
 abbrev pub is_among : List ℕ → List (List ℕ) → Bool

@@ -6,6 +6,7 @@ use std::alloc::AllocError;
 pub(crate) fn put_grammar(
     has_later_commands: bool,
     has_time_stamps: bool,
+    has_events: bool,
     text: &mut String,
 ) -> Result<(), AllocError> {
     text.push_str(FRONT)?;
@@ -15,6 +16,10 @@ pub(crate) fn put_grammar(
     text.push_str(MIDDLE)?;
     if has_time_stamps {
         text.push_str(TIME_STAMPS)?;
+    }
+    text.push_str(CHANNELS)?;
+    if has_events {
+        text.push_str(EVENTS)?;
     }
     text.push_str(BACK)
 }
@@ -226,8 +231,8 @@ const TIME_STAMPS: &str = r#"            block "TIMESTAMP_SUPPORTED" struct {
             };
 "#;
 
-/// The rest of the block.
-const BACK: &str = r#"            (block "EVENT" struct {
+/// What stands behind the time stamps, up to the place where the event channels of measurements stand.
+const CHANNELS: &str = r#"            (block "EVENT" struct {
               char[101];  /* name */
               char[9];  /* short name */
               uint;  /* number */
@@ -249,7 +254,18 @@ const BACK: &str = r#"            (block "EVENT" struct {
             "FREEZE_SUPPORTED";
           };
         };
-      };
+"#;
+
+/// The event channel at which a measurement is measured.
+const EVENTS: &str = r#"        block "DAQ_EVENT" taggedunion {
+          "FIXED_EVENT_LIST" taggedstruct {
+            ("EVENT" uint)*;
+          };
+        };
+"#;
+
+/// The rest of the block.
+const BACK: &str = r#"      };
       block "IF_DATA" taggedunion if_data {
         "XCP" struct {
           taggedstruct Common_Parameters;

@@ -18,9 +18,10 @@ use crate::clock::Clock;
 use crate::commands::has_later_commands;
 use crate::daq::Daq;
 use crate::epk::epk_line;
+use crate::groups::put_groups;
 use crate::host::is_host;
 use crate::memory::Paging;
-use crate::naming::put_tables;
+use crate::naming::{has_events, put_tables};
 use crate::protocol::Protocol;
 use crate::refusal::DescribeError;
 use crate::tables::Tables;
@@ -124,11 +125,13 @@ fn text_of(
     let mut asked = Asked::new(alloc, layout)?;
     let protocol = Protocol::ask(&mut asked);
     let mut front = String::new(alloc);
-    put_front(&mut asked, &protocol, &mut front)?;
+    let has_events = has_events(tables.measurements.as_slice());
+    put_front(&mut asked, &protocol, has_events, &mut front)?;
     let mut rest = String::new(alloc);
     put_memory(&mut asked, signals, &mut rest)?;
     put_interface(&mut asked, &protocol, host, port, &mut rest)?;
     put_tables(tables, &mut rest)?;
+    put_groups(tables, &mut rest)?;
     whole(alloc, front.as_str(), epk.as_str(), rest.as_str())
 }
 
@@ -148,7 +151,12 @@ fn whole(alloc: Global, front: &str, epk: &str, rest: &str) -> Result<String, Al
 }
 
 /// Appends what stands behind the name of the block PROJECT, up to the block MOD_PAR.
-fn put_front(asked: &mut Asked, protocol: &Protocol, text: &mut String) -> Result<(), AllocError> {
+fn put_front(
+    asked: &mut Asked,
+    protocol: &Protocol,
+    has_events: bool,
+    text: &mut String,
+) -> Result<(), AllocError> {
     let id = identification(asked);
     put_quoted(text, id.as_slice(), id.len())?;
     text.push_str("\n  /begin MODULE slave ")?;
@@ -157,6 +165,7 @@ fn put_front(asked: &mut Asked, protocol: &Protocol, text: &mut String) -> Resul
     put_grammar(
         has_later_commands,
         Clock::ask(asked).has_time_stamps(),
+        has_events,
         text,
     )?;
     put_common(protocol, text)

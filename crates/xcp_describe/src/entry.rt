@@ -1,5 +1,5 @@
 //! One parameter or measurement: what the layout file says of it.
-ghost use Rattle.std.specs.Prelude.{◌≡◌, ◌*◌, codes, Some, None, true, false, IfOk, IfErr, is_some, unwrap_or, option_and_then, option_map};
+ghost use Rattle.std.specs.Prelude.{◌≡◌, ◌*◌, codes, length, Some, None, true, false, IfOk, IfErr, is_some, unwrap_or, option_and_then, option_map};
 ghost use Rattle.std.specs.Float.{binary64};
 ghost use Rattle.std.specs.List.{list_all, list_any};
 ghost use lib.Ieee.{of_int};
@@ -9,12 +9,13 @@ ghost use Rattle.xcp_packet.specs.Rows.{first_holding};
 ghost use Rattle.xcp_memory.specs.Limits.{is_within};
 ghost use Rattle.xcp_memory.specs.ComputedAccess.{lies_inside, segment_of};
 ghost use Rattle.xcp_describe.specs.Axes.{axis_in, has_axes, has_axis, is_axis};
-ghost use Rattle.xcp_describe.specs.EntryValues.{factor_in, first_of, in_order, in_unit, is_name, is_name_character, is_of_32_bits, is_text_or_none, name_of, number_or, offset_in, some_and, type_in};
+ghost use Rattle.xcp_describe.specs.EntryValues.{event_in, factor_in, first_of, in_order, in_unit, is_event, is_name, is_name_character, is_of_32_bits, is_text_or_none, name_of, number_or, offset_in, some_and, type_in};
 ghost use Rattle.xcp_describe.specs.EntryFaults.{entry_faults, limit_faults};
 ghost use Rattle.xcp_describe.specs.private.EntriesRead.{IsRead, form_read, forms_of, type_named};
 ghost use Rattle.xcp_describe.specs.private.FiniteNumbers.{HasFiniteNumbers, IsFinite};
 
 use crate::kind::Kind;
+use crate::meaning::Meaning;
 use crate::refusal::Why;
 use crate::shape::Shape;
 use toml::Value;
@@ -44,21 +45,24 @@ pub(crate) struct Entry<'a> {
     pub(crate) offset: f64,
     pub(crate) low: f64,
     pub(crate) high: f64,
+    /// The event channel at which a measurement is measured, if one is given.
+    pub(crate) event: Option<u16>,
+    pub(crate) meaning: Meaning<'a>,
 }
 
 impl<'a> Entry<'a> {
-    /// The entry that a table describes; only where `many` may it have several values.
+    /// The entry that a table describes; only a parameter has axes.
     #[tactic(auto, unfolding(crate::specs::EntryFaults::entry_faults))]
-    pub(crate) fn read(table: &'a Value, many: bool) -> Result<Entry<'a>, Why>
+    pub(crate) fn read(table: &'a Value, is_parameter: bool) -> Result<Entry<'a>, Why>
         ensures finite { IfOk result HasFiniteNumbers }
-        ensures passes { IfOk result (λ _. first_holding (entry_faults many (view table.now)) ≡ None) }
-        ensures read { IfOk result (λ e. IsRead many (view table.now) e) }
-        ensures refused { IfErr result (λ e. first_holding (entry_faults many (view table.now)) ≡ Some e) }
+        ensures passes { IfOk result (λ _. first_holding (entry_faults (view table.now)) ≡ None) }
+        ensures read { IfOk result (λ e. IsRead is_parameter (view table.now) e) }
+        ensures refused { IfErr result (λ e. first_holding (entry_faults (view table.now)) ≡ Some e) }
     {
         let name = name_in(table)?;
         let address = address_in(table)?;
         let kind = kind_in(table)?;
-        let shape = Shape::read(table, many)?;
+        let shape = Shape::read(table)?;
         let factor = factor_in(table)?;
         let offset = offset_in(table)?;
         let (low, high) = limits_in(table, scaled(kind.bounds(), factor, offset), factor)?;
@@ -67,14 +71,16 @@ impl<'a> Entry<'a> {
             address,
             kind,
             shape,
-            x_axis: axis_in(table, "x_axis", many),
-            y_axis: axis_in(table, "y_axis", many),
+            x_axis: axis_in(table, "x_axis", is_parameter),
+            y_axis: axis_in(table, "y_axis", is_parameter),
             unit: text_in(table, "unit", Why::Unit)?,
             about: text_in(table, "about", Why::About)?,
             factor,
             offset,
             low,
             high,
+            event: None,
+            meaning: Meaning::plain(),
         })
     }
 
@@ -106,6 +112,7 @@ impl<'a> Entry<'a> {
         name == self.name
             && self.shape.count.unwrap_or(1) == count
             && self.shape.columns.is_none()
+            && self.meaning.bits.is_none()
             && self.x_axis.is_none()
             && self.y_axis.is_none()
     }
@@ -199,7 +206,7 @@ fn name_in(table: &Value) -> Result<&str, Why>
 }
 
 /// Whether it begins with a letter or an underscore, and goes on with these and digits.
-fn is_name(bytes: &[u8]) -> bool
+pub(crate) fn is_name(bytes: &[u8]) -> bool
     ensures { result ≡ is_name bytes.now }
 {
     let Some(first) = bytes.first() else {
@@ -243,15 +250,32 @@ fn kind_in(table: &Value) -> Result<Kind, Why>
 }
 
 /// The name of an axis, if one is given, and it may be. What is no text is an empty one, which no parameter has as its name.
-fn axis_in<'a>(table: &'a Value, key: &str, many: bool) -> Option<&'a str>
-    ensures { option_map (λ s. s.now) result ≡ axis_in many key.now (view table.now) }
+fn axis_in<'a>(table: &'a Value, key: &str, is_parameter: bool) -> Option<&'a str>
+    ensures { option_map (λ s. s.now) result ≡ axis_in is_parameter key.now (view table.now) }
 {
-    if !many {
+    if !is_parameter {
         return None;
     }
     match table.get(key) {
         Some(value) => Some(value.as_str().unwrap_or("")),
         None => None,
+    }
+}
+
+/// The number of an event channel of a layout, which has 8 at most, if one is given.
+pub(crate) fn event_in(table: &Value, layout: &Layout) -> Result<Option<u16>, Why>
+    ensures passes { IfOk result (λ _. is_event (length layout.now.events) (view table.now) ≡ true) }
+    ensures value { IfOk result (λ n. n ≡ event_in (view table.now)) }
+    ensures refused { IfErr result (λ e. (e ≡ Why.Event) × (is_event (length layout.now.events) (view table.now) ≡ false)) }
+{
+    let channels = layout.event_count();
+    let number = match table.get("event") {
+        Some(value) => value.as_integer().ok_or(Why::Event)?,
+        None => return Ok(None),
+    };
+    match u16::try_from(number) {
+        Ok(channel) if usize::from(channel) < channels => Ok(Some(channel)),
+        _ => Err(Why::Event),
     }
 }
 
@@ -295,7 +319,7 @@ fn number_in(table: &Value, key: &str, other: f64) -> Result<f64, Why>
 }
 
 /// An integer as a number, if one of 32 bits has its value.
-fn whole_number(number: i64) -> Result<f64, Why>
+pub(crate) fn whole_number(number: i64) -> Result<f64, Why>
     ensures value { IfOk result (λ x. (is_of_32_bits number ≡ true) × (x ≡ of_int binary64 number)) }
     ensures refused { IfErr result (λ e. (e ≡ Why.Number) × (is_of_32_bits number ≡ false)) }
 {

@@ -72,6 +72,18 @@ impl Kind {
         }
     }
 
+    /// The mask of all its bits, 0 of a type of floats.
+    pub(crate) fn mask(self) -> u32
+        ensures { result ≡ (type_named self).mask }
+    {
+        match self {
+            Kind::UByte | Kind::SByte => 0xFF,
+            Kind::UWord | Kind::SWord => 0xFFFF,
+            Kind::ULong | Kind::SLong => 0xFFFF_FFFF,
+            Kind::Float32 | Kind::Float64 => 0,
+        }
+    }
+
     /// The least and the greatest value.
     pub(crate) fn bounds(self) -> (f64, f64)
         ensures { result ≡ ((type_named self).least, (type_named self).greatest) }

@@ -1,10 +1,12 @@
 //! The blocks of parameters and measurements.
 use crate::entry::Entry;
 use crate::kind::KINDS;
+use crate::names::{name_of, number_of};
 use crate::shape::Shape;
 use crate::tables::Tables;
 use crate::text::put_quoted;
 use std::alloc::AllocError;
+use toml::Value;
 
 /// Appends a block for each parameter and each measurement, and what these blocks name.
 pub(crate) fn put_tables(tables: &Tables<'_>, text: &mut String) -> Result<(), AllocError> {
@@ -77,10 +79,18 @@ fn put_conversion(entry: &Entry<'_>, text: &mut String) -> Result<(), AllocError
         "    /begin COMPU_METHOD {}_conversion \"\"",
         entry.name
     )?;
+    let is_named = !entry.meaning.names.is_empty();
     let is_identical = entry.factor == 1.0 && entry.offset == 0.0;
-    let kind = if is_identical { "IDENTICAL" } else { "LINEAR" };
+    let kind = match (is_named, is_identical) {
+        (true, _) => "TAB_VERB",
+        (false, true) => "IDENTICAL",
+        (false, false) => "LINEAR",
+    };
     write!(text, "      {kind} \"%12.6\" ")?;
     put_quoted(text, entry.unit.as_bytes(), entry.unit.len())?;
+    if is_named {
+        return put_names(entry, text);
+    }
     if !is_identical {
         write!(
             text,
@@ -89,6 +99,30 @@ fn put_conversion(entry: &Entry<'_>, text: &mut String) -> Result<(), AllocError
         )?;
     }
     writeln!(text, "\n    /end COMPU_METHOD")
+}
+
+/// Appends the end of a COMPU_METHOD of names for numbers, and the COMPU_VTAB that has these names.
+fn put_names(entry: &Entry<'_>, text: &mut String) -> Result<(), AllocError> {
+    let pairs = entry.meaning.names;
+    let name = entry.name;
+    writeln!(text, "\n      COMPU_TAB_REF {name}_names")?;
+    writeln!(text, "    /end COMPU_METHOD")?;
+    write!(text, "    /begin COMPU_VTAB {name}_names \"\" TAB_VERB ")?;
+    writeln!(text, "{}", pairs.len())?;
+    for pair in pairs {
+        put_pair(pair, text)?;
+    }
+    writeln!(text, "    /end COMPU_VTAB")
+}
+
+/// Appends a number and its name.
+fn put_pair(pair: &Value, text: &mut String) -> Result<(), AllocError> {
+    let (Some(number), Some(name)) = (number_of(pair), name_of(pair)) else {
+        return Ok(());
+    };
+    write!(text, "      {number} ")?;
+    put_quoted(text, name.as_bytes(), name.len())?;
+    text.push('\n')
 }
 
 /// Appends the AXIS_PTS of a parameter that is an axis.
@@ -125,6 +159,7 @@ fn put_characteristic(
         entry.name
     )?;
     writeln!(text, "      {:?} {:?}", entry.low, entry.high)?;
+    put_bits(entry, text)?;
     if entry.x_axis.is_some() {
         put_axis_of(entry.x_axis, parameters, text)?;
         put_axis_of(entry.y_axis, parameters, text)?;
@@ -132,6 +167,14 @@ fn put_characteristic(
         put_sizes(entry.shape, text)?;
     }
     writeln!(text, "    /end CHARACTERISTIC")
+}
+
+/// Appends the mask of the bits that count, if not all do.
+fn put_bits(entry: &Entry<'_>, text: &mut String) -> Result<(), AllocError> {
+    match entry.meaning.bits {
+        Some(bits) => writeln!(text, "      BIT_MASK 0x{bits:X}"),
+        None => Ok(()),
+    }
 }
 
 /// What a parameter is: values along two axes, along one, in a block, or a single one.
@@ -194,5 +237,37 @@ fn put_measurement(entry: &Entry<'_>, text: &mut String) -> Result<(), AllocErro
         entry.high
     )?;
     writeln!(text, "      ECU_ADDRESS 0x{:08X}", entry.address)?;
+    put_bits(entry, text)?;
+    put_sizes_of_array(entry.shape, text)?;
+    put_event(entry.event, text)?;
     writeln!(text, "    /end MEASUREMENT")
+}
+
+/// Appends how many values an array of measured values has: in what rows they stand, if they do, or their number.
+fn put_sizes_of_array(shape: Shape, text: &mut String) -> Result<(), AllocError> {
+    match (shape.columns, shape.count) {
+        (Some(columns), _) => {
+            let rows = shape.rows.unwrap_or(1);
+            writeln!(text, "      MATRIX_DIM {columns} {rows} 1")
+        }
+        (None, Some(count)) => writeln!(text, "      ARRAY_SIZE {count}"),
+        (None, None) => Ok(()),
+    }
+}
+
+/// Appends the IF_DATA of the event channel at which a measurement is measured, if one is given.
+fn put_event(event: Option<u16>, text: &mut String) -> Result<(), AllocError> {
+    let Some(event) = event else {
+        return Ok(());
+    };
+    writeln!(text, "      /begin IF_DATA XCP")?;
+    writeln!(text, "        /begin DAQ_EVENT FIXED_EVENT_LIST")?;
+    writeln!(text, "          EVENT {event}")?;
+    writeln!(text, "        /end DAQ_EVENT")?;
+    writeln!(text, "      /end IF_DATA")
+}
+
+/// Whether a measurement has an event channel.
+pub(crate) fn has_events(measurements: &[Entry<'_>]) -> bool {
+    measurements.iter().any(|entry| entry.event.is_some())
 }

@@ -47,10 +47,18 @@ pub enum Why {
     About,
     /// Not all its bytes lie in one segment.
     NoSegment,
-    /// One of its axes is no parameter of as many values as it has columns or rows, or it has one alone where it needs both or none.
+    /// One of its axes is no parameter without bits, of as many values as it has columns or rows, or it has one alone where it needs both or none.
     Axis,
     /// Not all its bytes lie in one segment or in the signals.
     NoMemory,
+    /// Its event is the number of no event channel.
+    Event,
+    /// Its mask of bits is 0, goes beyond its type, or its type is one of floats.
+    Bits,
+    /// Its names for numbers are no such pairs, too many, or stand beside a factor or an offset.
+    Values,
+    /// Its group's name is no identifier.
+    Group,
 }
 
 impl fmt::Display for DescribeError {
@@ -96,8 +104,15 @@ impl fmt::Display for Why {
             Why::About => "about has to be a text of printable ASCII, at most 128 characters",
             Why::NoSegment => "its bytes lie in no segment",
             Why::Axis =>
-                "x_axis and y_axis have to name parameters of as many values as it has columns and rows, and an x_axis beside rows needs a y_axis",
+                "x_axis and y_axis have to name parameters without bits, of as many values as it has columns and rows, and an x_axis beside rows needs a y_axis",
             Why::NoMemory => "its bytes lie neither in one segment nor in the signals",
+            Why::Event => "event has to be an integer, the number of an event channel from 0",
+            Why::Bits =>
+                "bits has to be an integer, not 0, within the bits of its type, which is one of integers",
+            Why::Values =>
+                "values has to be an array of at most 256 pairs, each an array of a number of its type, which is one of integers, and a text of 1 to 100 printable ASCII characters, no number twice, without factor and offset",
+            Why::Group =>
+                "group has to be an identifier: letters, digits and underscores, no digit first, at most 117 characters",
         })
     }
 }

@@ -1,4 +1,4 @@
-//! How many values a parameter has, and how they stand.
+//! How many values a parameter or a measurement has, and how they stand.
 ghost use Rattle.std.specs.Prelude.{◌≡◌, codes, Some, None, true, false, IfOk, IfErr, unwrap_or};
 ghost use Rattle.toml.specs.View.{view};
 ghost use Rattle.xcp_packet.specs.Rows.{first_holding};
@@ -23,17 +23,17 @@ pub(crate) struct Shape {
 }
 
 impl Shape {
-    /// The shape that a table gives its entry; only where `many` may it have several values.
-    pub(crate) fn read(table: &Value, many: bool) -> Result<Shape, Why>
-        ensures passes { IfOk result (λ _. first_holding (shape_faults many (view table.now)) ≡ None) }
-        ensures count { IfOk result (λ s. unwrap_or s.count 1 ≡ count_of many (view table.now)) }
-        ensures columns { IfOk result (λ s. s.columns ≡ size_in many (codes "columns") (view table.now)) }
-        ensures rows { IfOk result (λ s. s.rows ≡ size_in many (codes "rows") (view table.now)) }
-        ensures refused { IfErr result (λ e. first_holding (shape_faults many (view table.now)) ≡ Some e) }
+    /// The shape that a table gives its entry.
+    pub(crate) fn read(table: &Value) -> Result<Shape, Why>
+        ensures passes { IfOk result (λ _. first_holding (shape_faults (view table.now)) ≡ None) }
+        ensures count { IfOk result (λ s. unwrap_or s.count 1 ≡ count_of (view table.now)) }
+        ensures columns { IfOk result (λ s. s.columns ≡ size_in (codes "columns") (view table.now)) }
+        ensures rows { IfOk result (λ s. s.rows ≡ size_in (codes "rows") (view table.now)) }
+        ensures refused { IfErr result (λ e. first_holding (shape_faults (view table.now)) ≡ Some e) }
     {
-        let count = size_in(table, "count", many, Why::Count)?;
-        let columns = size_in(table, "columns", many, Why::Shape)?;
-        let rows = size_in(table, "rows", many, Why::Shape)?;
+        let count = size_in(table, "count", Why::Count)?;
+        let columns = size_in(table, "columns", Why::Shape)?;
+        let rows = size_in(table, "rows", Why::Shape)?;
         Ok(Shape {
             count: values_in(count, columns, rows)?,
             columns,
@@ -43,14 +43,11 @@ impl Shape {
 }
 
 /// A number of values, 1 to 2,040, if it is given, and it may be.
-fn size_in(table: &Value, key: &str, many: bool, why: Why) -> Result<Option<u16>, Why>
-    ensures passes { IfOk result (λ _. is_size many key.now (view table.now) ≡ true) }
-    ensures value { IfOk result (λ n. n ≡ size_in many key.now (view table.now)) }
-    ensures refused { IfErr result (λ e. (e ≡ why) × (is_size many key.now (view table.now) ≡ false)) }
+fn size_in(table: &Value, key: &str, why: Why) -> Result<Option<u16>, Why>
+    ensures passes { IfOk result (λ _. is_size key.now (view table.now) ≡ true) }
+    ensures value { IfOk result (λ n. n ≡ size_in key.now (view table.now)) }
+    ensures refused { IfErr result (λ e. (e ≡ why) × (is_size key.now (view table.now) ≡ false)) }
 {
-    if !many {
-        return Ok(None);
-    }
     let number = match table.get(key) {
         Some(value) => value.as_integer().ok_or(why)?,
         None => return Ok(None),

@@ -1,19 +1,21 @@
 //! The parameters and measurements of a layout file.
-ghost use Rattle.std.specs.Prelude.{◌≡◌, ◌++◌, [], ◌∷◌, map, Some, None, true, false, IfOk, IfErr, MatchOption};
+ghost use Rattle.std.specs.Prelude.{◌≡◌, ◌++◌, [], ◌∷◌, map, Some, None, true, false, IfOk, IfErr, MatchOption, option_map};
 ghost use Rattle.std.specs.List.{flat_map, enumerate_from};
 ghost use Rattle.toml.specs.Data.{get};
 ghost use Rattle.toml.specs.View.{view};
 ghost use Rattle.xcp_packet.specs.Rows.{first_holding};
 ghost use Rattle.xcp_config.specs.TableLayout.{layout_in};
 ghost use Rattle.xcp_config.specs.TomlValues.{members_of};
-ghost use Rattle.xcp_describe.specs.EntryFaults.{axes_checks, first_refusal, is_array_or_none, measurement_checks, measurement_faults, measurements_checks, parameter_checks, parameter_faults, parameters_checks, parameters_in};
+ghost use Rattle.xcp_describe.specs.EntryFaults.{axes_checks, first_refusal, measurement_checks, measurement_faults, measurements_checks, parameter_checks, parameter_faults, parameters_checks, parameters_in};
 ghost use Rattle.xcp_describe.specs.Axes.{form_of};
-ghost use Rattle.xcp_describe.specs.EntryValues.{name_of};
+ghost use Rattle.xcp_describe.specs.EntryValues.{event_in, group_in, is_array_or_none, mask_in, name_of};
+ghost use Rattle.xcp_describe.specs.NumberNames.{pairs_in};
 ghost use Rattle.xcp_describe.specs.UnreadKeys.{is_among};
 ghost use Rattle.xcp_describe.specs.private.EntriesRead.{form_read, forms_of, names_of};
 ghost use Rattle.xcp_describe.specs.private.Refusals.{IsEntryOrMemory, Refuses};
 
-use crate::entry::Entry;
+use crate::entry::{Entry, event_in};
+use crate::meaning::Meaning;
 use crate::refusal::{DescribeError, Why};
 use std::alloc::Global;
 use toml::Value;
@@ -148,15 +150,20 @@ fn parameter<'a>(
     ensures passes { IfOk result (λ _. first_holding (parameter_faults layout.now (names_of earlier.now) (view member.now)) ≡ None) }
     ensures name { IfOk result (λ e. e.name.now ≡ name_of (view member.now)) }
     ensures form { IfOk result (λ e. form_read e ≡ form_of (view member.now)) }
+    ensures bits { IfOk result (λ e. e.meaning.bits ≡ mask_in (view member.now)) }
+    ensures names { IfOk result (λ e. map view e.meaning.names.now ≡ pairs_in (view member.now)) }
+    ensures group { IfOk result (λ e. option_map (λ s. s.now) e.meaning.group ≡ group_in (view member.now)) }
     ensures refused { IfErr result (λ e. first_holding (parameter_faults layout.now (names_of earlier.now) (view member.now)) ≡ Some e) }
 {
-    let entry = Entry::read(member, true)?;
+    let mut entry = Entry::read(member, true)?;
     if has_name(earlier, entry.name) {
         return Err(Why::Taken);
     }
     if !entry.is_in_segments(layout) {
         return Err(Why::NoSegment);
     }
+    let meaning = Meaning::read(member, entry.kind)?;
+    entry.meaning = meaning;
     Ok(entry)
 }
 
@@ -169,15 +176,24 @@ fn measurement<'a>(
 ) -> Result<Entry<'a>, Why>
     ensures passes { IfOk result (λ _. first_holding (measurement_faults layout.now (names_of parameters.now ++ names_of earlier.now) (view member.now)) ≡ None) }
     ensures name { IfOk result (λ e. e.name.now ≡ name_of (view member.now)) }
+    ensures axes { IfOk result (λ e. ((form_read e).x_axis ≡ None) × ((form_read e).y_axis ≡ None)) }
+    ensures event { IfOk result (λ e. e.event ≡ event_in (view member.now)) }
+    ensures bits { IfOk result (λ e. e.meaning.bits ≡ mask_in (view member.now)) }
+    ensures names { IfOk result (λ e. map view e.meaning.names.now ≡ pairs_in (view member.now)) }
+    ensures group { IfOk result (λ e. option_map (λ s. s.now) e.meaning.group ≡ group_in (view member.now)) }
     ensures refused { IfErr result (λ e. first_holding (measurement_faults layout.now (names_of parameters.now ++ names_of earlier.now) (view member.now)) ≡ Some e) }
 {
-    let entry = Entry::read(member, false)?;
+    let mut entry = Entry::read(member, false)?;
     if is_taken(parameters, earlier, entry.name) {
         return Err(Why::Taken);
     }
     if !entry.is_in_memory(layout) {
         return Err(Why::NoMemory);
     }
+    let event = event_in(member, layout)?;
+    let meaning = Meaning::read(member, entry.kind)?;
+    entry.event = event;
+    entry.meaning = meaning;
     Ok(entry)
 }
 
@@ -214,7 +230,7 @@ fn keep<'a>(entries: &mut Vec<Entry<'a>>, entry: Entry<'a>) -> Result<(), Descri
 }
 
 /// The members of an array, none where there is none; nothing where it is no array.
-fn members_in<'a>(document: &'a Value, key: &str) -> Option<&'a [Value]>
+pub(crate) fn members_in<'a>(document: &'a Value, key: &str) -> Option<&'a [Value]>
     ensures { MatchOption result (is_array_or_none (get key.now (view document.now)) ≡ false) (λ members. (is_array_or_none (get key.now (view document.now)) ≡ true) × (map view members.now ≡ members_of (get key.now (view document.now)))) }
 {
     match document.get(key) {

@@ -44,14 +44,15 @@ const SIGNALS_KEYS: [&str; 2] = ["address", "length"];
 const EVENT_KEYS: [&str; 4] = ["name", "cycle", "unit", "priority"];
 
 /// Those of a parameter.
-const PARAMETER_KEYS: [&str; 14] = [
-    "name", "address", "type", "count", "columns", "rows", "x_axis", "y_axis", "unit", "about",
-    "factor", "offset", "low", "high",
+const PARAMETER_KEYS: [&str; 17] = [
+    "name", "address", "type", "count", "columns", "rows", "x_axis", "y_axis", "bits", "values",
+    "group", "unit", "about", "factor", "offset", "low", "high",
 ];
 
 /// Those of a measurement.
-const MEASUREMENT_KEYS: [&str; 9] = [
-    "name", "address", "type", "unit", "about", "factor", "offset", "low", "high",
+const MEASUREMENT_KEYS: [&str; 16] = [
+    "name", "address", "type", "count", "columns", "rows", "event", "bits", "values", "group",
+    "unit", "about", "factor", "offset", "low", "high",
 ];
 
 /// A key that nothing reads.

@@ -1,5 +1,5 @@
 -- What is read of an entry.
-use Rattle.std.specs.Prelude.{◌≡◌, ℕ, Bool, List, codes, map, option_map, unwrap_or}
+use Rattle.std.specs.Prelude.{◌≡◌, ℕ, Bool, List, codes, is_some, map, option_map, unwrap_or}
 use Rattle.toml.specs.Data.{Data}
 use Rattle.xcp_describe.specs.declared.kind.Kind.{Kind}
 use Rattle.xcp_describe.specs.declared.kind.Kind.TheVariants as kind
@@ -19,15 +19,15 @@ type_named kind.Float32 = float32
 type_named kind.Float64 = float64
 
 -- an entry has the name, the address, the type, the count, the columns and rows, and the axes of its table
-pub record IsRead (many : Bool) (d : Data) (e : Entry) : Type 0 where
+pub record IsRead (is_parameter : Bool) (d : Data) (e : Entry) : Type 0 where
   pub name : e.name.now ≡ name_of d
   pub address : e.address ≡ first_of d
   pub kind : type_named e.kind ≡ type_of d
-  pub count : unwrap_or e.shape.count 1 ≡ count_of many d
-  pub columns : e.shape.columns ≡ size_in many (codes "columns") d
-  pub rows : e.shape.rows ≡ size_in many (codes "rows") d
-  pub x_axis : option_map (λ s. s.now) e.x_axis ≡ axis_in many (codes "x_axis") d
-  pub y_axis : option_map (λ s. s.now) e.y_axis ≡ axis_in many (codes "y_axis") d
+  pub count : unwrap_or e.shape.count 1 ≡ count_of d
+  pub columns : e.shape.columns ≡ size_in (codes "columns") d
+  pub rows : e.shape.rows ≡ size_in (codes "rows") d
+  pub x_axis : option_map (λ s. s.now) e.x_axis ≡ axis_in is_parameter (codes "x_axis") d
+  pub y_axis : option_map (λ s. s.now) e.y_axis ≡ axis_in is_parameter (codes "y_axis") d
 
 abbrev pub names_of : List Entry → List (List ℕ)
 names_of es = map (λ e. e.name.now) es
@@ -39,6 +39,7 @@ form_read e = record {
   count = unwrap_or e.shape.count 1;
   columns = e.shape.columns;
   rows = e.shape.rows;
+  masked = is_some e.meaning.bits;
   x_axis = option_map (λ s. s.now) e.x_axis;
   y_axis = option_map (λ s. s.now) e.y_axis;
 }

@@ -1,4 +1,4 @@
-use Rattle.std.proofs.Common.{◌≡◌, ◌∙◌, ◌∷◌, sym, rules, Bool, true, codes, Option, Some, None, ap, is_some, unwrap_or, option_and_then}
+use Rattle.std.proofs.Common.{◌≡◌, ◌∙◌, ◌∷◌, sym, rules, true, codes, Option, Some, None, ap, is_some, unwrap_or, option_and_then}
 use Rattle.std.proofs.lemmas.Result.{err_from_is_err_and}
 use Rattle.std.specs.Float.{Float, float_one, float_zero}
 use Rattle.toml.specs.Data.{Data, as_integer, as_str, get}
@@ -30,64 +30,64 @@ factor_is : (d : Data) (f : Float) → factor_in d ≡ Some f → f ≡ factor_o
 factor_is d f h = sym (ap (λ x. unwrap_or x float_one) h)
 
 -- behind a name, an address and a type the fault of the shape is the first
-shape_comes_next : (many : Bool) (d : Data) (t : ValueType) → some_and is_name (option_and_then as_str (get (codes "name") d)) ≡ true → some_and (is_within 0 0xFFFF_FFFF) (option_and_then as_integer (get (codes "address") d)) ≡ true → type_in d ≡ Some t → first_holding (key_faults many d) ≡ first_holding (shape_faults many d)
-shape_comes_next many d t name address type =
-    ap (λ b. first_holding (must b Name ∷ must (some_and (is_within 0 0xFFFF_FFFF) (option_and_then as_integer (get (codes "address") d))) Address ∷ must (is_some (type_in d)) Kind ∷ shape_faults many d)) name
-    ∙ ap (λ b. first_holding (must b Address ∷ must (is_some (type_in d)) Kind ∷ shape_faults many d)) address
-    ∙ ap (λ v. first_holding (must (is_some v) Kind ∷ shape_faults many d)) type
+shape_comes_next : (d : Data) (t : ValueType) → some_and is_name (option_and_then as_str (get (codes "name") d)) ≡ true → some_and (is_within 0 0xFFFF_FFFF) (option_and_then as_integer (get (codes "address") d)) ≡ true → type_in d ≡ Some t → first_holding (key_faults d) ≡ first_holding (shape_faults d)
+shape_comes_next d t name address type =
+    ap (λ b. first_holding (must b Name ∷ must (some_and (is_within 0 0xFFFF_FFFF) (option_and_then as_integer (get (codes "address") d))) Address ∷ must (is_some (type_in d)) Kind ∷ shape_faults d)) name
+    ∙ ap (λ b. first_holding (must b Address ∷ must (is_some (type_in d)) Kind ∷ shape_faults d)) address
+    ∙ ap (λ v. first_holding (must (is_some v) Kind ∷ shape_faults d)) type
 
 pub returns-in_err-shape-clause-refused : goal.returns-in_err-shape-clause-refused
 unfolding entry_faults
 returns-in_err-shape-clause-refused c =
     let d = view c.args.table.now in
     let p = err_from_is_err_and c.from_residual-in_err-shape.result c.from_residual-in_err-shape.ensures.1 in
-    let next = shape_comes_next c.args.many d _ c.in_ok-name.ensures.passes c.in_ok-address.ensures.passes c.in_ok-kind.ensures.value in
-    rw (p.1, p.2) (holding_1_of_4 (key_faults c.args.many d) (scale_faults d) (limit_faults (bounds_of d) (factor_of d) d) (text_faults d) _ (next ∙ c.in_err-shape.ensures.refused))
+    let next = shape_comes_next d _ c.in_ok-name.ensures.passes c.in_ok-address.ensures.passes c.in_ok-kind.ensures.value in
+    rw (p.1, p.2) (holding_1_of_4 (key_faults d) (scale_faults d) (limit_faults (bounds_of d) (factor_of d) d) (text_faults d) _ (next ∙ c.in_err-shape.ensures.refused))
 
 pub returns-in_err-low-clause-refused : goal.returns-in_err-low-clause-refused
 unfolding entry_faults
 returns-in_err-low-clause-refused c =
     let d = view c.args.table.now in
     let p = err_from_is_err_and c.from_residual-in_err-low.result c.from_residual-in_err-low.ensures.1 in
-    let keys : first_holding (key_faults c.args.many d) ≡ None = search rules in
+    let keys : first_holding (key_faults d) ≡ None = search rules in
     let scale : first_holding (scale_faults d) ≡ None = search rules in
     let bounds = bounds_are d _ _ _ _ _ c.in_ok-kind.ensures.value c.bounds.ensures c.in_ok-factor.ensures.value c.in_ok-offset.ensures.value c.scaled.ensures in
     let limits = limits_are d _ _ _ _ _ bounds (factor_is d _ c.in_ok-factor.ensures.value) c.in_err-low.ensures.refused in
-    rw (p.1, p.2) (holding_3_of_4 (key_faults c.args.many d) (scale_faults d) (limit_faults (bounds_of d) (factor_of d) d) (text_faults d) _ keys scale limits)
+    rw (p.1, p.2) (holding_3_of_4 (key_faults d) (scale_faults d) (limit_faults (bounds_of d) (factor_of d) d) (text_faults d) _ keys scale limits)
 
 pub returns-in_err-text_in-clause-refused : goal.returns-in_err-text_in-clause-refused
 unfolding entry_faults
 returns-in_err-text_in-clause-refused c =
     let d = view c.args.table.now in
     let p = err_from_is_err_and c.from_residual-in_err-text_in.result c.from_residual-in_err-text_in.ensures.1 in
-    let keys : first_holding (key_faults c.args.many d) ≡ None = search rules in
+    let keys : first_holding (key_faults d) ≡ None = search rules in
     let scale : first_holding (scale_faults d) ≡ None = search rules in
     let bounds = bounds_are d _ _ _ _ _ c.in_ok-kind.ensures.value c.bounds.ensures c.in_ok-factor.ensures.value c.in_ok-offset.ensures.value c.scaled.ensures in
     let limits = limits_are d _ _ _ _ _ bounds (factor_is d _ c.in_ok-factor.ensures.value) c.in_ok-low.ensures.passes in
     let texts : first_holding (text_faults d) ≡ Some Unit = search rules in
     let why : c.in_err-text_in.field-0.0 ≡ Unit = c.in_err-text_in.ensures.refused.0 in
-    rw (p.1, p.2) (behind_3 (key_faults c.args.many d) (scale_faults d) (limit_faults (bounds_of d) (factor_of d) d) (text_faults d) keys scale limits ∙ texts ∙ ap Some (sym why))
+    rw (p.1, p.2) (behind_3 (key_faults d) (scale_faults d) (limit_faults (bounds_of d) (factor_of d) d) (text_faults d) keys scale limits ∙ texts ∙ ap Some (sym why))
 
 pub returns-in_err-text_in-2-clause-refused : goal.returns-in_err-text_in-2-clause-refused
 unfolding entry_faults
 returns-in_err-text_in-2-clause-refused c =
     let d = view c.args.table.now in
     let p = err_from_is_err_and c.from_residual-in_err-text_in-2.result c.from_residual-in_err-text_in-2.ensures.1 in
-    let keys : first_holding (key_faults c.args.many d) ≡ None = search rules in
+    let keys : first_holding (key_faults d) ≡ None = search rules in
     let scale : first_holding (scale_faults d) ≡ None = search rules in
     let bounds = bounds_are d _ _ _ _ _ c.in_ok-kind.ensures.value c.bounds.ensures c.in_ok-factor.ensures.value c.in_ok-offset.ensures.value c.scaled.ensures in
     let limits = limits_are d _ _ _ _ _ bounds (factor_is d _ c.in_ok-factor.ensures.value) c.in_ok-low.ensures.passes in
     let texts : first_holding (text_faults d) ≡ Some About = search rules in
     let why : c.in_err-text_in-2.field-0.0 ≡ About = c.in_err-text_in-2.ensures.refused.0 in
-    rw (p.1, p.2) (behind_3 (key_faults c.args.many d) (scale_faults d) (limit_faults (bounds_of d) (factor_of d) d) (text_faults d) keys scale limits ∙ texts ∙ ap Some (sym why))
+    rw (p.1, p.2) (behind_3 (key_faults d) (scale_faults d) (limit_faults (bounds_of d) (factor_of d) d) (text_faults d) keys scale limits ∙ texts ∙ ap Some (sym why))
 
 pub returns-clause-passes : goal.returns-clause-passes
 unfolding entry_faults
 returns-clause-passes c =
     let d = view c.args.table.now in
-    let keys : first_holding (key_faults c.args.many d) ≡ None = search rules in
+    let keys : first_holding (key_faults d) ≡ None = search rules in
     let scale : first_holding (scale_faults d) ≡ None = search rules in
     let bounds = bounds_are d _ _ _ _ _ c.in_ok-kind.ensures.value c.bounds.ensures c.in_ok-factor.ensures.value c.in_ok-offset.ensures.value c.scaled.ensures in
     let limits = limits_are d _ _ _ _ _ bounds (factor_is d _ c.in_ok-factor.ensures.value) c.in_ok-low.ensures.passes in
     let texts : first_holding (text_faults d) ≡ None = search rules in
-    behind_3 (key_faults c.args.many d) (scale_faults d) (limit_faults (bounds_of d) (factor_of d) d) (text_faults d) keys scale limits ∙ texts
+    behind_3 (key_faults d) (scale_faults d) (limit_faults (bounds_of d) (factor_of d) d) (text_faults d) keys scale limits ∙ texts
