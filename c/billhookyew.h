@@ -214,7 +214,7 @@ bool xcp_number(xcp_reader *reader, uint64_t *number); /* the held image's numbe
     * held, or the handle is closed */
 void xcp_reader_close(xcp_reader *reader); /* gives back what it holds, for good, and frees it */
 
-/* ---- The frames of a stream (XCP on Ethernet): no lock ---- */
+/* ---- The frames of a stream or of datagrams (XCP on Ethernet): no lock ---- */
 
 /* LEN, CTR and a packet; both words have their low byte first. False: the packet has more than 255 bytes. */
 bool xcp_frame(uint16_t ctr, const uint8_t *packet, size_t length, xcp_one_frame *frame);
@@ -223,7 +223,11 @@ bool xcp_frame(uint16_t ctr, const uint8_t *packet, size_t length, xcp_one_frame
 uint8_t xcp_framer_open(uint8_t max_cto, xcp_framer *framer);
 
 /* Uses a front of a piece of the stream, at most to the end of the first frame that holds a packet: call it again with
- * the rest until all is used. After XCP_BAD_LEN it uses nothing more. False: the handle is closed. */
+ * the rest until all is used. After XCP_BAD_LEN it uses nothing more. False: the handle is closed.
+ *
+ * Datagrams (XCP over UDP) hold whole frames: feed each as one piece. If the last call for it says other than XCP_ONE, it was cut
+ * or has a wrong LEN: close the framer and open it anew, so that what is left of it isn't taken for the front of the next one.
+ * c/datagrams.c serves a tool so. */
 bool xcp_feed(xcp_framer *framer, const uint8_t *piece, size_t length, xcp_fed *fed);
 
 void xcp_framer_close(xcp_framer *framer);

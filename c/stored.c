@@ -81,7 +81,7 @@ static void each_fault(void) {
     text[layout_length] = '\n'; /* the same layout, by another text */
     want(xcp_open_stored(text, layout_length + 1, file, length, &other) == XCP_OPENED, "another text of the same segments");
     xcp_close(&other);
-    char *digit = strstr((char *)text, "data = \"") + 8;
+    char *digit = strstr((char *)text, "data = \"E") + 8; /* (the first data are between three quotes) */
     *digit = *digit == '0' ? '1' : '0'; /* another reference byte */
     want(xcp_open_stored(text, layout_length + 1, file, length, &other) == XCP_STORED_LAYOUT && !other.at, "another reference byte");
     want(xcp_open(text, layout_length + 1, &other) == XCP_OPENED, "which opens a slave by itself");

@@ -1,11 +1,13 @@
 -- The two ends keep what is true of their fields.
-use Rattle.std.proofs.Common.{◌≡◌, ℕ, ◌<◌, ◌%◌, false, List, length, sym, refl, ap, ◌∙◌, subst, Option, Some}
+use Rattle.std.proofs.Common.{◌≡◌, ℕ, ◌<◌, ◌%◌, Bool, false, List, length, sym, refl, ap, ◌∙◌, subst, Option, Some}
 use Rattle.std.proofs.lemmas.Option.{same_Some}
 use Rattle.atomic_table.specs.Seated.{TableId}
 use Rattle.atomic_table.specs.declared.shared.Seat.{Seat as Token}
 use Rattle.xcp_bank.specs.SeatKnowledge.{Reading, Writing, Known}
 use Rattle.xcp_bank.specs.private.ReaderSteps.{Seat, Follows}
 use Rattle.xcp_bank.specs.private.SeatSteps.{IsReaderSeat, IsWriterSeat, Rests, buffer_held}
+use Rattle.xcp_bank.specs.private.BlockMarks.{IsMarked}
+use Rattle.xcp_bank.specs.BankEnds.{writer_end, newest}
 use Rattle.xcp_bank.specs.EndFields.{first_reader, the_writing, reader_in, writer_in}
 use Rattle.xcp_bank.specs.private.KeptEnds.{ReaderKept, WriterKept}
 
@@ -35,11 +37,17 @@ sits_here bank held seat k token is = subst (λ (z : Token (Unit {0}) Known). Is
 pub writer_is : (token : Token (Unit {0}) Known) (bank : TableId) (w : Writing) → IsWriterSeat token bank w → writer_in token ≡ w
 writer_is token bank w d = ap (λ (m : Seat). the_writing m.0.writer) d.me
 
--- between publications the writer's seat, current buffer, started counts and count modulo 2^64 make lawful fields
-pub writer_kept_by : (token : Token (Unit {0}) Known) (bank : TableId) (w : Writing) (current : ℕ) (started : List ℕ) (count : ℕ) → IsWriterSeat token bank w → Rests current started w → count ≡ length w.pins.publications % 18446744073709551616 → WriterKept bank current started count token
-writer_kept_by token bank w current started count d r n =
+-- between publications the writer's seat, current buffer, started counts, count modulo 2^64 and marks make lawful fields
+pub writer_kept_by : (token : Token (Unit {0}) Known) (bank : TableId) (w : Writing) (current : ℕ) (started : List ℕ) (count : ℕ) (marks : List Bool) → IsWriterSeat token bank w → Rests current started w
+    → count ≡ length w.pins.publications % 18446744073709551616 → IsMarked bank.slots marks w.words (newest (writer_end bank w)) → WriterKept bank current started count marks token
+writer_kept_by token bank w current started count marks d r n m =
     let e = sym (writer_is token bank w d) in
-    record { desks = subst (IsWriterSeat token bank) e d; rests = subst (Rests current started) e r; counted = subst (λ (z : Writing). count ≡ length z.pins.publications % 18446744073709551616) e n }
+    record {
+      desks = subst (IsWriterSeat token bank) e d;
+      rests = subst (Rests current started) e r;
+      counted = subst (λ (z : Writing). count ≡ length z.pins.publications % 18446744073709551616) e n;
+      marked = subst (λ (z : Writing). IsMarked bank.slots marks z.words (newest (writer_end bank z))) e m;
+    }
 
 -- another name of the same bank
 

@@ -1,15 +1,16 @@
 -- What several steps of the writer come to.
-use Rattle.std.proofs.Common.{◌≡◌, ◌≢◌, ℕ, zero, ◌+◌, ◌-◌, ◌<◌, ◌≤◌, Bool, true, cond, eqb, eq-eqb, suc, List, [], ◌∷◌, ◌++◌, append_assoc, length, take, set, get_or, sym, refl, ap, ◌∙◌, subst, arith, Some, None}
+use Rattle.std.proofs.Common.{◌≡◌, ◌≢◌, ℕ, zero, ◌+◌, ◌-◌, ◌<◌, ◌≤◌, Bool, true, cond, eqb, eq-eqb, suc, List, [], ◌∷◌, ◌++◌, append_assoc, length, take, set, get_or, sym, refl, ap, ◌∙◌, subst, arith, Some, None, length-set, get_or-set_same, get_or-set_other}
 use Rattle.std.proofs.lemmas.List.{take_more, length_push, length-take-le}
 use Rattle.xcp_bank.specs.PinHistory.{Deed, Grows, has_scanned, has_reset, has_written, has_published, writes_of}
 use Rattle.xcp_bank.proofs.HistoryLemmas.{grows_none, grows_again, grows_act, scans_more}
 use Rattle.atomic_table.specs.Seated.{TableId}
 use Rattle.atomic_table.specs.declared.shared.Seat.{Seat as Token}
 use mathlib.Core.Logic.{dite}
-use native.Mathlib.Decide.{ℕ_discrete}
+use native.Mathlib.Decide.{ℕ_discrete, dec_le}
 use Rattle.xcp_bank.specs.SeatKnowledge.{Writing, Known}
 use Rattle.xcp_bank.proofs.WriterRuleLemmas.{again_keeps}
-use Rattle.xcp_bank.specs.private.WriterSteps.{Scanned, WasReset, Written, WrittenAgain, standing, word_there, Published, writing_after_scan, writing_after_reset, writing_after_publish}
+use Rattle.xcp_bank.specs.private.WriterSteps.{Scanned, WasReset, Written, WrittenAgain, standing, word_there, rewritten, Published, writing_after_scan, writing_after_reset, writing_after_publish}
+use Rattle.xcp_bank.specs.private.BlockMarks.{Sized}
 use Rattle.xcp_bank.specs.private.SeatSteps.{IsWriterSeat, HasWords, WrittenSoFar, Rests, Searched, FoundQuiet, scanned_to, filled, Publishes}
 
 -- before the first Scan no buffer has been searched, and the writer is as it was
@@ -84,10 +85,11 @@ module _ (words : List ℕ) (w v : Writing) (k : ℕ) (all : List (List ℕ)) (h
       (grows_act 0 w.history h g.before (writes_of words k) (has_written k (get_or words k 0)) refl d g.grows)
 
 -- Words are written to the buffer b.
-module _ (bank : TableId) (b : ℕ) (words : List ℕ) (W : ℕ) (long : length words ≡ W) (w : Writing) where
+module _ (bank : TableId) (b : ℕ) (words : List ℕ) (long : length words ≡ bank.slots) (w : Writing) where
   -- before the first
-  pub so_far_none : (seat : Token (Unit {0}) Known) → IsWriterSeat seat bank w → w.pins.written ≡ [] → WrittenSoFar bank seat b 0 words w
-  so_far_none seat d none = record {
+  pub so_far_none : (seat : Token (Unit {0}) Known) → IsWriterSeat seat bank w → w.pins.building ≡ Some b → w.pins.written ≡ [] → Sized bank.slots w.words → WrittenSoFar bank seat b 0 words w
+  so_far_none seat d building none sized = record {
+    building = building;
     done = 0;
     low = omega arith;
     history = w.history;
@@ -95,25 +97,30 @@ module _ (bank : TableId) (b : ℕ) (words : List ℕ) (W : ℕ) (long : length 
     sits = subst (IsWriterSeat seat bank) (λ i. filled (none i) w.words w.history w) d;
     grows = grows_none 0 w.history;
     there = (λ j from below. absurd (omega arith));
+    sized = sized;
+    ahead = (λ j from. refl);
+    others = (λ c ne. refl);
   }
 
-  -- the next word stands there already
-  pub so_far_more : (seat seat' : Token (Unit {0}) Known) (k : ℕ) (s : WrittenSoFar bank seat b k words w) → IsWriterSeat seat' bank (filled (take s.done words) s.all s.history w)
-      → get_or (get_or s.all b []) k 0 ≡ get_or words k 0 → WrittenSoFar bank seat' b (k + 1) words w
-  so_far_more seat seat' k s d same = let low = s.low in record {
+  -- the next words, up to the word `to`, stand there already
+  pub so_far_to : (seat seat' : Token (Unit {0}) Known) (k to : ℕ) (s : WrittenSoFar bank seat b k words w) → IsWriterSeat seat' bank (filled (take s.done words) s.all s.history w) → k ≤ to
+      → ((j : ℕ) → k ≤ j → j < to → get_or (get_or s.all b []) j 0 ≡ get_or words j 0) → WrittenSoFar bank seat' b to words w
+  so_far_to seat seat' k to s d le same = let low = s.low in record {
+    building = s.building;
     done = s.done;
     low = omega arith;
     history = s.history;
     all = s.all;
     sits = d;
     grows = s.grows;
-    there = (λ j from below. dite (ℕ_discrete j k)
-        (λ e. subst (λ (m : ℕ). get_or (get_or s.all b []) m 0 ≡ get_or words m 0) (sym e) same)
-        (λ ne. s.there j from (omega arith)));
+    there = (λ j from below. dite (dec_le k j) (λ h. same j h below) (λ n. s.there j from (omega arith)));
+    sized = s.sized;
+    ahead = (λ j from. s.ahead j (omega arith));
+    others = s.others;
   }
 
   -- n words that stand there already are written
-  again_fills : (n d : ℕ) (all : List (List ℕ)) (h : List Deed) (u : Writing) → w.pins.building ≡ Some b → d + n ≤ W → HasWords b d (d + n) words all → Grows 0 w.history h (writes_of words d)
+  pub again_fills : (n d : ℕ) (all : List (List ℕ)) (h : List Deed) (u : Writing) → w.pins.building ≡ Some b → d + n ≤ bank.slots → HasWords b d (d + n) words all → Grows 0 w.history h (writes_of words d)
       → WrittenAgain n (filled (take d words) all h w) u → (h' : List Deed) × (u ≡ filled (take (d + n) words) all h' w) × Grows 0 w.history h' (writes_of words (d + n))
   again_fills zero d all h u building room there grows e =
       let same : d ≡ d + 0 = omega arith in
@@ -123,7 +130,7 @@ module _ (bank : TableId) (b : ℕ) (words : List ℕ) (W : ℕ) (long : length 
       let i = again_fills n d all h v building (omega arith) (λ j from below. there j from (omega arith)) grows before in
       let k : ℕ = d + n in
       let next : k + 1 ≡ d + suc n = omega arith in
-      let low : k < W = omega arith in
+      let low : k < bank.slots = omega arith in
       let place : length (take k words) ≡ k = length-take-le k words (omega arith) in
       let x : standing (filled (take k words) all i.0 w) ≡ get_or words k 0 = (λ j. word_there (building j) (place j) all) ∙ there k (omega arith) (omega arith) in
       let g' : Written (standing (filled (take k words) all i.0 w)) (filled (take k words) all i.0 w) (standing (filled (take k words) all i.0 w)) u = subst (λ (z : Writing). Written (standing z) z (standing z) u) i.1 last in
@@ -131,33 +138,82 @@ module _ (bank : TableId) (b : ℕ) (words : List ℕ) (W : ℕ) (long : length 
       let kept : u.words ≡ all = (again_keeps 1 (filled (take k words) all i.0 w) u (filled (take k words) all i.0 w, refl, g')).2 in
       let h' = g.before ++ has_written k (get_or words k 0) ∷ [] in (
         h',
-        filled_more words w u k all i.0 W long low g ∙ (λ j. filled (take (next j) words) (kept j) h' w),
-        subst (λ (m : ℕ). Grows 0 w.history h' (writes_of words m)) next (writes_more words w u k all i.0 W long low g i.2),
+        filled_more words w u k all i.0 bank.slots long low g ∙ (λ j. filled (take (next j) words) (kept j) h' w),
+        subst (λ (m : ℕ). Grows 0 w.history h' (writes_of words m)) next (writes_more words w u k all i.0 bank.slots long low g i.2),
       )
 
   -- so all words below k are written
-  pub kept_up : (seat : Token (Unit {0}) Known) (k n : ℕ) (s : WrittenSoFar bank seat b k words w) (u : Writing) → w.pins.building ≡ Some b → k ≤ W → n ≡ k - length (take s.done words)
-      → WrittenAgain n (filled (take s.done words) s.all s.history w) u → (h : List Deed) × (u ≡ filled (take k words) s.all h w) × Grows 0 w.history h (writes_of words k)
-  kept_up seat k n s u building room e again =
+  abbrev pub kept : (seat seat' : Token (Unit {0}) Known) (k n : ℕ) (s : WrittenSoFar bank seat b k words w) (u : Writing) → k ≤ bank.slots → n ≡ k - length (take s.done words)
+      → WrittenAgain n (filled (take s.done words) s.all s.history w) u → IsWriterSeat seat' bank u → WrittenSoFar bank seat' b k words w
+  kept seat seat' k n s u room e again d =
       let low = s.low in
       let place : length (take s.done words) ≡ s.done = length-take-le s.done words (omega arith) in
       let all : s.done + n ≡ k = omega arith in
-      let i = again_fills n s.done s.all s.history u building (omega arith) (λ j from below. s.there j from (omega arith)) s.grows again in
-      (i.0, subst (λ (m : ℕ). u ≡ filled (take m words) s.all i.0 w) all i.1, subst (λ (m : ℕ). Grows 0 w.history i.0 (writes_of words m)) all i.2)
+      let i = again_fills n s.done s.all s.history u s.building (omega arith) (λ j from below. s.there j (omega arith) (omega arith)) s.grows again in
+      record {
+        building = s.building;
+        done = k;
+        low = omega arith;
+        history = i.0;
+        all = s.all;
+        sits = subst (λ (m : ℕ). IsWriterSeat seat' bank (filled (take m words) s.all i.0 w)) all (subst (IsWriterSeat seat' bank) i.1 d);
+        grows = subst (λ (m : ℕ). Grows 0 w.history i.0 (writes_of words m)) all i.2;
+        there = s.there;
+        sized = s.sized;
+        ahead = s.ahead;
+        others = s.others;
+      }
 
   -- and then the word k is
-  pub put_then : (seat : Token (Unit {0}) Known) (k x : ℕ) (all : List (List ℕ)) (h : List Deed) (v : Writing) → k < W → x ≡ get_or words k 0 → IsWriterSeat seat bank v → Written x (filled (take k words) all h w) x v → Grows 0 w.history h (writes_of words k)
-      → (h' : List Deed) × (all' : List (List ℕ)) × IsWriterSeat seat bank (filled (take (k + 1) words) all' h' w) × Grows 0 w.history h' (writes_of words (k + 1))
-  put_then seat k x all h v low is d put grows =
-      let g : Written (get_or words k 0) (filled (take k words) all h w) (get_or words k 0) v = subst (λ (z : ℕ). Written z (filled (take k words) all h w) z v) is put in (
-        g.before ++ has_written k (get_or words k 0) ∷ [],
-        v.words,
-        subst (IsWriterSeat seat bank) (filled_more words w v k all h W long low g) d,
-        writes_more words w v k all h W long low g grows,
-      )
+  module _ (seat seat' : Token (Unit {0}) Known) (k x : ℕ) (s : WrittenSoFar bank seat b k words w) (v : Writing) (fits : b < 8) (room : k < bank.slots) (done : s.done ≡ k) (is : x ≡ get_or words k 0)
+      (put : Written x (filled (take s.done words) s.all s.history w) x v) where
+    put_here : Written (get_or words k 0) (filled (take k words) s.all s.history w) (get_or words k 0) v
+    put_here = subst (λ (m : ℕ). Written (get_or words k 0) (filled (take m words) s.all s.history w) (get_or words k 0) v) done (subst (λ (z : ℕ). Written z (filled (take s.done words) s.all s.history w) z v) is put)
 
-  pub so_far_put : (seat : Token (Unit {0}) Known) (k : ℕ) (h : List Deed) (all : List (List ℕ)) → IsWriterSeat seat bank (filled (take (k + 1) words) all h w) → Grows 0 w.history h (writes_of words (k + 1)) → WrittenSoFar bank seat b (k + 1) words w
-  so_far_put seat k h all d grows = record { done = k + 1; low = omega arith; history = h; all = all; sits = d; grows = grows; there = (λ j from below. absurd (omega arith)) }
+    abbrev filled_row : List ℕ
+    filled_row = set (get_or s.all b []) k (get_or words k 0)
+
+    words_then : v.words ≡ set s.all b filled_row
+    words_then =
+        let place : length (take k words) ≡ k = length-take-le k words (omega arith) in
+        ap (λ (z : Writing). z.words) put_here.is ∙ (λ i. rewritten (s.building i) (place i) (get_or words k 0) s.all)
+
+    row_then : get_or (set s.all b filled_row) b [] ≡ filled_row
+    row_then = let n = s.sized.buffers in get_or-set_same s.all b filled_row [] (omega arith)
+
+    row_long : length (get_or s.all b []) ≡ bank.slots
+    row_long = s.sized.wide b fits
+
+    wide_then : (c : ℕ) → c < 8 → length (get_or (set s.all b filled_row) c []) ≡ bank.slots
+    wide_then c low = dite (ℕ_discrete c b)
+        (λ e. ap (λ (d : ℕ). length (get_or (set s.all b filled_row) d [])) e ∙ (ap length row_then ∙ (length-set (get_or s.all b []) k (get_or words k 0) ∙ row_long)))
+        (λ ne. ap length (get_or-set_other s.all b c filled_row [] ne) ∙ s.sized.wide c low)
+
+    there_then : HasWords b 0 (k + 1) words (set s.all b filled_row)
+    there_then j from below = let n = row_long in ap (λ (l : List ℕ). get_or l j 0) row_then ∙ dite (ℕ_discrete j k)
+        (λ e. subst (λ (m : ℕ). get_or filled_row m 0 ≡ get_or words m 0) (sym e) (get_or-set_same (get_or s.all b []) k (get_or words k 0) 0 (omega arith)))
+        (λ ne. get_or-set_other (get_or s.all b []) k j (get_or words k 0) 0 ne ∙ s.there j from (omega arith))
+
+    pub so_far_put : IsWriterSeat seat' bank v → (s' : WrittenSoFar bank seat' b (k + 1) words w) × (s'.done ≡ k + 1)
+    so_far_put d =
+        let g = put_here in
+        let h : List Deed = g.before ++ has_written k (get_or words k 0) ∷ [] in
+        let grown : Grows 0 w.history s.history (writes_of words k) = subst (λ (m : ℕ). Grows 0 w.history s.history (writes_of words m)) done s.grows in (
+          record {
+            building = s.building;
+            done = k + 1;
+            low = omega arith;
+            history = h;
+            all = set s.all b filled_row;
+            sits = subst (λ (l : List (List ℕ)). IsWriterSeat seat' bank (filled (take (k + 1) words) l h w)) words_then (subst (IsWriterSeat seat' bank) (filled_more words w v k s.all s.history bank.slots long room g) d);
+            grows = writes_more words w v k s.all s.history bank.slots long room g grown;
+            there = there_then;
+            sized = record { buffers = length-set s.all b filled_row ∙ s.sized.buffers; wide = wide_then };
+            ahead = (λ j from. ap (λ (l : List ℕ). get_or l j 0) row_then ∙ (get_or-set_other (get_or s.all b []) k j (get_or words k 0) 0 (λ e. let z : k + 1 ≤ j = from in absurd (omega arith)) ∙ s.ahead j (omega arith)));
+            others = (λ c ne. get_or-set_other s.all b c filled_row [] ne ∙ s.others c ne);
+          },
+          refl,
+        )
 
 module _ (w : Writing) (current : ℕ) (started : List ℕ) (rests : Rests current started w) (b : ℕ) (words : List ℕ) (u1 u2 u4 : Writing) (all3 : List (List ℕ)) (h3 : List Deed) (W n pins : ℕ)
     (f : FoundQuiet b w u1) (r : WasReset b u1 0 u2) (g3 : Grows 0 u2.history h3 (writes_of words (length words))) (p : Published W b (filled words all3 h3 u2) n u4) (told : pins ≡ p.count) where

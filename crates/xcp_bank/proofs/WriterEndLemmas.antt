@@ -1,13 +1,13 @@
 -- What the writer's steps come to, as contracts see the writer.
-use Rattle.std.proofs.Common.{◌≡◌, ℕ, ◌+◌, ◌%◌, List, [], ◌∷◌, ◌++◌, length, ap, ◌∙◌, arith}
-use Rattle.std.proofs.lemmas.List.{map-append, length_push}
+use Rattle.std.proofs.Common.{◌≡◌, ℕ, ◌+◌, ◌-◌, ◌%◌, List, [], ◌∷◌, ◌++◌, length, get_or, ap, ◌∙◌, arith}
+use Rattle.std.proofs.lemmas.List.{map-append, length_push, get_or_push}
 use Rattle.atomic_table.specs.Seated.{TableId}
 use Rattle.atomic_table.specs.declared.shared.Seat.{Seat as Token}
 use Rattle.pin_core.specs.State.{Writer}
 use Rattle.xcp_bank.specs.Images.{image_of, images}
 use Rattle.xcp_bank.specs.SeatKnowledge.{Writing, Known}
 use Rattle.xcp_bank.specs.private.SeatSteps.{IsWriterSeat, Publishes}
-use Rattle.xcp_bank.specs.BankEnds.{WriterEnd, writer_end, PublishDoes}
+use Rattle.xcp_bank.specs.BankEnds.{WriterEnd, writer_end, newest, PublishDoes}
 use Rattle.xcp_bank.specs.EndFields.{shown_writer}
 use Rattle.xcp_bank.proofs.EndFieldLemmas.{writer_is}
 
@@ -26,6 +26,12 @@ published_end bank image words w u same k = record {
   appended = ap images k.list ∙ (map-append image_of w.pins.publications (words ∷ []) ∙ ap (λ (z : List ℕ). images w.pins.publications ++ z ∷ []) same);
   does = (words, same, record { scans = k.scans; buffer = k.buffer; only = k.only; most = k.most; did = k.grows; last = k.last; state = k.up_to_date.state; ran = k.up_to_date.ran; current = k.up_to_date.index; published = ap (λ (z : Writer). images z.publications) k.up_to_date.pins });
 }
+
+-- and it is the newest one
+pub newest_is : (image : List ℕ) (old new : WriterEnd) → PublishedEnd image old new → newest new ≡ image
+newest_is image old new k =
+    let long = length_push old.publications image in
+    ap (λ (l : List (List ℕ)). get_or l (length l - 1) []) k.appended ∙ get_or_push old.publications image [] (length (old.publications ++ image ∷ []) - 1) (omega arith)
 
 -- the number of publications, counted modulo 2^64
 pub counted_more : (W : ℕ) (words : List ℕ) (w u : Writing) (n : ℕ) → Publishes words W w u → n ≡ length w.pins.publications % 18446744073709551616 → (n + 1) % 18446744073709551616 ≡ length u.pins.publications % 18446744073709551616

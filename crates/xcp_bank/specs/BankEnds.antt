@@ -40,6 +40,10 @@ pub record WriterEnd : Type 0 where
   -- all that happened in the core up to its own last step, this the last
   pub history : List Deed
 
+-- the image that was published last
+abbrev pub newest : WriterEnd → List ℕ
+newest w = slice_index_or w.publications (length w.publications - 1) []
+
 -- what they are to contracts, by what their seats know
 
 abbrev pub reader_end : TableId → ℕ → Reading → ReaderEnd

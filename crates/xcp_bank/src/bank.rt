@@ -8,6 +8,7 @@ ghost use Rattle.xcp_bank.specs.BankId.{bank_of, image_bytes};
 ghost use Rattle.xcp_bank.specs.BankEnds.{reader_end, six_readers, new_writer};
 
 use crate::MAX_IMAGE_BYTES;
+use crate::marks::Marks;
 use crate::reader::Reader;
 use crate::table::{Board, Token, cut, open};
 use crate::words::{table_words, words_of};
@@ -23,8 +24,8 @@ impl Bank {
     /// The writer and the six readers of a new bank, in which this image is published already: a whole
     /// number of words of 8 bytes, up to 1 MiB. Each image of this bank has as many bytes.
     ///
-    /// All memory that a bank ever takes is taken here: eight times the image's, and as much for the
-    /// words that it begins with, which is given back.
+    /// All memory that a bank ever takes is taken here: eight times the image's, a byte for each 64 words of
+    /// that, and as much as the words again for what it begins with, which is given back.
     pub fn new(alloc: Global, image: &[u8]) -> Result<(Writer, [Reader; READERS]), AllocError>
         requires some_bytes { 0 < length image.now }
         requires whole_words { length image.now % 8 ≡ 0 }
@@ -35,9 +36,10 @@ impl Bank {
     {
         let words = words_of(alloc, image, 0)?;
         let table = table_words(alloc, &words)?;
+        let marks = Marks::new(alloc, image.len() / 8)?;
         let (board, mut seat) = open(alloc, &words, &table)?;
         let readers = six(&board, &mut seat)?;
-        Ok((Writer::new(board, seat), readers))
+        Ok((Writer::new(board, seat, marks), readers))
     }
 }
 

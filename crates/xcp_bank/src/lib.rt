@@ -2,7 +2,8 @@
 //! without waiting.
 //!
 //! All images of a bank are equally wide. A publication compares each word with the one that stands in the
-//! buffer, and stores it only where it differs.
+//! buffer, and stores it only where it differs. Where it is told which bytes may have changed, it compares only the words
+//! of blocks in which the buffer may differ.
 //!
 //! All share one table of words. Its rule says that they show a lawful state of the core of pins, and that
 //! there is one history: a run of the core to that state, of which each end knows the beginning up to its own
@@ -15,6 +16,7 @@ mod bank;
 mod holding;
 mod laws;
 mod left;
+mod marks;
 mod publishing;
 mod reader;
 mod reading;

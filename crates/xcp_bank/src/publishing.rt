@@ -2,9 +2,12 @@
 ghost use Rattle.std.specs.Prelude.{◌≡◌, ◌≢◌, ◌+◌, ◌*◌, ◌%◌, ◌<◌, ℕ, IsFalse, IsTrue, List, [], length, slice_index, slice_index_or, Some};
 ghost use Rattle.xcp_bank.specs.PinHistory.{Deed, Grows, writes_of};
 ghost use Rattle.xcp_bank.specs.SeatKnowledge.{Writing};
+ghost use Rattle.std.specs.Prelude.{◌/◌, ◌≤◌};
+ghost use Rattle.xcp_bank.specs.private.BlockMarks.{IsMarked, TakenAway};
 ghost use Rattle.xcp_bank.specs.private.ImageWords.{words_for};
-ghost use Rattle.xcp_bank.specs.private.SeatSteps.{IsWriterSeat, WriterMoves, Rests, FoundQuiet, Publishes, bytes_in, filled};
+ghost use Rattle.xcp_bank.specs.private.SeatSteps.{IsWriterSeat, WriterMoves, Rests, FoundQuiet, Publishes, WrittenSoFar, bytes_in, filled};
 
+use crate::marks::{BLOCK_WORDS, Marks};
 use crate::table::{
     Board, Token, buffer_at, keep_words, peek_word, put_word, reset, scan, swap_in,
 };
@@ -12,22 +15,23 @@ use crate::words::word_at;
 use pin_core::BUFFERS;
 
 /// Writes an image and its number to a quiet buffer, and makes that the current one. `current` and `started` are the
-/// current buffer and the started count of each, which change with it.
+/// current buffer and the started count of each, which change with it. Each block in which a buffer and the image differ
+/// is marked.
 pub(crate) fn publish_at(
     board: &Board,
     token: &mut Token,
     current: &mut usize,
     started: &mut [u64; BUFFERS],
+    marks: &mut Marks,
     image: &[u8],
     number: u64,
 )
-    requires size { length image.now ≡ bytes_in board.now }
-    requires seat { (w : Writing) × IsWriterSeat token.old board.now w × Rests current.old started.old w × (number ≡ length w.pins.publications % 18446744073709551616) }
-    ensures { (w : Writing) → IsWriterSeat token.old board.now w → (u : Writing) × IsWriterSeat token.new board.now u × Rests current.new started.new u × Publishes (words_for image.now number) board.now.slots w u }
+    requires seat { (w : Writing) × IsWriterSeat token.old board.now w × Rests current.old started.old w × (number ≡ length w.pins.publications % 18446744073709551616) × IsMarked board.now.slots marks.old w.words image.now }
+    ensures { (w : Writing) → IsWriterSeat token.old board.now w → (u : Writing) × IsWriterSeat token.new board.now u × Rests current.new started.new u × Publishes (words_for image.now number) board.now.slots w u × IsMarked board.now.slots marks.new u.words image.now }
 {
     let buffer = find_quiet(board, token, *current, started);
     reset(board, token, buffer);
-    write_all(board, token, buffer, image, number);
+    write_all(board, token, buffer, marks, image, number);
     let pins = swap_in(board, token, buffer);
     started[buffer] = 0;
     started[*current] = pins;
@@ -50,17 +54,54 @@ fn find_quiet(board: &Board, token: &mut Token, current: usize, started: &[u64; 
     unreachable!()
 }
 
-// Writes an image and its number to the buffer that is built: a store for each word that isn't there already,
-// and a load for each run of those that are.
-fn write_all(board: &Board, token: &mut Token, buffer: usize, image: &[u8], number: u64)
+// Writes an image and its number to the buffer that is built. Blocks that aren't marked for it stand there already,
+// and aren't looked at.
+fn write_all(
+    board: &Board,
+    token: &mut Token,
+    buffer: usize,
+    marks: &mut Marks,
+    image: &[u8],
+    number: u64,
+)
     requires buffer { buffer < BUFFERS }
-    requires size { length image.now ≡ bytes_in board.now }
-    requires seat { (w : Writing) × IsWriterSeat token.old board.now w × (w.pins.building ≡ Some buffer) × (w.pins.written ≡ []) }
-    ensures { (w : Writing) → IsWriterSeat token.old board.now w → (history : List Deed) × (all : List (List ℕ)) × IsWriterSeat token.new board.now (filled (words_for image.now number) all history w) × Grows 0 w.history history (writes_of (words_for image.now number) (length (words_for image.now number))) }
+    requires seat { (w : Writing) × IsWriterSeat token.old board.now w × (w.pins.building ≡ Some buffer) × (w.pins.written ≡ []) × IsMarked board.now.slots marks.old w.words image.now }
+    ensures taken { TakenAway buffer 0 (length marks.old / 8) marks.old marks.new }
+    ensures written { (w : Writing) → IsWriterSeat token.old board.now w → (history : List Deed) × (all : List (List ℕ)) × IsWriterSeat token.new board.now (filled (words_for image.now number) all history w) × Grows 0 w.history history (writes_of (words_for image.now number) (length (words_for image.now number))) × IsMarked board.now.slots marks.new all image.now }
 {
     let base = buffer_at(board, buffer);
     let words = image.len() / 8;
-    for k in 0..words {
+    let mut block = marks.next(0, buffer);
+    while block < marks.blocks() {
+        let end = marks.take_row(block, buffer);
+        let (from, to) = (BLOCK_WORDS * block, words.min(BLOCK_WORDS * end));
+        write_words(board, token, buffer, base, image, from, to);
+        block = marks.next(end, buffer);
+    }
+    keep_words(board, token, buffer, base, words);
+    put_word(board, token, buffer, base, words, number);
+}
+
+// Writes words of an image to the buffer that is built: a store for each that isn't there already, and a load for
+// each run of those that are.
+fn write_words(
+    board: &Board,
+    token: &mut Token,
+    buffer: usize,
+    base: usize,
+    image: &[u8],
+    from: usize,
+    to: usize,
+)
+    requires buffer { buffer < BUFFERS }
+    requires base { base ≡ 9 + buffer * board.now.slots }
+    requires size { length image.now ≡ bytes_in board.now }
+    requires order { from ≤ to }
+    requires inside { to ≤ length image.now / 8 }
+    requires seat { (number : ℕ) × (w : Writing) × WrittenSoFar board.now token.old buffer from (words_for image.now number) w }
+    ensures { (number : ℕ) (w : Writing) → WrittenSoFar board.now token.old buffer from (words_for image.now number) w → WrittenSoFar board.now token.new buffer to (words_for image.now number) w }
+{
+    for k in from..to {
         let word = word_at(image, k);
         if stands(board, token, buffer, base, k, word) {
             continue;
@@ -68,8 +109,6 @@ fn write_all(board: &Board, token: &mut Token, buffer: usize, image: &[u8], numb
         keep_words(board, token, buffer, base, k);
         put_word(board, token, buffer, base, k, word);
     }
-    keep_words(board, token, buffer, base, words);
-    put_word(board, token, buffer, base, words, number);
 }
 
 // Whether this word stands there already.

@@ -1,14 +1,16 @@
 //! The writer of the bank.
-ghost use Rattle.std.specs.Prelude.{◌≡◌, ℕ, ◌+◌, ◌%◌, ◌≤◌, List, [], ◌∷◌, ◌++◌, length, false};
+ghost use Rattle.std.specs.Prelude.{◌≡◌, ◌⊎◌, ℕ, ◌+◌, ◌-◌, ◌*◌, ◌%◌, ◌<◌, ◌≤◌, List, [], ◌∷◌, ◌++◌, length, slice_index, slice_index_or, false, true};
 ghost use Rattle.xcp_bank.specs.SeatKnowledge.{Reading, Writing, beginning};
 ghost use Rattle.std.specs.Arc.{arc_value};
 ghost use Rattle.xcp_bank.specs.private.SeatSplits.{when_joined, when_parted};
 ghost use Rattle.xcp_bank.specs.private.SeatSteps.{IsReaderSeat, IsWriterSeat};
 ghost use Rattle.xcp_bank.specs.BankId.{image_bytes};
 ghost use Rattle.xcp_bank.specs.Images.{image_of};
-ghost use Rattle.xcp_bank.specs.BankEnds.{writer_end, HeldDoes, PublishDoes};
+ghost use Rattle.xcp_bank.specs.BankEnds.{writer_end, newest, HeldDoes, PublishDoes};
+ghost use Rattle.xcp_bank.specs.private.BlockMarks.{blocks_in};
 
 use crate::holding::count_held;
+use crate::marks::Marks;
 use crate::publishing::publish_at;
 use crate::table::{Board, Token, image_size, tell_at};
 use pin_core::BUFFERS;
@@ -25,6 +27,7 @@ pub struct Writer {
     current: usize,
     started: [u64; BUFFERS],
     count: u64,
+    marks: Marks,
 }
 
 impl Model for Writer {
@@ -37,13 +40,15 @@ impl Model for Writer {
 
     ghost view = { λ w. shown_writer (arc_value w.board) w.seat };
 
-    ghost invariant = { λ w. WriterKept (arc_value w.board) w.current w.started w.count w.seat };
+    ghost invariant = { λ w. WriterKept (arc_value w.board) w.current w.started w.count w.marks w.seat };
 }
 
 impl Writer {
     /// The writer for which this seat stands. It has made no step.
-    pub(crate) fn new(board: Arc<Board>, seat: Token) -> Writer
-        requires { (words : List ℕ) × IsWriterSeat seat (arc_value board) (beginning words) }
+    pub(crate) fn new(board: Arc<Board>, seat: Token, marks: Marks) -> Writer
+        requires marks { (i : ℕ) → i < length marks → slice_index_or marks i false ≡ true }
+        requires size { length marks ≡ 8 * blocks_in ((arc_value board).slots - 1) }
+        requires seat { (words : List ℕ) × (length words ≡ (arc_value board).slots) × IsWriterSeat seat (arc_value board) (beginning words) }
         ensures { (words : List ℕ) → IsWriterSeat seat (arc_value board) (beginning words) → result ≡ writer_end (arc_value board) (beginning words) }
     {
         Writer {
@@ -52,6 +57,7 @@ impl Writer {
             current: 0,
             started: [0; BUFFERS],
             count: 1,
+            marks,
         }
     }
 
@@ -65,11 +71,30 @@ impl Writer {
         ensures appended { self.new.publications ≡ self.old.publications ++ image.now ∷ [] }
         ensures does { (words : List ℕ) × (image_of words ≡ image.now) × PublishDoes words self.old self.new }
     {
+        self.publish_within(image, 0, image.len());
+    }
+
+    /// Publishes an image whose bytes outside of `from..to` are as in the image that was published last: readers
+    /// that acquire from now on take it. It has as many bytes as `size` tells, and `to` is at most as many.
+    ///
+    /// It does what `publish` does, and costs what has changed. The words of an image are blocks of 64, which are 512
+    /// bytes. Looked at, word by word as by `publish`, are only the blocks in which `from..to` lies, and those that
+    /// changed since the buffer was filled that is taken now. Of each other block one mark is looked at, the writer's own.
+    pub fn publish_within(&mut self, image: &[u8], from: usize, to: usize)
+        requires size { length image.now ≡ image_bytes self.old.bank }
+        requires range { to ≤ image_bytes self.old.bank }
+        requires outside { (i : ℕ) → i < length image.now → (i < from) ⊎ (to ≤ i) → slice_index image.now i ≡ slice_index (newest self.old) i }
+        ensures same_bank { self.new.bank ≡ self.old.bank }
+        ensures appended { self.new.publications ≡ self.old.publications ++ image.now ∷ [] }
+        ensures does { (words : List ℕ) × (image_of words ≡ image.now) × PublishDoes words self.old self.new }
+    {
+        self.marks.mark(from, to);
         publish_at(
             &self.board,
             &mut self.seat,
             &mut self.current,
             &mut self.started,
+            &mut self.marks,
             image,
             self.count,
         );

@@ -1,10 +1,13 @@
 -- A file whose parts were appended in turn; how many digits an EPK has.
-use Rattle.std.proofs.Common.{◌≡◌, ◌*◌, ℕ, List, ◌++◌, codes, length, refl, ap, ◌∙◌, append_assoc}
+use Rattle.std.proofs.Common.{◌≡◌, ◌*◌, ℕ, Bool, true, false, List, ◌∷◌, ◌++◌, codes, length, ap, ◌∙◌, append_assoc, if◌then◌else◌}
+use Rattle.std.specs.List.{list_all}
+use Rattle.std.specs.Char.{is_ascii}
+use Rattle.std.specs.Str.{IsUtf8}
 use Rattle.sha2.specs.Sha256.{sha256}
 use Rattle.sha2.proofs.Facts256.{length-sha256}
 use Rattle.hex.specs.Hex.{lower_digits}
 use Rattle.hex.proofs.HexLemmas.{length-encode_with}
-use Rattle.xcp_describe.specs.Files.{IsFile, TellsEpk, epk_line, epk_of}
+use Rattle.xcp_describe.specs.Files.{IsFile, TellsEpk, epk_line, epk_of, marked}
 
 pub record IsJoined (front epk rest text : List ℕ) : Type 0 where
   pub first : List ℕ
@@ -19,22 +22,35 @@ pub record IsJoined (front epk rest text : List ℕ) : Type 0 where
   pub gone_on : fifth ≡ fourth ++ rest
   pub ended : text ≡ fifth ++ codes "  /end MODULE\n/end PROJECT\n"
 
-pub joined_is_file : (front epk rest text : List ℕ) → IsJoined front epk rest text → IsFile text
-joined_is_file front epk rest text j = record {
-  blocks = front ++ codes "    /begin MOD_PAR \"\"\n" ++ epk ++ rest;
-  framed = rw (j.ended, j.gone_on, j.told, j.headed, j.fronted, j.begun) (simp append_assoc);
-}
+-- the blocks of the file
+blocks_of : List ℕ → List ℕ → List ℕ → List ℕ
+blocks_of front epk rest = front ++ codes "    /begin MOD_PAR \"\"\n" ++ epk ++ rest
+
+joined_is_framed : (front epk rest text : List ℕ) → IsJoined front epk rest text → text ≡ codes "ASAP2_VERSION 1 60\n/begin PROJECT xcpd " ++ blocks_of front epk rest ++ codes "  /end MODULE\n/end PROJECT\n"
+unfolding blocks_of
+joined_is_framed front epk rest text j = rw (j.ended, j.gone_on, j.told, j.headed, j.fronted, j.begun) (simp append_assoc)
+
+pub joined_is_file : (front epk rest text file : List ℕ) → IsJoined front epk rest text → file ≡ marked text → IsUtf8 file → IsFile file
+joined_is_file front epk rest text file j m u = record { blocks = blocks_of front epk rest; framed = m ∙ ap marked (joined_is_framed front epk rest text j); utf8 = u }
 
 -- however they are grouped
 regroup : (a f m e r b : List ℕ) → a ++ f ++ m ++ e ++ r ++ b ≡ a ++ f ++ m ++ e ++ (r ++ b)
 regroup a f m e r b = simp append_assoc
 
-pub joined_tells : (front epk rest text digits : List ℕ) → IsJoined front epk rest text → epk ≡ epk_line digits → TellsEpk digits text
+joined_tells : (front epk rest text digits : List ℕ) → IsJoined front epk rest text → epk ≡ epk_line digits → TellsEpk digits text
 joined_tells front epk rest text digits j e = record {
   before = codes "ASAP2_VERSION 1 60\n/begin PROJECT xcpd " ++ front;
   behind = rest ++ codes "  /end MODULE\n/end PROJECT\n";
   told = rw (j.ended, j.gone_on, j.told, e, j.headed, j.fronted, j.begun) (regroup (codes "ASAP2_VERSION 1 60\n/begin PROJECT xcpd ") front (codes "    /begin MOD_PAR \"\"\n") (epk_line digits) rest (codes "  /end MODULE\n/end PROJECT\n"));
 }
+
+-- with a byte order mark before it or without
+tells_behind : (digits text : List ℕ) (b : Bool) → TellsEpk digits text → TellsEpk digits (if b then text else 0xEF ∷ 0xBB ∷ 0xBF ∷ text)
+tells_behind digits text true t = t
+tells_behind digits text false t = record { before = 0xEF ∷ 0xBB ∷ 0xBF ∷ t.before; behind = t.behind; told = ap (λ x. 0xEF ∷ 0xBB ∷ 0xBF ∷ x) t.told }
+
+pub file_tells : (front epk rest text file digits : List ℕ) → IsJoined front epk rest text → file ≡ marked text → epk ≡ epk_line digits → TellsEpk digits file
+file_tells front epk rest text file digits j m e = rw m (tells_behind digits text (list_all is_ascii text) (joined_tells front epk rest text digits j e))
 
 pub epk_has_64_digits : (config : List ℕ) → length (epk_of config) ≡ 64
 epk_has_64_digits config = length-encode_with lower_digits (sha256 config) ∙ ap (λ n. 2 * n) (length-sha256 config)

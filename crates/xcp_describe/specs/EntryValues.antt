@@ -6,9 +6,10 @@ use Rattle.std.specs.Float.{Float, fin, binary64, float_is_finite, float_zero, f
 use lib.Ieee.{add, le, mul, of_int}
 use Rattle.toml.specs.Data.{Data, as_array, as_float, as_integer, as_str, get}
 use Rattle.xcp_memory.specs.LayoutParts.{number}
-use Rattle.xcp_memory.specs.Limits.{is_text, is_within}
+use Rattle.xcp_memory.specs.Limits.{is_within}
 use Rattle.xcp_config.specs.TableLayout.{address_of}
 use Rattle.xcp_config.specs.TomlValues.{integer_of, named, text_of}
+use Rattle.xcp_describe.specs.EntryTexts.{is_text_of_entry}
 
 -- a value that is there and passes a test
 abbrev pub some_and : {A : Type 0} → (A → Bool) → Option A → Bool
@@ -43,12 +44,9 @@ is_group d = none_or (λ v. some_and is_name (as_str v)) (get (codes "group") d)
 abbrev pub group_in : Data → Option (List ℕ)
 group_in d = option_map (λ v. text_of (Some v)) (get (codes "group") d)
 
--- a text of at most 128 printable characters, if it is there
-abbrev pub is_short_text : List ℕ → Bool
-is_short_text s = length s == 0 || is_text 128 s
-
+-- a unit, or what an entry is about, if it is there
 abbrev pub is_text_or_none : Option Data → Bool
-is_text_or_none v = none_or (λ x. some_and is_short_text (as_str x)) v
+is_text_or_none v = none_or (λ x. some_and is_text_of_entry (as_str x)) v
 
 -- The type of a value: how many bytes it has, the mask of all its bits, 0 of a float, and the least and the greatest number. `fin s m e` is m times two to the e, and negative
 -- where s is true.

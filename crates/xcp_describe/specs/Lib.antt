@@ -1,6 +1,7 @@
 pub mod A2lFiles
 pub mod Axes
 pub mod EntryFaults
+pub mod EntryTexts
 pub mod EntryValues
 pub mod FaultWords
 pub mod Files

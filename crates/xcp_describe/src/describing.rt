@@ -1,13 +1,15 @@
 //! The whole description.
 ghost use Rattle.std.specs.Prelude.{◌≡◌, ◌≢◌, ◌⊎◌, ◌↔◌, ◌+◌, ℕ, List, Some, None, true, OnOk, OnErr, IfOk, IfErr, string_bytes};
+ghost use Rattle.std.specs.Char.{is_ascii};
 ghost use Rattle.std.specs.Io.KnownBytes.{Appends};
+ghost use Rattle.std.specs.List.{list_all};
 ghost use Rattle.xcp_framing.specs.Prefix.{AppendsFront};
 ghost use Rattle.xcp_memory.specs.Layout.{LayoutValue};
 ghost use Rattle.xcp_config.specs.ConfigText.{HasLayout};
 ghost use Rattle.xcp_program.specs.ReplayOutcome.{IsFault};
 ghost use Rattle.xcp_describe.specs.A2lFiles.{IsFileOf};
 ghost use Rattle.xcp_describe.specs.EntryFaults.{IsFirstRefusal};
-ghost use Rattle.xcp_describe.specs.Files.{IsFile, TellsEpk, epk_line, epk_of};
+ghost use Rattle.xcp_describe.specs.Files.{IsFile, TellsEpk, epk_line, epk_of, marked};
 ghost use Rattle.xcp_describe.specs.Findings.{IsEntry};
 ghost use Rattle.xcp_describe.specs.Hosts.{IsHost};
 ghost use Rattle.xcp_describe.specs.private.Refusals.{IsEntryOrMemory};
@@ -25,7 +27,7 @@ use crate::naming::{has_events, put_tables};
 use crate::protocol::Protocol;
 use crate::refusal::DescribeError;
 use crate::tables::Tables;
-use crate::text::put_quoted;
+use crate::text::{put_quoted, put_text};
 use std::alloc::{AllocError, Global};
 use std::io::Write;
 use toml::Value;
@@ -136,7 +138,7 @@ fn text_of(
 }
 
 /// The text with what stands before the block MOD_PAR, with the line of the EPK, and with what stands behind it: its first line, the
-/// head of that block, and the ends of the blocks around all.
+/// head of that block, and the ends of the blocks around all; and its byte order mark, if it needs one.
 fn whole(alloc: Global, front: &str, epk: &str, rest: &str) -> Result<String, AllocError>
     ensures file { IfOk result (λ text. IsFile (string_bytes text)) }
     ensures told { (digits : List ℕ) → epk.now ≡ epk_line digits → IfOk result (λ text. TellsEpk digits (string_bytes text)) }
@@ -147,7 +149,25 @@ fn whole(alloc: Global, front: &str, epk: &str, rest: &str) -> Result<String, Al
     text.push_str(epk)?;
     text.push_str(rest)?;
     text.push_str("  /end MODULE\n/end PROJECT\n")?;
+    put_mark(&mut text)?;
     Ok(text)
+}
+
+/// Puts a byte order mark before a text that isn't of ASCII alone: by it tools know that the file is UTF-8.
+fn put_mark(text: &mut String) -> Result<(), AllocError>
+    ensures { OnOk result (string_bytes text.new ≡ marked (string_bytes text.old)) }
+{
+    if is_ascii(text.as_bytes()) {
+        return Ok(());
+    }
+    text.insert_str(0, "\u{FEFF}")
+}
+
+/// Whether all characters are of ASCII.
+fn is_ascii(text: &[u8]) -> bool
+    ensures { result ≡ list_all is_ascii text.now }
+{
+    text.iter().all(|byte| byte.is_ascii())
 }
 
 /// Appends what stands behind the name of the block PROJECT, up to the block MOD_PAR.
@@ -218,7 +238,7 @@ fn put_interface(
     writeln!(text, "        0x{:02X}00 /* version */", protocol.transport)?;
     writeln!(text, "        {port} /* port */")?;
     write!(text, "        {} ", kind_of(host))?;
-    put_quoted(text, host.as_bytes(), host.len())?;
+    put_text(host, text)?;
     writeln!(text, "\n      /end XCP_ON_TCP_IP\n    /end IF_DATA")
 }
 

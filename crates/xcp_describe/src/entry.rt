@@ -7,6 +7,7 @@ ghost use Rattle.toml.specs.Data.{as_integer, as_str, get};
 ghost use Rattle.toml.specs.View.{view};
 ghost use Rattle.xcp_packet.specs.Rows.{first_holding};
 ghost use Rattle.xcp_memory.specs.Limits.{is_within};
+ghost use Rattle.xcp_config.specs.TomlValues.{text_of};
 ghost use Rattle.xcp_memory.specs.ComputedAccess.{lies_inside, segment_of};
 ghost use Rattle.xcp_describe.specs.Axes.{axis_in, has_axes, has_axis, is_axis};
 ghost use Rattle.xcp_describe.specs.EntryValues.{event_in, factor_in, first_of, in_order, in_unit, is_event, is_name, is_name_character, is_of_32_bits, is_text_or_none, name_of, number_or, offset_in, some_and, type_in};
@@ -18,14 +19,12 @@ use crate::kind::Kind;
 use crate::meaning::Meaning;
 use crate::refusal::Why;
 use crate::shape::Shape;
+use crate::text::is_text_of_entry;
 use toml::Value;
-use xcp_memory::{Layout, is_text};
+use xcp_memory::Layout;
 
 /// The most characters of a name: with `_conversion` behind them an identifier of ASAP2 has no more than 128.
 const MOST_OF_NAME: usize = 117;
-
-/// The most characters of a text.
-const MOST_CHARACTERS: usize = 128;
 
 /// A parameter or a measurement.
 #[derive(Clone, Copy)]
@@ -330,16 +329,17 @@ pub(crate) fn whole_number(number: i64) -> Result<f64, Why>
     }
 }
 
-/// A text of printable ASCII, none where none is given.
+/// A unit, or what an entry is about: a text, none where none is given.
 fn text_in<'a>(table: &'a Value, key: &str, why: Why) -> Result<&'a str, Why>
     ensures passes { IfOk result (λ _. is_text_or_none (get key.now (view table.now)) ≡ true) }
+    ensures value { IfOk result (λ s. s.now ≡ text_of (get key.now (view table.now))) }
     ensures refused { IfErr result (λ e. (e ≡ why) × (is_text_or_none (get key.now (view table.now)) ≡ false)) }
 {
     let text = match table.get(key) {
         Some(value) => value.as_str().ok_or(why)?,
         None => return Ok(""),
     };
-    if text.is_empty() || is_text(text.as_bytes(), MOST_CHARACTERS) {
+    if is_text_of_entry(text) {
         Ok(text)
     } else {
         Err(why)

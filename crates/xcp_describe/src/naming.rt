@@ -4,7 +4,7 @@ use crate::kind::KINDS;
 use crate::names::{name_of, number_of};
 use crate::shape::Shape;
 use crate::tables::Tables;
-use crate::text::put_quoted;
+use crate::text::put_text;
 use std::alloc::AllocError;
 use toml::Value;
 
@@ -87,7 +87,7 @@ fn put_conversion(entry: &Entry<'_>, text: &mut String) -> Result<(), AllocError
         (false, false) => "LINEAR",
     };
     write!(text, "      {kind} \"%12.6\" ")?;
-    put_quoted(text, entry.unit.as_bytes(), entry.unit.len())?;
+    put_text(entry.unit, text)?;
     if is_named {
         return put_names(entry, text);
     }
@@ -121,14 +121,14 @@ fn put_pair(pair: &Value, text: &mut String) -> Result<(), AllocError> {
         return Ok(());
     };
     write!(text, "      {number} ")?;
-    put_quoted(text, name.as_bytes(), name.len())?;
+    put_text(name, text)?;
     text.push('\n')
 }
 
 /// Appends the AXIS_PTS of a parameter that is an axis.
 fn put_axis(entry: &Entry<'_>, text: &mut String) -> Result<(), AllocError> {
     write!(text, "    /begin AXIS_PTS {} ", entry.name)?;
-    put_quoted(text, entry.about.as_bytes(), entry.about.len())?;
+    put_text(entry.about, text)?;
     writeln!(
         text,
         "\n      0x{:08X} NO_INPUT_QUANTITY {}_AXIS 0 {}_conversion {} {:?} {:?}",
@@ -149,7 +149,7 @@ fn put_characteristic(
     text: &mut String,
 ) -> Result<(), AllocError> {
     write!(text, "    /begin CHARACTERISTIC {} ", entry.name)?;
-    put_quoted(text, entry.about.as_bytes(), entry.about.len())?;
+    put_text(entry.about, text)?;
     writeln!(
         text,
         "\n      {} 0x{:08X} {}_VALUES 0 {}_conversion",
@@ -227,7 +227,7 @@ fn put_axis_of(
 /// Appends the MEASUREMENT of a measurement.
 fn put_measurement(entry: &Entry<'_>, text: &mut String) -> Result<(), AllocError> {
     write!(text, "    /begin MEASUREMENT {} ", entry.name)?;
-    put_quoted(text, entry.about.as_bytes(), entry.about.len())?;
+    put_text(entry.about, text)?;
     writeln!(
         text,
         "\n      {} {}_conversion 0 0 {:?} {:?}",

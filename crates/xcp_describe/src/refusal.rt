@@ -41,9 +41,9 @@ pub enum Why {
     Factor,
     /// Its limits, given or the bounds of its type, are no values of the type, no finite numbers, or the wrong way round.
     Limits,
-    /// Its unit is no plain text.
+    /// Its unit is no text, has too many characters, or a control character or a separator of lines or paragraphs.
     Unit,
-    /// Its text is no plain text.
+    /// What it is about is no such text.
     About,
     /// Not all its bytes lie in one segment.
     NoSegment,
@@ -100,8 +100,10 @@ impl fmt::Display for Why {
                 "low, high, factor and offset have to be finite numbers, integers of 32 bits at most",
             Why::Factor => "factor can't be 0",
             Why::Limits => "low and high have to be values of its type, and low not above high",
-            Why::Unit => "unit has to be a text of printable ASCII, at most 128 characters",
-            Why::About => "about has to be a text of printable ASCII, at most 128 characters",
+            Why::Unit =>
+                "unit has to be a text of at most 128 characters, none of them a control character or a separator of lines or paragraphs",
+            Why::About =>
+                "about has to be a text of at most 128 characters, none of them a control character or a separator of lines or paragraphs",
             Why::NoSegment => "its bytes lie in no segment",
             Why::Axis =>
                 "x_axis and y_axis have to name parameters without bits, of as many values as it has columns and rows, and an x_axis beside rows needs a y_axis",

@@ -22,7 +22,7 @@ use std::alloc::{AllocError, Global};
 const VERSION: &str = "0.1.0";
 
 /// What help says below the options of the program.
-const STATUS: &str = help!(wrong_words);
+const STATUS: &str = help!([] wrong_words plain_words);
 
 /// What help says below the options of a replay.
 const LINES: &str = help!(

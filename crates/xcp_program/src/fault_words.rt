@@ -22,6 +22,10 @@ macro_rules! help {
     ($before:tt wrong_words $($rest:tt)*) => {
         help!($before "Wrong words end the program with status 1, and what is wrong with them on standard error." $($rest)*)
     };
+    ($before:tt plain_words $($rest:tt)*) => {
+        help!($before " Any other fault
+ends it with one line there: its number, and behind a colon words on it, which xcpd --plain SUBCOMMAND .. leaves out." $($rest)*)
+    };
     ($before:tt ends $($rest:tt)*) => {
         help!($before "\n\n" wrong_words " Any other fault ends it
 with one line there, and this status:" $($rest)*)

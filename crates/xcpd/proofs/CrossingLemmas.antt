@@ -74,7 +74,7 @@ both_crosses A B x y = struct_crosses (Both.the_type A B) (x, (y, tt))
 teller_crosses : (κ : NamedLft) (R : RattleType) → IsSync R → IsSend (Teller.the_field κ R).row
 teller_crosses κ R r =
     struct_send (declared.shape (Teller.the_type κ R))
-    (search (sendable, crosses) depth 20, (search (sendable, crosses) depth 20, (search (sendable, crosses, lines.the_sync) depth 20, (search sendable, tt))))
+    (search (sendable, crosses) depth 20, (search (sendable, crosses) depth 20, (search (sendable, crosses, lines.the_sync) depth 20, (search sendable, (search sendable, tt)))))
 
 -- a file's place
 pub place_crosses : (κ : NamedLft) (R : RattleType) → IsSync R → IsSend (Place.the_row κ R)

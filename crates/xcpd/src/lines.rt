@@ -1,12 +1,14 @@
 //! Lines for standard error that nobody waits for.
 ghost use Rattle.std.specs.Prelude.{◌≡◌, ◌≤◌, ◌+◌, ◌-◌, ◌^◌, ◌⊎◌, ◌++◌, ◌∷◌, [], min, vec_len};
 
+use crate::telling::line_of;
 use std::alloc::Global;
 use std::io;
 use std::mem::replace;
 use std::sync::{Arc, Condvar, CondvarTimeouts, Mutex, Wait};
 use std::thread::{self, Threads};
 use std::time::{Clock, Duration};
+use xcp_program::Fault;
 
 /// The most lines that wait to be written. Further ones are dropped, and counted.
 const MOST: usize = 1000;
@@ -30,6 +32,8 @@ struct Waiting {
 pub struct Lines {
     waiting: Mutex<Waiting>,
     changed: Condvar,
+    /// Faults are told without words.
+    plain: bool,
 }
 
 impl Waiting {
@@ -51,6 +55,13 @@ impl Lines {
     pub fn tell(&self, rt: &impl Wait, line: String) {
         self.waiting.lock(rt).take_in(line);
         self.changed.notify_all();
+    }
+
+    /// The line of a fault, by its number, where there is memory for it.
+    pub fn tell_fault(&self, rt: &impl Wait, alloc: Global, fault: Fault) {
+        if let Ok(line) = line_of(alloc, fault, self.plain) {
+            self.tell(rt, line);
+        }
     }
 
     /// No more lines come. Waits until all are written, but not for long.
@@ -96,10 +107,11 @@ impl Lines {
     }
 }
 
-/// Lines that a thread writes from now on, for as long as the program runs.
+/// Lines that a thread writes from now on, for as long as the program runs, with the words on faults or without.
 pub fn begin_lines<R: Threads + Wait + Copy + Send + 'static>(
     rt: &HostRuntime,
     handle: &R,
+    plain: bool,
 ) -> io::Result<Arc<Lines>> {
     let lines = Arc::new(
         rt.alloc(),
@@ -111,6 +123,7 @@ pub fn begin_lines<R: Threads + Wait + Copy + Send + 'static>(
                 is_written: false,
             }),
             changed: Condvar::new(),
+            plain,
         },
     )?;
     let written = lines.clone()?;

@@ -16,6 +16,7 @@ mod named;
 mod stack;
 mod stay;
 mod teller;
+mod telling;
 
 ghost use Rattle.std.specs.Prelude.{◌≡◌, ◌<◌, ◌≤◌, ◌+◌, ⊤, IfOk, MatchOption, vec_len};
 ghost use Rattle.sha2.specs.Sha256.{sha256};
@@ -34,6 +35,7 @@ use crate::named::Named;
 use crate::stack::{deepen, has_room};
 use crate::stay::stay_by;
 use crate::teller::Teller;
+use crate::telling::{About, end_telling};
 use std::fs::File;
 use std::io;
 use std::net::TcpListener;
@@ -50,6 +52,7 @@ use xcp_program::{
 };
 use xcp_scribe::Both;
 use xcp_server::{Report, Tools, accept_tools, serve_ends};
+use xcp_telling::take_plain;
 
 /// The most reads of one replay.
 const TURNS: u32 = 1_000_000;
@@ -93,9 +96,10 @@ fn print_description(
 }
 
 /// The same, with the fault on standard error, if there is one, and the status.
-fn describe_or_tell(rt: &HostRuntime, path: &str, host: &str, port: u16) -> ExitCode {
-    match print_description(rt, path, host, port) {
+fn describe_or_tell(rt: &HostRuntime, about: About<'_>, host: &str, port: u16) -> ExitCode {
+    match print_description(rt, about.config, host, port) {
         Ok(()) => ExitCode::from(0),
+        Err(DescribeError::Program(fault)) => end_telling(rt, Some(fault), about),
         Err(fault) => {
             let _ = eprintln!(rt; "xcpd: {fault}");
             ExitCode::from(fault.status())
@@ -114,10 +118,10 @@ fn print_findings(rt: &HostRuntime, path: &str) -> Result<Findings, Fault> {
 }
 
 /// The same, with the fault on standard error, if there is one, and the status.
-fn check_or_tell(rt: &HostRuntime, path: &str) -> ExitCode {
-    match print_findings(rt, path) {
+fn check_or_tell(rt: &HostRuntime, about: About<'_>) -> ExitCode {
+    match print_findings(rt, about.config) {
         Ok(findings) => ExitCode::from(findings.status()),
-        Err(fault) => end(rt, Some(fault)),
+        Err(fault) => end_telling(rt, Some(fault), about),
     }
 }
 
@@ -153,6 +157,7 @@ fn admit<'a, R: Wait>(
     period: u32,
     journal: &Option<String>,
     flash: &Option<String>,
+    plain: bool,
 ) -> Result<Admitted<'a, R>, Fault>
     requires { (1 ≤ tools) × (tools ≤ 2) × (tasks ≤ 6) }
     ensures admitted { IfOk result (λ r. (vec_len r.3 ≡ tools) × (r.0.callers ≡ tools + tasks + tools) × HasBegun r.2.first × KeepsNone r.2.second
@@ -160,7 +165,12 @@ fn admit<'a, R: Wait>(
     ensures journal { IfOk result (λ r. MatchOption r.2.first ⊤ (λ w. w.layout ≡ sha256 (answers_decided r.0.layout))) }
 {
     let text = text_of(rt, path)?;
-    let (layout, kept) = begin_with(rt, text.as_str(), flash, Teller::new(rt, handle, None))?;
+    let (layout, kept) = begin_with(
+        rt,
+        text.as_str(),
+        flash,
+        Teller::new(rt, handle, None, plain),
+    )?;
     refuse_clock(&layout)?;
     let periods = periods_of(&layout, pace, period);
     let roster = roster_of(tools, tasks, 0);
@@ -175,7 +185,7 @@ fn admit<'a, R: Wait>(
         journal,
         flash,
         roster,
-        Teller::new(rt, handle, None),
+        Teller::new(rt, handle, None, plain),
     )?;
     let _ = rt.print(Listening { port });
     let ends = accept_tools(rt.alloc(), &listener, tools)?;
@@ -207,8 +217,8 @@ fn tell(rt: &HostRuntime, unasked: &Unasked) -> ExitCode {
     ExitCode::from(status)
 }
 
-/// Tells the fault, if there is one, and ends with its status.
-pub fn end(rt: &HostRuntime, fault: Option<Fault>) -> ExitCode {
+/// Tells the fault, if there is one, by its number alone, and ends with its status.
+fn end(rt: &HostRuntime, fault: Option<Fault>) -> ExitCode {
     if let Some(fault) = fault {
         let _ = eprintln!(rt; "xcpd: {fault}");
     }
@@ -225,6 +235,7 @@ fn serve_by<R: Threads + Wait + Clock + Sync>(
     serving: Serving,
     journal: &Option<String>,
     flash: &Option<String>,
+    plain: bool,
 ) -> Result<(), Fault>
     requires { (1 ≤ serving.tools) × (serving.tools ≤ 2) × (serving.tasks ≤ 6) }
 {
@@ -241,6 +252,7 @@ fn serve_by<R: Threads + Wait + Clock + Sync>(
         serving.period,
         journal,
         flash,
+        plain,
     )?;
     serve_admitted(rt, handle, admitted, serving)
 }
@@ -286,11 +298,17 @@ fn serve_admitted<R: Threads + Wait + Clock + Sync>(
 }
 
 /// Prints the description that is asked for, or what is found in the configuration file, and answers the status.
-fn describe_or_check(rt: &HostRuntime, path: &str, host: &str, port: u16, check: bool) -> ExitCode {
+fn describe_or_check(
+    rt: &HostRuntime,
+    about: About<'_>,
+    host: &str,
+    port: u16,
+    check: bool,
+) -> ExitCode {
     if check {
-        check_or_tell(rt, path)
+        check_or_tell(rt, about)
     } else {
-        describe_or_tell(rt, path, host, port)
+        describe_or_tell(rt, about, host, port)
     }
 }
 
@@ -299,13 +317,17 @@ fn obey<R: Threads + Wait + Clock + Copy + Send + Sync + 'static>(
     rt: &HostRuntime,
     handle: &R,
     options: Options,
+    plain: bool,
 ) -> ExitCode
     requires { InRange options }
 {
     let serving = options.serving();
     let staying = options.staying();
-    let fault = match options {
-        Options::Replay { config, flash } => run(rt, config.as_str(), &flash).err(),
+    match options {
+        Options::Replay { config, flash } => {
+            let fault = run(rt, config.as_str(), &flash).err();
+            end_telling(rt, fault, about(&config, &flash, None, plain))
+        }
         Options::Serve {
             config,
             host,
@@ -317,7 +339,15 @@ fn obey<R: Threads + Wait + Clock + Copy + Send + Sync + 'static>(
             let Some(serving) = serving else {
                 unreachable!()
             };
-            serve_by(rt, handle, &config, &host, port, serving, &journal, &flash).err()
+            let fault = serve_by(
+                rt, handle, &config, &host, port, serving, &journal, &flash, plain,
+            )
+            .err();
+            end_telling(
+                rt,
+                fault,
+                about(&config, &flash, Some((&host, port)), plain),
+            )
         }
         Options::Stay {
             config,
@@ -330,22 +360,47 @@ fn obey<R: Threads + Wait + Clock + Copy + Send + Sync + 'static>(
             let Some(staying) = staying else {
                 unreachable!()
             };
-            return stay_by(rt, handle, &config, &host, port, staying, &journal, &flash);
+            stay_by(
+                rt, handle, &config, &host, port, staying, &journal, &flash, plain,
+            )
         }
         Options::Describe {
             config,
             host,
             port,
             check,
-        } => return describe_or_check(rt, config.as_str(), host.as_str(), port, check),
+        } => describe_or_check(
+            rt,
+            about(&config, &None, None, plain),
+            host.as_str(),
+            port,
+            check,
+        ),
         Options::Audit {
             config,
             file,
             flash,
             lines,
-        } => audit_by(rt, config.as_str(), file.as_str(), &flash, lines).err(),
-    };
-    end(rt, fault)
+        } => {
+            let fault = audit_by(rt, config.as_str(), file.as_str(), &flash, lines).err();
+            end_telling(rt, fault, about(&config, &flash, None, plain))
+        }
+    }
+}
+
+/// What the words on a fault may be about.
+fn about<'a>(
+    config: &'a str,
+    flash: &'a Option<String>,
+    place: Option<(&'a str, u16)>,
+    plain: bool,
+) -> About<'a> {
+    About {
+        config,
+        flash,
+        place,
+        plain,
+    }
 }
 
 /// Does what the program's words ask for, and answers the status.
@@ -354,8 +409,13 @@ fn obey_words<R: Threads + Wait + Clock + Copy + Send + Sync + 'static>(
     rt: &HostRuntime,
     handle: &R,
 ) -> ExitCode {
-    match asked(rt.alloc(), read_words(rt)) {
-        Ok(options) => obey(rt, handle, options),
+    let mut words = read_words(rt);
+    let plain = match &mut words {
+        Ok(given) => take_plain(given),
+        Err(_) => false,
+    };
+    match asked(rt.alloc(), words) {
+        Ok(options) => obey(rt, handle, options, plain),
         Err(unasked) => tell(rt, &unasked),
     }
 }

@@ -14,7 +14,8 @@ use crate::log::Log;
 use crate::named::Named;
 use crate::stack::deepen;
 use crate::teller::Teller;
-use crate::{end, listen, text_of};
+use crate::telling::{About, end_telling, line_about};
+use crate::{listen, text_of};
 use std::process::ExitCode;
 use std::sync::{Arc, Wait};
 use std::thread::Threads;
@@ -58,18 +59,25 @@ pub fn stay_by<R: Threads + Wait + Clock + Copy + Send + Sync + 'static>(
     staying: Staying,
     journal: &Option<String>,
     flash: &Option<String>,
+    plain: bool,
 ) -> ExitCode
     requires { (1 ≤ staying.tools) × (staying.tools ≤ 4) × (staying.tasks ≤ 6) }
 {
-    let Ok(lines) = begin_lines(rt, handle) else {
-        return end(rt, Some(Fault::Memory));
+    let about = About {
+        config: path,
+        flash,
+        place: Some((host, port)),
+        plain,
+    };
+    let Ok(lines) = begin_lines(rt, handle, plain) else {
+        return end_telling(rt, Some(Fault::Memory), about);
     };
     let ended = stay_with(
         rt, handle, path, host, port, staying, journal, flash, &lines,
     );
     let fault = ended.err();
     if let Some(fault) = fault {
-        if let Ok(line) = format!(in rt.alloc(); "{fault}") {
+        if let Ok(line) = line_about(rt, fault, about) {
             lines.tell(handle, line);
         }
     }
@@ -97,7 +105,7 @@ fn stay_with<R: Threads + Wait + Clock + Copy + Send + Sync + 'static>(
         rt,
         text.as_str(),
         flash,
-        Teller::new(rt, handle, Some(&**lines)),
+        Teller::new(rt, handle, Some(&**lines), false),
     )?;
     let plan = plan_of(staying, &layout);
     let roster = roster_of(plan.tools, plan.tasks, timekeepers(&layout));

@@ -1,6 +1,7 @@
 //! Faults that are told when they happen.
 
 use crate::lines::Lines;
+use crate::telling::line_of;
 use std::alloc::Global;
 use std::sync::atomic::{AtomicBool, Ordering};
 use std::sync::{Arc, Wait};
@@ -12,16 +13,24 @@ pub struct Teller<'a, R> {
     rt: &'a HostRuntime,
     handle: &'a R,
     lines: Option<&'a Lines>,
+    /// Where there are no such lines: faults are told without words.
+    plain: bool,
     is_told: bool,
 }
 
 impl<'a, R: Wait> Teller<'a, R> {
     /// Nothing was told yet.
-    pub fn new(rt: &'a HostRuntime, handle: &'a R, lines: Option<&'a Lines>) -> Teller<'a, R> {
+    pub fn new(
+        rt: &'a HostRuntime,
+        handle: &'a R,
+        lines: Option<&'a Lines>,
+        plain: bool,
+    ) -> Teller<'a, R> {
         Teller {
             rt,
             handle,
             lines,
+            plain,
             is_told: false,
         }
     }
@@ -33,13 +42,11 @@ impl<'a, R: Wait> Teller<'a, R> {
         }
         self.is_told = true;
         match self.lines {
-            Some(lines) => {
-                if let Ok(line) = format!(in self.rt.alloc(); "{fault}") {
-                    lines.tell(self.handle, line);
-                }
-            }
+            Some(lines) => lines.tell_fault(self.handle, self.rt.alloc(), fault),
             None => {
-                let _ = eprintln!(self.rt; "xcpd: {fault}");
+                if let Ok(line) = line_of(self.rt.alloc(), fault, self.plain) {
+                    let _ = eprintln!(self.rt; "xcpd: {line}");
+                }
             }
         }
     }
@@ -73,8 +80,6 @@ impl Alarm {
         if self.is_silent.swap(true, Ordering::SeqCst) {
             return;
         }
-        if let Ok(line) = format!(in self.alloc; "{}", Fault::Journal(2)) {
-            self.lines.tell(handle, line);
-        }
+        self.lines.tell_fault(handle, self.alloc, Fault::Journal(2));
     }
 }

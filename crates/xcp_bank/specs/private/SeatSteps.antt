@@ -9,6 +9,7 @@ use Rattle.xcp_bank.specs.HeldBufferCount.{others, scanned_buffer, scan_of, unqu
 use Rattle.xcp_bank.specs.private.ReaderSteps.{Reaches, Looked, Pinned, UpToDate, Follows, reading_after_read}
 use Rattle.xcp_bank.specs.TableRule.{IsNumbered}
 use Rattle.xcp_bank.specs.Images.{image_of}
+use Rattle.xcp_bank.specs.private.BlockMarks.{Sized}
 use Rattle.xcp_bank.specs.private.WriterSteps.{WriterUpToDate}
 use mathlib.Core.List.{IsPrefix}
 use Rattle.xcp_bank.specs.SeatKnowledge.{AllBegin, Reading, Writing, Known, one_reader}
@@ -182,15 +183,20 @@ filled words all history w = record w { pins = record w.pins { written = words }
 abbrev pub HasWords : ℕ → ℕ → ℕ → List ℕ → List (List ℕ) → Type 0
 HasWords b k n words all = (j : ℕ) → k ≤ j → j < n → slice_index (slice_index_or all b []) j ≡ slice_index words j
 
--- So far the words of a list below `done` are written. Those of the buffer b from there on, below k, stand there already.
+-- So far the words of a list below `done` are written to the buffer b. All of them below k stand there, those behind are as they were
+-- before, and so are the other buffers.
 pub record WrittenSoFar (bank : TableId) (seat : Seat (Unit {0}) Known) (b k : ℕ) (words : List ℕ) (w : Writing) : Type 0 where
+  pub building : w.pins.building ≡ Some b
   pub done : ℕ
   pub low : done ≤ k
   pub history : List Deed
   pub all : List (List ℕ)
   pub sits : IsWriterSeat seat bank (filled (take done words) all history w)
   pub grows : Grows 0 w.history history (writes_of words done)
-  pub there : HasWords b done k words all
+  pub there : HasWords b 0 k words all
+  pub sized : Sized bank.slots all
+  pub ahead : (j : ℕ) → k ≤ j → slice_index (slice_index_or all b []) j ≡ slice_index (slice_index_or w.words b []) j
+  pub others : (c : ℕ) → c ≢ b → slice_index_or all c [] ≡ slice_index_or w.words c []
 
 -- The words were published, by at most 7 Scans, one Reset, a Write of each and one Publish.
 pub record Publishes (words : List ℕ) (W : ℕ) (w u : Writing) : Type 0 where

@@ -1,6 +1,7 @@
 -- What is read of an entry.
 use Rattle.std.specs.Prelude.{◌≡◌, ℕ, Bool, List, codes, is_some, map, option_map, unwrap_or}
-use Rattle.toml.specs.Data.{Data}
+use Rattle.toml.specs.Data.{Data, get}
+use Rattle.xcp_config.specs.TomlValues.{text_of}
 use Rattle.xcp_describe.specs.declared.kind.Kind.{Kind}
 use Rattle.xcp_describe.specs.declared.kind.Kind.TheVariants as kind
 use Rattle.xcp_describe.specs.declared.entry.Entry.{Entry}
@@ -18,7 +19,7 @@ type_named kind.SLong = slong
 type_named kind.Float32 = float32
 type_named kind.Float64 = float64
 
--- an entry has the name, the address, the type, the count, the columns and rows, and the axes of its table
+-- an entry has the name, the address, the type, the count, the columns and rows, the axes and the texts of its table
 pub record IsRead (is_parameter : Bool) (d : Data) (e : Entry) : Type 0 where
   pub name : e.name.now ≡ name_of d
   pub address : e.address ≡ first_of d
@@ -28,6 +29,8 @@ pub record IsRead (is_parameter : Bool) (d : Data) (e : Entry) : Type 0 where
   pub rows : e.shape.rows ≡ size_in (codes "rows") d
   pub x_axis : option_map (λ s. s.now) e.x_axis ≡ axis_in is_parameter (codes "x_axis") d
   pub y_axis : option_map (λ s. s.now) e.y_axis ≡ axis_in is_parameter (codes "y_axis") d
+  pub unit : e.unit.now ≡ text_of (get (codes "unit") d)
+  pub about : e.about.now ≡ text_of (get (codes "about") d)
 
 abbrev pub names_of : List Entry → List (List ℕ)
 names_of es = map (λ e. e.name.now) es

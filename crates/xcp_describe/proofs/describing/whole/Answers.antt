@@ -1,10 +1,10 @@
-use Rattle.std.proofs.Common.{string_bytes}
-use Rattle.xcp_describe.proofs.FileLemmas.{IsJoined, joined_is_file, joined_tells}
+use Rattle.std.proofs.lemmas.Str.{IsUtf8-string_bytes}
+use Rattle.xcp_describe.proofs.FileLemmas.{file_tells, joined_is_file}
 use Rattle.xcp_describe.proofs.describing.whole.Goals as goal
 
 pub returns-clause-file : goal.returns-clause-file
 returns-clause-file c =
-    joined_is_file c.args.front.now c.args.epk.now c.args.rest.now _ (record {
+    joined_is_file c.args.front.now c.args.epk.now c.args.rest.now _ _ (record {
       first = _;
       second = _;
       third = _;
@@ -16,11 +16,11 @@ returns-clause-file c =
       told = c.in_ok-push_str-3.ensures.bytes;
       gone_on = c.in_ok-push_str-4.ensures.bytes;
       ended = c.in_ok-push_str-5.ensures.bytes;
-    })
+    }) c.in_ok-put_mark.ensures (IsUtf8-string_bytes c.put_mark.new.text)
 
 pub returns-clause-told : goal.returns-clause-told
 returns-clause-told c = λ digits e.
-    joined_tells c.args.front.now c.args.epk.now c.args.rest.now _ digits (record {
+    file_tells c.args.front.now c.args.epk.now c.args.rest.now _ _ digits (record {
       first = _;
       second = _;
       third = _;
@@ -32,4 +32,4 @@ returns-clause-told c = λ digits e.
       told = c.in_ok-push_str-3.ensures.bytes;
       gone_on = c.in_ok-push_str-4.ensures.bytes;
       ended = c.in_ok-push_str-5.ensures.bytes;
-    }) e
+    }) c.in_ok-put_mark.ensures e

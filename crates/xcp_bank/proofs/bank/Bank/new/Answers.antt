@@ -1,7 +1,8 @@
-use Rattle.std.proofs.Common.{◌≡◌, ℕ, ◌+◌, ◌-◌, ◌*◌, ◌/◌, ◌<◌, ◌≤◌, List, length, get_or, refl, ap, ◌∙◌, sym, subst, arith}
+use Rattle.std.proofs.Common.{◌≡◌, ℕ, ◌+◌, ◌-◌, ◌*◌, ◌/◌, ◌%◌, ◌<◌, ◌≤◌, List, length, get_or, refl, ap, ◌∙◌, sym, subst, arith}
 use Rattle.std.specs.Arc.{arc_value}
 use Rattle.atomic_table.specs.Table.{opening}
 use Rattle.xcp_bank.specs.TableRule.{Banked}
+use Rattle.xcp_bank.specs.private.BlockMarks.{blocks_in}
 use Rattle.xcp_bank.specs.private.Everybody.{everybody}
 use Rattle.xcp_bank.specs.private.ImageWords.{words_for}
 use Rattle.xcp_bank.specs.Images.{image_of}
@@ -52,17 +53,28 @@ open-requires-clause-rule c = λ slots.
     subst (λ (ws : List ℕ). Banked (length words) (opening ws slots (everybody 6 words))) (sym c.deref-2.ensures.value)
     (opening_banked (length words) words table refl (omega arith) (omega arith) (last c.args.image.now words c.in_ok-words.ensures) size t.front image rest slots)
 
-pub new-requires : goal.new-requires
-new-requires c =
-    let k = (c.in_ok-readers.ensures c.in_ok-words.words.items c.in_ok-board.ensures).0 in
-    (c.in_ok-words.words.items, record { bank_is = k.bank_is; wide = k.wide; me = k.me })
+-- a buffer has as many words as the image, and one more
+slots_are : (image words : List ℕ) (slots : ℕ) → length image % 8 ≡ 0 → length words ≡ length image / 8 + 1 → length words ≡ slots → (8 * (slots - 1) ≡ length image) × (length image / 8 ≡ slots - 1)
+slots_are image words slots whole long size = (omega arith, omega arith)
 
-made : (c : goal.After-drop-words-2) → c.new.result ≡ new_writer (bank_of (arc_value c.in_ok-board.board)) c.args.image.now
+pub new-requires-2-clause-size : goal.new-requires-2-clause-size
+new-requires-2-clause-size c =
+    let words : List ℕ = c.in_ok-words.words.items in
+    let k = (c.in_ok-readers.ensures words c.in_ok-board.ensures).0 in
+    let e = slots_are c.args.image.now words (arc_value c.in_ok-board.board).slots c.requires.whole_words (long c.args.image.now words c.in_ok-words.ensures) k.size in
+    c.in_ok-marks.ensures.size ∙ ap (λ (n : ℕ). 8 * blocks_in n) e.1
+
+pub new-requires-2-clause-seat : goal.new-requires-2-clause-seat
+new-requires-2-clause-seat c =
+    let k = (c.in_ok-readers.ensures c.in_ok-words.words.items c.in_ok-board.ensures).0 in
+    (c.in_ok-words.words.items, k.size, record { bank_is = k.bank_is; wide = k.wide; me = k.me })
+
+made : (c : goal.After-drop-words-2) → c.new-2.result ≡ new_writer (bank_of (arc_value c.in_ok-board.board)) c.args.image.now
 made c =
     let words : List ℕ = c.in_ok-words.words.items in
     let k = (c.in_ok-readers.ensures words c.in_ok-board.ensures).0 in
     let bytes = ap image_of c.in_ok-words.ensures ∙ for_image c.args.image.now 0 (λ i. (c.type_inv.image i).fits) c.requires.whole_words in
-    c.new.ensures words record { bank_is = k.bank_is; wide = k.wide; me = k.me } ∙ ap (new_writer (bank_of (arc_value c.in_ok-board.board))) bytes
+    c.new-2.ensures words record { bank_is = k.bank_is; wide = k.wide; me = k.me } ∙ ap (new_writer (bank_of (arc_value c.in_ok-board.board))) bytes
 
 pub returns-clause-size : goal.returns-clause-size
 returns-clause-size c =

@@ -2,8 +2,9 @@ use Rattle.std.proofs.Common.{◌≡◌, sym, ap, subst}
 use Rattle.std.specs.Arc.{arc_value}
 use Rattle.atomic_table.specs.Seated.{TableId}
 use Rattle.xcp_bank.specs.SeatKnowledge.{Writing}
+use Rattle.xcp_bank.specs.private.BlockMarks.{IsMarked}
 use Rattle.xcp_bank.specs.private.SeatSteps.{IsWriterSeat, Counted}
-use Rattle.xcp_bank.specs.BankEnds.{WriterEnd, writer_end, HeldDoes}
+use Rattle.xcp_bank.specs.BankEnds.{WriterEnd, writer_end, newest, HeldDoes}
 use Rattle.xcp_bank.specs.EndFields.{writer_in, shown_writer}
 use Rattle.xcp_bank.proofs.EndFieldLemmas.{desks_at, writer_kept_by}
 use Rattle.xcp_bank.proofs.WriterEndLemmas.{writer_shown}
@@ -24,9 +25,10 @@ invariant_of-self c =
     let m = made c in
     let w : Writing = writer_in c.self.inside.seat in
     let r = c.self.invariant.rests in
-    writer_kept_by c.count_held.new.token (arc_value c.self.inside.board) m.0 c.self.inside.current c.self.inside.started c.self.inside.count m.1
+    writer_kept_by c.count_held.new.token (arc_value c.self.inside.board) m.0 c.self.inside.current c.self.inside.started c.self.inside.count c.self.inside.marks m.1
     (rests_still (arc_value c.self.inside.board) w c.self.inside.current c.self.inside.started r c.count_held.result m.0 m.2)
     (counted_still (arc_value c.self.inside.board) w c.self.inside.current c.self.inside.started r c.count_held.result m.0 m.2 c.self.inside.count c.self.invariant.counted)
+    (subst (λ (z : Writing). IsMarked (arc_value c.self.inside.board).slots c.self.inside.marks z.words (newest (writer_end (arc_value c.self.inside.board) z))) (sym m.2.is) c.self.invariant.marked)
 
 -- and what contracts see of it
 said : (c : goal.After-count_held) → HeldDoes c.count_held.result c.args.self.now (shown_writer (arc_value c.self.inside.board) c.count_held.new.token)

@@ -25,8 +25,8 @@ made c = λ r x s.
 pub invariant_of-self : goal.invariant_of-self
 invariant_of-self c =
     let f = c.requires in
-    writer_kept_by c.tell_at.new.writer (arc_value c.self.inside.board) (writer_in c.self.inside.seat) c.self.inside.current c.self.inside.started c.self.inside.count
-    (made c f.0 f.1 f.2).0 c.self.invariant.rests c.self.invariant.counted
+    writer_kept_by c.tell_at.new.writer (arc_value c.self.inside.board) (writer_in c.self.inside.seat) c.self.inside.current c.self.inside.started c.self.inside.count c.self.inside.marks
+    (made c f.0 f.1 f.2).0 c.self.invariant.rests c.self.invariant.counted c.self.invariant.marked
 
 pub returns-clause-same : goal.returns-clause-same
 returns-clause-same c =

@@ -1,0 +1,21 @@
+//! What is told of a fault behind its number: the words on it.
+//!
+//! [`words_of`] has those of each kind and number of fault. Where a file is at fault, it is looked at once more:
+//! [`words_of_layout`] has what a check of the layout file says, with the line of the table and the name of the entry;
+//! [`words_of_pages`] which fault a file of stored pages has; [`words_of_listening`] why nobody could listen. [`take_plain`]
+//! tells whether words are to be left out.
+#![tactic(auto)]
+
+mod entries;
+mod layouts;
+mod lines;
+mod listening;
+mod numbers;
+mod pages;
+mod plain;
+
+pub use layouts::words_of_layout;
+pub use listening::words_of_listening;
+pub use numbers::words_of;
+pub use pages::words_of_pages;
+pub use plain::take_plain;
