@@ -66,7 +66,7 @@ class Server:
 
     def __init__(self, program, layout, port, *more, seats=SEATS, queue=SEATS, environment=None):
         words = ["--stay", "--port", port, "--tools", seats, "--queue", queue, "--tasks", TASKS, "--period", PERIOD, "--patience", PATIENCE]
-        words = [program, "serve", "--config", layout, *map(str, [*words, *more])]
+        words = [program, "--plain", "serve", "--config", layout, *map(str, [*words, *more])]
         pipe = subprocess.PIPE
         environment = {"MALLOC_ARENA_MAX": "1", **os.environ, **(environment or {})}  # as in the unit of SERVICE
         self.process = subprocess.Popen(words, stdin=pipe, stdout=pipe, stderr=pipe, text=True, bufsize=1, env=environment)

@@ -1,3 +1,4 @@
 mod LineLemmas
 mod LocatedLemmas
 mod PlainLemmas
+mod UnmarkedLemmas

@@ -1,3 +1,4 @@
+pub mod Checking
 pub mod FaultWords
 pub mod Locating
 pub mod PlainWords

@@ -1,8 +1,11 @@
 //! Where the table of an array lies in a layout file, and what its entry is called.
-ghost use Rattle.std.specs.Prelude.{◌≡◌, ◌++◌, IfOk, codes, string_bytes};
-ghost use Rattle.xcp_telling.specs.Locating.{IsLocated};
+ghost use Rattle.std.specs.Prelude.{◌≡◌, ◌++◌, true, IfOk, IfSome, codes, string_bytes};
+ghost use Rattle.std.specs.List.{list_all};
+ghost use Rattle.xcp_memory.specs.Limits.{is_printable};
+ghost use Rattle.xcp_telling.specs.Locating.{IsLocated, IsPlace};
 
 use std::alloc::{AllocError, Global};
+use xcp_memory::is_text;
 
 /// The most bytes of a name that is told: an entry's has 117 at most, and two quotes.
 const MOST_OF_A_NAME: usize = 119;
@@ -29,7 +32,10 @@ pub(crate) fn located(alloc: Global, words: &str, config: &str) -> Result<String
 }
 
 /// The place of a table, as it is told.
-fn place_of(alloc: Global, table: &Table<'_>) -> Result<String, AllocError> {
+fn place_of(alloc: Global, table: &Table<'_>) -> Result<String, AllocError>
+    requires { IfSome table.now.name (λ name. list_all is_printable name.now ≡ true) }
+    ensures { IfOk result (λ told. IsPlace (string_bytes told)) }
+{
     let line = table.line;
     match table.name {
         Some(name) => format!(in alloc; " {name} (line {line})"),
@@ -45,7 +51,9 @@ fn put_in(alloc: Global, front: &str, place: &str, rest: &str) -> Result<String,
 }
 
 /// The table that is named so, as `segment 2`, if there is a header for it.
-fn named_by<'a>(front: &str, config: &'a str) -> Option<Table<'a>> {
+fn named_by<'a>(front: &str, config: &'a str) -> Option<Table<'a>>
+    ensures { IfSome result (λ table. IfSome table.name (λ name. list_all is_printable name.now ≡ true)) }
+{
     let (array, number) = front.split_once(' ')?;
     let number = number.parse::<usize>().ok()?;
     let at = header_of(array, number, config)?;
@@ -78,22 +86,30 @@ fn array_of(line: &str) -> Option<&str> {
 }
 
 /// What the key `name` is, in the lines behind this one, up to the next header.
-fn name_behind(at: usize, config: &str) -> Option<&str> {
+fn name_behind(at: usize, config: &str) -> Option<&str>
+    ensures { IfSome result (λ name. list_all is_printable name.now ≡ true) }
+{
     for line in config.lines().skip(at).skip(1) {
         let line = line.trim();
         if line.starts_with('[') {
             return None;
         }
         if let Some(value) = name_in(line) {
-            return if is_told(value) { Some(value) } else { None };
+            return told_name(value);
         }
     }
     None
 }
 
-/// Whether a name is told: it is no longer than names are, and has no character that a terminal would take for more than a sign.
-fn is_told(name: &str) -> bool {
-    name.len() <= MOST_OF_A_NAME && name.bytes().all(|byte| (b' '..=b'~').contains(&byte))
+/// A name, if it is told: it is no longer than names are, and has no character that a terminal would take for more than a sign.
+fn told_name(name: &str) -> Option<&str>
+    ensures { IfSome result (λ told. list_all is_printable told.now ≡ true) }
+{
+    if is_text(name.as_bytes(), MOST_OF_A_NAME) {
+        Some(name)
+    } else {
+        None
+    }
 }
 
 /// What stands behind `name =`, but for a comment, if this line is such a one.

@@ -4,11 +4,10 @@ ghost use Rattle.xcp_describe.specs.Findings.{IsFound};
 ghost use Rattle.xcp_describe.specs.declared.findings.Findings.{Findings};
 ghost use Rattle.xcp_telling.specs.Locating.{IsLocated, IsWordsOn};
 
+use crate::checking::{checked, text_in};
 use crate::entries::located;
 use crate::lines::words_in;
 use std::alloc::{AllocError, Global};
-use xcp_describe::check;
-use xcp_framing::Watched;
 
 /// The words of a check on the fault of this number in a layout file of these bytes: what stands behind the number in its first line,
 /// or of fault 7 the line of the entry that is refused; with the line at which its table begins, and its name. There are none where the check
@@ -17,20 +16,12 @@ pub fn words_of_layout(alloc: Global, number: u8, file: &[u8]) -> Result<Option<
     ensures { IfOk result (λ told. IfSome told (λ words. (findings : Findings) × ((lines : List ℕ) × ((line : List ℕ)
         × (IsFound file.now findings lines × (IsWordsOn number lines line × IsLocated line (string_bytes words))))))) }
 {
-    let mut told = Watched::new(Vec::new(alloc));
-    let Ok(_) = check(alloc, file, &mut told) else {
-        return Err(AllocError);
-    };
-    let lines = told.into_inner();
+    let (_, lines) = checked(alloc, file)?;
     let Ok(lines) = str::from_utf8(lines.as_slice()) else {
         return Ok(None);
     };
-    let config = match str::from_utf8(file) {
-        Ok(text) => text,
-        Err(_) => "",
-    };
     match words_in(alloc, number, lines)? {
-        Some(words) => Ok(Some(located(alloc, words, config)?)),
+        Some(words) => Ok(Some(located(alloc, words, text_in(file))?)),
         None => Ok(None),
     }
 }

@@ -2,7 +2,7 @@
 ghost use Rattle.std.specs.Prelude.{◌≡◌, ◌≤◌, ◌+◌, ◌-◌, ◌^◌, ◌⊎◌, ◌++◌, ◌∷◌, [], min, vec_len};
 
 use crate::telling::line_of;
-use std::alloc::Global;
+use std::alloc::{AllocError, Global};
 use std::io;
 use std::mem::replace;
 use std::sync::{Arc, Condvar, CondvarTimeouts, Mutex, Wait};
@@ -59,9 +59,14 @@ impl Lines {
 
     /// The line of a fault, by its number, where there is memory for it.
     pub fn tell_fault(&self, rt: &impl Wait, alloc: Global, fault: Fault) {
-        if let Ok(line) = line_of(alloc, fault, self.plain) {
+        if let Ok(line) = self.fault_line(alloc, fault) {
             self.tell(rt, line);
         }
+    }
+
+    /// What these lines have of a fault: its number, and the words on it unless they are left out.
+    pub fn fault_line(&self, alloc: Global, fault: Fault) -> Result<String, AllocError> {
+        line_of(alloc, fault, self.plain)
     }
 
     /// No more lines come. Waits until all are written, but not for long.

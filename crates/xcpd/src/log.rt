@@ -5,7 +5,7 @@ ghost use Rattle.std.specs.Prelude.{◌≡◌};
 ghost use Rattle.xcp_server.specs.Report.{fault_of_outcome};
 
 use crate::lines::Lines;
-use std::alloc::AllocError;
+use std::alloc::{AllocError, Global};
 use std::net::SocketAddr;
 use std::sync::Wait;
 use std::thread;
@@ -47,14 +47,7 @@ impl<R: Wait> Watcher for Log<'_, R> {
     }
 
     fn gone(&self, seat: u8, tool: SocketAddr, end: Result<Served, ServeError>) {
-        let alloc = self.rt.alloc();
-        self.tell(match end {
-            Ok(_) => format!(in alloc; "tool {seat}: {tool} disconnected"),
-            Err(error) => {
-                let fault = fault_of_outcome(&error);
-                format!(in alloc; "tool {seat}: {tool} disconnected: {fault}")
-            }
-        });
+        self.tell(end_line(self.rt.alloc(), self.lines, seat, tool, end));
     }
 
     fn turned_away(&self, tool: SocketAddr) {
@@ -69,6 +62,21 @@ impl<R: Wait> Watcher for Log<'_, R> {
         self.tell(format!(in self.rt.alloc(); "no tool could be accepted"));
         thread::sleep(self.rt, Duration::from_millis(PAUSE));
     }
+}
+
+/// The line of a tool whose connection ended so: with a fault and the words on it, if it had one.
+fn end_line(
+    alloc: Global,
+    lines: &Lines,
+    seat: u8,
+    tool: SocketAddr,
+    end: Result<Served, ServeError>,
+) -> Result<String, AllocError> {
+    let Err(error) = end else {
+        return format!(in alloc; "tool {seat}: {tool} disconnected");
+    };
+    let fault = lines.fault_line(alloc, fault_of_outcome(&error))?;
+    format!(in alloc; "tool {seat}: {tool} disconnected: {fault}")
 }
 
 /// The fault that is told where a connection ended so.

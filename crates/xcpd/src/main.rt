@@ -6,6 +6,7 @@ mod audit;
 mod background;
 mod callers;
 mod counts;
+mod describing;
 mod distant;
 mod flash;
 mod flushed;
@@ -18,7 +19,7 @@ mod stay;
 mod teller;
 mod telling;
 
-ghost use Rattle.std.specs.Prelude.{◌≡◌, ◌<◌, ◌≤◌, ◌+◌, ⊤, IfOk, MatchOption, vec_len};
+ghost use Rattle.std.specs.Prelude.{◌≡◌, ◌<◌, ◌≤◌, ◌+◌, ⊤, IfOk, IsSomeAnd, MatchOption, vec_len};
 ghost use Rattle.sha2.specs.Sha256.{sha256};
 ghost use Rattle.xcp_program.specs.CommandLine.{InRange};
 ghost use Rattle.xcp_program.specs.Decided.{answers_decided};
@@ -29,6 +30,7 @@ ghost use Rattle.xcpd.specs.Counted.{told_at_end};
 use crate::audit::audit_by;
 use crate::callers::{callers_of, roster_of};
 use crate::counts::counts_at_end;
+use crate::describing::describe_or_check;
 use crate::flash::{Kept, begin_with, fault_of_keeping, stored_in};
 use crate::journal::{Written, journal_at, print_recorded};
 use crate::named::Named;
@@ -43,12 +45,12 @@ use std::process::ExitCode;
 use std::sync::Wait;
 use std::thread::Threads;
 use std::time::Clock;
-use xcp_describe::{DescribeError, Findings, a2l_of, check, describe};
+use xcp_describe::a2l_of;
 use xcp_framing::Watched;
 use xcp_locked::Unnamed;
 use xcp_program::{
-    Fault, Listening, Options, Serving, Unasked, asked, fault_at_end, fault_of_print, periods_of,
-    read_text, read_whole, read_words, refuse_clock, refuse_many, replay, status_at_end,
+    Fault, Listening, Options, Serving, Staying, Unasked, asked, fault_at_end, fault_of_print,
+    periods_of, read_text, read_words, refuse_clock, refuse_many, replay, status_at_end,
 };
 use xcp_scribe::Both;
 use xcp_server::{Report, Tools, accept_tools, serve_ends};
@@ -81,48 +83,6 @@ fn run(rt: &HostRuntime, path: &str, flash: &Option<String>) -> Result<u64, Faul
         &mut writer,
         TURNS,
     )
-}
-
-/// Prints the A2L file of the configuration file's slave.
-fn print_description(
-    rt: &HostRuntime,
-    path: &str,
-    host: &str,
-    port: u16,
-) -> Result<(), DescribeError> {
-    let text = text_of(rt, path)?;
-    let mut writer = Watched::new(io::writer(rt));
-    describe(rt.alloc(), text.as_str(), host, port, &mut writer)
-}
-
-/// The same, with the fault on standard error, if there is one, and the status.
-fn describe_or_tell(rt: &HostRuntime, about: About<'_>, host: &str, port: u16) -> ExitCode {
-    match print_description(rt, about.config, host, port) {
-        Ok(()) => ExitCode::from(0),
-        Err(DescribeError::Program(fault)) => end_telling(rt, Some(fault), about),
-        Err(fault) => {
-            let _ = eprintln!(rt; "xcpd: {fault}");
-            ExitCode::from(fault.status())
-        }
-    }
-}
-
-/// Prints what is found in the configuration file.
-fn print_findings(rt: &HostRuntime, path: &str) -> Result<Findings, Fault> {
-    let Ok(file) = File::open(rt, path) else {
-        return Err(Fault::Configuration(0));
-    };
-    let bytes = read_whole(rt.alloc(), file)?;
-    let mut writer = Watched::new(io::writer(rt));
-    check(rt.alloc(), bytes.as_slice(), &mut writer)
-}
-
-/// The same, with the fault on standard error, if there is one, and the status.
-fn check_or_tell(rt: &HostRuntime, about: About<'_>) -> ExitCode {
-    match print_findings(rt, about.config) {
-        Ok(findings) => ExitCode::from(findings.status()),
-        Err(fault) => end_telling(rt, Some(fault), about),
-    }
 }
 
 /// Listens at this port of this address, which has to be one at which a tool can be.
@@ -297,21 +257,6 @@ fn serve_admitted<R: Threads + Wait + Clock + Sync>(
     }
 }
 
-/// Prints the description that is asked for, or what is found in the configuration file, and answers the status.
-fn describe_or_check(
-    rt: &HostRuntime,
-    about: About<'_>,
-    host: &str,
-    port: u16,
-    check: bool,
-) -> ExitCode {
-    if check {
-        check_or_tell(rt, about)
-    } else {
-        describe_or_tell(rt, about, host, port)
-    }
-}
-
 /// Does what is asked for, tells its fault, if it has one, and answers the status.
 fn obey<R: Threads + Wait + Clock + Copy + Send + Sync + 'static>(
     rt: &HostRuntime,
@@ -325,8 +270,7 @@ fn obey<R: Threads + Wait + Clock + Copy + Send + Sync + 'static>(
     let staying = options.staying();
     match options {
         Options::Replay { config, flash } => {
-            let fault = run(rt, config.as_str(), &flash).err();
-            end_telling(rt, fault, about(&config, &flash, None, plain))
+            replay_or_tell(rt, about(&config, &flash, None, plain))
         }
         Options::Serve {
             config,
@@ -336,18 +280,8 @@ fn obey<R: Threads + Wait + Clock + Copy + Send + Sync + 'static>(
             flash,
             ..
         } => {
-            let Some(serving) = serving else {
-                unreachable!()
-            };
-            let fault = serve_by(
-                rt, handle, &config, &host, port, serving, &journal, &flash, plain,
-            )
-            .err();
-            end_telling(
-                rt,
-                fault,
-                about(&config, &flash, Some((&host, port)), plain),
-            )
+            let about = about(&config, &flash, Some((&host, port)), plain);
+            serve_or_tell(rt, handle, about, &host, port, serving, &journal)
         }
         Options::Stay {
             config,
@@ -356,36 +290,86 @@ fn obey<R: Threads + Wait + Clock + Copy + Send + Sync + 'static>(
             journal,
             flash,
             ..
-        } => {
-            let Some(staying) = staying else {
-                unreachable!()
-            };
-            stay_by(
-                rt, handle, &config, &host, port, staying, &journal, &flash, plain,
-            )
-        }
+        } => stay_asked(
+            rt, handle, &config, &host, port, staying, &journal, &flash, plain,
+        ),
         Options::Describe {
             config,
             host,
             port,
             check,
-        } => describe_or_check(
-            rt,
-            about(&config, &None, None, plain),
-            host.as_str(),
-            port,
-            check,
-        ),
+        } => describe_or_check(rt, about(&config, &None, None, plain), &host, port, check),
         Options::Audit {
             config,
             file,
             flash,
             lines,
-        } => {
-            let fault = audit_by(rt, config.as_str(), file.as_str(), &flash, lines).err();
-            end_telling(rt, fault, about(&config, &flash, None, plain))
-        }
+        } => audit_or_tell(rt, about(&config, &flash, None, plain), &file, lines),
     }
+}
+
+/// Replays standard input, with the fault on standard error, if there is one, and the status.
+fn replay_or_tell(rt: &HostRuntime, about: About<'_>) -> ExitCode {
+    let fault = run(rt, about.config, about.flash).err();
+    end_telling(rt, fault, about)
+}
+
+/// Serves tools as it is asked for, with the fault on standard error, if there is one, and the status.
+fn serve_or_tell<R: Threads + Wait + Clock + Sync>(
+    rt: &HostRuntime,
+    handle: &R,
+    about: About<'_>,
+    host: &str,
+    port: u16,
+    serving: Option<Serving>,
+    journal: &Option<String>,
+) -> ExitCode
+    requires { IsSomeAnd serving (λ s. (1 ≤ s.tools) × (s.tools ≤ 2) × (s.tasks ≤ 6)) }
+{
+    let Some(serving) = serving else {
+        unreachable!()
+    };
+    let fault = serve_by(
+        rt,
+        handle,
+        about.config,
+        host,
+        port,
+        serving,
+        journal,
+        about.flash,
+        about.plain,
+    )
+    .err();
+    end_telling(rt, fault, about)
+}
+
+/// Stays as it is asked for, and answers the status.
+fn stay_asked<R: Threads + Wait + Clock + Copy + Send + Sync + 'static>(
+    rt: &HostRuntime,
+    handle: &R,
+    config: &str,
+    host: &str,
+    port: u16,
+    staying: Option<Staying>,
+    journal: &Option<String>,
+    flash: &Option<String>,
+    plain: bool,
+) -> ExitCode
+    requires { IsSomeAnd staying (λ s. (1 ≤ s.tools) × (s.tools ≤ 4) × (s.tasks ≤ 6)) }
+{
+    let Some(staying) = staying else {
+        unreachable!()
+    };
+    stay_by(
+        rt, handle, config, host, port, staying, journal, flash, plain,
+    )
+}
+
+/// Audits a journal's file, with the fault on standard error, if there is one, and the status.
+fn audit_or_tell(rt: &HostRuntime, about: About<'_>, file: &str, lines: bool) -> ExitCode {
+    let fault = audit_by(rt, about.config, file, about.flash, lines).err();
+    end_telling(rt, fault, about)
 }
 
 /// What the words on a fault may be about.

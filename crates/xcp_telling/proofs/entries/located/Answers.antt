@@ -1,6 +1,7 @@
 use Rattle.std.proofs.Common.{codes, string_bytes, Some}
 use Rattle.std.proofs.lemmas.Result.{IfOk-weaker}
 use Rattle.std.proofs.lemmas.Str.Pattern.{split_text_parts}
+use Rattle.xcp_telling.specs.Locating.{IsPlace}
 use Rattle.xcp_telling.proofs.LocatedLemmas.{stays, is_put_in}
 use Rattle.xcp_telling.proofs.entries.located.Goals as goal
 
@@ -13,4 +14,5 @@ returns-in-None c = IfOk-weaker c.from_str-in-None.result _ _ (λ told same. sta
 pub returns-in_ok-place_of-in-Some-named_by : goal.returns-in_ok-place_of-in-Some-named_by
 returns-in_ok-place_of-in-Some-named_by c =
     let parted = split_text_parts (codes ": ") c.args.words.now (Some (c.in-Some.front, c.in-Some.rest)) c.in-Some.ensures.cases in
-    IfOk-weaker c.put_in.result _ _ (λ told put. is_put_in c.args.words.now (string_bytes told) c.in-Some.front.now c.as_str.result.now c.in-Some.rest.now parted put) c.put_in.ensures
+    let is : IsPlace c.as_str.result.now = rw c.as_str.ensures.value c.in_ok-place_of-in-Some-named_by.ensures in
+    IfOk-weaker c.put_in.result _ _ (λ told put. is_put_in c.args.words.now (string_bytes told) c.in-Some.front.now c.as_str.result.now c.in-Some.rest.now is parted put) c.put_in.ensures

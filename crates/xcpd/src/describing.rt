@@ -1,0 +1,72 @@
+//! A description of a slave, and a check of its layout file, by the program's words.
+
+use crate::telling::{About, end_telling};
+use crate::text_of;
+use std::fs::File;
+use std::io;
+use std::process::ExitCode;
+use xcp_describe::{DescribeError, Findings, check, describe};
+use xcp_framing::Watched;
+use xcp_program::{Fault, read_whole};
+use xcp_telling::check_located;
+
+/// Prints the description that is asked for, or what is found in the configuration file, and answers the status.
+pub fn describe_or_check(
+    rt: &HostRuntime,
+    about: About<'_>,
+    host: &str,
+    port: u16,
+    check: bool,
+) -> ExitCode {
+    if check {
+        check_or_tell(rt, about)
+    } else {
+        describe_or_tell(rt, about, host, port)
+    }
+}
+
+/// Prints the A2L file of the configuration file's slave.
+fn print_description(
+    rt: &HostRuntime,
+    path: &str,
+    host: &str,
+    port: u16,
+) -> Result<(), DescribeError> {
+    let text = text_of(rt, path)?;
+    let mut writer = Watched::new(io::writer(rt));
+    describe(rt.alloc(), text.as_str(), host, port, &mut writer)
+}
+
+/// The same, with the fault on standard error, if there is one, and the status.
+fn describe_or_tell(rt: &HostRuntime, about: About<'_>, host: &str, port: u16) -> ExitCode {
+    match print_description(rt, about.config, host, port) {
+        Ok(()) => ExitCode::from(0),
+        Err(DescribeError::Program(fault)) => end_telling(rt, Some(fault), about),
+        Err(fault) => {
+            let _ = eprintln!(rt; "xcpd: {fault}");
+            ExitCode::from(fault.status())
+        }
+    }
+}
+
+/// Prints what is found in the configuration file: with the names and lines of tables, unless words are left out.
+fn print_findings(rt: &HostRuntime, about: About<'_>) -> Result<Findings, Fault> {
+    let Ok(file) = File::open(rt, about.config) else {
+        return Err(Fault::Configuration(0));
+    };
+    let bytes = read_whole(rt.alloc(), file)?;
+    let mut writer = Watched::new(io::writer(rt));
+    if about.plain {
+        check(rt.alloc(), bytes.as_slice(), &mut writer)
+    } else {
+        check_located(rt.alloc(), bytes.as_slice(), &mut writer)
+    }
+}
+
+/// The same, with the fault on standard error, if there is one, and the status.
+fn check_or_tell(rt: &HostRuntime, about: About<'_>) -> ExitCode {
+    match print_findings(rt, about) {
+        Ok(findings) => ExitCode::from(findings.status()),
+        Err(fault) => end_telling(rt, Some(fault), about),
+    }
+}
