@@ -1,3 +1,4 @@
 pub mod ControllerValue
+pub mod ImageRanges
 pub mod KeptImages
 pub mod private

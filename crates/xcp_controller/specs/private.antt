@@ -1,1 +1,1 @@
-pub mod Offers
+pub mod SegmentPlaces

@@ -4,13 +4,11 @@ ghost use Rattle.xcp_bank.specs.BankId.{image_bytes};
 ghost use Rattle.xcp_bank.specs.BankEnds.{new_writer, six_readers, HeldDoes};
 ghost use Rattle.xcp_slave.specs.AnswerInBytes.{answer_in};
 ghost use Rattle.xcp_slave.specs.AskedRequest.{IsShort, request_asked};
-ghost use Rattle.xcp_slave.specs.SlaveValue.{SlaveValue, layout_of, opening};
+ghost use Rattle.xcp_slave.specs.SlaveValue.{layout_of, opening};
 ghost use Rattle.xcp_slave.specs.Step.{Answers};
-ghost use Rattle.xcp_slave.specs.Outcomes.{Answer};
 ghost use Rattle.xcp_controller.specs.ControllerValue.{IsPublished, Publishes, image_of};
-ghost use Rattle.xcp_controller.specs.private.Offers.{Offers};
 
-use crate::keeping::keeps_image;
+use crate::publishing::publish_changed;
 use crate::readers::boxed_bank;
 use std::alloc::{AllocError, Global};
 use std::marker::Model;
@@ -24,10 +22,11 @@ use xcp_slave::{Asked, Slave, Told};
 /// All the memory that it and its readers ever take is taken when it is opened.
 #[derive(Drop)]
 pub struct Controller {
-    slave: Slave,
+    // In a box, as the image is, so that a controller is moved in few bytes while it is opened.
+    slave: Box<Slave>,
     writer: Writer,
     // The image published last, so that it needn't be read again.
-    last: [u8; IMAGE_BYTES],
+    last: Vec<u8>,
     spare: Vec<Box<Reader>>,
     // The packet that is lent to the slave. It stays here, since a new one would be cleared for each request.
     lent: Packet,
@@ -36,14 +35,15 @@ pub struct Controller {
 impl Model for Controller {
     ghost use Rattle.std.specs.List.{AllByRecursion};
     ghost use Rattle.std.specs.Prelude.{◌≡◌, map};
+    ghost use Rattle.xcp_bank.specs.BankEnds.{newest};
     ghost use Rattle.xcp_bank.specs.BankId.{image_bytes};
     ghost use Rattle.xcp_controller.specs.ControllerValue.{ControllerValue, IsPublished, ReadsImages, image_of};
 
     ghost Value = { ControllerValue };
 
-    ghost view = { λ c. record { slave = c.slave; writer = c.writer; spare = map (λ b. b.value) c.spare.items; lent = c.lent } };
+    ghost view = { λ c. record { slave = c.slave.value; writer = c.writer; spare = map (λ b. b.value) c.spare.items; lent = c.lent } };
 
-    ghost invariant = { λ c. (c.last ≡ image_of c.slave) × IsPublished c.slave c.writer × (image_bytes c.writer.bank ≡ 2040) × AllByRecursion ReadsImages (map (λ b. b.value) c.spare.items) };
+    ghost invariant = { λ c. (c.last.items ≡ image_of c.slave.value) × (newest c.writer ≡ c.last.items) × IsPublished c.slave.value c.writer × (image_bytes c.writer.bank ≡ 2040) × AllByRecursion ReadsImages (map (λ b. b.value) c.spare.items) };
 }
 
 impl Controller {
@@ -57,9 +57,8 @@ impl Controller {
         ensures spare { IfOk result (λ c. c.spare
             ≡ six_readers c.writer.bank (image_of (opening layout))) }
     {
-        let slave = Slave::new(alloc, layout)?;
-        let mut last = [0; IMAGE_BYTES];
-        slave.image(&mut last);
+        let slave = boxed_slave(alloc, layout)?;
+        let last = image_in(alloc, &slave)?;
         let (writer, spare) = boxed_bank(alloc, &last)?;
         Ok(Controller {
             slave,
@@ -97,8 +96,9 @@ impl Controller {
             lent,
             ..
         } = self;
+        slave.audit();
         let told = slave.answer(asked, lent);
-        publish(writer, last, slave, asked);
+        let _ = publish_changed(writer, last, slave, asked, &told);
         told
     }
 
@@ -150,32 +150,22 @@ impl Controller {
     }
 }
 
-/// Publishes the image that the slave has after this request, if it isn't the one published last. A
-/// request that never changes the image costs nothing.
-fn publish(writer: &mut Writer, last: &mut [u8; IMAGE_BYTES], slave: &Slave, asked: Asked<'_>)
-    requires size { image_bytes writer.old.bank ≡ IMAGE_BYTES }
-    requires last { (before : SlaveValue) × (answer : Answer)
-        × Answers before (request_asked asked) answer slave.now × (last.old ≡ image_of before) }
-    ensures { Offers (image_of slave.now) last.old last.new writer.old writer.new }
+/// A slave with this layout at its opening, in a box.
+#[inline(never)]
+fn boxed_slave(alloc: Global, layout: Layout) -> Result<Box<Slave>, AllocError>
+    ensures { IfOk result (λ slave. slave.value ≡ opening layout) }
 {
-    if keeps_image(asked) {
-        return;
-    }
-    offer(writer, last, slave);
+    let slave = Slave::new(alloc, layout)?;
+    Ok(Box::new(alloc, slave)?)
 }
 
-/// Publishes the image of this slave, if it isn't the one published last. It isn't inlined, since the
-/// room for the image would then be part of each request's stack.
+/// The image of a slave, in memory of its own.
 #[inline(never)]
-fn offer(writer: &mut Writer, last: &mut [u8; IMAGE_BYTES], slave: &Slave)
-    requires { image_bytes writer.old.bank ≡ IMAGE_BYTES }
-    ensures { Offers (image_of slave.now) last.old last.new writer.old writer.new }
+fn image_in(alloc: Global, slave: &Slave) -> Result<Vec<u8>, AllocError>
+    ensures value { IfOk result (λ image. image.items ≡ image_of slave.now) }
+    ensures size { IfOk result (λ image. length image.items ≡ IMAGE_BYTES) }
 {
     let mut image = [0; IMAGE_BYTES];
     slave.image(&mut image);
-    if image == *last {
-        return;
-    }
-    writer.publish(&image);
-    *last = image;
+    image.to_vec(alloc)
 }

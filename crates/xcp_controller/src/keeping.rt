@@ -7,11 +7,11 @@ ghost use Rattle.xcp_controller.specs.KeptImages.{KeepsImage};
 use xcp_slave::Asked;
 
 /// The code of COPY_CAL_PAGE.
-const COPY_CAL_PAGE: u8 = 0xE4;
+pub(crate) const COPY_CAL_PAGE: u8 = 0xE4;
 
 /// The code of SET_CAL_PAGE. The codes behind it, up to that of DOWNLOAD, are those of the commands
 /// that write.
-const SET_CAL_PAGE: u8 = 0xEB;
+pub(crate) const SET_CAL_PAGE: u8 = 0xEB;
 
 const DOWNLOAD: u8 = 0xF0;
 

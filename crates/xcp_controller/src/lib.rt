@@ -8,9 +8,14 @@
 //! leave each slave's image as it is.
 #![tactic(auto)]
 
+mod changing;
 mod controller;
 mod keeping;
+mod publishing;
+mod ranges;
 mod readers;
 
+pub use changing::changed_within;
 pub use controller::Controller;
 pub use keeping::{is_reading, keeps_image};
+pub use publishing::publish_changed;

@@ -2,6 +2,7 @@
 use Rattle.std.proofs.Common.{◌≡◌, ◌≢◌, ◌≤◌, ◌⊎◌, inl, inr, ℕ, ◌+◌, ◌-◌, List, [], ◌∷◌, ◌++◌, length, refl, sym, ap, ◌∙◌, subst, arith, length-append, append_assoc, append-nil}
 use Rattle.std.specs.Prelude.{vec_len}
 use Rattle.std.proofs.lemmas.List.{map-append}
+use Rattle.xcp_bank.specs.BankEnds.{newest}
 use Rattle.xcp_bank.specs.BankId.{BankId}
 use Rattle.xcp_memory.specs.Layout.{LayoutValue}
 use Rattle.xcp_slave.specs.declared.Exchange.{Exchange}
@@ -54,7 +55,7 @@ pub record Turned (p q : Publisher) : Type 0 where
 pub kept_cut : (bank : BankId) (v w base : SlaveValue) (xs : List Exchange) (none : List Entry) (p q : Publisher) → Run v xs w → IsKept bank v xs w p → Turned p q → none ≡ [] → w ≡ base → IsKept bank base (exchanges none) w q
 kept_cut bank v w base xs none p q run k t empty is =
     let e = published_end v xs w k.list k.published run in
-    let newest : images_of k.list ≡ images_of e.0 ++ image_of w ∷ [] = ap images_of e.2 ∙ map-append (λ (z : Publication). z.image) e.0 (publication e.1 (image_of w) ∷ []) in
+    let list : images_of k.list ≡ images_of e.0 ++ image_of w ∷ [] = ap images_of e.2 ∙ map-append (λ (z : Publication). z.image) e.0 (publication e.1 (image_of w) ∷ []) in
     let long : length k.list ≡ length e.0 + 1 = ap length e.2 ∙ length-append e.0 (publication e.1 (image_of w) ∷ []) in
     let places : length p.places.items ≡ length k.list = ap length k.places ∙ places_length k.list in
     let fronts = k.fronts in
@@ -66,10 +67,11 @@ kept_cut bank v w base xs none p q run k t empty is =
       published = subst (λ (z : SlaveValue). Published z (exchanges none) (publication 0 (image_of w) ∷ [])) is (subst (λ (z : List Entry). Published w (exchanges z) (publication 0 (image_of w) ∷ [])) (sym empty) (published_first w));
       front = k.front ++ images_of e.0;
       fronts = both ∙ omega (arith, long, places, fronts, first, room);
-      images = ap (λ z. z.publications) t.writer ∙ (k.images ∙ (ap (λ z. k.front ++ z) newest ∙ sym (append_assoc k.front (images_of e.0) (image_of w ∷ []))));
+      images = ap (λ z. z.publications) t.writer ∙ (k.images ∙ (ap (λ z. k.front ++ z) list ∙ sym (append_assoc k.front (images_of e.0) (image_of w ∷ []))));
       places = t.places;
       few = omega arith;
       last = t.last ∙ k.last;
+      newest = ap newest t.writer ∙ (k.newest ∙ sym t.last);
       named = ap (λ z. z.bank) t.writer ∙ k.named;
       size = k.size;
     }

@@ -2,7 +2,7 @@
 use Rattle.std.proofs.Common.{◌≡◌, ◌≢◌, ℕ, suc, ◌+◌, inl, inr, List, [], ◌∷◌, ◌++◌, length, refl, sym, ap, ◌∙◌, subst, arith, length-append, append_assoc}
 use Rattle.std.proofs.lemmas.List.{length-map, map-append}
 use Rattle.xcp_bank.specs.BankId.{BankId, image_bytes}
-use Rattle.xcp_bank.specs.BankEnds.{new_writer}
+use Rattle.xcp_bank.specs.BankEnds.{new_writer, newest}
 use Rattle.xcp_slave.specs.declared.Exchange.{Exchange}
 use Rattle.xcp_slave.specs.declared.Request.{Request}
 use Rattle.xcp_slave.specs.Outcomes.{Answer}
@@ -90,6 +90,7 @@ kept_first bank base es v p none is writer places last first size = record {
   places = places;
   few = omega arith;
   last = last;
+  newest = ap newest writer ∙ sym last;
   named = ap (λ z. z.bank) writer;
   size = size;
 }
@@ -117,6 +118,7 @@ kept_on bank v xs w x u n p q r run a is writer places last same o k =
         places = s.2 ∙ (places ∙ k.places);
         few = omega (arith, few, more);
         last = o.last;
+        newest = o.newest;
         named = named;
         size = k.size;
       }
@@ -129,6 +131,7 @@ kept_on bank v xs w x u n p q r run a is writer places last same o k =
         places = s.2 ∙ (ap (λ z. z ++ n ∷ []) (places ∙ k.places) ∙ sym (map-append (λ (z : Publication). z.place) k.list (publication n (image_of u) ∷ [])));
         few = (let l = length-append k.list (publication n (image_of u) ∷ []) in omega (arith, few, more, l));
         last = o.last;
+        newest = o.newest;
         named = named;
         size = k.size;
       }

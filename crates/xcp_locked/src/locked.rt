@@ -1,13 +1,13 @@
 //! What lies under the lock: a slave and its journal.
 ghost use Rattle.std.specs.Prelude.{◌≡◌, ◌≢◌, ◌↔◌, ◌⊎◌, ◌+◌, ◌*◌, ◌<◌, ◌≤◌, IfErr, [], ◌∷◌, ◌++◌, length, OnErr, OnOk, IfOk, Err, vec_capacity, vec_len};
+ghost use Rattle.xcp_bank.specs.BankEnds.{newest};
 ghost use Rattle.xcp_bank.specs.BankId.{image_bytes};
 ghost use Rattle.xcp_memory.specs.EcuImage.{ecu_image};
 ghost use Rattle.xcp_slave.specs.Run.{Run};
 ghost use Rattle.xcp_slave.specs.Step.{Answers};
 ghost use Rattle.xcp_slave.specs.AnswerInBytes.{answer_in};
 ghost use Rattle.xcp_slave.specs.AskedRequest.{IsShort, request_asked};
-ghost use Rattle.xcp_slave.specs.Outcomes.{Answer};
-ghost use Rattle.xcp_slave.specs.SlaveValue.{SlaveValue, layout_of, opening};
+ghost use Rattle.xcp_slave.specs.SlaveValue.{layout_of, opening};
 ghost use Rattle.xcp_locked.specs.Caller.{accepting};
 ghost use Rattle.xcp_locked.specs.Journal.{entry, exchanges, journal_limit};
 ghost use Rattle.xcp_locked.specs.LockedSlave.{IsReached, SameChapter};
@@ -26,7 +26,6 @@ use std::marker::Model;
 use std::sync::atomic::{AtomicBool, Ordering};
 use std::sync::ledger::Book;
 use std::sync::{Arc, Condvar};
-use xcp_controller::keeps_image;
 use xcp_packet::Packet;
 use xcp_slave::{Asked, Request, Slave, Told};
 use xcp_trace::{Entries, Journal};
@@ -313,28 +312,15 @@ fn execute(
     requires room_for_place { vec_len publisher.old.places < vec_capacity publisher.old.places }
     requires size { image_bytes publisher.old.writer.bank ≡ 2040 }
     requires last { publisher.old.last ≡ image_of slave.old }
+    requires newest { newest publisher.old.writer ≡ publisher.old.last }
     ensures answers { Answers slave.old (request_asked asked.entry) (answer_in result packet.new) slave.new }
     ensures journal { journal.new.entries ≡ journal.old.entries
         ++ entry caller (request_asked asked.entry) (answer_in result packet.new) ∷ [] }
     ensures offers { Offers place (image_of slave.new) publisher.old publisher.new }
 {
+    slave.audit();
     let told = slave.answer(asked, packet);
-    publish(publisher, slave, asked, place);
+    publisher.offer(slave, asked, &told, place);
     journal.push(caller, asked, &told, packet);
     told
-}
-
-/// Publishes the image that the slave has after this request, if it isn't the one published last. A
-/// request that never changes the image costs nothing.
-fn publish(publisher: &mut Publisher, slave: &Slave, asked: Asked<'_>, place: u64)
-    requires room { vec_len publisher.old.places < vec_capacity publisher.old.places }
-    requires size { image_bytes publisher.old.writer.bank ≡ 2040 }
-    requires last { (before : SlaveValue) × (answer : Answer)
-        × Answers before (request_asked asked) answer slave.now × (publisher.old.last ≡ image_of before) }
-    ensures { Offers place (image_of slave.now) publisher.old publisher.new }
-{
-    if keeps_image(asked) {
-        return;
-    }
-    publisher.offer(slave, place);
 }

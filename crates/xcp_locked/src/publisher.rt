@@ -1,12 +1,20 @@
 //! The images that are published for the readers, each with its place.
-ghost use Rattle.std.specs.Prelude.{◌≡◌, ◌<◌, ◌+◌, ◌-◌, [], ◌∷◌, IfOk, OnErr, OnOk, vec_capacity, vec_len};
+ghost use Rattle.std.specs.Prelude.{◌≡◌, ◌<◌, ◌+◌, ◌-◌, [], ◌∷◌, IfOk, OnErr, OnOk, ℕ, vec_capacity, vec_len};
+ghost use Rattle.arrayvec.specs.ArrayVec.{ArrayVec};
+ghost use Rattle.xcp_bank.specs.BankEnds.{newest};
 ghost use Rattle.xcp_bank.specs.BankId.{image_bytes};
+ghost use Rattle.xcp_slave.specs.AnswerInBytes.{answer_in};
+ghost use Rattle.xcp_slave.specs.AskedRequest.{request_asked};
+ghost use Rattle.xcp_slave.specs.SlaveValue.{SlaveValue};
+ghost use Rattle.xcp_slave.specs.Step.{Answers};
+ghost use Rattle.xcp_transfer.specs.Laws.{IsLawful};
 ghost use Rattle.xcp_locked.specs.Publications.{image_of};
 ghost use Rattle.xcp_locked.specs.private.OfferedImages.{Offers};
 
 use std::alloc::{AllocError, Global};
 use xcp_bank::Writer;
-use xcp_slave::Slave;
+use xcp_controller::publish_changed;
+use xcp_slave::{Asked, Slave, Told};
 
 /// A bank's writer, the number of the publication that the open chapter begins with, and of each from
 /// that one on the place: the number of calls that the chapter had then. The image published last is
@@ -72,19 +80,18 @@ impl Publisher {
         self.places = places;
     }
 
-    /// Publishes the slave's image, if it isn't the one published last. There is room for its place.
-    pub(crate) fn offer(&mut self, slave: &Slave, place: u64)
+    /// Publishes the image of a slave that has executed a request and told this, if it isn't the one published last. There is room for
+    /// its place.
+    pub(crate) fn offer(&mut self, slave: &Slave, asked: Asked<'_>, told: &Told, place: u64)
         requires room { vec_len self.old.places < vec_capacity self.old.places }
         requires size { image_bytes self.old.writer.bank ≡ 2040 }
+        requires newest { newest self.old.writer ≡ self.old.last }
+        requires step { (before : SlaveValue) × (packet : ArrayVec ℕ) × IsLawful before.transfer
+            × Answers before (request_asked asked) (answer_in told.now packet) slave.now × (self.old.last ≡ image_of before) }
         ensures { Offers place (image_of slave.now) self.old self.new }
     {
-        let mut image = [0; 2040];
-        slave.image(&mut image);
-        if image == self.last {
-            return;
+        if publish_changed(&mut self.writer, &mut self.last, slave, asked, told) {
+            self.places.push_reserved(place);
         }
-        self.writer.publish(&image);
-        self.places.push_reserved(place);
-        self.last = image;
     }
 }

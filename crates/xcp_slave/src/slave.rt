@@ -162,6 +162,13 @@ impl Slave {
         self.transfer.pages().layout()
     }
 
+    /// What its tool's transfers go by: the pages, the memory transfer address (MTA), and the block under way.
+    pub fn transfer(&self) -> &Transfer
+        ensures { result.now ≡ self.now.transfer }
+    {
+        &self.transfer
+    }
+
     fn order(&self) -> Order
         ensures { result ≡ (layout_of self.now).order }
     {

@@ -1,5 +1,6 @@
 -- When a submit publishes.
 use Rattle.std.specs.Prelude.{◌≡◌, ◌≢◌, ◌≤◌, ◌+◌, ◌⊎◌, ℕ, List, [], ◌∷◌, ◌++◌, length}
+use Rattle.xcp_bank.specs.BankEnds.{newest}
 use Rattle.xcp_bank.specs.BankId.{BankId, image_bytes}
 use Rattle.xcp_slave.specs.declared.Exchange.{Exchange}
 use Rattle.xcp_slave.specs.SlaveValue.{SlaveValue}
@@ -22,6 +23,7 @@ pub record IsKept (bank : BankId) (v : SlaveValue) (xs : List Exchange) (w : Sla
   pub places : p.places.items ≡ places_of list
   pub few : length list ≤ length xs + 1
   pub last : p.last ≡ image_of w
+  pub newest : newest p.writer ≡ p.last
   pub named : p.writer.bank ≡ bank
   pub size : image_bytes bank ≡ 2040
 
@@ -30,4 +32,5 @@ pub record Offers (place : ℕ) (image : List ℕ) (old new : Publisher) : Type 
   pub bank : new.writer.bank ≡ old.writer.bank
   pub first : new.first ≡ old.first
   pub last : new.last ≡ image
+  pub newest : newest new.writer ≡ new.last
   pub outcome : ((image ≡ old.last) × (new.writer.publications ≡ old.writer.publications) × (new.places.items ≡ old.places.items)) ⊎ ((image ≢ old.last) × (new.writer.publications ≡ old.writer.publications ++ image ∷ []) × (new.places.items ≡ old.places.items ++ place ∷ []))

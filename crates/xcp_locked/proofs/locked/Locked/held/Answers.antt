@@ -1,4 +1,4 @@
-use Rattle.std.proofs.Common.{◌∙◌, ap, subst, sym}
+use Rattle.std.proofs.Common.{◌∙◌, ◌-◌, ℕ, List, [], ap, length, slice_index_or, subst, sym}
 use Rattle.std.specs.Arc.{arc_value}
 use Rattle.xcp_locked.specs.Journal.{exchanges}
 use Rattle.xcp_locked.specs.LockedSlave.{LockedValue}
@@ -21,6 +21,7 @@ invariant_of-self g c =
         places = k.places;
         few = k.few;
         last = k.last;
+        newest = ap (λ (images : List (List ℕ)). slice_index_or images (length images - 1) []) c.held.ensures.same_publications ∙ k.newest;
         named = c.held.ensures.same_bank ∙ k.named;
         size = k.size;
       },
