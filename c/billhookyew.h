@@ -149,7 +149,7 @@ typedef struct {
 /* ---- The slave: under your lock ---- */
 
 /* Opens a slave by the text of a layout file, `length` bytes: XCP_OPENED, or a fault. All memory that the slave and its
- * readers ever take is taken here. Of all calls the openings of a slave want the most stack, nearly 60 kilobytes. */
+ * readers ever take is taken here. Of all calls the openings of a slave want the most stack, nearly 30 kilobytes. */
 uint8_t xcp_open(const uint8_t *text, size_t length, xcp_slave *slave);
 
 /* The same by a layout in a struct. `reference` has the `length` bytes of all segments' reference pages, one segment behind the
