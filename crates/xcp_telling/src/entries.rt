@@ -19,7 +19,7 @@ struct Table<'a> {
 
 /// Words that begin with a table of an array, as `segment 2: address has to be ..`, with its name, if it has one, and the line at which it
 /// begins, if it has a header: `segment 2 (line 31): address has to be ..`. Other words stay as they are.
-pub(crate) fn located(alloc: Global, words: &str, config: &str) -> Result<String, AllocError>
+pub fn located(alloc: Global, words: &str, config: &str) -> Result<String, AllocError>
     ensures { IfOk result (λ told. IsLocated words.now (string_bytes told)) }
 {
     let Some((front, rest)) = words.split_once(": ") else {

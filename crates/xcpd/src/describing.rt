@@ -2,13 +2,14 @@
 
 use crate::telling::{About, end_telling};
 use crate::text_of;
+use std::alloc::AllocError;
 use std::fs::File;
 use std::io;
 use std::process::ExitCode;
 use xcp_describe::{DescribeError, Findings, check, describe};
 use xcp_framing::Watched;
 use xcp_program::{Fault, read_whole};
-use xcp_telling::check_located;
+use xcp_telling::{check_located, located_words};
 
 /// Prints the description that is asked for, or what is found in the configuration file, and answers the status.
 pub fn describe_or_check(
@@ -43,9 +44,28 @@ fn describe_or_tell(rt: &HostRuntime, about: About<'_>, host: &str, port: u16) -
         Ok(()) => ExitCode::from(0),
         Err(DescribeError::Program(fault)) => end_telling(rt, Some(fault), about),
         Err(fault) => {
-            let _ = eprintln!(rt; "xcpd: {fault}");
+            let _ = match line_of_entry(rt, &fault, about) {
+                Ok(line) => eprintln!(rt; "xcpd: {line}"),
+                Err(AllocError) => eprintln!(rt; "xcpd: {fault}"),
+            };
             ExitCode::from(fault.status())
         }
+    }
+}
+
+/// The line of an entry that is refused: with its name and the line of its table, unless words are left out.
+fn line_of_entry(
+    rt: &HostRuntime,
+    fault: &DescribeError,
+    about: About<'_>,
+) -> Result<String, AllocError> {
+    let words = format!(in rt.alloc(); "{fault}")?;
+    if about.plain {
+        return Ok(words);
+    }
+    match text_of(rt, about.config) {
+        Ok(text) => located_words(rt.alloc(), words.as_str(), text.as_str()),
+        Err(_) => Ok(words),
     }
 }
 
