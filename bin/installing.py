@@ -15,8 +15,8 @@ ROOT = os.path.dirname(os.path.dirname(os.path.realpath(__file__)))
 UNIT = "service/xcpd.service"
 # Where the unit that stands in the tree has the program.
 UNIT_PROGRAM = "/usr/local/bin/xcpd"
-# Examples, by their names where they are installed: a layout file, a small program in C, and the engine.
-EXAMPLES = {"engine.toml": "crates/xcpd/data/engine.toml", "connect.c": "examples/connect.c"}
+# Examples, by their names where they are installed: a layout file, two small programs in C, and the engine.
+EXAMPLES = {"engine.toml": "crates/xcpd/data/engine.toml", "connect.c": "examples/connect.c", "datagrams.c": "examples/datagrams.c"}
 ENGINE = "examples/engine"
 LICENCE = """\
 Billhookyew: an XCP slave, as the program xcpd and as a library for C.

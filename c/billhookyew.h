@@ -149,7 +149,8 @@ typedef struct {
 /* ---- The slave: under your lock ---- */
 
 /* Opens a slave by the text of a layout file, `length` bytes: XCP_OPENED, or a fault. All memory that the slave and its
- * readers ever take is taken here. Of all calls the openings of a slave want the most stack, nearly 30 kilobytes. */
+ * readers ever take is taken here. Of all calls the openings of a slave want the most stack: nearly 30 kilobytes with the engine example's
+ * layout, as measured, and more where keys of a text stand in many tables. */
 uint8_t xcp_open(const uint8_t *text, size_t length, xcp_slave *slave);
 
 /* The same by a layout in a struct. `reference` has the `length` bytes of all segments' reference pages, one segment behind the
@@ -227,7 +228,7 @@ uint8_t xcp_framer_open(uint8_t max_cto, xcp_framer *framer);
  *
  * Datagrams (XCP over UDP) hold whole frames: feed each as one piece. If the last call for it says other than XCP_ONE, it was cut
  * or has a wrong LEN: close the framer and open it anew, so that what is left of it isn't taken for the front of the next one.
- * c/datagrams.c serves a tool so. */
+ * examples/datagrams.c serves a tool so. */
 bool xcp_feed(xcp_framer *framer, const uint8_t *piece, size_t length, xcp_fed *fed);
 
 void xcp_framer_close(xcp_framer *framer);

@@ -1,15 +1,19 @@
-// Times data packets of a program with one task and a period, for delay.sh: loaded before the C library (LD_PRELOAD), it
-// notes when a sleep of at least 500 microseconds ends, which is that of the task before its cycle, and how long after it
+// Times data packets of a program with one task and a period, for delay.sh and udp.sh: loaded before the C library (LD_PRELOAD), it
+// notes when a sleep of at least 500 microseconds ends, or a wait that nobody ended in time, which is that of the task before its cycle,
+// and how long after it
 // a frame is written whose packet is one of data (its first byte is below 40, hexadecimal).
 //
 // DELAY_FILE   the file that gets the microseconds of each, one a line
 #define _GNU_SOURCE
 #include <dlfcn.h>
+#include <errno.h>
 #include <fcntl.h>
+#include <stdarg.h>
 #include <stdatomic.h>
 #include <stdio.h>
 #include <stdlib.h>
 #include <sys/socket.h>
+#include <sys/syscall.h>
 #include <time.h>
 #include <unistd.h>
 
@@ -47,6 +51,19 @@ int nanosleep(const struct timespec *wait, struct timespec *left) {
   return status;
 }
 
+long syscall(long number, ...) {
+  static long (*next)(long, ...);
+  if (!next) next = dlsym(RTLD_NEXT, "syscall");
+  va_list given;
+  long a[6];
+  va_start(given, number);
+  for (int i = 0; i < 6; i++) a[i] = va_arg(given, long);
+  va_end(given);
+  long result = next(number, a[0], a[1], a[2], a[3], a[4], a[5]);
+  if (number == SYS_futex && result == -1 && errno == ETIMEDOUT) woken = now();
+  return result;
+}
+
 ssize_t write(int file, const void *bytes, size_t length) {
   static ssize_t (*next)(int, const void *, size_t);
   if (!next) next = dlsym(RTLD_NEXT, "write");
@@ -59,4 +76,11 @@ ssize_t send(int file, const void *bytes, size_t length, int flags) {
   if (!next) next = dlsym(RTLD_NEXT, "send");
   note(bytes, length);
   return next(file, bytes, length, flags);
+}
+
+ssize_t sendto(int file, const void *bytes, size_t length, int flags, const struct sockaddr *to, socklen_t size) {
+  static ssize_t (*next)(int, const void *, size_t, int, const struct sockaddr *, socklen_t);
+  if (!next) next = dlsym(RTLD_NEXT, "sendto");
+  note(bytes, length);
+  return next(file, bytes, length, flags, to, size);
 }

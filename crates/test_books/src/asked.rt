@@ -57,6 +57,7 @@ fn front(alloc: Global, options: &Options) -> Result<String, AllocError> {
             host,
             port,
             check,
+            ..
         } => {
             let verb = if *check { "check" } else { "describe" };
             let (config, host) = (word(config.as_str()), word(host.as_str()));
@@ -88,12 +89,20 @@ fn is_unread(options: &Options) -> bool {
     matches!(options, Options::Stay { no_stdin: true, .. })
 }
 
+/// Whether tools reach the slave over UDP.
+fn is_over_udp(options: &Options) -> bool {
+    match options {
+        Options::Stay { udp, .. } | Options::Describe { udp, .. } => *udp,
+        _ => false,
+    }
+}
+
 /// What is asked for, with a blank between its parts, and a line feed. Of a replay it is its file; of a server its file, host, port,
 /// tools, tasks, cycles, chapter and period; of one that stays `stay` before its file, host, port, tools, tasks, period, patience, queue,
 /// idle and cut_every, and `unread` if standard input isn't read; of either then the file of its journal, if it is named, and `paced`, if
 /// it is; of a description `describe`, or `check` if the file is
 /// only checked, before its file, host and port; of an audit its file, its journal, and whether lines are wanted. Behind all of these
-/// stand `flash` and the file of the stored pages, if it is named.
+/// stand `flash` and the file of the stored pages, if it is named, and `udp`, if tools reach the slave over UDP.
 pub fn shown(alloc: Global, options: &Options) -> Result<String, AllocError> {
     let mut text = front(alloc, options)?;
     match options {
@@ -119,6 +128,7 @@ pub fn shown(alloc: Global, options: &Options) -> Result<String, AllocError> {
         }
         Options::Describe { .. } => {}
     }
+    text.push_str(if is_over_udp(options) { " udp" } else { "" })?;
     text.push('\n')?;
     Ok(text)
 }

@@ -5,7 +5,7 @@ use crate::script::replayed;
 use std::alloc::{AllocError, Global};
 use std::fmt::Write;
 use test_playing::{Row, Section, Trouble, or_refusal};
-use xcp_describe::{Findings, check, describe};
+use xcp_describe::{Findings, Transport, check, describe};
 use xcp_framing::Watched;
 use xcp_program::{Fault, layout_of, periods_of, read_text};
 
@@ -25,18 +25,28 @@ fn refused_by(lines: &str) -> &str {
 }
 
 /// What a description writes, or the line of its fault, behind what was written before.
-fn described(alloc: Global, file: &str, host: &str, port: u16) -> Result<String, AllocError> {
+fn described(
+    alloc: Global,
+    file: &str,
+    host: &str,
+    port: u16,
+    transport: Transport,
+) -> Result<String, AllocError> {
     let mut writer = Watched::new(Vec::new(alloc));
-    let ended = describe(alloc, file, host, port, &mut writer);
+    let ended = describe(alloc, file, host, port, transport, &mut writer);
     text_of(alloc, writer.into_inner().as_slice(), ended)
 }
 
 /// What a section of kind `describes HOST PORT` is answered: what `xcpd describe` writes of the layout file, for tools that reach the
-/// slave at this host and port.
+/// slave at this host and port; over UDP if `udp` stands behind the port.
 pub fn description(alloc: Global, section: &Section<'_>) -> Result<String, Trouble> {
     let (host, port) = section.words.split_once(' ').unwrap_or(("", ""));
+    let (port, transport) = match port.strip_suffix(" udp") {
+        Some(port) => (port, Transport::Udp),
+        None => (port, Transport::Tcp),
+    };
     match port.parse::<u16>() {
-        Ok(port) => Ok(described(alloc, section.layout()?, host, port)?),
+        Ok(port) => Ok(described(alloc, section.layout()?, host, port, transport)?),
         Err(_) => Err(Trouble::at(section.line, "a host and a port are wanted")),
     }
 }
@@ -52,7 +62,7 @@ fn read_by(alloc: Global, reader: &str, file: &[u8]) -> Result<String, Trouble> 
     match reader {
         "a layout" => Ok(text_of(alloc, b"", layout_of(alloc, text.as_str()))?),
         "a replay" => replayed(alloc, text.as_str(), None, script),
-        _ => Ok(described(alloc, text.as_str(), "127.0.0.1", 5555)?),
+        _ => Ok(described(alloc, text.as_str(), "127.0.0.1", 5555, Transport::Tcp)?),
     }
 }
 

@@ -11,6 +11,7 @@ pub mod NumberNames
 pub mod Places
 pub mod RefusalWords
 pub mod TimeStampText
+pub mod Transports
 pub mod UnreadKeys
 pub mod Findings
 pub mod private

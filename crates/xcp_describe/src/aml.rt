@@ -1,4 +1,6 @@
 //! The grammar of the IF_DATA blocks.
+
+use crate::transport::Transport;
 use std::alloc::AllocError;
 
 /// Appends the block A2ML, by which a tool reads the IF_DATA blocks of this description: of the standard's grammar what these have.
@@ -7,6 +9,7 @@ pub(crate) fn put_grammar(
     has_later_commands: bool,
     has_time_stamps: bool,
     has_events: bool,
+    transport: Transport,
     text: &mut String,
 ) -> Result<(), AllocError> {
     text.push_str(FRONT)?;
@@ -21,6 +24,8 @@ pub(crate) fn put_grammar(
     if has_events {
         text.push_str(EVENTS)?;
     }
+    text.push_str(MODULE)?;
+    transport.put_known(text)?;
     text.push_str(BACK)
 }
 
@@ -264,14 +269,16 @@ const EVENTS: &str = r#"        block "DAQ_EVENT" taggedunion {
         };
 "#;
 
-/// The rest of the block.
-const BACK: &str = r#"      };
+/// The rest of the block up to the transport layer.
+const MODULE: &str = r#"      };
       block "IF_DATA" taggedunion if_data {
         "XCP" struct {
           taggedstruct Common_Parameters;
           taggedstruct {
-            block "XCP_ON_TCP_IP" struct {
-              uint;  /* version */
+"#;
+
+/// What the block of a transport layer has, and the rest of the grammar.
+const BACK: &str = r#"              uint;  /* version */
               uint;  /* port */
               taggedunion {
                 "HOST_NAME" char[256];

@@ -25,9 +25,11 @@ use crate::host::is_host;
 use crate::memory::Paging;
 use crate::naming::{has_events, put_tables};
 use crate::protocol::Protocol;
+use crate::reached::Reached;
 use crate::refusal::DescribeError;
 use crate::tables::Tables;
-use crate::text::{put_quoted, put_text};
+use crate::text::put_quoted;
+use crate::transport::Transport;
 use std::alloc::{AllocError, Global};
 use std::io::Write;
 use toml::Value;
@@ -44,7 +46,7 @@ struct Signals {
 }
 
 /// Writes the A2L description of the slave that the text of a layout file describes, for tools that reach it at this host and
-/// port. The whole text is made before any of it is written.
+/// port, by this transport layer. The whole text is made before any of it is written.
 ///
 /// Faults: `Host` first, where the host isn't 1 to 255 printable ASCII characters without a blank; then `Program` of
 /// `Configuration`, 1 to 6, where the text describes no layout; then `Parameter` and `Measurement` of the first entry that has
@@ -54,6 +56,7 @@ pub fn describe<W: Write>(
     config: &str,
     host: &str,
     port: u16,
+    transport: Transport,
     writer: &mut Watched<W>,
 ) -> Result<(), DescribeError>
     // What is written is one text, all of it or a front of it, and of a layout alone.
@@ -75,7 +78,12 @@ pub fn describe<W: Write>(
         return Err(DescribeError::Host);
     }
     let layout = layout_of(alloc, config)?;
-    let text = described(alloc, config, layout, host, port)?;
+    let reached = Reached {
+        host,
+        port,
+        transport,
+    };
+    let text = described(alloc, config, layout, reached)?;
     match writer.write_all(text.as_bytes()) {
         Ok(()) => Ok(()),
         Err(_) => Err(DescribeError::Program(Fault::Stream(2))),
@@ -87,8 +95,7 @@ pub(crate) fn described(
     alloc: Global,
     config: &str,
     layout: Layout,
-    host: &str,
-    port: u16,
+    reached: Reached<'_>,
 ) -> Result<String, DescribeError>
     requires { HasLayout config.now layout }
     ensures written { IfOk result (λ text. IsFileOf config.now (string_bytes text)) }
@@ -101,7 +108,7 @@ pub(crate) fn described(
     };
     let document = Value::Table(table);
     let tables = Tables::read(alloc, &document, &layout)?;
-    match text_of(alloc, config, layout, &tables, host, port) {
+    match text_of(alloc, config, layout, &tables, reached) {
         Ok(text) => Ok(text),
         Err(_) => Err(DescribeError::Program(Fault::Memory)),
     }
@@ -113,8 +120,7 @@ fn text_of(
     config: &str,
     layout: Layout,
     tables: &Tables<'_>,
-    host: &str,
-    port: u16,
+    reached: Reached<'_>,
 ) -> Result<String, AllocError>
     ensures file { IfOk result (λ text. IsFile (string_bytes text)) }
     ensures epk { layout.extras.uploads_a2l ≡ true → IfOk result (λ text. TellsEpk (epk_of config.now) (string_bytes text)) }
@@ -128,12 +134,19 @@ fn text_of(
     let protocol = Protocol::ask(&mut asked);
     let mut front = String::new(alloc);
     let has_events = has_events(tables.measurements.as_slice());
-    put_front(&mut asked, &protocol, has_events, &mut front)?;
+    put_front(
+        alloc,
+        &mut asked,
+        &protocol,
+        has_events,
+        reached.transport,
+        &mut front,
+    )?;
     let mut rest = String::new(alloc);
     put_memory(&mut asked, signals, &mut rest)?;
-    put_interface(&mut asked, &protocol, host, port, &mut rest)?;
-    put_tables(tables, &mut rest)?;
-    put_groups(tables, &mut rest)?;
+    put_interface(alloc, &mut asked, &protocol, reached, &mut rest)?;
+    let entries = entries_of(alloc, tables)?;
+    rest.push_str(entries.as_str())?;
     whole(alloc, front.as_str(), epk.as_str(), rest.as_str())
 }
 
@@ -172,9 +185,11 @@ fn is_ascii(text: &[u8]) -> bool
 
 /// Appends what stands behind the name of the block PROJECT, up to the block MOD_PAR.
 fn put_front(
+    alloc: Global,
     asked: &mut Asked,
     protocol: &Protocol,
     has_events: bool,
+    transport: Transport,
     text: &mut String,
 ) -> Result<(), AllocError> {
     let id = identification(asked);
@@ -186,9 +201,11 @@ fn put_front(
         has_later_commands,
         Clock::ask(asked).has_time_stamps(),
         has_events,
+        transport,
         text,
     )?;
-    put_common(protocol, text)
+    let common = common_of(alloc, protocol)?;
+    text.push_str(common.as_str())
 }
 
 /// The identification: GET_ID points the MTA to it. It has fewer bytes than one UPLOAD reads.
@@ -197,8 +214,9 @@ fn identification(asked: &mut Asked) -> Packet {
     asked.upload(u8::try_from(id.double(4)).unwrap_or(u8::MAX))
 }
 
-/// Appends the block MOD_COMMON. Numbers may stand at any address.
-fn put_common(protocol: &Protocol, text: &mut String) -> Result<(), AllocError> {
+/// The block MOD_COMMON. Numbers may stand at any address.
+fn common_of(alloc: Global, protocol: &Protocol) -> Result<String, AllocError> {
+    let mut text = String::new(alloc);
     writeln!(text, "    /begin MOD_COMMON \"\"")?;
     writeln!(text, "      BYTE_ORDER {}", protocol.byte_order())?;
     writeln!(text, "      ALIGNMENT_BYTE 1")?;
@@ -206,7 +224,16 @@ fn put_common(protocol: &Protocol, text: &mut String) -> Result<(), AllocError> 
     writeln!(text, "      ALIGNMENT_LONG 1")?;
     writeln!(text, "      ALIGNMENT_FLOAT32_IEEE 1")?;
     writeln!(text, "      ALIGNMENT_FLOAT64_IEEE 1")?;
-    writeln!(text, "    /end MOD_COMMON")
+    writeln!(text, "    /end MOD_COMMON")?;
+    Ok(text)
+}
+
+/// The blocks of the parameters, the measurements and their groups.
+fn entries_of(alloc: Global, tables: &Tables<'_>) -> Result<String, AllocError> {
+    let mut text = String::new(alloc);
+    put_tables(tables, &mut text)?;
+    put_groups(tables, &mut text)?;
+    Ok(text)
 }
 
 /// Appends the areas of memory, and the end of the block MOD_PAR.
@@ -224,32 +251,16 @@ fn put_memory(asked: &mut Asked, signals: Signals, text: &mut String) -> Result<
 
 /// Appends the block IF_DATA of the whole module.
 fn put_interface(
+    alloc: Global,
     asked: &mut Asked,
     protocol: &Protocol,
-    host: &str,
-    port: u16,
+    reached: Reached<'_>,
     text: &mut String,
 ) -> Result<(), AllocError> {
     writeln!(text, "    /begin IF_DATA XCP")?;
     protocol.put(asked, text)?;
     Daq::ask(asked).put(asked, text)?;
     Paging::ask(asked).put(text)?;
-    writeln!(text, "      /begin XCP_ON_TCP_IP")?;
-    writeln!(text, "        0x{:02X}00 /* version */", protocol.transport)?;
-    writeln!(text, "        {port} /* port */")?;
-    write!(text, "        {} ", kind_of(host))?;
-    put_text(host, text)?;
-    writeln!(text, "\n      /end XCP_ON_TCP_IP\n    /end IF_DATA")
-}
-
-/// What names a host: its address, if it has digits and points alone and as few as an address has, or its name.
-fn kind_of(host: &str) -> &'static str {
-    let is_address = host
-        .bytes()
-        .all(|byte| byte == b'.' || byte.is_ascii_digit());
-    if is_address && host.len() <= 15 {
-        "ADDRESS"
-    } else {
-        "HOST_NAME"
-    }
+    let lines = reached.lines(alloc, protocol.transport)?;
+    reached.transport.put_block(lines.as_str(), text)
 }

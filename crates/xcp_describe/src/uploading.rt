@@ -8,14 +8,16 @@ ghost use Rattle.xcp_describe.specs.Files.{epk_of};
 
 use crate::describing::described;
 use crate::epk::epk_of;
+use crate::reached::Reached;
 use crate::refusal::DescribeError;
+use crate::transport::Transport;
 use std::alloc::Global;
 use xcp_memory::A2lFile;
 use xcp_program::{DEFAULT_HOST, DEFAULT_PORT, Fault, layout_of};
 
 /// The A2L file that tools get from a slave of the layout that the text of a layout file describes: the one that `describe` writes
-/// for the host and the port that the program's words say by default, with its EPK. There is none where the layout doesn't ask for
-/// it.
+/// for the host and the port that the program's words say by default, over TCP, with its EPK: it doesn't depend on how the slave is
+/// served. There is none where the layout doesn't ask for it.
 ///
 /// Faults: `Configuration`, 1 to 6, where the text describes no layout; then `Configuration(7)` where the layout asks for the file,
 /// and an entry is refused, or the file has more than 1,048,576 bytes; `Memory` where an allocation fails.
@@ -30,7 +32,12 @@ pub fn a2l_of(alloc: Global, config: &str) -> Result<Option<A2lFile>, Fault>
     if !layout.extras().uploads_a2l() {
         return Ok(None);
     }
-    match described(alloc, config, layout, DEFAULT_HOST, DEFAULT_PORT) {
+    let reached = Reached {
+        host: DEFAULT_HOST,
+        port: DEFAULT_PORT,
+        transport: Transport::Tcp,
+    };
+    match described(alloc, config, layout, reached) {
         Ok(text) => Ok(Some(file_of(alloc, config, text)?)),
         Err(DescribeError::Program(fault)) => Err(fault),
         Err(_) => Err(Fault::Configuration(7)),

@@ -1,5 +1,5 @@
 -- What clap's matches say of the options of a subcommand.
-use Rattle.std.proofs.Common.{◌≡◌, ◌≤◌, ◌<◌, inl, inr, arith, ℕ, Bool, true, false, cond, codes, List, [], ◌∷◌, map, Option, Some, None, slice_index, IfSome, Bor, Box, string_bytes, refl, sym, ◌∙◌, ap, subst}
+use Rattle.std.proofs.Common.{◌≡◌, ◌≤◌, ◌<◌, ◌||◌, inl, inr, arith, ℕ, Bool, true, false, true≢false, if◌then◌else◌, cond, codes, List, [], ◌∷◌, map, Option, Some, None, slice_index, IfSome, Bor, Box, string_bytes, refl, sym, ◌∙◌, ap, subst}
 use Rattle.std.specs.List.{find}
 use Rattle.std.specs.Str.{bytes_eq}
 use Rattle.std.specs.Prelude.{is_some}
@@ -15,7 +15,7 @@ use Rattle.clap.specs.Words.{Row, Text, first_of, matched_of, rows_of, subcomman
 use Rattle.clap.specs.declared.parser.matches.SubCommand.{SubCommand}
 use Rattle.clap.specs.declared.parser.matches.ArgMatches.TheViews.{out-SubCommand}
 use Rattle.std.specs.Str.Parse.{digits_value, without_leading_plus}
-use Rattle.xcp_program.specs.CommandLine.{Asks, AsksTooMany, GivesOneFile, HasFlash, HasGiven, HasJournal, HasNumber, HasNumberIn, HasText, HasTwoFiles, IsOneFile, Numeric, Spells, SpellsIn, gives, tools}
+use Rattle.xcp_program.specs.CommandLine.{Asks, AsksFew, AsksTooMany, GivesOneFile, HasFlash, HasGiven, HasJournal, HasNumber, HasNumberIn, HasText, HasTwoFiles, IsOneFile, Numeric, Spells, SpellsIn, cut_every, few, gives, gives_to_stay, idle, most_tools, one, patience, queue, tools}
 use Rattle.xcp_program.specs.private.AppArguments.{IsChosen}
 use Rattle.xcp_program.specs.declared.purpose.Options.{Options}
 use Rattle.xcp_program.specs.declared.purpose.Options.TheVariants.{Audit, Describe, Replay, Serve, Stay}
@@ -77,16 +77,60 @@ no_description e = cc
 pub no_audit : codes "audit" ≡ codes "serve" → ⊥
 no_audit e = let first : 97 ≡ 115 = ap (λ (t : Text). slice_index t 0) e in absurd (omega (arith, first))
 
+-- ---- how many tools a server may have, by whether it is over UDP and whether it stays
+
+-- one that ends has few
+pub few_ending : (u s : Bool) (t : ℕ) → t ≤ (if u then one else (if s then tools.most else few)) → (s ≡ true → ⊥) → t ≤ few
+few_ending true s t most ends = omega arith
+few_ending false true t most ends = absurd (ends refl)
+few_ending false false t most ends = most
+
+-- one over UDP has one at most
+pub one_over_udp : (u s : Bool) (t : ℕ) → t ≤ (if u then one else (if s then tools.most else few)) → u ≡ true → t ≤ one
+one_over_udp true s t most e = most
+one_over_udp false s t most e = absurd (true≢false (sym e))
+
+-- so many of one that isn't over UDP and ends are as many as it may have
+most_ending : (u s : Bool) (t : ℕ) → t ≤ few → u ≡ false → (s ≡ true → ⊥) → t ≤ (if u then one else (if s then tools.most else few))
+most_ending true s t most tcp ends = absurd (true≢false tcp)
+most_ending false true t most tcp ends = absurd (ends refl)
+most_ending false false t most tcp ends = most
+
+-- and so are so many of one that stays
+most_staying : (u s : Bool) (t : ℕ) → t ≤ tools.most → (u ≡ true → t ≤ one) → s ≡ true → t ≤ (if u then one else (if s then tools.most else few))
+most_staying true s t most alone stays = alone refl
+most_staying false true t most alone stays = most
+most_staying false false t most alone stays = absurd (true≢false (sym stays))
+
+last_false : (a b : Bool) → (a || b) ≡ false → b ≡ false
+last_false true b e = absurd (true≢false e)
+last_false false b e = e
+
+sixth_false : (a b c d e f : Bool) → (a || (b || (c || (d || (e || f))))) ≡ false → f ≡ false
+sixth_false a b c d e f none = last_false e f (last_false d (e || f) (last_false c (d || (e || f)) (last_false b (c || (d || (e || f))) (last_false a (b || (c || (d || (e || f)))) none))))
+
+-- no option of a server that stays is given, and so no `--udp`
+no_udp : (found : Option (Text × List Row)) → gives_to_stay found ≡ false → gives (codes "udp") found ≡ false
+no_udp found none = sixth_false (gives patience.name found) (gives queue.name found) (gives idle.name found) (gives cut_every.name found) (gives (codes "no-stdin") found) (gives (codes "udp") found) none
+
+-- the tools that the words give are no more than the server may have
+pub within_most : (found : Option (Text × List Row)) (n : ℕ) → AsksFew found → Spells found tools.name n → n ≤ most_tools found
+within_most found n asked h = subst (λ (x : ℕ). x ≤ most_tools found) (same_number found (codes "serve") tools.name asked.number n asked.tools.spelt h) asked.few
+
+-- they aren't too many then
+pub not_above : (found : Option (Text × List Row)) (n : ℕ) → Spells found tools.name n → n ≤ most_tools found → AsksTooMany found → ⊥
+not_above found n h most many = above n many.number (most_tools found) (same_number found (codes "serve") tools.name n many.number h many.tools.spelt) most many.many
+  where
+    above : (a b m : ℕ) → a ≡ b → a ≤ m → m < b → ⊥
+    above a b m same most many = omega arith
+
 -- what is asked for has not too many tools
 pub not_too_many : (found : Option (Text × List Row)) (o : Options) → Asks found o → AsksTooMany found → ⊥
 not_too_many found (Replay config flash) h many = named_apart (codes "replay") (codes "serve") found h.config.text.name many.tools.spelt.value.name no_replay
-not_too_many found (Serve config host p t k n m ms journal flash pace) h many =
-    let same : t ≡ many.number = same_number found (codes "serve") tools.name t many.number h.tools.spelt many.tools.spelt in
-    let least : t ≤ 2 = h.few in
-    let above : 2 < many.number = many.many in
-    omega arith
-not_too_many found (Stay config host p t k ms s q i c unread journal flash pace) h many = many.ends h.stays
-not_too_many found (Describe config host p check) h many = named_apart (codes "describe") (codes "serve") found h.config.text.name many.tools.spelt.value.name no_description
+not_too_many found (Serve config host p t k n m ms journal flash pace) h many = not_above found t h.tools.spelt (most_ending _ _ t h.few (no_udp found h.others) h.ends) many
+not_too_many found (Stay config host p t k ms s q i c unread journal flash pace udp) h many =
+    not_above found t h.tools.spelt (most_staying _ _ t h.tools.most (λ over. h.alone (sym h.udp ∙ over)) h.stays) many
+not_too_many found (Describe config host p check udp) h many = named_apart (codes "describe") (codes "serve") found h.config.text.name many.tools.spelt.value.name no_description
 not_too_many found (Audit config file flash lines) h many = named_apart (codes "audit") (codes "serve") found h.config.text.name many.tools.spelt.value.name no_audit
 
 -- an option that needn't be given has its text because the words give it
@@ -108,10 +152,10 @@ files_apart found (Replay config flash) h = (tt, λ one. named_apart (codes "rep
 files_apart found (Serve config host p t k n m ms (Some journal) (Some flash) pace) h = (apart found (string_bytes journal) (string_bytes flash) h.journal h.flash h.apart, h.apart)
 files_apart found (Serve config host p t k n m ms (Some journal) None pace) h = (tt, h.apart)
 files_apart found (Serve config host p t k n m ms None flash pace) h = (tt, h.apart)
-files_apart found (Stay config host p t k ms s q i c unread (Some journal) (Some flash) pace) h = (apart found (string_bytes journal) (string_bytes flash) h.journal h.flash h.apart, h.apart)
-files_apart found (Stay config host p t k ms s q i c unread (Some journal) None pace) h = (tt, h.apart)
-files_apart found (Stay config host p t k ms s q i c unread None flash pace) h = (tt, h.apart)
-files_apart found (Describe config host p check) h = (tt, λ one. named_apart (codes "describe") (codes "serve") found h.config.text.name one.journal.text.name no_description)
+files_apart found (Stay config host p t k ms s q i c unread (Some journal) (Some flash) pace udp) h = (apart found (string_bytes journal) (string_bytes flash) h.journal h.flash h.apart, h.apart)
+files_apart found (Stay config host p t k ms s q i c unread (Some journal) None pace udp) h = (tt, h.apart)
+files_apart found (Stay config host p t k ms s q i c unread None flash pace udp) h = (tt, h.apart)
+files_apart found (Describe config host p check udp) h = (tt, λ one. named_apart (codes "describe") (codes "serve") found h.config.text.name one.journal.text.name no_description)
 files_apart found (Audit config file flash lines) h = (tt, λ one. named_apart (codes "audit") (codes "serve") found h.config.text.name one.journal.text.name no_audit)
 
 -- whether the words give an option, by the entry that was found for it

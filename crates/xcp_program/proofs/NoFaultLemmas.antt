@@ -101,7 +101,10 @@ keeps_serve = (
                                 keeps_set serve_shape.rules (nth 15 serve_shape) refl refl refl (λ again rows e. no_kinds _ _ e),
                                 (
                                   keeps_flag serve_shape.rules (nth 16 serve_shape) (codes "true") refl refl refl refl (λ again y ys rows e. no_values (length ys) (parts _ _ e).0),
-                                  (λ again values rows e v. v, tt),
+                                  (
+                                    keeps_flag serve_shape.rules (nth 17 serve_shape) (codes "true") refl refl refl refl (λ again y ys rows e. no_values (length ys) (parts _ _ e).0),
+                                    (λ again values rows e v. v, tt),
+                                  ),
                                 ),
                               ),
                             ),
@@ -129,7 +132,10 @@ keeps_describe = (
       keeps_set describe_shape.rules (nth 2 describe_shape) refl refl refl (λ again rows e. no_kinds _ _ e),
       (
         keeps_flag describe_shape.rules (nth 3 describe_shape) (codes "true") refl refl refl refl (λ again y ys rows e. no_values (length ys) (parts _ _ e).0),
-        (λ again values rows e v. v, tt),
+        (
+          keeps_flag describe_shape.rules (nth 4 describe_shape) (codes "true") refl refl refl refl (λ again y ys rows e. no_values (length ys) (parts _ _ e).0),
+          (λ again values rows e v. v, tt),
+        ),
       ),
     ),
   ),
@@ -402,6 +408,9 @@ module _ (words : List Text) (e : level_fault serve_shape [] nothing_held words 
   no_stdin_stands : Stands (nth 16 serve_shape) (all_rows serve_shape words) (Some (codes "false"))
   no_stdin_stands = by_default serve_shape words keeps_serve e (take 16 serve_shape.rules) (drop 17 serve_shape.rules) (nth 16 serve_shape) (codes "false") refl refl refl refl refl refl
 
+  udp_stands : Stands (nth 17 serve_shape) (all_rows serve_shape words) (Some (codes "false"))
+  udp_stands = by_default serve_shape words keeps_serve e (take 17 serve_shape.rules) (drop 18 serve_shape.rules) (nth 17 serve_shape) (codes "false") refl refl refl refl refl refl
+
   serve_asked : AsksRun (Some (rows_at serve_shape words))
   serve_asked =
       let p = number_stands words (nth 1 serve_shape) port refl (λ text h. accepts-Accepts false (Unsigned 1024 65535) text h) port_stands in
@@ -444,6 +453,7 @@ module _ (words : List Text) (e : level_fault serve_shape [] nothing_held words 
         flash = choice_among serve_shape (codes "serve") words refl refl (nth 11 serve_shape) kept_stands;
         pace = flag_among serve_shape (codes "serve") words refl refl (nth 12 serve_shape) refl refl pace_stands;
         no_stdin = flag_among serve_shape (codes "serve") words refl refl (nth 16 serve_shape) refl refl no_stdin_stands;
+        udp = flag_among serve_shape (codes "serve") words refl refl (nth 17 serve_shape) refl refl udp_stands;
       })
 
 -- ---- `describe`
@@ -464,6 +474,9 @@ module _ (words : List Text) (e : level_fault describe_shape [] nothing_held wor
   check_stands : Stands (nth 3 describe_shape) (all_rows describe_shape words) (Some (codes "false"))
   check_stands = by_default describe_shape words keeps_describe e (take 3 describe_shape.rules) (drop 4 describe_shape.rules) (nth 3 describe_shape) (codes "false") refl refl refl refl refl refl
 
+  described_udp_stands : Stands (nth 4 describe_shape) (all_rows describe_shape words) (Some (codes "false"))
+  described_udp_stands = by_default describe_shape words keeps_describe e (take 4 describe_shape.rules) (drop 5 describe_shape.rules) (nth 4 describe_shape) (codes "false") refl refl refl refl refl refl
+
   description_asked : AsksDescription (Some (rows_at describe_shape words))
   description_asked =
       let p = number_among describe_shape (codes "describe") words refl refl (nth 2 describe_shape) named_port refl (λ text h. accepts-Accepts false (Unsigned 1024 65535) text h) named_port_stands in
@@ -475,6 +488,7 @@ module _ (words : List Text) (e : level_fault describe_shape [] nothing_held wor
         host = record { text = record { name = refl; value = host_stands.value }; otherwise = λ none. some_text _ _ (host_stands.otherwise none) };
         port = p.1;
         check = flag_among describe_shape (codes "describe") words refl refl (nth 3 describe_shape) refl refl check_stands;
+        udp = flag_among describe_shape (codes "describe") words refl refl (nth 4 describe_shape) refl refl described_udp_stands;
       }
 
 -- ---- `audit`

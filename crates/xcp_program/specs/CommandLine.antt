@@ -1,5 +1,5 @@
 -- The words of the command line, as clap reads them.
-use Rattle.std.specs.Prelude.{◌≡◌, ◌⊎◌, ◌≤◌, ◌<◌, ◌||◌, ⊤, ℕ, Bool, List, [], ◌∷◌, ◌++◌, true, false, codes, not, is_some, Option, Some, None, string_bytes}
+use Rattle.std.specs.Prelude.{◌≡◌, ◌⊎◌, ◌≤◌, ◌<◌, ◌||◌, if◌then◌else◌, ⊤, ℕ, Bool, List, [], ◌∷◌, ◌++◌, true, false, codes, not, is_some, Option, Some, None, string_bytes}
 use Rattle.std.specs.Option.{option_map, option_and_then, option_map_or}
 use Rattle.std.specs.Str.Parse.{IsNumeral, digits_value, without_leading_plus}
 use Rattle.clap.specs.Takes.{is_given}
@@ -32,9 +32,12 @@ port = record { name = codes "port"; least = 1024; most = 65535; default = None 
 abbrev pub tools : Numeric
 tools = record { name = codes "tools"; least = 1; most = 4; default = Some (codes "1") }
 
--- the most tools of a server that ends
+-- the most tools of a server that ends, and of one over UDP
 abbrev pub few : ℕ
 few = 2
+
+abbrev pub one : ℕ
+one = 1
 
 abbrev pub tasks : Numeric
 tasks = record { name = codes "tasks"; least = 0; most = 6; default = Some (codes "1") }
@@ -91,19 +94,19 @@ abbrev pub replay_app : App
 replay_app = with_rule (with_rule (new_app (codes "replay")) config_rule) (choice_rule (codes "flash"))
 
 -- `serve --config FILE --port PORT [--host HOST] [--stay] [--tools T] [--tasks K] [--cycles N] [--chapter M] [--period MS] [--patience S]
--- [--journal FILE] [--flash FILE] [--pace] [--queue N] [--idle S] [--cut-every S] [--no-stdin]`
+-- [--journal FILE] [--flash FILE] [--pace] [--queue N] [--idle S] [--cut-every S] [--no-stdin] [--udp]`
 abbrev pub serve_app : App
-serve_app = with_rule (with_rule (with_rule (with_rule (with_rule (with_rule (with_rule (with_rule (with_rule (with_rule (with_rule (with_rule (with_rule (with_rule (with_rule (with_rule (with_rule (new_app (codes "serve"))
+serve_app = with_rule (with_rule (with_rule (with_rule (with_rule (with_rule (with_rule (with_rule (with_rule (with_rule (with_rule (with_rule (with_rule (with_rule (with_rule (with_rule (with_rule (with_rule (new_app (codes "serve"))
     config_rule) (numeric_rule port)) host_rule) (flag_rule (codes "stay"))) (numeric_rule tools)) (numeric_rule tasks)) (numeric_rule cycles)) (numeric_rule chapter)) (numeric_rule period)) (numeric_rule patience))
-    (choice_rule (codes "journal"))) (choice_rule (codes "flash"))) (flag_rule (codes "pace"))) (numeric_rule queue)) (numeric_rule idle)) (numeric_rule cut_every)) (flag_rule (codes "no-stdin"))
+    (choice_rule (codes "journal"))) (choice_rule (codes "flash"))) (flag_rule (codes "pace"))) (numeric_rule queue)) (numeric_rule idle)) (numeric_rule cut_every)) (flag_rule (codes "no-stdin"))) (flag_rule (codes "udp"))
 
 -- the port that a description names
 abbrev pub named_port : Numeric
 named_port = record { name = codes "port"; least = 1024; most = 65535; default = Some (codes "5555") }
 
--- `describe --config FILE [--host HOST] [--port PORT] [--check]`
+-- `describe --config FILE [--host HOST] [--port PORT] [--check] [--udp]`
 abbrev pub describe_app : App
-describe_app = with_rule (with_rule (with_rule (with_rule (new_app (codes "describe")) config_rule) host_rule) (numeric_rule named_port)) (flag_rule (codes "check"))
+describe_app = with_rule (with_rule (with_rule (with_rule (with_rule (new_app (codes "describe")) config_rule) host_rule) (numeric_rule named_port)) (flag_rule (codes "check"))) (flag_rule (codes "udp"))
 
 -- `FILE`, which has to be there
 abbrev pub file_rule : Rule
@@ -185,13 +188,17 @@ pub record HasHost (found : Option (Text × List Row)) (command host : Text) : T
 abbrev pub Stays : Option (Text × List Row) → Type 0
 Stays found = gives (codes "stay") found ≡ true
 
+-- The most tools that a server may have by the words: one with the flag `--udp`, else two without `--stay`, else as many as the option has.
+abbrev pub most_tools : Option (Text × List Row) → ℕ
+most_tools found = if gives (codes "udp") found then one else (if gives (codes "stay") found then tools.most else few)
+
 -- the words give the file of a server's journal, or none
 abbrev pub HasJournal : Option (Text × List Row) → Option Text → Type 0
 HasJournal found journal = HasChoice found (codes "serve") (codes "journal") journal
 
 -- the words give an option that only a server that stays has
 abbrev pub gives_to_stay : Option (Text × List Row) → Bool
-gives_to_stay found = gives patience.name found || (gives queue.name found || (gives idle.name found || (gives cut_every.name found || gives (codes "no-stdin") found)))
+gives_to_stay found = gives patience.name found || (gives queue.name found || (gives idle.name found || (gives cut_every.name found || (gives (codes "no-stdin") found || gives (codes "udp") found))))
 
 -- they don't ask that a journal is cut that is written to no file
 abbrev pub CutsAJournal : Option (Text × List Row) → Type 0
@@ -230,12 +237,13 @@ pub record IsServe (found : Option (Text × List Row)) (file address : Text) (p 
   pub others : gives_to_stay found ≡ false
   pub apart : ¬ (GivesOneFile found)
 
--- a subcommand with its rows is a server that stays, likewise, with or without the flag `--no-stdin`
-pub record IsStay (found : Option (Text × List Row)) (file address : Text) (p t k ms s q i c : ℕ) (unread : Bool) (written stored : Option Text) (paced : Bool) : Type 0 where
+-- a subcommand with its rows is a server that stays, likewise, with or without the flags `--no-stdin` and `--udp`
+pub record IsStay (found : Option (Text × List Row)) (file address : Text) (p t k ms s q i c : ℕ) (unread : Bool) (written stored : Option Text) (paced over_udp : Bool) : Type 0 where
   pub config : HasFile found (codes "serve") file
   pub host : HasHost found (codes "serve") address
   pub port : HasNumber found port p
   pub tools : HasNumber found tools t
+  pub alone : over_udp ≡ true → t ≤ one
   pub tasks : HasNumber found tasks k
   pub period : HasNumber found period ms
   pub patience : HasNumber found patience s
@@ -246,6 +254,7 @@ pub record IsStay (found : Option (Text × List Row)) (file address : Text) (p t
   pub journal : HasJournal found written
   pub flash : HasFlash found (codes "serve") stored
   pub pace : gives (codes "pace") found ≡ paced
+  pub udp : gives (codes "udp") found ≡ over_udp
   pub stays : Stays found
   -- the words give no option that only a server that ends has
   pub others : (gives cycles.name found ≡ false) × (gives chapter.name found ≡ false)
@@ -254,34 +263,33 @@ pub record IsStay (found : Option (Text × List Row)) (file address : Text) (p t
 
 -- Why words in which clap finds no fault are refused: five records, of which no two hold, in the order in which the program looks.
 
--- a subcommand with its rows is a server that ends, with more tools than such a one may have
+-- a subcommand with its rows is a server, with more tools than it may have
 pub record AsksTooMany (found : Option (Text × List Row)) : Type 0 where
   pub number : ℕ
   pub tools : HasNumber found tools number
-  pub many : few < number
-  pub ends : ¬ (Stays found)
+  pub many : most_tools found < number
 
--- a subcommand with its rows is a server that ends, with no more tools than such a one may have
+-- a subcommand with its rows is a server, with no more tools than it may have
 pub record AsksFew (found : Option (Text × List Row)) : Type 0 where
   pub number : ℕ
   pub tools : HasNumber found tools number
-  pub few : number ≤ few
-  pub ends : ¬ (Stays found)
+  pub few : number ≤ most_tools found
 
 -- a subcommand with its rows is a server that ends, with few tools and an option that only a server that stays has
 pub record AsksToStay (found : Option (Text × List Row)) : Type 0 where
   pub few : AsksFew found
+  pub ends : ¬ (Stays found)
   pub given : gives_to_stay found ≡ true
 
--- a subcommand with its rows is a server that stays, with an option that only a server that ends has
+-- a subcommand with its rows is a server that stays, with few tools and an option that only a server that ends has
 pub record AsksToEnd (found : Option (Text × List Row)) : Type 0 where
-  pub name : option_map (λ p. p.0) found ≡ Some (codes "serve")
+  pub few : AsksFew found
   pub stays : Stays found
   pub given : (gives cycles.name found ≡ true) ⊎ (gives chapter.name found ≡ true)
 
--- a subcommand with its rows is a server that stays, with no such option, but with `--cut-every` and no file for its journal
+-- a subcommand with its rows is a server that stays, with few tools and no such option, but with `--cut-every` and no file for its journal
 pub record AsksToCut (found : Option (Text × List Row)) : Type 0 where
-  pub name : option_map (λ p. p.0) found ≡ Some (codes "serve")
+  pub few : AsksFew found
   pub stays : Stays found
   pub others : (gives cycles.name found ≡ false) × (gives chapter.name found ≡ false)
   pub given : gives cut_every.name found ≡ true
@@ -290,10 +298,12 @@ pub record AsksToCut (found : Option (Text × List Row)) : Type 0 where
 -- a subcommand with its rows is a server that ends, and is refused for none of these
 pub record EndsWell (found : Option (Text × List Row)) : Type 0 where
   pub few : AsksFew found
+  pub ends : ¬ (Stays found)
   pub others : gives_to_stay found ≡ false
 
 -- a subcommand with its rows is a server that stays, likewise
 pub record StaysWell (found : Option (Text × List Row)) : Type 0 where
+  pub few : AsksFew found
   pub stays : Stays found
   pub others : (gives cycles.name found ≡ false) × (gives chapter.name found ≡ false)
   pub cuts : CutsAJournal found
@@ -313,12 +323,14 @@ IsRefusedFor found OnlyForStay = AsksToStay found
 IsRefusedFor found OnlyForJournal = AsksToCut found
 IsRefusedFor found OneFile = AsksForOneFile found
 
--- a subcommand with its rows is a description by this configuration file, for this host and port, with or without the flag `--check`
-pub record IsDescription (found : Option (Text × List Row)) (file address : Text) (p : ℕ) (checked : Bool) : Type 0 where
+-- a subcommand with its rows is a description by this configuration file, for this host and port, with or without the flags `--check` and
+-- `--udp`
+pub record IsDescription (found : Option (Text × List Row)) (file address : Text) (p : ℕ) (checked over_udp : Bool) : Type 0 where
   pub config : HasFile found (codes "describe") file
   pub host : HasHost found (codes "describe") address
   pub port : HasNumberIn found (codes "describe") named_port p
   pub flag : gives (codes "check") found ≡ checked
+  pub udp : gives (codes "udp") found ≡ over_udp
 
 -- a subcommand with its rows is an audit of this journal by this configuration file and this file of stored pages, with or without the
 -- flag `--lines`
@@ -332,24 +344,25 @@ pub record IsAudit (found : Option (Text × List Row)) (file word : Text) (store
 abbrev pub Asks : Option (Text × List Row) → Options → Type 0
 Asks found (Replay config flash) = IsReplay found (string_bytes config) (option_map string_bytes flash)
 Asks found (Serve config host p t k n m ms journal flash pace) = IsServe found (string_bytes config) (string_bytes host) p t k n m ms (option_map string_bytes journal) (option_map string_bytes flash) pace
-Asks found (Stay config host p t k ms s q i c unread journal flash pace) = IsStay found (string_bytes config) (string_bytes host) p t k ms s q i c unread (option_map string_bytes journal) (option_map string_bytes flash) pace
-Asks found (Describe config host p check) = IsDescription found (string_bytes config) (string_bytes host) p check
+Asks found (Stay config host p t k ms s q i c unread journal flash pace udp) = IsStay found (string_bytes config) (string_bytes host) p t k ms s q i c unread (option_map string_bytes journal) (option_map string_bytes flash) pace udp
+Asks found (Describe config host p check udp) = IsDescription found (string_bytes config) (string_bytes host) p check udp
 Asks found (Audit config file flash lines) = IsAudit found (string_bytes config) (string_bytes file) (option_map string_bytes flash) lines
 
--- each number is in its option's bounds, and the tools of a server that ends are few
+-- each number is in its option's bounds, and the tools of a server that ends are few, and one at most over UDP
 abbrev pub InRange : Options → Type 0
 InRange (Replay config flash) = ⊤
 InRange (Serve config host p t k n m ms journal flash pace) = (port.least ≤ p) × (p ≤ port.most) × (tools.least ≤ t) × (t ≤ few) × (tasks.least ≤ k) × (k ≤ tasks.most) × (cycles.least ≤ n) × (n ≤ cycles.most)
     × (chapter.least ≤ m) × (m ≤ chapter.most) × (period.least ≤ ms) × (ms ≤ period.most)
-InRange (Stay config host p t k ms s q i c unread journal flash pace) = (port.least ≤ p) × (p ≤ port.most) × (tools.least ≤ t) × (t ≤ tools.most) × (tasks.least ≤ k) × (k ≤ tasks.most) × (period.least ≤ ms) × (ms ≤ period.most)
+InRange (Stay config host p t k ms s q i c unread journal flash pace udp) = (port.least ≤ p) × (p ≤ port.most) × (tools.least ≤ t) × (t ≤ tools.most) × (tasks.least ≤ k) × (k ≤ tasks.most) × (period.least ≤ ms) × (ms ≤ period.most)
     × (patience.least ≤ s) × (s ≤ patience.most) × (queue.least ≤ q) × (q ≤ queue.most) × (idle.least ≤ i) × (i ≤ idle.most) × (cut_every.least ≤ c) × (c ≤ cut_every.most)
-InRange (Describe config host p check) = (named_port.least ≤ p) × (p ≤ named_port.most)
+    × (udp ≡ true → t ≤ one)
+InRange (Describe config host p check udp) = (named_port.least ≤ p) × (p ≤ named_port.most)
 InRange (Audit config file flash lines) = ⊤
 
 -- the files of the journal and of the stored pages that are asked for are two, and the journal's is none that is written beside the other
 abbrev pub HasTwoFiles : Options → Type 0
 HasTwoFiles (Serve config host p t k n m ms (Some journal) (Some flash) pace) = ¬ (IsOneFile (string_bytes journal) (string_bytes flash))
-HasTwoFiles (Stay config host p t k ms s q i c unread (Some journal) (Some flash) pace) = ¬ (IsOneFile (string_bytes journal) (string_bytes flash))
+HasTwoFiles (Stay config host p t k ms s q i c unread (Some journal) (Some flash) pace udp) = ¬ (IsOneFile (string_bytes journal) (string_bytes flash))
 HasTwoFiles _ = ⊤
 
 -- Why the words ask for nothing, by the kinds of error of the first fault that clap finds in them (a wish for help is one), and by the

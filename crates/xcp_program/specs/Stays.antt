@@ -13,7 +13,7 @@ asked_count false n = None
 -- is cut off by time where the journal has a file, and by each store where stored pages have one; and standard input is read unless the
 -- words say that it isn't.
 abbrev pub staying_of : Options → Option Staying
-staying_of (Stay config host p t k ms s q i c unread journal flash pace) =
+staying_of (Stay config host p t k ms s q i c unread journal flash pace udp) =
     Some (record {
       tools = t;
       tasks = k;
@@ -25,5 +25,6 @@ staying_of (Stay config host p t k ms s q i c unread journal flash pace) =
       cut_every = asked_count (is_some journal) c;
       keeps_pages = is_some flash;
       reads_input = not unread;
+      udp = udp;
     })
 staying_of _ = None

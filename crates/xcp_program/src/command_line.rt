@@ -92,10 +92,16 @@ fn describe_command<'a>(alloc: Global) -> Result<Command<'a>, AllocError>
     )
     .help("The port at which they do, 1,024 to 65,535");
     let describe = describe.arg(port)?;
-    Ok(describe.arg(flag(
+    let check = flag(
         alloc,
         "check",
         "Describes nothing, and tells what is wrong in the layout file",
+    );
+    let describe = describe.arg(check)?;
+    Ok(describe.arg(flag(
+        alloc,
+        "udp",
+        "Tools reach the slave over UDP, and not over TCP",
     ))?)
 }
 
@@ -228,6 +234,7 @@ fn description_asked(alloc: Global, matches: &ArgMatches<'_>) -> Result<Options,
         host,
         port: decimal_in(matches, "describe", "port") as u16,
         check: has_flag(matches, "describe", "check"),
+        udp: has_flag(matches, "describe", "udp"),
     })
 }
 

@@ -44,7 +44,7 @@ pub use layout::{layout_of, layout_stored};
 pub use periods::periods_of;
 pub use purpose::{Options, OptionsFault};
 pub use replaying::replay;
-pub use server_lines::{Counts, Listening, Recorded};
+pub use server_lines::{Counts, Listening, ListeningUdp, Network, Recorded};
 pub use serving::Serving;
 pub use source::{read_flash, read_text, read_whole};
 pub use staying::Staying;

@@ -39,7 +39,7 @@ pub enum Options {
         /// Whether each task goes by its channel's own cycle and unit where these say a time.
         pace: bool,
     },
-    /// The same, while tools come and go.
+    /// The same, over TCP or UDP, while tools come and go.
     Stay {
         /// The name of the configuration file.
         config: String,
@@ -47,7 +47,7 @@ pub enum Options {
         host: String,
         /// The port to listen on, 1,024 to 65,535.
         port: u16,
-        /// How many tools may be connected at a time, 1 to 4.
+        /// How many tools may be connected at a time, 1 to 4; over UDP 1.
         tools: u8,
         /// How many tasks run, 0 to 6.
         tasks: u8,
@@ -70,6 +70,8 @@ pub enum Options {
         flash: Option<String>,
         /// Whether each task goes by its channel's own cycle and unit where these say a time.
         pace: bool,
+        /// Whether tools reach the slave over UDP, one at a time, and not over TCP.
+        udp: bool,
     },
     /// To describe, for tools, the slave that this file describes.
     Describe {
@@ -81,6 +83,8 @@ pub enum Options {
         port: u16,
         /// Whether the file is only checked, and nothing described.
         check: bool,
+        /// Whether tools reach the slave over UDP, and not over TCP.
+        udp: bool,
     },
     /// To execute the calls of a journal's file again, on a new slave that this file describes, and compare their answers.
     Audit {
@@ -102,12 +106,12 @@ pub enum OptionsFault {
     Memory,
     /// The words are wrong, or ask for help; the text says more.
     Words(Error),
-    /// The words ask for more than 2 tools, and not that the server stays.
+    /// The words ask for more than 2 tools, and not that the server stays, or for more than one over UDP.
     TooManyTools,
     /// The words ask that the server stays, and give an option that only a server that ends has: `--cycles` or `--chapter`.
     NotForStay,
     /// The words don't ask that the server stays, and give an option that only such a server has: `--patience`, `--queue`, `--idle`,
-    /// `--cut-every` or `--no-stdin`.
+    /// `--cut-every`, `--no-stdin` or `--udp`.
     OnlyForStay,
     /// The words ask that the server stays, and give `--cut-every`, but no file for the journal.
     OnlyForJournal,

@@ -3,7 +3,7 @@ ghost use Rattle.std.specs.Prelude.{◌≡◌, ◌<◌, ◌^◌, Decides, IfErr,
 ghost use Rattle.clap.specs.Facts.{explicit_source};
 ghost use Rattle.clap.specs.Words.{app_of, subcommand_rows_of};
 ghost use Rattle.clap.specs.declared.builder.command.Command.TheViews.{out-Command as fields_of};
-ghost use Rattle.xcp_program.specs.CommandLine.{Asks, CutsAJournal, GivesOneFile, HasFile, HasFlash, HasHost, HasJournal, HasText, IsOneFile, Spells, Stays, cut_every, gives, gives_to_stay, serve_app};
+ghost use Rattle.xcp_program.specs.CommandLine.{Asks, AsksFew, AsksTooMany, CutsAJournal, GivesOneFile, HasFile, HasFlash, HasHost, HasJournal, HasText, IsOneFile, Spells, Stays, cut_every, gives, gives_to_stay, most_tools, serve_app};
 ghost use Rattle.xcp_program.specs.private.AppArguments.{AsksServe, IsRefusal, counted_app, kept_app, placed_app};
 
 use crate::arguments::{choice, config_option, flag, host_option, numeric};
@@ -15,7 +15,13 @@ use clap::{ArgMatches, Command};
 use std::alloc::{AllocError, Global};
 
 /// The most tools of a server that ends.
-const MOST_TOOLS: u8 = 2;
+const FEW_TOOLS: u32 = 2;
+
+/// The most tools of a server that stays.
+const MOST_TOOLS: u32 = 4;
+
+/// The most tools over UDP.
+const ONE_TOOL: u32 = 1;
 
 /// What help says below the options of a server.
 const ENDS: &str = help!(
@@ -26,8 +32,11 @@ that of a fault, but not before that of a mismatch, of a faulty configuration, o
 had begun.
 With --stay tools come and go, up to T at a time (1 to 4), until a line `stop` on standard input ends it; the tasks run
 until then, and --cycles and --chapter are refused. How each connection ended is told on standard error then, and the
-status is not that of a connection's fault. Without it T is 1 or 2, and --patience, --queue, --idle, --cut-every and
---no-stdin are refused.
+status is not that of a connection's fault. Without it T is 1 or 2, and --patience, --queue, --idle, --cut-every,
+--no-stdin and --udp are refused.
+With --udp T is 1, and the first line is: listening PORT udp. A tool has the slave from its CONNECT until its DISCONNECT,
+or until it was silent for --patience seconds and another one sends a CONNECT. At the end one line more tells what the
+network did.
 While all seats are taken, up to N tools of --queue wait for one; one more is turned away at once. With --no-stdin the
 server isn't ended by the line `stop`, but by a signal alone, and in the background of a terminal it isn't stopped.
 With --pace a task's period is the time that its channel's cycle and unit say; where these say none, it is --period.
@@ -49,7 +58,9 @@ fn placed_command<'a>(alloc: Global) -> Result<Command<'a>, AllocError>
     // Each option is made just before it is added, since what lives at a `?` is dropped there, and each
     // drop is proved.
     let serve = Command::new(alloc, "serve")
-        .about("Answers calibration tools over TCP, while tasks of the controller raise events")
+        .about(
+            "Answers calibration tools over TCP or UDP, while tasks of the controller raise events",
+        )
         .after_help(ENDS);
     let serve = serve.arg(config_option(alloc))?;
     let port = numeric(alloc, "port", "PORT", 1_024, 65_535, None).help(
@@ -141,10 +152,16 @@ pub fn serve_command<'a>(alloc: Global) -> Result<Command<'a>, AllocError>
         "The seconds within which the journal's open chapter reaches its file, 1 to 3,600; only for --stay with --journal",
     );
     let serve = serve.arg(cut_every)?;
-    Ok(serve.arg(flag(
+    let no_stdin = flag(
         alloc,
         "no-stdin",
         "Standard input isn't read; only for --stay",
+    );
+    let serve = serve.arg(no_stdin)?;
+    Ok(serve.arg(flag(
+        alloc,
+        "udp",
+        "Tools reach the slave over UDP, one at a time; only for --stay",
     ))?)
 }
 
@@ -187,6 +204,30 @@ fn gives_to_stay(matches: &ArgMatches<'_>) -> bool
         || gives(matches, "idle")
         || gives(matches, "cut-every")
         || gives(matches, "no-stdin")
+        || gives(matches, "udp")
+}
+
+/// The most tools that a server may have.
+fn most_tools(matches: &ArgMatches<'_>) -> u32
+    requires { AsksServe (subcommand_rows_of matches.now) }
+    ensures { result ≡ most_tools (subcommand_rows_of matches.now) }
+{
+    if has_flag(matches, "serve", "udp") {
+        ONE_TOOL
+    } else if has_flag(matches, "serve", "stay") {
+        MOST_TOOLS
+    } else {
+        FEW_TOOLS
+    }
+}
+
+/// Whether the words ask for no more tools than the server may have.
+fn is_few(matches: &ArgMatches<'_>) -> bool
+    requires { AsksServe (subcommand_rows_of matches.now) }
+    ensures few { result ≡ true → AsksFew (subcommand_rows_of matches.now) }
+    ensures many { result ≡ false → AsksTooMany (subcommand_rows_of matches.now) }
+{
+    number_in(matches, "tools") <= most_tools(matches)
 }
 
 /// Whether the words ask that a journal is cut off more often or less, and not that it is written.
@@ -258,6 +299,9 @@ pub fn server_asked(alloc: Global, matches: &ArgMatches<'_>) -> Result<Options, 
     ensures asked { IfOk result (λ o. Asks (subcommand_rows_of matches.now) o) }
     ensures refused { IfErr result (λ e. IsRefusal (subcommand_rows_of matches.now) e) }
 {
+    if !is_few(matches) {
+        return Err(OptionsFault::TooManyTools);
+    }
     if has_flag(matches, "serve", "stay") {
         stay_asked(alloc, matches)
     } else {
@@ -265,9 +309,11 @@ pub fn server_asked(alloc: Global, matches: &ArgMatches<'_>) -> Result<Options, 
     }
 }
 
-/// What the matches of a server that stays ask for.
+/// What the matches of a server that stays ask for, with no more tools than it may have.
 fn stay_asked(alloc: Global, matches: &ArgMatches<'_>) -> Result<Options, OptionsFault>
-    requires { AsksServe (subcommand_rows_of matches.now) × Stays (subcommand_rows_of matches.now) }
+    requires asks { AsksServe (subcommand_rows_of matches.now) }
+    requires few { AsksFew (subcommand_rows_of matches.now) }
+    requires stays { Stays (subcommand_rows_of matches.now) }
     ensures asked { IfOk result (λ o. Asks (subcommand_rows_of matches.now) o) }
     ensures refused { IfErr result (λ e. IsRefusal (subcommand_rows_of matches.now) e) }
 {
@@ -296,19 +342,18 @@ fn stay_asked(alloc: Global, matches: &ArgMatches<'_>) -> Result<Options, Option
         journal,
         flash,
         pace: has_flag(matches, "serve", "pace"),
+        udp: has_flag(matches, "serve", "udp"),
     })
 }
 
-/// What the matches of a server that ends ask for.
+/// What the matches of a server that ends ask for, with no more tools than it may have.
 fn end_asked(alloc: Global, matches: &ArgMatches<'_>) -> Result<Options, OptionsFault>
-    requires { AsksServe (subcommand_rows_of matches.now) × (¬ (Stays (subcommand_rows_of matches.now))) }
+    requires asks { AsksServe (subcommand_rows_of matches.now) }
+    requires few { AsksFew (subcommand_rows_of matches.now) }
+    requires ends { ¬ (Stays (subcommand_rows_of matches.now)) }
     ensures asked { IfOk result (λ o. Asks (subcommand_rows_of matches.now) o) }
     ensures refused { IfErr result (λ e. IsRefusal (subcommand_rows_of matches.now) e) }
 {
-    let tools = number_in(matches, "tools") as u8;
-    if tools > MOST_TOOLS {
-        return Err(OptionsFault::TooManyTools);
-    }
     if gives_to_stay(matches) {
         return Err(OptionsFault::OnlyForStay);
     }
@@ -316,6 +361,7 @@ fn end_asked(alloc: Global, matches: &ArgMatches<'_>) -> Result<Options, Options
         return Err(OptionsFault::OneFile);
     }
     let port = number_in(matches, "port") as u16;
+    let tools = number_in(matches, "tools") as u8;
     let tasks = number_in(matches, "tasks") as u8;
     let period = number_in(matches, "period");
     let pace = has_flag(matches, "serve", "pace");

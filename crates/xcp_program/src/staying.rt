@@ -27,6 +27,8 @@ pub struct Staying {
     pub keeps_pages: bool,
     /// Whether standard input is read.
     pub reads_input: bool,
+    /// Whether tools reach the slave over UDP, and not over TCP.
+    pub udp: bool,
 }
 
 impl Options {
@@ -46,6 +48,7 @@ impl Options {
             journal,
             flash,
             pace,
+            udp,
             ..
         } = self
         else {
@@ -62,6 +65,7 @@ impl Options {
             cut_every: where_true(journal.is_some(), *cut_every),
             keeps_pages: flash.is_some(),
             reads_input: !*no_stdin,
+            udp: *udp,
         })
     }
 }

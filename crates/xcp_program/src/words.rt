@@ -27,14 +27,14 @@ pub enum Unasked {
     /// The words are wrong, or ask for help or for the version.
     #[error("{0}")]
     Words(clap::Error),
-    /// The words ask for more than 2 tools, and not that the server stays.
-    #[error("xcpd: more than 2 tools want --stay\n")]
+    /// The words ask for more than 2 tools, and not that the server stays, or for more than one over UDP.
+    #[error("xcpd: more than 2 tools want --stay, and over UDP there is one\n")]
     TooManyTools,
     /// The words ask that the server stays, and give an option that only a server that ends has.
     #[error("xcpd: --cycles and --chapter aren't for --stay\n")]
     NotForStay,
     /// The words don't ask that the server stays, and give an option that only such a server has.
-    #[error("xcpd: --patience, --queue, --idle, --cut-every and --no-stdin want --stay\n")]
+    #[error("xcpd: --patience, --queue, --idle, --cut-every, --no-stdin and --udp want --stay\n")]
     OnlyForStay,
     /// The words ask that the server stays, and give `--cut-every`, but no file for the journal.
     #[error("xcpd: --cut-every wants --journal\n")]

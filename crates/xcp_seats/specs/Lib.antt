@@ -1,3 +1,4 @@
+pub mod Inboxes
 pub mod Seating
 pub mod Ticking
 pub mod Trails

@@ -1,31 +1,35 @@
 //! Where tools come in.
 
+use crate::access::Access;
 use crate::halt::Halt;
 use crate::lobby::Lobby;
 use crate::watcher::Watcher;
 use std::io;
-use std::net::{Shutdown, TcpListener, TcpStream};
+use std::net::{Shutdown, TcpStream};
 use std::os::fd::OwnedFd;
 use std::sync::Wait;
 use std::time::Clock;
 
-/// The listening socket, for whoever shuts it.
+/// The socket by which tools come in, for whoever shuts it.
 #[derive(Drop)]
 pub struct Gate {
     socket: TcpStream,
 }
 
 impl Gate {
-    /// The gate of this listener.
-    pub fn new(listener: &TcpListener) -> io::Result<Gate> {
-        // A call of the system shuts a socket whether it listens or is connected: only its type here has none.
-        let socket = OwnedFd::from(listener.try_clone()?);
+    /// The gate of a listener, or of a port.
+    pub fn new(access: &Access) -> io::Result<Gate> {
+        // A call of the system shuts a socket whether it listens, is connected or takes datagrams: only its type here has none.
+        let socket = match access {
+            Access::Streams(listener) => OwnedFd::from(listener.try_clone()?),
+            Access::Datagrams(port) => OwnedFd::from(port.socket().try_clone()?),
+        };
         Ok(Gate {
             socket: TcpStream::from(socket),
         })
     }
 
-    /// Shuts the listening socket: who waits for a tool there waits no more, and nobody can connect.
+    /// Shuts the socket: who waits there for a tool waits no more, and nobody can connect.
     pub fn shut(&self) {
         // Where the system has closed it, there is nothing to do.
         let _ = self.socket.shutdown(Shutdown::Both);
@@ -35,17 +39,21 @@ impl Gate {
 /// Who accepts tools, and brings them to the lobby.
 #[derive(Drop)]
 pub struct Entrance<'a, W> {
-    pub listener: &'a TcpListener,
+    pub access: &'a Access,
     pub lobby: &'a Lobby,
     pub halt: &'a Halt,
     pub watcher: &'a W,
 }
 
 impl<'a, W: Watcher> Entrance<'a, W> {
-    /// Accepts tools until the server is asked to end, and closes the connection of each that finds no seat and no place in the queue.
+    /// Accepts tools until the server is asked to end, and closes the connection of each that finds no seat and no place in the queue. At a
+    /// port there is nothing to accept.
     pub fn attend<R: Wait + Clock>(&self, rt: &R) {
+        let Access::Streams(listener) = self.access else {
+            return;
+        };
         for _tool in rt.forever() {
-            let accepted = self.listener.accept();
+            let accepted = listener.accept();
             if self.halt.is_asked() {
                 return;
             }

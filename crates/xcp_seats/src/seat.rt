@@ -2,16 +2,19 @@
 ghost use Rattle.std.specs.Prelude.{◌≡◌, ◌⊎◌};
 ghost use Rattle.xcp_seats.specs.Seating.{Attends, Sat, Visits, pair, told_of};
 
+use crate::access::{Access, Line};
 use crate::closing::Closing;
 use crate::door::Door;
 use crate::hall::{Departure, Hall};
 use crate::halt::Halt;
 use crate::lobby::Lobby;
+use crate::mail::{Mail, Outgoing};
 use crate::patient::{Patient, Patiently, Times};
+use crate::port::Visit;
 use crate::watcher::Watcher;
 use std::alloc::Global;
 use std::marker::Model;
-use std::net::{SocketAddr, TcpStream};
+use std::net::SocketAddr;
 use std::sync::Wait;
 use std::sync::atomic::{AtomicBool, Ordering};
 use std::thread::Threads;
@@ -33,6 +36,7 @@ pub struct Place<'a, W> {
     pub number: u8,
     pub max_cto: u8,
     pub times: Times,
+    pub access: &'a Access,
     pub lobby: &'a Lobby,
     pub door: &'a Door,
     pub halt: &'a Halt,
@@ -88,13 +92,34 @@ pub fn sit<
     } = seat;
     let mut left = Left { tool, pump };
     for _visit in rt.forever() {
-        let Some((stream, address)) = place.lobby.next(rt) else {
+        let Some((line, address)) = next_tool(rt, &place) else {
             break;
         };
-        left = visit(rt, alloc, shared, &place, stream, address, left);
+        left = visit(rt, alloc, shared, &place, line, address, left);
         place.lobby.free(rt);
     }
     left
+}
+
+/// The next tool, by what it is served, and its address. `None` where there is none any more. At a port the first seat alone has tools.
+fn next_tool<'a, W: Watcher, T: Wait + Clock>(
+    rt: &T,
+    place: &Place<'a, W>,
+) -> Option<(Line<'a>, SocketAddr)> {
+    match place.access {
+        Access::Streams(_) => {
+            let (stream, address) = place.lobby.next(rt)?;
+            Some((Line::Stream(stream), address))
+        }
+        Access::Datagrams(_) if place.number > 0 => {
+            place.halt.wait(rt);
+            None
+        }
+        Access::Datagrams(port) => {
+            let address = port.next(rt, place.max_cto, place.halt, place.watcher)?;
+            Some((Line::Datagrams(port), address))
+        }
+    }
 }
 
 impl<'a, N: Name, M: Route, W, T> Seat<'a, N, M, W, T> {
@@ -118,7 +143,7 @@ fn visit<
     alloc: Global,
     shared: &Shared<N, M>,
     place: &Place<'_, W>,
-    stream: TcpStream,
+    line: Line<'_>,
     address: SocketAddr,
     left: Left<N, M>,
 ) -> Left<N, M>
@@ -130,7 +155,9 @@ fn visit<
     let tool = Seated::new(rt, alloc, shared, tool, place.number);
     let pump = Seated::new(rt, alloc, shared, pump, place.number);
     let was_idle = AtomicBool::new(false);
-    let (mut tool, pump, end) = serve_tool(rt, alloc, shared, place, stream, &was_idle, tool, pump);
+    let (mut tool, pump, end) = serve_tool(
+        rt, alloc, shared, place, line, address, &was_idle, tool, pump,
+    );
     let departure = place.hall.leave(rt, &mut tool);
     if was_idle.load(Ordering::SeqCst) {
         place.watcher.idle(place.number, address);
@@ -175,7 +202,8 @@ fn serve_tool<
     alloc: Global,
     shared: &'r Shared<N, M>,
     place: &Place<'_, W>,
-    stream: TcpStream,
+    line: Line<'_>,
+    address: SocketAddr,
     was_idle: &AtomicBool,
     tool: Seated<'r, N, M, T>,
     pump: Seated<'r, N, M, T>,
@@ -183,19 +211,10 @@ fn serve_tool<
     ensures { (pair result.0.member result.1.member ≡ pair tool.entry.member pump.entry.member)
         ⊎ Attends place.now.max_cto result.2 (pair tool.entry.member pump.entry.member) (pair result.0.member result.1.member) }
 {
-    // Where it can't be set, as with a tool that has gone again, answers are late at most.
-    let _ = stream.set_nodelay(true);
-    let (Ok(writer), Ok(handle)) = (stream.try_clone(), stream.try_clone()) else {
+    let Some((reader, writer)) = ends_of(rt, place, line, address, was_idle) else {
         return (tool, pump, Err(ServeError::Memory));
     };
-    place.door.open(rt, handle);
-    if place.halt.is_asked() {
-        place.door.shut(rt);
-    }
-    let stream = (
-        Watched::new(Patient::new(stream, place.times, was_idle)),
-        Watched::new(Noting::new(Closing::new(writer))),
-    );
+    let stream = (Watched::new(reader), Watched::new(Noting::new(writer)));
     let attended = attend::<N, Resident<N, M>, _, _, _, _, _>(
         rt,
         alloc,
@@ -224,4 +243,44 @@ fn serve_tool<
         ) => (tool, pump, outcome),
         Err((tool, pump)) => (tool, pump, Err(ServeError::Memory)),
     }
+}
+
+/// What is read of a tool, and where what is written for it goes. Who closes its connection can do so from now on.
+fn ends_of<'a, W, T: Wait + Clock>(
+    rt: &'a T,
+    place: &Place<'a, W>,
+    line: Line<'a>,
+    address: SocketAddr,
+    was_idle: &'a AtomicBool,
+) -> Option<(Patient<'a, T>, Outgoing<'a>)> {
+    let stream = match line {
+        Line::Stream(stream) => stream,
+        Line::Datagrams(port) => {
+            let visit = Visit {
+                rt,
+                port,
+                tool: address,
+                max_cto: place.max_cto,
+                halt: place.halt,
+            };
+            let mail = Mail { port, to: address };
+            return Some((
+                Patient::visiting(visit, place.times, was_idle),
+                Outgoing::Datagrams(mail),
+            ));
+        }
+    };
+    // Where it can't be set, as with a tool that has gone again, answers are late at most.
+    let _ = stream.set_nodelay(true);
+    let (Ok(writer), Ok(handle)) = (stream.try_clone(), stream.try_clone()) else {
+        return None;
+    };
+    place.door.open(rt, handle);
+    if place.halt.is_asked() {
+        place.door.shut(rt);
+    }
+    Some((
+        Patient::new(stream, place.times, was_idle),
+        Outgoing::Stream(Closing::new(writer)),
+    ))
 }

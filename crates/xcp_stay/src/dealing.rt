@@ -8,7 +8,7 @@ use std::alloc::{AllocError, Global};
 use std::vec::IntoIter;
 use xcp_locked::{Name, Reader};
 use xcp_scribe::Scribe;
-use xcp_seats::{Door, Hall, Halt, Lobby, Losses, Pace, Place, Seat, Ticker};
+use xcp_seats::{Access, Door, Hall, Halt, Lobby, Losses, Pace, Place, Seat, Ticker};
 use xcp_service::{Collector, Member, Route, Shared};
 
 /// What the seats of a server share.
@@ -16,6 +16,7 @@ use xcp_service::{Collector, Member, Route, Shared};
 pub(crate) struct Common<'a, N: Name, M: Route, W, R> {
     pub rt: &'a R,
     pub shared: &'a Shared<N, M>,
+    pub access: &'a Access,
     pub lobby: &'a Lobby,
     pub doors: &'a [Door],
     pub hall: &'a Hall,
@@ -141,6 +142,7 @@ pub(crate) fn make_seats<'a, N: Name, M: Route, W, R>(
             number,
             max_cto,
             times: plan.times,
+            access: common.access,
             lobby: common.lobby,
             door: &common.doors[number as usize],
             halt: common.halt,

@@ -8,7 +8,6 @@ use crate::dealing::{Common, Crew, make_seats, make_tickers};
 use crate::staying::Plan;
 use crate::unstayed::Unstayed;
 use std::alloc::{AllocError, Global};
-use std::net::TcpListener;
 use std::sync::{Mutex, Wait};
 use std::thread;
 use std::thread::{Promise, PromisedHandle, Scope, Threads};
@@ -17,8 +16,8 @@ use together::{Work, run_crews_and};
 use xcp_locked::{Name, Reader};
 use xcp_scribe::Scribe;
 use xcp_seats::{
-    Door, Entrance, Gate, Hall, Halt, Keeping, Left, Lobby, Losses, Pace, Rested, Seat, Sits, Ward,
-    Watcher, start_entrance, start_seat, start_ward,
+    Access, Door, Entrance, Gate, Hall, Halt, Keeping, Left, Lobby, Losses, Pace, Rested, Seat,
+    Sits, Ward, Watcher, start_entrance, start_seat, start_ward,
 };
 use xcp_service::{Collector, Halted, Member, Route, Shared};
 
@@ -45,7 +44,7 @@ pub(crate) fn run<
 >(
     rt: &R,
     alloc: Global,
-    listener: &TcpListener,
+    access: &Access,
     lobby: &Lobby,
     losses: &Losses,
     shared: &Shared<N, M>,
@@ -80,7 +79,7 @@ pub(crate) fn run<
                 × TasksServed N.layout crew.hired.items (map (λ d. d.member) e.rested.items)) }
         {
             in_scope(
-                scope, rt, signal, alloc, listener, lobby, losses, shared, doors, hall, halt,
+                scope, rt, signal, alloc, access, lobby, losses, shared, doors, hall, halt,
                 watcher, crew, max_cto, plan,
             )
         },
@@ -101,7 +100,7 @@ fn in_scope<
     rt: &'s R,
     start: &'s Mutex<bool>,
     alloc: Global,
-    listener: &'s TcpListener,
+    access: &'s Access,
     lobby: &'s Lobby,
     losses: &'s Losses,
     shared: &'s Shared<N, M>,
@@ -132,13 +131,14 @@ fn in_scope<
     let common = Common {
         rt,
         shared,
+        access,
         lobby,
         doors,
         hall,
         halt,
         watcher,
     };
-    let Ok(gate) = Gate::new(listener) else {
+    let Ok(gate) = Gate::new(access) else {
         return Err(Unstayed::Listener);
     };
     let seats = make_seats(alloc, &common, tools, pumps, max_cto, plan)?;
@@ -157,7 +157,7 @@ fn in_scope<
         has_tasks: plan.tasks > 0,
     };
     let entrance = Entrance {
-        listener,
+        access,
         lobby,
         halt,
         watcher,

@@ -16,14 +16,13 @@ use crate::unstayed::{StayError, Unstayed};
 use std::alloc::{AllocError, Global};
 use std::boxed::Box;
 use std::marker::Brand;
-use std::net::TcpListener;
 use std::sync::{Mutex, Wait};
 use std::thread::Threads;
 use std::time;
 use xcp_locked::{Locked, Name, Opening, Unnamed};
 use xcp_memory::{Clock, Layout};
 use xcp_scribe::Scribe;
-use xcp_seats::{Hall, Halt, Lobby, Losses, Times, Watcher};
+use xcp_seats::{Access, Hall, Halt, Lobby, Losses, Times, Watcher};
 use xcp_service::{Member, Posting, Route, Shared, Timekeeper, Unrouted};
 
 /// How a server stays.
@@ -75,7 +74,7 @@ struct Ready<N: Name> {
     clock: Clock,
 }
 
-/// Opens a slave, and serves tools that come to the listener, so many at a time, one behind another, and runs so many tasks meanwhile,
+/// Opens a slave, and serves tools that come by this access, so many at a time, one behind another, and runs so many tasks meanwhile,
 /// until somebody asks it to end; each chapter of its journal is settled and dropped when its callers have handed their receipts
 /// over. A tool that finds no seat and no place in the queue is turned away. It closes the connections then, lets the tasks end their cycle, settles what is left, and tells how many chapters and calls
 /// there were. The first callers are those of the seats' tools, the next those of the tasks, which also have the first readers, and the
@@ -88,7 +87,7 @@ pub fn stay<S: Scribe + Send, W: Watcher + Sync, R: Threads + Wait + time::Clock
     rt: &R,
     alloc: Global,
     unnamed: Unnamed,
-    listener: &TcpListener,
+    access: &Access,
     plan: Plan,
     scribe: S,
     halt: &Halt,
@@ -102,7 +101,7 @@ pub fn stay<S: Scribe + Send, W: Watcher + Sync, R: Threads + Wait + time::Clock
         (S.wrote r.1) r.0) }
     ensures mismatch { IfErr result (IsMismatch unnamed.layout unnamed.callers) }
 {
-    stay_and_tell::<Brand, S, W, R>(rt, alloc, unnamed, listener, plan, scribe, halt, watcher)
+    stay_and_tell::<Brand, S, W, R>(rt, alloc, unnamed, access, plan, scribe, halt, watcher)
 }
 
 /// The same, for a slave that has a name.
@@ -115,7 +114,7 @@ fn stay_and_tell<
     rt: &R,
     alloc: Global,
     unnamed: Unnamed,
-    listener: &TcpListener,
+    access: &Access,
     plan: Plan,
     scribe: S,
     halt: &Halt,
@@ -131,9 +130,7 @@ fn stay_and_tell<
         (S.wrote r.1) r.0) }
     ensures mismatch { IfErr result (IsMismatch unnamed.layout unnamed.callers) }
 {
-    let stayed = stay_named::<N, S, W, R>(
-        rt, alloc, unnamed, listener, plan, scribe, halt, watcher,
-    );
+    let stayed = stay_named::<N, S, W, R>(rt, alloc, unnamed, access, plan, scribe, halt, watcher);
     match stayed {
         Ok(stayed) => {
             let told = tell(&stayed);
@@ -169,7 +166,7 @@ pub fn stay_named<
     rt: &R,
     alloc: Global,
     unnamed: Unnamed,
-    listener: &TcpListener,
+    access: &Access,
     plan: Plan,
     scribe: S,
     halt: &Halt,
@@ -191,7 +188,7 @@ pub fn stay_named<
     let boxed = Boxed { scribe };
     let ready = make_ready::<N>(alloc, unnamed)?;
     let stayed = stay_by_post::<N, Brand, S, W, R>(
-        rt, alloc, ready, listener, plan, boxed, halt, watcher,
+        rt, alloc, ready, access, plan, boxed, halt, watcher,
     )?;
     Ok(unboxed(stayed))
 }
@@ -249,7 +246,7 @@ fn stay_by_post<
     rt: &R,
     alloc: Global,
     ready: Ready<N>,
-    listener: &TcpListener,
+    access: &Access,
     plan: Plan,
     scribe: Boxed<S>,
     halt: &Halt,
@@ -300,7 +297,7 @@ fn stay_by_post<
     let ended = run(
         rt,
         alloc,
-        listener,
+        access,
         &lobby,
         &losses,
         &shared,

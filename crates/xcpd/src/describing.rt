@@ -6,7 +6,7 @@ use std::alloc::AllocError;
 use std::fs::File;
 use std::io;
 use std::process::ExitCode;
-use xcp_describe::{DescribeError, Findings, check, describe};
+use xcp_describe::{DescribeError, Findings, Transport, check, describe};
 use xcp_framing::Watched;
 use xcp_program::{Fault, read_whole};
 use xcp_telling::{check_located, located_words};
@@ -18,12 +18,18 @@ pub fn describe_or_check(
     host: &str,
     port: u16,
     check: bool,
+    udp: bool,
 ) -> ExitCode {
     if check {
         check_or_tell(rt, about)
     } else {
-        describe_or_tell(rt, about, host, port)
+        describe_or_tell(rt, about, host, port, transport(udp))
     }
+}
+
+/// By which transport layer tools reach the slave.
+fn transport(udp: bool) -> Transport {
+    if udp { Transport::Udp } else { Transport::Tcp }
 }
 
 /// Prints the A2L file of the configuration file's slave.
@@ -32,15 +38,29 @@ fn print_description(
     path: &str,
     host: &str,
     port: u16,
+    transport: Transport,
 ) -> Result<(), DescribeError> {
     let text = text_of(rt, path)?;
     let mut writer = Watched::new(io::writer(rt));
-    describe(rt.alloc(), text.as_str(), host, port, &mut writer)
+    describe(
+        rt.alloc(),
+        text.as_str(),
+        host,
+        port,
+        transport,
+        &mut writer,
+    )
 }
 
 /// The same, with the fault on standard error, if there is one, and the status.
-fn describe_or_tell(rt: &HostRuntime, about: About<'_>, host: &str, port: u16) -> ExitCode {
-    match print_description(rt, about.config, host, port) {
+fn describe_or_tell(
+    rt: &HostRuntime,
+    about: About<'_>,
+    host: &str,
+    port: u16,
+    transport: Transport,
+) -> ExitCode {
+    match print_description(rt, about.config, host, port, transport) {
         Ok(()) => ExitCode::from(0),
         Err(DescribeError::Program(fault)) => end_telling(rt, Some(fault), about),
         Err(fault) => {

@@ -18,6 +18,7 @@ mod stack;
 mod stay;
 mod teller;
 mod telling;
+mod traffic;
 
 ghost use Rattle.std.specs.Prelude.{◌≡◌, ◌<◌, ◌≤◌, ◌+◌, ⊤, IfOk, IsSomeAnd, MatchOption, vec_len};
 ghost use Rattle.sha2.specs.Sha256.{sha256};
@@ -298,7 +299,15 @@ fn obey<R: Threads + Wait + Clock + Copy + Send + Sync + 'static>(
             host,
             port,
             check,
-        } => describe_or_check(rt, about(&config, &None, None, plain), &host, port, check),
+            udp,
+        } => describe_or_check(
+            rt,
+            about(&config, &None, None, plain),
+            &host,
+            port,
+            check,
+            udp,
+        ),
         Options::Audit {
             config,
             file,
@@ -383,6 +392,7 @@ fn about<'a>(
         config,
         flash,
         place,
+        udp: false,
         plain,
     }
 }

@@ -15,7 +15,8 @@ use crate::named::Named;
 use crate::stack::deepen;
 use crate::teller::Teller;
 use crate::telling::{About, end_telling, line_about};
-use crate::{listen, text_of};
+use crate::text_of;
+use crate::traffic::{access_at, print_listening, print_traffic};
 use std::process::ExitCode;
 use std::sync::{Arc, Wait};
 use std::thread::Threads;
@@ -24,9 +25,9 @@ use std::{io, thread};
 use xcp_behind::Backlog;
 use xcp_locked::{Discord, Unnamed};
 use xcp_memory::Layout;
-use xcp_program::{Fault, Listening, Staying, fault_at_stop, periods_of, status_at_end};
+use xcp_program::{Fault, Staying, fault_at_stop, periods_of, status_at_end};
 use xcp_scribe::Both;
-use xcp_seats::{Halt, Times};
+use xcp_seats::{Access, Halt, Times};
 use xcp_stay::{Plan, Report, StayError, stay, timekeepers, wait_for_stop};
 
 /// The plan of a server that is asked to stay so, on a slave of this layout.
@@ -67,6 +68,7 @@ pub fn stay_by<R: Threads + Wait + Clock + Copy + Send + Sync + 'static>(
         config: path,
         flash,
         place: Some((host, port)),
+        udp: staying.udp,
         plain,
     };
     let Ok(lines) = begin_lines(rt, handle, plain) else {
@@ -113,7 +115,7 @@ fn stay_with<R: Threads + Wait + Clock + Copy + Send + Sync + 'static>(
     let Ok(unnamed) = Unnamed::new(rt.alloc(), layout, callers_of(&roster)) else {
         return Err(Fault::Memory);
     };
-    let listener = listen(rt, host, port)?;
+    let access = access_at(rt, host, port, staying.udp)?;
     let Ok(halt) = halt_by_input(rt, handle, staying.reads_input) else {
         return Err(Fault::Memory);
     };
@@ -122,7 +124,7 @@ fn stay_with<R: Threads + Wait + Clock + Copy + Send + Sync + 'static>(
         first: written,
         second: kept,
     };
-    let _ = rt.print(Listening { port });
+    print_listening(rt, &access, port);
     let log = Log {
         rt,
         handle,
@@ -133,13 +135,13 @@ fn stay_with<R: Threads + Wait + Clock + Copy + Send + Sync + 'static>(
         handle,
         rt.alloc(),
         unnamed,
-        &listener,
+        &access,
         plan,
         scribe,
         &halt,
         &log,
     ) {
-        Ok((told, mut scribe)) => tell(rt, handle, &told, &mut scribe, &backlog),
+        Ok((told, mut scribe)) => tell(rt, handle, &told, &mut scribe, &backlog, &access),
         Err(error) => {
             let _ = finish_writing(handle, &backlog);
             Err(fault_of_stay(error))
@@ -147,16 +149,18 @@ fn stay_with<R: Threads + Wait + Clock + Copy + Send + Sync + 'static>(
     }
 }
 
-/// Prints what is told of a server that stayed, and how many of its calls were written down.
+/// Prints what is told of a server that stayed, how many of its calls were written down, and what there was of datagrams.
 fn tell<R: Wait + Clock>(
     rt: &HostRuntime,
     handle: &R,
     told: &Report,
     scribe: &mut Both<Distant<'_, R>, Kept<'_, R>>,
     backlog: &Option<Arc<Backlog>>,
+    access: &Access,
 ) -> Result<(), Fault> {
-    let printed = rt.print(counts_at_stop(told)).is_ok();
+    let counted = rt.print(counts_at_stop(told)).is_ok();
     let journal = print_distant(rt, handle, &mut scribe.first, backlog);
+    let printed = print_traffic(rt, handle, access) && counted;
     match fault_at_stop(printed, journal, fault_of_keeping(&scribe.second)) {
         None => Ok(()),
         Some(fault) => Err(fault),

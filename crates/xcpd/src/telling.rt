@@ -4,7 +4,8 @@
 use crate::text_of;
 use std::alloc::{AllocError, Global};
 use std::fs::File;
-use std::net::TcpListener;
+use std::io;
+use std::net::{SocketAddr, TcpListener, UdpSocket};
 use std::process::ExitCode;
 use xcp_program::{Fault, read_flash, read_whole, refuse_many, status_at_end};
 use xcp_telling::{words_of, words_of_layout, words_of_listening, words_of_pages};
@@ -15,6 +16,8 @@ pub struct About<'a> {
     pub config: &'a str,
     pub flash: &'a Option<String>,
     pub place: Option<(&'a str, u16)>,
+    /// It takes datagrams there, and no connections.
+    pub udp: bool,
     /// Words are left out.
     pub plain: bool,
 }
@@ -59,7 +62,7 @@ fn looked_up(
     let words = match fault {
         Fault::Configuration(number) => return words_on_layout(rt, number, about.config),
         Fault::Flash(1) => words_on_pages(rt, about),
-        Fault::Stream(0) => words_on_place(rt, about.place),
+        Fault::Stream(0) => words_on_place(rt, about.place, about.udp),
         _ => None,
     };
     match words {
@@ -96,17 +99,29 @@ fn words_on_pages(rt: &HostRuntime, about: About<'_>) -> Option<&'static str> {
     }
 }
 
-/// Why nobody can listen there.
-fn words_on_place(rt: &HostRuntime, place: Option<(&str, u16)>) -> Option<&'static str> {
+/// Why nobody can listen there, or take datagrams.
+fn words_on_place(rt: &HostRuntime, place: Option<(&str, u16)>, udp: bool) -> Option<&'static str> {
     let (host, port) = place?;
-    let listener = match TcpListener::bind(rt, (host, port)) {
-        Ok(listener) => listener,
-        Err(error) => return Some(words_of_listening(error.kind())),
+    let bound = if udp {
+        address_of_port(rt, host, port)
+    } else {
+        address_of_listener(rt, host, port)
     };
-    match listener.local_addr() {
+    match bound {
         Ok(address) if refuse_many(address.ip()).is_err() => {
             Some("no tool can connect to an address of many machines")
         }
-        _ => None,
+        Ok(_) => None,
+        Err(error) => Some(words_of_listening(error.kind())),
     }
+}
+
+/// The address of a listener there.
+fn address_of_listener(rt: &HostRuntime, host: &str, port: u16) -> io::Result<SocketAddr> {
+    TcpListener::bind(rt, (host, port))?.local_addr()
+}
+
+/// The address of a socket for datagrams there.
+fn address_of_port(rt: &HostRuntime, host: &str, port: u16) -> io::Result<SocketAddr> {
+    UdpSocket::bind(rt, (host, port))?.local_addr()
 }

@@ -67,6 +67,7 @@ pub record AsksServe (found : Option (Text × List Row)) : Type 0 where
   pub flash : IsChosen found (codes "serve") (codes "flash")
   pub pace : HasFlag found (codes "serve") (codes "pace")
   pub no_stdin : HasFlag found (codes "serve") (codes "no-stdin")
+  pub udp : HasFlag found (codes "serve") (codes "udp")
 
 -- it is an audit: its options, its file and its flag, each with its text
 pub record AsksAudit (found : Option (Text × List Row)) : Type 0 where
@@ -86,6 +87,7 @@ pub record AsksDescription (found : Option (Text × List Row)) : Type 0 where
   pub host : HasHost found (codes "describe") address
   pub port : HasNumberIn found (codes "describe") named_port p
   pub check : HasFlag found (codes "describe") (codes "check")
+  pub udp : HasFlag found (codes "describe") (codes "udp")
 
 -- it is a replay or a server, and it is one of the four
 abbrev pub AsksRun : Option (Text × List Row) → Type 0

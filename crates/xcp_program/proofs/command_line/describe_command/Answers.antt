@@ -16,4 +16,5 @@ returns-clause-app c =
     let with_file = c.in_ok-describe.ensures.shape c.config_option.ensures.local ∙ ap₂ with_rule new_is c.config_option.ensures.rule in
     let with_host = c.in_ok-describe-2.ensures.shape c.host_option.ensures.local ∙ ap₂ with_rule with_file c.host_option.ensures.rule in
     let with_port = c.in_ok-describe-3.ensures.shape (ap is_global c.help-port.ensures ∙ c.numeric.ensures.local) ∙ ap₂ with_rule with_host port_is in
-    c.in_ok-arg.ensures.shape c.flag.ensures.local ∙ ap₂ with_rule with_port c.flag.ensures.rule
+    let with_check = c.in_ok-describe-4.ensures.shape c.flag-check.ensures.local ∙ ap₂ with_rule with_port c.flag-check.ensures.rule in
+    c.in_ok-arg.ensures.shape c.flag.ensures.local ∙ ap₂ with_rule with_check c.flag.ensures.rule

@@ -16,4 +16,5 @@ returns-clause-asked c =
       host = record { text = host; otherwise = λ none. same_text host asked.host.text ∙ asked.host.otherwise none };
       port = p;
       flag = search rules;
+      udp = search rules;
     }

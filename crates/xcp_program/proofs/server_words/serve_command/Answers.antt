@@ -15,4 +15,5 @@ returns-clause-app c =
     let with_queue = c.in_ok-serve-2.ensures.shape (ap is_global c.help-queue.ensures ∙ c.numeric.ensures.local) ∙ ap₂ with_rule c.in_ok-serve.ensures.app queue_is in
     let with_idle = c.in_ok-serve-3.ensures.shape (ap is_global c.help-idle.ensures ∙ c.numeric-2.ensures.local) ∙ ap₂ with_rule with_queue idle_is in
     let with_cut_every = c.in_ok-serve-4.ensures.shape (ap is_global c.help-cut_every.ensures ∙ c.numeric-3.ensures.local) ∙ ap₂ with_rule with_idle cut_every_is in
-    c.in_ok-arg.ensures.shape c.flag.ensures.local ∙ ap₂ with_rule with_cut_every c.flag.ensures.rule
+    let with_no_stdin = c.in_ok-serve-5.ensures.shape c.flag-no_stdin.ensures.local ∙ ap₂ with_rule with_cut_every c.flag-no_stdin.ensures.rule in
+    c.in_ok-arg.ensures.shape c.flag.ensures.local ∙ ap₂ with_rule with_no_stdin c.flag.ensures.rule

@@ -1,0 +1,3 @@
+mod DatagramLaws
+mod FrontLemmas
+mod NumberLemmas

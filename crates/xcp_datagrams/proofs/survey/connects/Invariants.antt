@@ -1,0 +1,12 @@
+use Rattle.std.proofs.Common.{◌≡◌, ◌≤◌, ◌-◌, drop, length}
+use Rattle.xcp_framing.specs.Frames.{frames}
+use Rattle.xcp_datagrams.proofs.survey.connects.Given as goal
+
+abbrev pub invariant-loop-size : goal.invariant-loop-size
+invariant-loop-size l = record {
+  within : l.at ≤ length l.bytes;
+  same : frames l.max_cto l.bytes ≡ frames l.max_cto (drop l.at l.bytes);
+}
+
+abbrev pub decreases-loop-size : goal.decreases-loop-size
+decreases-loop-size l = length l.bytes - l.at

@@ -1,0 +1,3 @@
+pub mod Datagrams
+pub mod Letters
+pub mod Numbers
