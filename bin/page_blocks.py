@@ -13,7 +13,7 @@ import time
 from itertools import zip_longest
 
 ROOT = os.path.dirname(os.path.dirname(os.path.realpath(__file__)))
-PAGES = ["README.md", "docs/CONNECT.md", "docs/LAYOUT.md", "docs/SERVICE.md", "docs/INSTALL.md"]
+PAGES = ["README.md", "docs/CONNECT.md", "docs/EMBEDDING.md", "docs/LAYOUT.md", "docs/SERVICE.md", "docs/INSTALL.md"]
 SHELLS = ("sh", "bash", "shell", "console")  # the languages of fences that are blocks of commands
 GOES_ON = "goes on from the block above"
 LIMIT = re.compile(r"<!-- time limit: (\d+) s -->")

@@ -1,7 +1,7 @@
 #!/usr/bin/env bash
 # Measures how long after its event a data packet of `xcpd serve` is written: 500 cycles of one task, one every 5 ms, beside a tool
 # that reads. Prints how many packets there were, and the least, the middle, the 99th of a hundred and the greatest delay. Beside it, by
-# turns, the same of a plain program that does nothing but wake two threads, one behind the other (plain_wakes.rs), as the slave has to.
+# turns, the same of a plain program that does nothing but wake a thread, which writes (plain_wakes.rs), as the slave has to.
 # Use: docs/measurements/delay.sh [TURNS]   from any folder; wants the built program ($XCPD, else out/xcpd), rustc and cc. TURNS is 3.
 set -eu
 here=$(cd "$(dirname "$0")" && pwd)
@@ -32,5 +32,5 @@ for _turn in $(seq "${1:-3}"); do
   wait $! || { cat "$work/out" >&2; exit 1; }
   told "serve"
   LD_PRELOAD=$work/delay.so DELAY_FILE=$work/delays "$work/wakes" 490
-  told "two wakes"
+  told "a wake"
 done

@@ -1,11 +1,9 @@
-// What a data packet waits for where two threads are woken, one behind the other, and do next to nothing: for delay.sh, beside the
-// program. A task wakes every 5 milliseconds and puts a packet behind a lock; a pump, which waits for that, hands it on; and a sender, which
-// waits for the pump, writes it to a socket. A thread reads the other end.
+// What a data packet waits for where a thread is woken for it that does next to nothing: for delay.sh, beside the program. A task wakes
+// every 5 milliseconds and puts a packet behind a lock; a pump, which waits for that, writes it to a socket. A thread reads the other end.
 //
 // plain_wakes N   N packets
 use std::io::{Read, Write};
 use std::net::{TcpListener, TcpStream};
-use std::sync::mpsc::channel;
 use std::sync::{Arc, Condvar, Mutex};
 use std::thread;
 use std::time::Duration;
@@ -21,14 +19,6 @@ fn main() -> std::io::Result<()> {
         while tool.read_exact(&mut frame).is_ok() {}
     });
     let outbox = Arc::new((Mutex::new(Vec::new()), Condvar::new()));
-    let (giver, taker) = channel::<[u8; 7]>();
-    let sender = thread::spawn(move || {
-        for frame in taker {
-            if stream.write_all(&frame).is_err() {
-                return;
-            }
-        }
-    });
     let shared = Arc::clone(&outbox);
     let pump = thread::spawn(move || {
         for _packet in 0..count {
@@ -36,9 +26,11 @@ fn main() -> std::io::Result<()> {
             while packets.is_empty() {
                 packets = shared.1.wait(packets).unwrap();
             }
-            let frame = packets.remove(0);
+            let frame: [u8; 7] = packets.remove(0);
             drop(packets);
-            giver.send(frame).unwrap();
+            if stream.write_all(&frame).is_err() {
+                return;
+            }
         }
     });
     for _cycle in 0..count {
@@ -47,7 +39,6 @@ fn main() -> std::io::Result<()> {
         outbox.1.notify_one();
     }
     pump.join().unwrap();
-    sender.join().unwrap();
     reader.join().unwrap();
     Ok(())
 }

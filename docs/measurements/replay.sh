@@ -1,8 +1,8 @@
 #!/usr/bin/env bash
 # Measures `xcpd replay` beside a plain Rust program: mixed scripts of 100,000, 1,000,000 and 10,000,000 lines, and a script of
-# 1,000,000 lines for each kind of line. The two programs run in turn, and the best turn of each counts. With the word
-# `count` it counts instructions instead, of the first 20,000 lines of each script.
-# Use: docs/measurements/replay.sh [count]      from any folder; wants the toolchain, rustc, GNU time, and to count valgrind.
+# 1,000,000 lines for each kind of line. The two programs run in turn, and the best turn of each counts. `bin/count-instructions`
+# counts instructions.
+# Use: docs/measurements/replay.sh      from any folder; wants the built program ($XCPD, else out/xcpd), rustc and GNU time.
 set -eu
 here=$(cd "$(dirname "$0")" && pwd)
 top=$(cd "$here/../.." && pwd)
@@ -28,23 +28,10 @@ script set_cal_page 1000000 EB010001
 script event 1000000 'event 0 0102030405060708'
 script drain 1000000 drain
 
-ours=("$top/out/xcpd" replay --config "$top/crates/xcpd/data/L.toml")
+[ -n "${XCPD:-}" ] || "$top/bin/xcpd" --version >/dev/null
+ours=("${XCPD:-$top/out/xcpd}" replay --config "$top/crates/xcpd/data/L.toml")
 theirs=("$work/plain")
 names=(mixed.1000000 set_mta upload download short_upload get_status set_cal_page event drain)
-"$top/bin/xcpd" replay --config "$top/crates/xcpd/data/L.toml" </dev/null
-
-count() { # script, words: the instructions of the program for the script's first 20,000 lines
-  head -n 20000 "$work/$1" >"$work/first"
-  valgrind --tool=callgrind --callgrind-out-file=/dev/null "${@:2}" <"$work/first" 2>&1 >/dev/null | sed -n 's/.*Collected : //p'
-}
-if [ "${1:-}" = count ]; then
-  printf '%-16s | %12s | %12s | %s\n' script 'xcpd' 'plain' ratio
-  for name in "${names[@]}"; do
-    awk -v n="${name%.*}" -v a="$(count "$name" "${ours[@]}")" -v b="$(count "$name" "${theirs[@]}")" \
-      'BEGIN { printf "%-16s | %12d | %12d | %.2f\n", n, a, b, a / b }'
-  done
-  exit
-fi
 
 once() { # script, where its answers go, words: the microseconds that the program takes
   local begun=${EPOCHREALTIME/./}

@@ -1,4 +1,4 @@
-//! Crews of three works and single works, all at the same time.
+//! Crews of two works and single works, all at the same time.
 ghost use Rattle.std.specs.Prelude.{IfOk};
 ghost use Rattle.together.specs.Crews.{GivesEachCrew};
 ghost use Rattle.together.specs.Works.{GivesEach};
@@ -14,10 +14,10 @@ use std::thread;
 use std::thread::{Scope, Threads};
 
 /// What comes of crews and of single works, each at its place.
-type Results<X, Y, Z, T> = Result<(Vec<(X, Y, Z)>, Vec<T>), AllocError>;
+type Results<X, Y, T> = Result<(Vec<(X, Y)>, Vec<T>), AllocError>;
 
 /// The same, and what comes of what is done meanwhile.
-type Outcomes<X, Y, Z, T, U> = Result<(Vec<(X, Y, Z)>, Vec<T>, U), AllocError>;
+type Outcomes<X, Y, T, U> = Result<(Vec<(X, Y)>, Vec<T>, U), AllocError>;
 
 /// Does each work in a thread of its own, all of them at the same time: none begins before all
 /// threads stand, and all are joined.
@@ -31,12 +31,12 @@ pub fn run_works<T: Send + Drop, W: Work<T>, R: Threads + Wait + Sync>(
 ) -> Result<Vec<T>, AllocError>
     ensures { IfOk result (λ r. GivesEach W.Work works.items r.items) }
 {
-    let none: Vec<(W, W, W)> = Vec::new(alloc);
+    let none: Vec<(W, W)> = Vec::new(alloc);
     let (_none, results) = run_crews(rt, alloc, none, works)?;
     Ok(results)
 }
 
-/// Does each work in a thread of its own, as `run_works` does. Crews of three works are taken, which
+/// Does each work in a thread of its own, as `run_works` does. Crews of two works are taken, which
 /// have something to do with each other, and single works.
 ///
 /// Where memory or a thread is refused the answer is `Err`, none of the works has begun, and
@@ -46,13 +46,11 @@ pub fn run_crews<
     A: Work<X>,
     Y: Send + Drop,
     B: Work<Y>,
-    Z: Send + Drop,
-    C: Work<Z>,
     T: Send + Drop,
     W: Work<T>,
     R: Threads + Wait + Sync,
->(rt: &R, alloc: Global, crews: Vec<(A, B, C)>, works: Vec<W>) -> Results<X, Y, Z, T>
-    ensures crews { IfOk result (λ r. GivesEachCrew A.Work B.Work C.Work crews.items r.0.items) }
+>(rt: &R, alloc: Global, crews: Vec<(A, B)>, works: Vec<W>) -> Results<X, Y, T>
+    ensures crews { IfOk result (λ r. GivesEachCrew A.Work B.Work crews.items r.0.items) }
     ensures works { IfOk result (λ r. GivesEach W.Work works.items r.1.items) }
 {
     let (crews, works, ()) = run_crews_and(rt, alloc, crews, works, Nothing)?;
@@ -69,21 +67,13 @@ pub fn run_crews_and<
     A: Work<X>,
     Y: Send + Drop,
     B: Work<Y>,
-    Z: Send + Drop,
-    C: Work<Z>,
     T: Send + Drop,
     W: Work<T>,
     U: Drop,
     M: Meanwhile<U>,
     R: Threads + Wait + Sync,
->(
-    rt: &R,
-    alloc: Global,
-    crews: Vec<(A, B, C)>,
-    works: Vec<W>,
-    meanwhile: M,
-) -> Outcomes<X, Y, Z, T, U>
-    ensures crews { IfOk result (λ r. GivesEachCrew A.Work B.Work C.Work crews.items r.0.items) }
+>(rt: &R, alloc: Global, crews: Vec<(A, B)>, works: Vec<W>, meanwhile: M) -> Outcomes<X, Y, T, U>
+    ensures crews { IfOk result (λ r. GivesEachCrew A.Work B.Work crews.items r.0.items) }
     ensures works { IfOk result (λ r. GivesEach W.Work works.items r.1.items) }
     ensures meanwhile { IfOk result (λ r. M.gives meanwhile r.2) }
 {
@@ -92,8 +82,8 @@ pub fn run_crews_and<
     thread::scope(
         thread::scope_env(),
         rt,
-        move |scope| -> Outcomes<X, Y, Z, T, U>
-            ensures { IfOk result (λ r. GivesEachCrew A.Work B.Work C.Work crews.items r.0.items
+        move |scope| -> Outcomes<X, Y, T, U>
+            ensures { IfOk result (λ r. GivesEachCrew A.Work B.Work crews.items r.0.items
                 × GivesEach W.Work works.items r.1.items × M.gives meanwhile r.2) }
         { in_scope(scope, rt, signal, alloc, crews, works, meanwhile) },
     )
@@ -108,8 +98,6 @@ fn in_scope<
     A: Work<X> + 's,
     Y: Send + Drop + 's,
     B: Work<Y> + 's,
-    Z: Send + Drop + 's,
-    C: Work<Z> + 's,
     T: Send + Drop + 's,
     W: Work<T> + 's,
     U: Drop,
@@ -120,11 +108,11 @@ fn in_scope<
     rt: &'s R,
     start: &'s Mutex<bool>,
     alloc: Global,
-    crews: Vec<(A, B, C)>,
+    crews: Vec<(A, B)>,
     works: Vec<W>,
     meanwhile: M,
-) -> Outcomes<X, Y, Z, T, U>
-    ensures crews { IfOk result (λ r. GivesEachCrew A.Work B.Work C.Work crews.items r.0.items) }
+) -> Outcomes<X, Y, T, U>
+    ensures crews { IfOk result (λ r. GivesEachCrew A.Work B.Work crews.items r.0.items) }
     ensures works { IfOk result (λ r. GivesEach W.Work works.items r.1.items) }
     ensures meanwhile { IfOk result (λ r. M.gives meanwhile r.2) }
 {

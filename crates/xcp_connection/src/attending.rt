@@ -1,12 +1,14 @@
 //! One reader and writer, served until the connection ends.
-ghost use Rattle.std.specs.Prelude.{◌≡◌, IfErr, IfOk};
+ghost use Rattle.std.specs.Prelude.{◌≡◌, ℕ, [], IfErr, IfOk, false, true};
 ghost use Rattle.xcp_framing.specs.CountedCalls.{place_of};
 ghost use Rattle.xcp_connection.specs.Connections.{Serves};
 
 use crate::closing::{Closed, close};
 use crate::connection::{Limits, connect};
+use crate::sending::finish;
 use std::alloc::Global;
 use std::io::{Read, Write};
+use std::marker::Brand;
 use std::snapshot::Snapshot;
 use std::sync::atomic::{AtomicBool, Ordering};
 use std::sync::{Mutex, Wait};
@@ -14,6 +16,7 @@ use std::thread::Threads;
 use together::run_beside;
 use xcp_framing::{Passages, ServeError, Served, Station, Watched};
 use xcp_locked::{HasSlave, Name};
+use xcp_outlet::{DataEnd, Dispatch, LineName, ReplyEnd, SendEnd, outlet};
 
 /// What comes of a connection: its stations, and how it ended, which is the fault of its reading, else of its pump, else Write where
 /// its sender has one. Reader and writer were dropped, which closes the connection, and contracts alone see how they were then.
@@ -26,7 +29,9 @@ pub struct Attended<S: Drop, I: Drop, O: Drop> {
     pub writer: Snapshot<Watched<O>>,
 }
 
-/// Serves one reader and writer by frames, until the connection ends: the thread that calls hears the tool, and two more pump and send.
+/// Serves one reader and writer by frames, until the connection ends: the thread that calls hears the tool, and one more pumps. Each writes
+/// what it has put, under a lock that both share, so that no third has to be woken for it. The frames that one write takes have at most
+/// `write_size` bytes, where one alone doesn't have more.
 /// The stations come back. Where there is no memory nothing was done, and where a thread is refused the outcome is `Memory`.
 pub fn attend<
     N: Name + Send + Sync,
@@ -46,6 +51,7 @@ pub fn attend<
     pump: S,
     passages: P,
     limits: Limits,
+    write_size: usize,
 ) -> Result<Attended<S, I, O>, (S, S)>
     ensures serves { IfOk result (λ d. Serves limits.max_cto d.outcome
         (place_of I.remaining stream.0) (place_of I.remaining d.reader.value)
@@ -55,21 +61,77 @@ pub fn attend<
     ensures err { IfErr result (λ e. e ≡ (tool, pump)) }
 {
     stop.store(false, Ordering::SeqCst);
-    let connection = connect::<N, T, S, I, P, O>(
-        alloc, lock, stop, stream, tool, pump, passages, limits,
-    )?;
+    let Ok(ends) = outlet(alloc) else {
+        return Err((tool, pump));
+    };
+    Ok(attend_named::<N, Brand, T, S, I, P, O, R>(
+        rt, alloc, lock, stop, stream, ends, tool, pump, passages, limits, write_size,
+    ))
+}
+
+/// The same with the ends of a new outlet, whose dispatch has a name.
+fn attend_named<
+    N: Name + Send + Sync,
+    L: LineName + Send + Sync,
+    T: HasSlave<N> + Send,
+    S: Station + Send + Drop,
+    I: Read + Send + Drop,
+    P: Passages<I> + Send + Drop,
+    O: Write + Send + Drop,
+    R: Threads + Wait + Sync,
+>(
+    rt: &R,
+    alloc: Global,
+    lock: &Mutex<T>,
+    stop: &AtomicBool,
+    stream: (Watched<I>, Watched<O>),
+    ends: (ReplyEnd, DataEnd, SendEnd),
+    tool: S,
+    pump: S,
+    passages: P,
+    limits: Limits,
+    write_size: usize,
+) -> Attended<S, I, O>
+    requires outlet { (place : ℕ) → L.outlet place ≡ ends.2.outlet }
+    requires before { (place : ℕ) → L.before place ≡ O.contents stream.1.inner }
+    requires failures { (place : ℕ) → L.failures place ≡ stream.1.failures }
+    requires replies { ends.0 ≡ record { outlet = ends.2.outlet; side = false; put = [] } }
+    requires samples { ends.1 ≡ record { outlet = ends.2.outlet; side = true; put = [] } }
+    ensures serves { Serves limits.max_cto result.outcome
+        (place_of I.remaining stream.0) (place_of I.remaining result.reader.value)
+        (O.contents stream.1.inner) (O.contents result.writer.value.inner)
+        (S.exchanges tool) (S.exchanges result.tool) (S.exchanges pump) (S.exchanges result.pump) }
+    ensures stays { S.same tool result.tool × S.same pump result.pump }
+{
+    let (reader, writer) = stream;
+    let (replies, samples, end) = ends;
+    let dispatch = Mutex::new(Dispatch::<L, O>::new(0, end, writer, write_size));
+    let connection = connect::<N, L, T, S, I, P, O>(
+        alloc,
+        lock,
+        stop,
+        &dispatch,
+        reader,
+        (replies, samples),
+        tool,
+        pump,
+        passages,
+        limits,
+    );
+    let (heard, pumped) = run_beside(rt, connection);
+    let wrote = finish(rt, dispatch.into_inner());
     let Closed {
         tool,
         pump,
         outcome,
         left,
         ..
-    } = close(run_beside(rt, connection));
-    Ok(Attended {
+    } = close((heard, pumped, wrote));
+    Attended {
         tool,
         pump,
         outcome,
         reader: left.reader,
         writer: left.writer,
-    })
+    }
 }

@@ -1,10 +1,9 @@
 //! A connection before it begins.
-ghost use Rattle.std.specs.Prelude.{◌≡◌, IfErr, IfOk};
+ghost use Rattle.std.specs.Prelude.{◌≡◌, [], false, true};
 ghost use Rattle.xcp_connection.specs.Parts.{IsConnectionOf};
 
 use crate::hearing::Hearing;
 use crate::pumping::Pumping;
-use crate::sending::Sending;
 use std::alloc::Global;
 use std::io::{Read, Write};
 use std::marker::PhantomData;
@@ -12,13 +11,12 @@ use std::sync::Mutex;
 use std::sync::atomic::AtomicBool;
 use xcp_framing::{Station, Watched};
 use xcp_locked::{HasSlave, Name};
-use xcp_outlet::outlet;
+use xcp_outlet::{DataEnd, Dispatch, LineName, ReplyEnd};
 
-/// The three parts of a connection, which have one outlet between them.
-pub type Connection<'a, N, T, S, I, P, O> = (
-    Hearing<'a, N, T, S, I, P>,
-    Pumping<'a, S>,
-    Sending<O>,
+/// The two parts of a connection, which have one outlet between them: each writes what it has put.
+pub type Connection<'a, 'd, N, L, T, S, I, P, O> = (
+    Hearing<'a, N, T, S, I, P, &'d Mutex<Dispatch<L, O>>>,
+    Pumping<'a, S, &'d Mutex<Dispatch<L, O>>>,
 );
 
 /// How long connections may go on: the largest packet, how many turns the reads of a passage and a call of the
@@ -31,11 +29,13 @@ pub struct Limits {
     pub goes_on: bool,
 }
 
-/// A connection with a new outlet, of a reader and a writer, and of a station for its tool and one for its
-/// pump. Where there is no memory the stations come back.
+/// A connection of a reader, of a station for its tool and one for its pump, and of the two ends of an outlet, which have put nothing: what
+/// they put is written by this dispatch.
 pub fn connect<
     'a,
+    'd,
     N: Name,
+    L: LineName,
     T: HasSlave<N>,
     S: Station + Drop,
     I: Read + Drop,
@@ -45,25 +45,26 @@ pub fn connect<
     alloc: Global,
     lock: &'a Mutex<T>,
     stop: &'a AtomicBool,
-    stream: (Watched<I>, Watched<O>),
+    dispatch: &'d Mutex<Dispatch<L, O>>,
+    reader: Watched<I>,
+    ends: (ReplyEnd, DataEnd),
     tool: S,
     pump: S,
     passages: P,
     limits: Limits,
-) -> Result<Connection<'a, N, T, S, I, P, O>, (S, S)>
-    ensures is { IfOk result (λ c. IsConnectionOf limits stream tool pump c) }
-    ensures err { IfErr result (λ e. e ≡ (tool, pump)) }
+) -> Connection<'a, 'd, N, L, T, S, I, P, O>
+    requires replies { ends.0 ≡ record { outlet = ends.0.outlet; side = false; put = [] } }
+    requires samples { ends.1 ≡ record { outlet = ends.0.outlet; side = true; put = [] } }
+    ensures { IsConnectionOf limits reader ends.0.outlet tool pump result }
 {
-    let Ok((replies, samples, end)) = outlet(alloc) else {
-        return Err((tool, pump));
-    };
-    let (reader, writer) = stream;
+    let (replies, samples) = ends;
     let hearing = Hearing {
         lock,
         station: tool,
         reader,
         passages,
         replies,
+        forward: dispatch,
         stop,
         alloc,
         max_cto: limits.max_cto,
@@ -73,9 +74,10 @@ pub fn connect<
     let pumping = Pumping {
         station: pump,
         samples,
+        forward: dispatch,
         stop,
         turns: limits.pump_turns,
         goes_on: limits.goes_on,
     };
-    Ok((hearing, pumping, Sending { end, writer }))
+    (hearing, pumping)
 }

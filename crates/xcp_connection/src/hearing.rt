@@ -13,18 +13,28 @@ use std::sync::{Mutex, Wait};
 use together::Work;
 use xcp_framing::{Passages, ServeError, Served, Station, Watched, serve_by};
 use xcp_locked::{HasSlave, Name};
-use xcp_outlet::{Put, Replies, ReplyEnd, WaitingEnd};
+use xcp_outlet::{Forward, Put, Replies, ReplyEnd, WaitingEnd};
 
 /// The part of a connection that reads frames, submits their commands and puts the packets of the
 /// answers, passage after passage. When it ends, it sets `stop` for the pump.
 #[derive(Drop)]
-pub struct Hearing<'a, N: Name, T: HasSlave<N>, S: Station + Drop, I: Read + Drop, P: Drop> {
+pub struct Hearing<
+    'a,
+    N: Name,
+    T: HasSlave<N>,
+    S: Station + Drop,
+    I: Read + Drop,
+    P: Drop,
+    F: Forward + Drop,
+> {
     pub lock: &'a Mutex<T>,
     pub station: S,
     pub reader: Watched<I>,
     /// Who knows whether the stream goes on where it has ended, and tells the reader where it stands.
     pub passages: P,
     pub replies: ReplyEnd,
+    /// By whom the packets of the answers are written.
+    pub forward: F,
     pub stop: &'a AtomicBool,
     pub alloc: Global,
     pub max_cto: u8,
@@ -50,7 +60,8 @@ impl<
     S: Station + Send + Drop,
     I: Read + Send + Drop,
     P: Passages<I> + Send + Drop,
-> Work<Heard<S, I>> for Hearing<'a, N, T, S, I, P> {
+    F: Forward + Send + Drop,
+> Work<Heard<S, I>> for Hearing<'a, N, T, S, I, P, F> {
     ghost use Rattle.xcp_connection.specs.Hearing.{HeardFor};
 
     ghost gives = { λ h d. HeardFor I.remaining S.exchanges S.same P.goes_on h.max_cto h.turns h.reader h.station h.replies d };
@@ -62,13 +73,14 @@ impl<
             mut reader,
             passages,
             replies,
+            forward,
             stop,
             alloc,
             max_cto,
             turns,
             ..
         } = self;
-        let mut replies = WaitingEnd::new(rt, replies);
+        let mut replies = WaitingEnd::new(rt, replies, forward);
         let outcome = hear(
             rt,
             alloc,
@@ -106,12 +118,12 @@ impl<
 }
 
 /// Answers frames, passage after passage, until the stream ends.
-fn hear<S: Station, I: Read, P: Passages<I>, R: Wait>(
+fn hear<S: Station, I: Read, P: Passages<I>, F: Forward + Drop, R: Wait>(
     rt: &R,
     alloc: Global,
     reader: &mut Watched<I>,
     passages: &P,
-    replies: &mut WaitingEnd<'_, Replies, R>,
+    replies: &mut WaitingEnd<'_, Replies, F, R>,
     station: &mut S,
     max_cto: u8,
     turns: u32,
@@ -141,11 +153,11 @@ fn hear<S: Station, I: Read, P: Passages<I>, R: Wait>(
 }
 
 /// Answers the frames of one passage.
-fn hear_passage<S: Station, I: Read, P: Passages<I>, R: Wait>(
+fn hear_passage<S: Station, I: Read, P: Passages<I>, F: Forward + Drop, R: Wait>(
     alloc: Global,
     reader: &mut Watched<I>,
     passages: &P,
-    replies: &mut WaitingEnd<'_, Replies, R>,
+    replies: &mut WaitingEnd<'_, Replies, F, R>,
     station: &mut S,
     max_cto: u8,
     turns: u32,

@@ -1,6 +1,6 @@
-//! The parts of a connection, each for a thread of its own, over whatever station: one hears the tool, one pumps what the slave
-//! samples, and one sends. [`connect`] makes them, [`close`] puts together what came of them, and [`attend`] does both, and runs them
-//! between: it comes back when the connection has ended.
+//! The parts of a connection, each for a thread of its own, over whatever station: one hears the tool, and one pumps what the slave
+//! samples. Each writes what it has put. [`connect`] makes them, [`finish`] writes what is left, [`close`] puts together what came of them,
+//! and [`attend`] does all of it, and runs them between: it comes back when the connection has ended.
 //!
 //! `specs/Hearing.antt`, `specs/Pumping.antt` and `specs/Sending.antt` have what each part promises, `specs/Connections.antt` what a
 //! connection is.
@@ -18,4 +18,4 @@ pub use closing::{Closed, Gone, close};
 pub use connection::{Connection, Limits, connect};
 pub use hearing::{Heard, Hearing};
 pub use pumping::{Pumped, Pumping};
-pub use sending::{Sending, Wrote};
+pub use sending::{Wrote, finish};

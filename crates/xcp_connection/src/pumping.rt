@@ -8,14 +8,16 @@ use std::sync::Wait;
 use std::sync::atomic::{AtomicBool, Ordering};
 use together::Work;
 use xcp_framing::{ServeError, Station, pump};
-use xcp_outlet::{Data, DataEnd, Put, WaitingEnd};
+use xcp_outlet::{Data, DataEnd, Forward, Put, WaitingEnd};
 
 /// The part of a connection that drains the packets which wait, and waits where none do, until it sees
 /// `stop`, or its turns are spent and it doesn't go on.
 #[derive(Drop)]
-pub struct Pumping<'a, S: Station + Drop> {
+pub struct Pumping<'a, S: Station + Drop, F: Forward + Drop> {
     pub station: S,
     pub samples: DataEnd,
+    /// By whom the data packets are written.
+    pub forward: F,
     pub stop: &'a AtomicBool,
     /// The most turns of one call of `pump`.
     pub turns: u32,
@@ -31,7 +33,7 @@ pub struct Pumped<S: Drop> {
     pub put: Put,
 }
 
-impl<'a, S: Station + Send + Drop> Work<Pumped<S>> for Pumping<'a, S> {
+impl<'a, S: Station + Send + Drop, F: Forward + Send + Drop> Work<Pumped<S>> for Pumping<'a, S, F> {
     ghost use Rattle.xcp_connection.specs.Pumping.{PumpedFor};
 
     ghost gives = { λ p d. PumpedFor S.exchanges S.same p.goes_on p.station p.samples d };
@@ -40,11 +42,12 @@ impl<'a, S: Station + Send + Drop> Work<Pumped<S>> for Pumping<'a, S> {
         let Pumping {
             mut station,
             samples,
+            forward,
             stop,
             turns,
             goes_on,
         } = self;
-        let mut samples = WaitingEnd::new(rt, samples);
+        let mut samples = WaitingEnd::new(rt, samples, forward);
         let outcome = drain(rt, &mut station, &mut samples, stop, turns, goes_on);
         let put = samples.into_end().finish(rt);
         Pumped {
@@ -69,10 +72,10 @@ impl<'a, S: Station + Send + Drop> Work<Pumped<S>> for Pumping<'a, S> {
 }
 
 /// Puts what waits until the stop is set, or a packet is handed back; by one call of `pump` where it doesn't go on.
-fn drain<S: Station, R: Wait>(
+fn drain<S: Station, F: Forward + Drop, R: Wait>(
     rt: &R,
     station: &mut S,
-    samples: &mut WaitingEnd<'_, Data, R>,
+    samples: &mut WaitingEnd<'_, Data, F, R>,
     stop: &AtomicBool,
     turns: u32,
     goes_on: bool,

@@ -1,18 +1,11 @@
-//! The part of a connection that sends.
+//! What a connection has written, once nobody puts any more.
+ghost use Rattle.xcp_connection.specs.Sending.{WroteAs};
 
 use std::io::Write;
 use std::snapshot::Snapshot;
 use std::sync::Wait;
-use together::Work;
 use xcp_framing::Watched;
-use xcp_outlet::{SendEnd, Sent};
-
-/// The part of a connection that writes what both ends of its outlet put.
-#[derive(Drop)]
-pub struct Sending<O: Write + Drop> {
-    pub end: SendEnd,
-    pub writer: Watched<O>,
-}
+use xcp_outlet::{Dispatch, LineName, Sent};
 
 /// What comes of sending. The writer was dropped at its end, and contracts alone see how it was
 /// then.
@@ -22,25 +15,13 @@ pub struct Wrote<O: Write + Drop> {
     pub writer: Snapshot<Watched<O>>,
 }
 
-impl<O: Write + Send + Drop> Work<Wrote<O>> for Sending<O> {
-    ghost use Rattle.xcp_connection.specs.Sending.{WroteFor};
-
-    ghost gives = { λ s d. WroteFor O.contents s.end.outlet s.writer d };
-
-    fn run<R: Wait>(self, rt: &R) -> Wrote<O> {
-        let Sending { end, mut writer } = self;
-        let sent = end.run_sender(rt, &mut writer);
-        Wrote {
-            sent,
-            writer: Snapshot::of(&writer),
-        }
-    }
-
-    fn leave(self) -> Wrote<O> {
-        let Sending { end, writer } = self;
-        Wrote {
-            sent: end.give_up(),
-            writer: Snapshot::of(&writer),
-        }
+/// Writes what both ends have put and nobody has written yet, and drops the writer.
+pub fn finish<L: LineName, O: Write + Drop, R: Wait>(rt: &R, dispatch: Dispatch<L, O>) -> Wrote<O>
+    ensures { WroteAs O.contents (L.outlet dispatch.place) (L.before dispatch.place) (L.failures dispatch.place) result }
+{
+    let (sent, writer) = dispatch.finish(rt);
+    Wrote {
+        sent,
+        writer: Snapshot::of(&writer),
     }
 }

@@ -3,3 +3,4 @@ mod CleanLemmas
 mod EntryLemmas
 mod FileLemmas
 mod PlainLemmas
+mod TransportLemmas

@@ -5,3 +5,4 @@ pub mod FiniteNumbers
 pub mod PlainText
 pub mod Refusals
 pub mod TableKeys
+pub mod TransportText

@@ -1,4 +1,6 @@
 //! The grammar of the IF_DATA blocks.
+ghost use Rattle.std.specs.Prelude.{OnOk, string_bytes};
+ghost use Rattle.xcp_describe.specs.private.TransportText.{KnowsTransport};
 
 use crate::transport::Transport;
 use std::alloc::AllocError;
@@ -10,6 +12,20 @@ pub(crate) fn put_grammar(
     has_time_stamps: bool,
     has_events: bool,
     transport: Transport,
+    text: &mut String,
+) -> Result<(), AllocError>
+    ensures { OnOk result (KnowsTransport transport (string_bytes text.new)) }
+{
+    put_common(has_later_commands, has_time_stamps, has_events, text)?;
+    transport.put_known(text)?;
+    text.push_str(BACK)
+}
+
+/// Appends the grammar up to the transport layer.
+fn put_common(
+    has_later_commands: bool,
+    has_time_stamps: bool,
+    has_events: bool,
     text: &mut String,
 ) -> Result<(), AllocError> {
     text.push_str(FRONT)?;
@@ -24,9 +40,7 @@ pub(crate) fn put_grammar(
     if has_events {
         text.push_str(EVENTS)?;
     }
-    text.push_str(MODULE)?;
-    transport.put_known(text)?;
-    text.push_str(BACK)
+    text.push_str(MODULE)
 }
 
 /// The block up to the last of the commands that all versions of the standard have.

@@ -12,7 +12,9 @@ ghost use Rattle.xcp_describe.specs.EntryFaults.{IsFirstRefusal};
 ghost use Rattle.xcp_describe.specs.Files.{IsFile, TellsEpk, epk_line, epk_of, marked};
 ghost use Rattle.xcp_describe.specs.Findings.{IsEntry};
 ghost use Rattle.xcp_describe.specs.Hosts.{IsHost};
+ghost use Rattle.xcp_describe.specs.Transports.{TellsTransport};
 ghost use Rattle.xcp_describe.specs.private.Refusals.{IsEntryOrMemory};
+ghost use Rattle.xcp_describe.specs.private.TransportText.{HasInterface, KnowsTransport};
 
 use crate::aml::put_grammar;
 use crate::asking::Asked;
@@ -61,6 +63,8 @@ pub fn describe<W: Write>(
 ) -> Result<(), DescribeError>
     // What is written is one text, all of it or a front of it, and of a layout alone.
     ensures written { OnOk result ((text : List ℕ) × IsFileOf config.now text × Appends (W.contents writer.old.inner) (W.contents writer.new.inner) text) }
+    // It tells that tools reach the slave by this transport layer, at this host and port.
+    ensures transport { OnOk result ((text : List ℕ) × TellsTransport transport host.now port text × Appends (W.contents writer.old.inner) (W.contents writer.new.inner) text) }
     ensures layout { OnOk result ((l : LayoutValue) × HasLayout config.now l) }
     ensures host { (result ≡ Err DescribeError.Host) ↔ (¬ (IsHost host.now)) }
     ensures configuration { (f : Fault) → result ≡ Err (DescribeError.Program f) → (f ≡ Fault.Memory) ⊎ (f ≡ Fault.Stream 2) ⊎ IsFault config.now f }
@@ -99,6 +103,7 @@ pub(crate) fn described(
 ) -> Result<String, DescribeError>
     requires { HasLayout config.now layout }
     ensures written { IfOk result (λ text. IsFileOf config.now (string_bytes text)) }
+    ensures transport { IfOk result (λ text. TellsTransport reached.entry.transport reached.entry.host.now reached.entry.port (string_bytes text)) }
     ensures refused { IfErr result IsEntryOrMemory }
     ensures entries { IfOk result (λ _. IsFirstRefusal config.now None) }
     ensures entry { IfErr result (λ e. IsEntry e → IsFirstRefusal config.now (Some e)) }
@@ -124,6 +129,7 @@ fn text_of(
 ) -> Result<String, AllocError>
     ensures file { IfOk result (λ text. IsFile (string_bytes text)) }
     ensures epk { layout.extras.uploads_a2l ≡ true → IfOk result (λ text. TellsEpk (epk_of config.now) (string_bytes text)) }
+    ensures transport { IfOk result (λ text. TellsTransport reached.entry.transport reached.entry.host.now reached.entry.port (string_bytes text)) }
 {
     let epk = epk_line(alloc, config, layout.extras().uploads_a2l())?;
     let signals = Signals {
@@ -155,6 +161,8 @@ fn text_of(
 fn whole(alloc: Global, front: &str, epk: &str, rest: &str) -> Result<String, AllocError>
     ensures file { IfOk result (λ text. IsFile (string_bytes text)) }
     ensures told { (digits : List ℕ) → epk.now ≡ epk_line digits → IfOk result (λ text. TellsEpk digits (string_bytes text)) }
+    ensures transport { (t : Transport) → (host : List ℕ) → (port : ℕ) → KnowsTransport t front.now → HasInterface t host port rest.now
+        → IfOk result (λ text. TellsTransport t host port (string_bytes text)) }
 {
     let mut text = String::from_str(alloc, "ASAP2_VERSION 1 60\n/begin PROJECT xcpd ")?;
     text.push_str(front)?;
@@ -191,7 +199,9 @@ fn put_front(
     has_events: bool,
     transport: Transport,
     text: &mut String,
-) -> Result<(), AllocError> {
+) -> Result<(), AllocError>
+    ensures { OnOk result (KnowsTransport transport (string_bytes text.new)) }
+{
     let id = identification(asked);
     put_quoted(text, id.as_slice(), id.len())?;
     text.push_str("\n  /begin MODULE slave ")?;
@@ -249,18 +259,29 @@ fn put_memory(asked: &mut Asked, signals: Signals, text: &mut String) -> Result<
     writeln!(text, "    /end MOD_PAR")
 }
 
-/// Appends the block IF_DATA of the whole module.
+/// Appends the block IF_DATA of the whole module: the block of the transport layer is the last one in it.
 fn put_interface(
     alloc: Global,
     asked: &mut Asked,
     protocol: &Protocol,
     reached: Reached<'_>,
     text: &mut String,
-) -> Result<(), AllocError> {
-    writeln!(text, "    /begin IF_DATA XCP")?;
-    protocol.put(asked, text)?;
-    Daq::ask(asked).put(asked, text)?;
-    Paging::ask(asked).put(text)?;
+) -> Result<(), AllocError>
+    ensures { OnOk result (HasInterface reached.entry.transport reached.entry.host.now reached.entry.port (string_bytes text.new)) }
+{
+    let others = others_of(alloc, asked, protocol)?;
     let lines = reached.lines(alloc, protocol.transport)?;
-    reached.transport.put_block(lines.as_str(), text)
+    text.push_str("    /begin IF_DATA XCP\n")?;
+    text.push_str(others.as_str())?;
+    reached.transport.put_block(lines.as_str(), text)?;
+    text.push_str("    /end IF_DATA\n")
+}
+
+/// The blocks of IF_DATA before that of the transport layer.
+fn others_of(alloc: Global, asked: &mut Asked, protocol: &Protocol) -> Result<String, AllocError> {
+    let mut text = String::new(alloc);
+    protocol.put(asked, &mut text)?;
+    Daq::ask(asked).put(asked, &mut text)?;
+    Paging::ask(asked).put(&mut text)?;
+    Ok(text)
 }

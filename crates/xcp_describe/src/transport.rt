@@ -1,6 +1,6 @@
 //! By which transport layer tools reach the slave.
-ghost use Rattle.std.specs.Prelude.{◌≡◌};
-ghost use Rattle.xcp_describe.specs.Transports.{block_name};
+ghost use Rattle.std.specs.Prelude.{◌≡◌, ◌++◌, OnOk, string_bytes};
+ghost use Rattle.xcp_describe.specs.Transports.{block_begin, block_end, block_name, known_line, transport_block};
 
 use std::alloc::AllocError;
 
@@ -25,20 +25,38 @@ impl Transport {
     }
 
     /// Appends the line of the grammar with which its block begins there.
-    pub(crate) fn put_known(&self, text: &mut String) -> Result<(), AllocError> {
+    pub(crate) fn put_known(&self, text: &mut String) -> Result<(), AllocError>
+        ensures { OnOk result (string_bytes text.new ≡ string_bytes text.old ++ known_line self.now) }
+    {
         text.push_str("            block \"")?;
         text.push_str(self.block_name())?;
         text.push_str("\" struct {\n")
     }
 
-    /// Appends its block with these lines, as the last one of the block IF_DATA, and the end of that.
-    pub(crate) fn put_block(&self, lines: &str, text: &mut String) -> Result<(), AllocError> {
+    /// Appends its block with these lines.
+    pub(crate) fn put_block(&self, lines: &str, text: &mut String) -> Result<(), AllocError>
+        ensures { OnOk result (string_bytes text.new ≡ string_bytes text.old ++ transport_block self.now lines.now) }
+    {
+        self.put_begin(text)?;
+        text.push_str(lines)?;
+        self.put_end(text)
+    }
+
+    /// Appends the first line of its block.
+    fn put_begin(&self, text: &mut String) -> Result<(), AllocError>
+        ensures { OnOk result (string_bytes text.new ≡ string_bytes text.old ++ block_begin self.now) }
+    {
         text.push_str("      /begin ")?;
         text.push_str(self.block_name())?;
-        text.push_str("\n")?;
-        text.push_str(lines)?;
+        text.push_str("\n")
+    }
+
+    /// Appends the last line of its block.
+    fn put_end(&self, text: &mut String) -> Result<(), AllocError>
+        ensures { OnOk result (string_bytes text.new ≡ string_bytes text.old ++ block_end self.now) }
+    {
         text.push_str("      /end ")?;
         text.push_str(self.block_name())?;
-        text.push_str("\n    /end IF_DATA\n")
+        text.push_str("\n")
     }
 }

@@ -1,5 +1,5 @@
 -- Drains, and then more.
-use Rattle.std.proofs.Common.{◌≡◌, ◌≢◌, ◌+◌, ℕ, List, [], ◌∷◌, ◌++◌, length, Result, Ok, Err, IfErr, IfOk, OnErr, ⊎_elim, refl, sym, ap, ◌∙◌, subst, arith, append_assoc, length-append}
+use Rattle.std.proofs.Common.{◌≡◌, ◌≢◌, ◌+◌, ℕ, List, [], ◌∷◌, ◌++◌, length, ◌≤◌, Result, Ok, Err, IfErr, ⊎_elim, refl, sym, ap, ◌∙◌, subst, arith, append_assoc, length-append}
 use Rattle.std.proofs.lemmas.List.{append-nil}
 use Rattle.xcp_slave.specs.declared.Exchange.{Exchange}
 use Rattle.xcp_slave.specs.declared.Request.{Request}
@@ -12,10 +12,10 @@ use Rattle.xcp_framing.specs.Serve.{packet_of, packets_of, refused_with}
 use Rattle.xcp_framing.specs.ServeBy.{IsHandedBack}
 use Rattle.xcp_framing.specs.ServeRefusal.{Refused}
 use Rattle.xcp_framing.specs.ServeParts.{IsInterruption}
-use Rattle.xcp_framing.specs.Pump.{AllDrains, DrainsUpTo, Pumped, Pumps, DrainAgain}
+use Rattle.xcp_framing.specs.Pump.{AllDrains, DrainAgain, DrainsInto, DrainsUpTo, Gathered, Pumped, Pumps}
 use Rattle.xcp_framing.specs.private.PutOutput.{IsUnput, Moves, MovesSoFar}
 use Rattle.xcp_framing.specs.private.HeldPump.{PumpsHeld}
-use Rattle.xcp_framing.proofs.PutOutputLemmas.{all_put, back_on, both_move, lost_in, moves_as, moves_back, moves_in, moves_lost, moves_more, moves_none, moves_put, put_on, unput_is}
+use Rattle.xcp_framing.proofs.PutOutputLemmas.{all_put, back_on, behind≢nil, both_move, lost_in, moves_as, moves_back, moves_in, moves_lost, moves_more, moves_none, moves_put, put_on, unput_is}
 use Rattle.xcp_framing.proofs.ExchangeLemmas.{packets_of-append}
 
 ok_is : {x y : ℕ} → ◌≡◌ {A = Result ℕ ServeError} (Ok x) (Ok y) → x ≡ y
@@ -84,48 +84,83 @@ no_room e {old = old} unput same x = record {
   counts = λ m is. absurd (no_ok is);
 }
 
--- one Drain, behind room for its packets
-pub one_drain : (n : ℕ) (x : Exchange) {old new : List Exchange} {a h b k l : List (List ℕ)} → x.request ≡ requests.Drain → new ≡ old ++ x ∷ [] → Moves a h b k [] → l ≡ k ++ packet_of x.answer → n ≡ length (packet_of x.answer) → PumpsHeld (Ok n) old new a h b l
-one_drain n x {b = b} {k = k} asked grown room held count =
-    let all : packets_of (x ∷ []) ≡ packet_of x.answer = append-nil (packet_of x.answer) in
-    record {
-      exchanges = x ∷ [];
-      grown = grown;
-      drains = (asked, tt);
-      moves = rw all (both_move [] (packet_of x.answer) room (moves_in (packet_of x.answer) refl held));
-      counts = λ m is. sym (ok_is is) ∙ (count ∙ ap (λ (z : List (List ℕ)). length z) (sym all));
-    }
-
--- one Drain for whose packets there was no memory
-pub one_lost : (x : Exchange) {old new : List Exchange} {a h b k l : List (List ℕ)} → x.request ≡ requests.Drain → new ≡ old ++ x ∷ [] → Moves a h b k [] → l ≡ [] → packet_of x.answer ≢ [] → PumpsHeld (Err errors.NoRoom) old new a h b l
-one_lost x {a = a} {h = h} {b = b} {k = k} {l = l} asked grown room held some =
-    let all : packets_of (x ∷ []) ≡ packet_of x.answer = append-nil (packet_of x.answer) in
-    record {
-      exchanges = x ∷ [];
-      grown = grown;
-      drains = (asked, tt);
-      moves = rw all (moves_more {A = ℕ} (Err errors.NoRoom) a b b h k l [] (packet_of x.answer) room (lost_in k (packet_of x.answer) refl some, held));
-      counts = λ m is. absurd (no_ok is);
-    }
-
--- one Drain, whose packets were gathered, or there was no memory for them
-pub drain_gathered : (r : Result ℕ ServeError) (x : Exchange) {old new : List Exchange} {a h b k l : List (List ℕ)} → x.request ≡ requests.Drain → new ≡ old ++ x ∷ [] → Moves a h b k []
-    → IfOk r (λ n. (l ≡ k ++ packet_of x.answer) × (n ≡ length (packet_of x.answer))) → OnErr r ((l ≡ []) × (packet_of x.answer ≢ [])) → IfErr r (λ e. e ≡ errors.NoRoom) → PumpsHeld r old new a h b l
-drain_gathered (Ok n) x asked grown room ok back err = one_drain n x asked grown room ok.0 ok.1
-drain_gathered (Err e) x asked grown room ok back err = rw (err) (one_lost x asked grown room back.0 back.1)
-
-none_err : (e : StationError) {a h b k : List (List ℕ)} → Moves a h b k [] → MovesSoFar {A = ℕ} (Err (refused_with e)) a h b k []
-none_err refusals.Memory x = x
-none_err refusals.JournalFull x = x
-
--- a Drain that was refused
-pub no_drain : (e : StationError) {old new : List Exchange} {a h b k : List (List ℕ)} → new ≡ old → Moves a h b k [] → PumpsHeld (Err (refused_with e)) old new a h b k
-no_drain e {old = old} same room = record {
+-- no Drain yet
+pub drains_none : (n : ℕ) (old : List Exchange) (h : List (List ℕ)) → n ≡ 0 → DrainsInto 0 (Ok n) old old h h
+drains_none n old h z = record {
   exchanges = [];
-  grown = same ∙ sym (append-nil old);
+  grown = sym (append-nil old);
   drains = tt;
-  moves = none_err e room;
+  few = omega arith;
+  gathers = sym (append-nil h);
+  counts = λ m is. sym (ok_is is) ∙ z;
+}
+
+-- a look at what waits
+pub drains_kept : (i n : ℕ) {old mid new : List Exchange} {h k : List (List ℕ)} → new ≡ mid → DrainsInto i (Ok n) old mid h k → DrainsInto i (Ok n) old new h k
+drains_kept i n {old = old} {h = h} {k = k} e x = subst (λ (z : List Exchange). DrainsInto i (Ok n) old z h k) (sym e) x
+
+-- more of them were allowed
+pub drains_within : (i most : ℕ) (r : Result ℕ ServeError) {old new : List Exchange} {h k : List (List ℕ)} → i ≤ most → DrainsInto i r old new h k → DrainsInto most r old new h k
+drains_within i most r e x = record { exchanges = x.exchanges; grown = x.grown; drains = x.drains; few = omega (arith, e, x.few); gathers = x.gathers; counts = x.counts }
+
+grown_more : (old : List Exchange) {mid new : List Exchange} (xs ys : List Exchange) → mid ≡ old ++ xs → new ≡ mid ++ ys → new ≡ old ++ (xs ++ ys)
+grown_more old xs ys e f = f ∙ (ap (λ (z : List Exchange). z ++ ys) e ∙ append_assoc old xs ys)
+
+behind_one : (xs : List Exchange) (x : Exchange) → packets_of (xs ++ x ∷ []) ≡ packets_of xs ++ packet_of x.answer
+behind_one xs x = packets_of-append xs (x ∷ []) ∙ ap (λ (z : List (List ℕ)). packets_of xs ++ z) (append-nil (packet_of x.answer))
+
+-- one more Drain, whose packets were gathered
+pub drains_one : (i n j : ℕ) (x : Exchange) {old mid new : List Exchange} {h k l : List (List ℕ)} → DrainsInto i (Ok n) old mid h k → x.request ≡ requests.Drain → new ≡ mid ++ x ∷ []
+    → l ≡ k ++ packet_of x.answer → j ≡ length (packet_of x.answer) → DrainsInto (i + 1) (Ok (n + j)) old new h l
+drains_one i n j x {old = old} {h = h} so asked grown held count = record {
+  exchanges = so.exchanges ++ x ∷ [];
+  grown = grown_more old so.exchanges (x ∷ []) so.grown grown;
+  drains = drains_append so.exchanges (x ∷ []) so.drains (asked, tt);
+  few = omega (arith, so.few, length-append so.exchanges (x ∷ []));
+  gathers = held ∙ (ap (λ (z : List (List ℕ)). z ++ packet_of x.answer) so.gathers ∙ (append_assoc h (packets_of so.exchanges) (packet_of x.answer) ∙ ap (λ (z : List (List ℕ)). h ++ z) (sym (behind_one so.exchanges x))));
+  counts = λ m is. omega (arith, ok_is is, so.counts n refl, count, ap (λ (z : List (List ℕ)). length z) (behind_one so.exchanges x), length-append (packets_of so.exchanges) (packet_of x.answer));
+}
+
+-- one more Drain, for whose packets there was no memory
+pub drains_lost : (i n : ℕ) (e : ServeError) (x : Exchange) {old mid new : List Exchange} {h k l : List (List ℕ)} → DrainsInto i (Ok n) old mid h k → x.request ≡ requests.Drain → new ≡ mid ++ x ∷ []
+    → l ≡ [] → packet_of x.answer ≢ [] → e ≡ errors.NoRoom → DrainsInto (i + 1) (Err e) old new h l
+drains_lost i n e x {old = old} so asked grown none some room = rw (room) (record {
+  exchanges = so.exchanges ++ x ∷ [];
+  grown = grown_more old so.exchanges (x ∷ []) so.grown grown;
+  drains = drains_append so.exchanges (x ∷ []) so.drains (asked, tt);
+  few = omega (arith, so.few, length-append so.exchanges (x ∷ []));
+  gathers = (rw (behind_one so.exchanges x) (behind≢nil (packets_of so.exchanges) (packet_of x.answer) some), none);
   counts = λ m is. absurd (no_ok is);
+})
+
+unlost : (e : StationError) (xs : List Exchange) (h k : List (List ℕ)) → k ≡ h ++ packets_of xs → Gathered {R = ℕ} (Err (refused_with e)) xs h k
+unlost refusals.Memory xs h k g = g
+unlost refusals.JournalFull xs h k g = g
+
+-- one more, which was refused
+pub drains_refused : (i n : ℕ) (e : StationError) {old mid new : List Exchange} {h k : List (List ℕ)} → DrainsInto i (Ok n) old mid h k → new ≡ mid → DrainsInto i (Err (refused_with e)) old new h k
+drains_refused i n e {h = h} {k = k} so same = record { exchanges = so.exchanges; grown = same ∙ so.grown; drains = so.drains; few = so.few; gathers = unlost e so.exchanges h k so.gathers; counts = λ m is. absurd (no_ok is) }
+
+-- packets that were gathered came through no end
+gathered_moves : (r : Result ℕ ServeError) (xs : List Exchange) (b k l : List (List ℕ)) → Gathered r xs k l → MovesSoFar r b k b l (packets_of xs)
+gathered_moves (Ok n) xs b k l g = moves_in (packets_of xs) refl g
+gathered_moves (Err errors.Read) xs b k l g = moves_in (packets_of xs) refl g
+gathered_moves (Err errors.Write) xs b k l g = absurd g
+gathered_moves (Err (errors.BadLength n)) xs b k l g = moves_in (packets_of xs) refl g
+gathered_moves (Err errors.Truncated) xs b k l g = moves_in (packets_of xs) refl g
+gathered_moves (Err errors.Memory) xs b k l g = moves_in (packets_of xs) refl g
+gathered_moves (Err errors.TurnsSpent) xs b k l g = moves_in (packets_of xs) refl g
+gathered_moves (Err errors.JournalFull) xs b k l g = moves_in (packets_of xs) refl g
+gathered_moves (Err errors.NoRoom) xs b k l g = (lost_in k (packets_of xs) refl g.0, g.1)
+
+-- Drains behind room for their packets
+pub pumps_drained : (most : ℕ) (r : Result ℕ ServeError) {old new : List Exchange} {a h b k l : List (List ℕ)} → Moves a h b k [] → DrainsInto most r old new k l → PumpsHeld r old new a h b l
+pumps_drained most r {a = a} {h = h} {b = b} {k = k} {l = l} room x = record {
+  exchanges = x.exchanges;
+  grown = x.grown;
+  drains = x.drains;
+  moves = moves_more r a b b h k l [] (packets_of x.exchanges) room (gathered_moves r x.exchanges b k l x.gathers);
+  counts = x.counts;
 }
 
 pumped_of : (r : Result ℕ ServeError) (xs : List Exchange) (a b : List (List ℕ)) → IfErr r IsInterruption → AllDrains xs → MovesSoFar r a [] b [] (packets_of xs) → Pumped r xs a b

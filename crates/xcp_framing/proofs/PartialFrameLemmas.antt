@@ -171,3 +171,33 @@ head_frame m n s e fits there =
     let whole = held_frame m f (is_frame-is m f (omega (arith, same, e, fits)) (omega (arith, long, same, e))) in
     let cut = cuts_alike m f (drop (4 + n) s) in
     (sym (ap (frames m) parts) ∙ cut.0 ∙ rw (whole.0, ← whole.1) refl, sym (ap (rest m) parts) ∙ cut.1 ∙ rw (← whole.1) refl)
+
+-- a front of a whole frame at the head of a stream, shorter than the frame, brings nothing
+pub none_inside : (m n k : ℕ) (s : List ℕ) → n ≡ len_of s → n ≤ m → 4 + n ≤ length s → k < 4 + n → BringsNone m (take k s)
+none_inside m n k s e fits there b =
+    let long : length (take k s) ≡ k = omega (arith, length-take k s, there, b) in
+    elim (nat_lt k 2) as (λ t. nat_lt k 2 ≡ t → BringsNone m (take k s)) [
+      | true ↦ λ g.
+          let few : k < 2 = grind (arith, nat_tests, g) in
+          unfinished_none m (take k s) (λ w. omega (arith, long, few)) (λ w. omega (arith, long, few, w.there))
+      | false ↦ λ g.
+          let two : 2 ≤ k = grind (arith, nat_tests, g) in
+          let parts : take k s ++ drop k s ≡ s = take-append-drop k s in
+          let same : len_of (take k s) ≡ n = sym (len_of-append (take k s) (drop k s) (omega (arith, long, two))) ∙ ap len_of parts ∙ sym e in
+          unfinished_none m (take k s) (λ w. omega (arith, long, b, same)) (λ w. omega (arith, fits, same, w.above))
+    ] refl
+
+-- a whole frame of some LEN at the head of a piece, where nothing is held
+pub feeds_whole : (m n : ℕ) (s : List ℕ) → n ≡ len_of s → n ≤ m → 0 < n → 4 + n ≤ length s → Feeds m [] s (4 + n) (drop 4 (take (4 + n) s) ∷ []) []
+feeds_whole m n s e fits some there =
+    let f = take (4 + n) s in
+    let parts : f ++ drop (4 + n) s ≡ s = take-append-drop (4 + n) s in
+    let long : length f ≡ 4 + n = omega (arith, length-take (4 + n) s, there) in
+    let same : len_of f ≡ n = sym (len_of-append f (drop (4 + n) s) (omega (arith, long))) ∙ ap len_of parts ∙ sym e in
+    let packet = held_packet m f (omega (arith, same, fits)) (omega (arith, same, long)) (λ four. omega (arith, four, long, some)) in
+    record {
+      front = there;
+      brings = packet.0;
+      leaves = packet.1;
+      first = λ k b. none_inside m n k s e fits there b;
+    }

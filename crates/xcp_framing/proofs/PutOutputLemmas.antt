@@ -49,7 +49,8 @@ moves_none a h = record { moved = []; grown = sym (append-nil a); rest = sym (ap
 pub moves_in : {a b h k : List (List ℕ)} (ps : List (List ℕ)) → b ≡ a → k ≡ h ++ ps → Moves a h b k ps
 moves_in {a = a} ps e f = record { moved = []; grown = e ∙ sym (append-nil a); rest = f }
 
-behind≢nil : (xs ys : List (List ℕ)) → ys ≢ [] → xs ++ ys ≢ []
+-- behind others, some are some
+pub behind≢nil : (xs ys : List (List ℕ)) → ys ≢ [] → xs ++ ys ≢ []
 behind≢nil [] ys n = n
 behind≢nil (x ∷ xs) ys n = cons≢nil
 

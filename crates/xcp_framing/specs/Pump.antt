@@ -1,5 +1,5 @@
--- What `pump` does: Drains, and their packets are put.
-use Rattle.std.specs.Prelude.{◌≡◌, ℕ, List, [], ◌∷◌, ◌++◌, length, Result, Ok, Err, ⊤}
+-- What `pump` does: Drains, and their packets are put. And what a station does where it drains: they are gathered.
+use Rattle.std.specs.Prelude.{◌≡◌, ◌≢◌, ◌≤◌, ℕ, List, [], ◌∷◌, ◌++◌, length, Result, Ok, Err, ⊤}
 use Rattle.xcp_slave.specs.declared.Exchange.{Exchange}
 use Rattle.xcp_slave.specs.declared.Request.{Request}
 use Rattle.xcp_slave.specs.declared.Request.TheVariants as requests
@@ -26,6 +26,23 @@ abbrev pub Pumped : {R : Type 0} → Result R ServeError → List Exchange → L
 Pumped (Err errors.Write) exchanges before after = DrainsUpTo exchanges before after
 Pumped (Err errors.NoRoom) exchanges before after = DrainsUpTo exchanges before after
 Pumped _ exchanges before after = PutsDrains exchanges before after
+
+-- The packets of these exchanges came into a batch, behind those that it had. Where there was no memory for one, they are some, and
+-- the batch was given up. No write comes here, which could fail.
+abbrev pub Gathered : {R : Type 0} → Result R ServeError → List Exchange → List (List ℕ) → List (List ℕ) → Type 0
+Gathered (Err errors.Write) exchanges held held' = ⊥
+Gathered (Err errors.NoRoom) exchanges held held' = (packets_of exchanges ≢ []) × (held' ≡ [])
+Gathered _ exchanges held held' = held' ≡ held ++ packets_of exchanges
+
+-- One call of `drain_into`, which submits at most so many Drains: `old` and `new` are the station's exchanges, `held` and `held'` the
+-- packets of the batch.
+pub record DrainsInto (most : ℕ) (result : Result ℕ ServeError) (old new : List Exchange) (held held' : List (List ℕ)) : Type 0 where
+  pub exchanges : List Exchange
+  pub grown : new ≡ old ++ exchanges
+  pub drains : AllDrains exchanges
+  pub few : length exchanges ≤ most
+  pub gathers : Gathered result exchanges held held'
+  pub counts : (n : ℕ) → result ≡ Ok n → n ≡ length (packets_of exchanges)
 
 -- One call of `pump`: `old` and `new` are the station's exchanges, `before` and `after` the packets put.
 pub record Pumps (result : Result ℕ ServeError) (old new : List Exchange) (before after : List (List ℕ)) : Type 0 where

@@ -35,6 +35,10 @@ pub record GavePacket (x : Exchange) : Type 0 where
 abbrev pub most_drains : ℕ
 most_drains = 64
 
+-- the most packets of an answer
+abbrev pub most_train : ℕ
+most_train = 37
+
 -- behind n Drains that gave a packet each: one that gave none; none at all where they were the most
 abbrev pub EndsDrains : ℕ → List Exchange → Type 0
 EndsDrains n [] = n ≡ most_drains
@@ -130,9 +134,13 @@ abbrev pub Counts : Result Served ServeError → List (List ℕ) → List (List 
 Counts (Ok served) packets sent = (served.frames ≡ length packets) × (served.sent ≡ length sent)
 Counts (Err e) packets sent = ⊤
 
--- each read of a stream of frames is of 512 bytes
+-- a read is of so many bytes
+abbrev pub IsReadOf : ℕ → ℕ → Type 0
+IsReadOf size n = n ≡ size
+
+-- each read of a stream that `serve` answers is of 512 bytes
 abbrev pub IsStreamRead : ℕ → Type 0
-IsStreamRead n = n ≡ 512
+IsStreamRead = IsReadOf 512
 
 -- One call of `serve`, where MAX_CTO is m: `from` and `to` are where the stream stands before and after, `old` and `new` the
 -- station's exchanges, `before` and `after` the writer's bytes.

@@ -9,7 +9,11 @@ use Rattle.xcp_framing.specs.declared.serving.ServeError.{ServeError}
 use Rattle.xcp_framing.specs.declared.serving.ServeError.TheVariants as errors
 use Rattle.xcp_framing.specs.CountedCalls.{Place}
 use Rattle.xcp_framing.specs.Frames.{frames, rest}
-use Rattle.xcp_framing.specs.Serve.{packets_of, OnRead, EndsStream, Counts}
+use Rattle.xcp_framing.specs.Serve.{packets_of, OnRead, EndsStream, Counts, IsReadOf}
+
+-- each read of a stream that `serve_by` answers is of 4,096 bytes
+abbrev pub IsHearingRead : ℕ → Type 0
+IsHearingRead = IsReadOf 4096
 
 abbrev pub command : List ℕ → Request
 command packet = requests.Command (record { items = packet })

@@ -1,5 +1,5 @@
 //! Packets that go from one thread to another together.
-ghost use Rattle.std.specs.Prelude.{◌≡◌, [], ◌∷◌, ◌++◌, OnOk, OnErr, true, false, length};
+ghost use Rattle.std.specs.Prelude.{◌≡◌, ◌≤◌, [], ◌∷◌, ◌++◌, MatchOption, OnOk, OnErr, true, length};
 
 use std::alloc::{AllocError, Global};
 use std::marker::Model;
@@ -7,7 +7,7 @@ use xcp_packet::Packet;
 use xcp_trace::{Strings, Tape};
 
 /// The bytes that a batch takes at once.
-const BATCH_SIZE: usize = 1000;
+const BATCH_SIZE: usize = 4096;
 
 /// The bytes beside a packet's own that it takes in a batch.
 const LENGTH_SIZE: usize = 2;
@@ -46,7 +46,7 @@ impl Batch {
         }
     }
 
-    /// Takes memory for packets of 1,000 bytes with their lengths.
+    /// Takes memory for packets of 4,096 bytes with their lengths.
     pub fn take_room(&mut self) -> Result<(), AllocError>
         ensures { self.new ≡ self.old }
     {
@@ -82,7 +82,7 @@ impl Batch {
         ensures err { OnErr result (self.new ≡ self.old) }
     {
         self.tape.reserve(packet.len())?;
-        self.tape.push(packet.as_slice(), &[], &[], &[]);
+        self.tape.push_whole(packet.as_slice());
         self.free = self.free.saturating_sub(LENGTH_SIZE + packet.len());
         Ok(())
     }
@@ -114,16 +114,14 @@ impl<'a> Model for Packets<'a> {
 }
 
 impl<'a> Packets<'a> {
-    /// Whether there is a next packet, which is laid into the packet that is lent.
-    pub fn next_into(&mut self, packet: &mut Packet) -> bool
-        ensures some { result ≡ true → self.old ≡ packet.new.items ∷ self.new }
-        ensures none { result ≡ false → self.old ≡ [] }
+    /// The next packet, if there is one, where it stands.
+    pub fn next(&mut self) -> Option<&'a [u8]>
+        ensures { MatchOption result ((self.old ≡ []) × (self.new ≡ []))
+            (λ packet. (self.old ≡ packet.now ∷ self.new) × (length packet.now ≤ 255)) }
     {
-        let Some(bytes) = self.strings.next() else {
-            return false;
+        let Some(packet) = self.strings.next() else {
+            return None;
         };
-        packet.clear();
-        let _ = packet.try_extend_from_slice(bytes);
-        true
+        Some(packet)
     }
 }

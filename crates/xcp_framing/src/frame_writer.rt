@@ -1,11 +1,11 @@
 //! Frames that are gathered, so that one write takes many of them.
-ghost use Rattle.std.specs.Prelude.{◌≡◌, ◌<◌, ◌≤◌, ◌+◌, ◌%◌, ◌^◌, [], ◌∷◌, ◌++◌, OnOk, OnErr, IfOk, IfErr, false, length, true};
+ghost use Rattle.std.specs.Prelude.{◌≡◌, ◌<◌, ◌≤◌, ◌+◌, ◌%◌, ◌^◌, ◌⊎◌, [], ◌∷◌, ◌++◌, OnOk, OnErr, IfOk, IfErr, false, length, true};
 ghost use Rattle.xcp_framing.specs.FrameOutput.{Fits, Sends, output};
 ghost use Rattle.xcp_framing.specs.Serve.{Writes};
 ghost use Rattle.xcp_framing.specs.Wire.{frame_bytes, wire_from};
 
-use crate::wire::HEADER_SIZE;
-use crate::{ServeError, Watched, frame};
+use crate::wire::{HEADER_SIZE, header};
+use crate::{ServeError, Watched};
 use std::alloc::{AllocError, Global};
 use std::io::Write;
 use std::marker::Model;
@@ -45,6 +45,13 @@ impl FrameWriter {
         })
     }
 
+    /// How many bytes of frames are held.
+    pub fn held(&self) -> usize
+        ensures { result ≡ length self.now.held }
+    {
+        self.held.len()
+    }
+
     /// How many packets were sent, modulo 2^64.
     pub fn sent(&self) -> u64
         ensures { result ≡ self.now.sent }
@@ -53,24 +60,40 @@ impl FrameWriter {
     }
 
     /// Whether the packet's frame finds room beside those that are held. Where none is held, each does.
-    pub fn has_room(&self, packet: &Packet) -> bool
-        ensures some { result ≡ true → Fits self.now packet.now.items }
-        ensures none { result ≡ false → ¬ Fits self.now packet.now.items }
-        ensures each { 4 + length packet.now.items ≤ 4096 }
+    pub fn has_room(&self, packet: &[u8]) -> bool
+        requires { length packet.now ≤ 255 }
+        ensures some { result ≡ true → Fits self.now packet.now }
+        ensures none { result ≡ false → ¬ Fits self.now packet.now }
+        ensures each { 4 + length packet.now ≤ 4096 }
     {
-        self.held.len() + (HEADER_SIZE + packet.len()) <= GATHERED_BYTES
+        self.has_room_within(packet, GATHERED_BYTES)
+    }
+
+    /// Whether the packet's frame finds room beside those that are held, and all of them have at most so many bytes.
+    pub fn has_room_within(&self, packet: &[u8], most: usize) -> bool
+        requires { length packet.now ≤ 255 }
+        ensures some { result ≡ true → Fits self.now packet.now
+            × (length self.now.held + (4 + length packet.now) ≤ most) }
+        ensures none { result ≡ false → (¬ Fits self.now packet.now)
+            ⊎ (most < length self.now.held + (4 + length packet.now)) }
+        ensures each { 4 + length packet.now ≤ 4096 }
+    {
+        let bytes = self.held.len() + (HEADER_SIZE + packet.len());
+        bytes <= GATHERED_BYTES && bytes <= most
     }
 
     /// Makes the packet's frame, and holds it behind the others. CTR is the number of packets sent
     /// before, modulo 65,536.
     #[inline(always)]
-    pub fn push(&mut self, packet: &Packet)
-        requires { Fits self.old packet.now.items }
-        ensures held { self.new.held ≡ self.old.held ++ frame_bytes self.old.sent packet.now.items }
+    pub fn push(&mut self, packet: &[u8])
+        requires short { length packet.now ≤ 255 }
+        requires room { Fits self.old packet.now }
+        ensures held { self.new.held ≡ self.old.held ++ frame_bytes self.old.sent packet.now }
         ensures counts { self.new.sent ≡ (self.old.sent + 1) % 2 ^ 64 }
     {
-        let frame = frame((self.sent % 65_536) as u16, packet);
-        let _ = self.held.extend_from_slice(frame.as_slice());
+        let header = header(packet.len() as u16, (self.sent % 65_536) as u16);
+        let _ = self.held.extend_from_slice(&header);
+        let _ = self.held.extend_from_slice(packet);
         self.sent = self.sent.wrapping_add(1);
     }
 

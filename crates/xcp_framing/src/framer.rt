@@ -1,5 +1,5 @@
 //! The packets of a stream that comes in pieces.
-ghost use Rattle.std.specs.Prelude.{◌≡◌, ◌≢◌, ◌<◌, ◌≤◌, ◌+◌, ◌↔◌, [], IsTrue, IfSome, IfNone, ℕ, length};
+ghost use Rattle.std.specs.Prelude.{◌≡◌, ◌≢◌, ◌<◌, ◌≤◌, ◌+◌, ◌↔◌, [], ◌∷◌, IsTrue, IfSome, IfNone, ℕ, length};
 ghost use Rattle.xcp_framing.specs.Wire.{IsBadLength, len_of};
 ghost use Rattle.xcp_framing.specs.Frames.{frames, rest};
 ghost use Rattle.xcp_framing.specs.FramerInput.{Feeds, got_in, packets_given};
@@ -130,6 +130,12 @@ impl Framer {
         ensures moves { result.brought ≡ Brought.Packet → 0 < result.used }
         ensures kept { self.new.max_cto ≡ self.old.max_cto }
     {
+        if let Some(used) = self.whole(piece, packet) {
+            return Cut {
+                used,
+                brought: Brought::Packet,
+            };
+        }
         let mut cut = self.gather(piece, packet);
         while let Brought::More = cut.brought {
             if cut.used == piece.len() {
@@ -142,6 +148,28 @@ impl Framer {
             };
         }
         cut
+    }
+
+    /// Where nothing is held, and a whole frame with a packet stands at the head of the piece: how many bytes it has. Its packet is
+    /// laid into the lent one.
+    fn whole(&self, piece: &[u8], packet: &mut Packet) -> Option<usize>
+        ensures feeds { IfSome result (λ used. Feeds self.now.max_cto self.now.held piece.now
+            used (packet.new.items ∷ []) []) }
+        ensures held { IfSome result (λ used. self.now.held ≡ []) }
+        ensures moves { IfSome result (λ used. 0 < used) }
+    {
+        if !self.held.is_empty() {
+            return None;
+        }
+        let length = length(piece)?;
+        let used = HEADER_SIZE + length as usize;
+        if length == 0 || length > u16::from(self.max_cto) || piece.len() < used {
+            return None;
+        }
+        let frame = &piece[..used];
+        packet.clear();
+        let _ = packet.try_extend_from_slice(&frame[HEADER_SIZE..]);
+        Some(used)
     }
 
     /// Goes on to the end of LEN or of the frame, or to the end of the piece.

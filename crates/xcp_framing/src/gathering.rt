@@ -2,9 +2,8 @@
 ghost use Rattle.std.specs.Prelude.{◌≡◌, ◌≢◌, ◌≤◌, [], ◌++◌, OnErr, OnOk, IfErr, IfOk, length};
 ghost use Rattle.xcp_packet.specs.PacketTrains.{block_packets};
 ghost use Rattle.xcp_slave.specs.AnswerInBytes.{answer_in};
-ghost use Rattle.xcp_framing.specs.Serve.{packet_of};
+ghost use Rattle.xcp_framing.specs.Serve.{most_train, packet_of};
 ghost use Rattle.xcp_framing.specs.private.PutOutput.{IsUnput, MovesSoFar};
-ghost use Rattle.xcp_framing.specs.private.MostPackets.{most_train};
 
 use crate::{Batch, End, ServeError};
 use std::alloc::{AllocError, Global};
@@ -12,10 +11,11 @@ use std::mem;
 use xcp_packet::{Packet, Width};
 use xcp_slave::{Cut, Told};
 
-/// Puts the packets of a batch, if it has some. It has none then, also where they are handed back,
-/// which is `Write`, and room for those of the next answers. Where there is no memory for this room
-/// they aren't put, which is `NoRoom`.
-pub(crate) fn hand_on<E: End>(batch: &mut Batch, end: &mut E) -> Result<(), ServeError>
+/// Puts the packets of a batch, if it has some, and unless `more` says that others follow at once, all
+/// that was put goes out. The batch has none then, also where they are handed back, which is `Write`, and
+/// room for those of the next answers. Where there is no memory for this room they aren't put, which is
+/// `NoRoom`.
+pub(crate) fn hand_on<E: End>(batch: &mut Batch, end: &mut E, more: bool) -> Result<(), ServeError>
     ensures ok { OnOk result (E.put_so_far end.new ≡ E.put_so_far end.old ++ batch.old) }
     ensures back { OnErr result ((E.put_so_far end.new ≡ E.put_so_far end.old) × (batch.old ≢ [])) }
     ensures held { batch.new ≡ [] }
@@ -23,11 +23,12 @@ pub(crate) fn hand_on<E: End>(batch: &mut Batch, end: &mut E) -> Result<(), Serv
     ensures same { E.same end.old end.new }
 {
     if batch.is_empty() {
+        end.flush();
         return Ok(());
     }
     let full = mem::replace(batch, Batch::new(end.alloc()));
     take_room(batch)?;
-    put_batch(full, end)
+    put_batch(full, end, more)
 }
 
 /// Takes the memory of a batch. `NoRoom` comes only where there is none.
@@ -42,13 +43,13 @@ fn take_room(batch: &mut Batch) -> Result<(), ServeError>
 }
 
 /// Puts a batch. `Write` comes only where it is handed back.
-fn put_batch<E: End>(batch: Batch, end: &mut E) -> Result<(), ServeError>
+fn put_batch<E: End>(batch: Batch, end: &mut E, more: bool) -> Result<(), ServeError>
     ensures ok { OnOk result (E.put_so_far end.new ≡ E.put_so_far end.old ++ batch) }
     ensures back { OnErr result (E.put_so_far end.new ≡ E.put_so_far end.old) }
     ensures err { IfErr result (λ e. e ≡ ServeError.Write) }
     ensures same { E.same end.old end.new }
 {
-    if end.put(batch).is_err() {
+    if end.put(batch, more).is_err() {
         return Err(ServeError::Write);
     }
     Ok(())
@@ -65,7 +66,7 @@ pub(crate) fn make_room<E: End>(batch: &mut Batch, end: &mut E) -> Result<(), Se
     if batch.has_room() {
         return Ok(());
     }
-    hand_on(batch, end)?;
+    hand_on(batch, end, true)?;
     let _ = batch.take_room();
     Ok(())
 }

@@ -2,7 +2,7 @@
 ghost use Rattle.std.specs.Prelude.{◌≡◌, ◌<◌, ◌≤◌, ◌+◌, ◌*◌, ◌^◌, ◌++◌, [], ◌∷◌, ℕ, List, Result, OnOk, IfOk, IfErr, length, Ok, Err};
 ghost use Rattle.xcp_framing.specs.Frames.{frames, rest};
 ghost use Rattle.xcp_framing.specs.CountedCalls.{Counted, EachRead, Gives, is_failed_read, place_of};
-ghost use Rattle.xcp_framing.specs.Serve.{EndsReader, IsStreamRead, ReadsWithin};
+ghost use Rattle.xcp_framing.specs.Serve.{EndsReader, IsReadOf, ReadsWithin};
 ghost use Rattle.xcp_framing.specs.ServeParts.{IsInterruption};
 ghost use Rattle.std.specs.Io.{ReadsAtMost};
 ghost use Rattle.std.specs.Io.KnownBytes.{ReadConsumes};
@@ -16,7 +16,7 @@ use std::io::{self, Read};
 use xcp_packet::Packet;
 
 /// The most bytes that one read takes.
-pub(crate) const READ_SIZE: usize = 512;
+const MOST_READ: usize = 4096;
 
 /// A way to answer packets with a station `S`. What it keeps from packet to packet is a `K`, and an
 /// `O` takes the packets of the answers.
@@ -151,7 +151,8 @@ pub(crate) fn answer_stream<A: Answerer<S, K, O>, S, K, O, R: Read, P: Passages<
     max_cto: u8,
     turns: u32,
 ) -> Result<Served, ServeError>
-    requires size { length buffer.old ≡ READ_SIZE }
+    requires some { 0 < length buffer.old }
+    requires most { length buffer.old ≤ MOST_READ }
     requires sent { A.sent_of state.old ≡ 0 }
     requires rests { A.rests state.old }
     requires packets { JoinsPackets A.answers }
@@ -164,7 +165,7 @@ pub(crate) fn answer_stream<A: Answerer<S, K, O>, S, K, O, R: Read, P: Passages<
     ensures sent { IfOk result (λ served. served.sent ≡ A.sent_of state.new) }
     ensures ends { EndsReader result (R.remaining reader.new.inner) }
     ensures reads { ReadsWithin turns result reader.old reader.new }
-    ensures sizes { EachRead IsStreamRead reader.old reader.new }
+    ensures sizes { EachRead (IsReadOf (length buffer.old)) reader.old reader.new }
 {
     let mut framer = Framer::new(max_cto);
     let mut command = Packet::new();

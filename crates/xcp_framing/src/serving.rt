@@ -5,15 +5,15 @@ ghost use Rattle.xcp_packet.specs.PacketTrains.{block_packets};
 ghost use Rattle.xcp_slave.specs.AnswerInBytes.{answer_in};
 ghost use Rattle.xcp_framing.specs.CountedCalls.{EachRead, place_of};
 ghost use Rattle.xcp_framing.specs.FrameOutput.{Sends, output};
-ghost use Rattle.xcp_framing.specs.Serve.{AnswersSoFar, EndsReader, IsStreamRead, ReadsWithin, Serves, most_drains, number_of, packet_of};
-ghost use Rattle.xcp_framing.specs.private.MostPackets.{most_packets, most_train};
+ghost use Rattle.xcp_framing.specs.Serve.{AnswersSoFar, EndsReader, IsStreamRead, ReadsWithin, Serves, most_drains, most_train, number_of, packet_of};
+ghost use Rattle.xcp_framing.specs.private.MostPackets.{most_packets};
 ghost use Rattle.xcp_framing.specs.Wire.{wire_from};
 ghost use Rattle.xcp_framing.specs.ServeRefusal.{AsksNext, DrainsNext, OnRefusal, ReadsNext, Refused};
 ghost use Rattle.xcp_framing.specs.ServeParts.{IsInterruption};
 ghost use Rattle.xcp_framing.specs.private.GrowingOutput.{Grows, DrainsSoFar};
 
 use crate::frame_writer::FrameWriter;
-use crate::passage::{Answerer, READ_SIZE, answer_stream};
+use crate::passage::{Answerer, answer_stream};
 use crate::{Station, StationError, Watched, Whole};
 use std::alloc::Global;
 use std::io::{Read, Write};
@@ -23,6 +23,9 @@ use xcp_slave::{Asked, Cut, Told};
 
 /// The most Drains behind a command.
 const DRAINS: u8 = 64;
+
+/// The most bytes that one read takes.
+const READ_SIZE: usize = 512;
 
 /// What a stream brought.
 #[derive(Clone, Copy, Debug, PartialEq, Eq)]

@@ -1,17 +1,20 @@
-//! A station behind a stream, whose answers' packets are put for another thread to send.
+//! A station behind a stream, whose answers' packets are put at an end that has them sent.
 ghost use Rattle.std.specs.Prelude.{◌≡◌, ◌≢◌, ◌<◌, ◌≤◌, ◌+◌, ◌⊎◌, Err};
 ghost use Rattle.xcp_framing.specs.CountedCalls.{EachRead, place_of};
-ghost use Rattle.xcp_framing.specs.Serve.{EndsReader, IsStreamRead, ReadsWithin};
+ghost use Rattle.xcp_framing.specs.Serve.{EndsReader, ReadsWithin};
 ghost use Rattle.xcp_framing.specs.ServeRefusal.{OnRefusal, Refused};
-ghost use Rattle.xcp_framing.specs.ServeBy.{CommandNext, ServesBy};
+ghost use Rattle.xcp_framing.specs.ServeBy.{CommandNext, IsHearingRead, ServesBy};
 
 use crate::gathering::{gather_told, hand_on, make_room};
-use crate::passage::{Answerer, READ_SIZE, answer_stream};
+use crate::passage::{Answerer, answer_stream};
 use crate::{Batch, End, Passages, ServeError, Served, Station, StationError, Watched};
 use std::alloc::Global;
 use std::io::Read;
 use xcp_packet::Packet;
 use xcp_slave::Asked;
+
+/// The most bytes that one read takes.
+const READ_SIZE: usize = 4096;
 
 /// How many packets the answers had, and those of them that aren't put yet.
 #[derive(Drop)]
@@ -50,7 +53,7 @@ impl<S: Station, E: End> Answerer<S, Putting, E> for ByCommand {
     }
 
     fn hand_on(state: &mut Putting, end: &mut E) -> Result<(), ServeError> {
-        hand_on(&mut state.batch, end)
+        hand_on(&mut state.batch, end, false)
     }
 
     fn sent(state: &Putting) -> u64 {
@@ -59,10 +62,10 @@ impl<S: Station, E: End> Answerer<S, Putting, E> for ByCommand {
 }
 
 /// Answers a stream of frames as `serve` does, but without `Drain`: the packets of the answers are
-/// put at an end, for another thread to send. They are gathered in a batch, which is put before the
-/// next read, before any return, and where it has no room for the packets of one more answer. Its
-/// memory is taken before anything is done, and that of the next one before a batch is put. Before
-/// each read the reader is told whether it begins inside a frame.
+/// put at an end, which sends them. They are gathered in a batch, which is put before the
+/// next read, before any return, and where it has no room for the packets of one more answer, as one
+/// that others follow. Its memory is taken before anything is done, and that of the next one before a
+/// batch is put. A read is of 4,096 bytes, and before each the reader is told whether it begins inside a frame.
 ///
 /// `sent` counts the packets put. A batch that is handed back ends the call with `Write`. One that
 /// wants memory for its packets, or for its successor, ends it with `NoRoom`. Its packets weren't put,
@@ -84,7 +87,7 @@ pub fn serve_by<R: Read, P: Passages<R>, S: Station, E: End>(
     ensures stays { S.same station.old station.new }
     ensures ends { EndsReader result (R.remaining reader.new.inner) }
     ensures reads { ReadsWithin turns result reader.old reader.new }
-    ensures sizes { EachRead IsStreamRead reader.old reader.new }
+    ensures sizes { EachRead IsHearingRead reader.old reader.new }
     ensures refused { OnRefusal result (λ e.
         ((e ≡ StationError.Memory) × (reader.new ≡ reader.old)
         × (station.new ≡ station.old) × (end.new ≡ end.old))

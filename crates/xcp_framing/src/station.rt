@@ -1,11 +1,18 @@
 //! What takes requests one by one.
-ghost use Rattle.std.specs.Prelude.{◌≡◌, [], ◌∷◌, ◌++◌, List, IfOk, OnErr, IfErr};
+ghost use Rattle.std.specs.Prelude.{◌≡◌, ◌≤◌, ◌*◌, [], ◌∷◌, ◌++◌, List, IfOk, OnErr, IfErr};
 ghost use Rattle.xcp_slave.specs.declared.Exchange.{Exchange};
 ghost use Rattle.xcp_slave.specs.declared.Request.{Request};
 ghost use Rattle.xcp_slave.specs.AnswerInBytes.{answer_in};
 ghost use Rattle.xcp_slave.specs.AskedRequest.{IsShort, request_asked};
 ghost use Rattle.xcp_framing.specs.declared.station.StationError.{StationError};
+ghost use Rattle.xcp_framing.specs.Pump.{DrainAgain, DrainsInto};
+ghost use Rattle.xcp_framing.specs.Serve.{most_train};
+ghost use Rattle.xcp_framing.specs.ServeParts.{IsInterruption};
+ghost use Rattle.xcp_framing.specs.ServeRefusal.{OnRefusal, Refused};
 
+use crate::gathering::gather_told;
+use crate::{Batch, ServeError};
+use std::alloc::Global;
 use std::sync::atomic::AtomicBool;
 use thiserror::Error;
 use xcp_packet::Packet;
@@ -71,6 +78,33 @@ pub trait Station {
         ensures same { exchanges self.new ≡ exchanges self.old }
         ensures stays { same self.old self.new }
     {}
+
+    /// Submits a `Drain` for each packet that waits, at most `most` of them, until the batch has no room
+    /// for the packets of one more, and gathers those of the answers there. Where others share the
+    /// station it is one hold: they wait meanwhile. `Ok` is how many packets these were. Where there is no
+    /// memory for one, which is `NoRoom`, all that the batch has is given up.
+    fn drain_into(&mut self, batch: &mut Batch, alloc: Global, most: u8) -> Result<u64, ServeError>
+        ensures drains { DrainsInto most result (exchanges self.old) (exchanges self.new) batch.old batch.new }
+        ensures most { IfOk result (λ n. n ≤ most_train * most) }
+        ensures stops { IfErr result IsInterruption }
+        ensures refused { OnRefusal result (λ e. Refused exchanges refuses e DrainAgain (exchanges self.old) self.new) }
+        ensures stays { same self.old self.new }
+    {
+        let mut count = 0;
+        let mut packet = Packet::new();
+        for _drain in 0..most {
+            if self.pending() == 0 {
+                break;
+            }
+            let told = self.submit_into(Asked::Drain, &mut packet)?;
+            let gathered = gather_told(batch, alloc, told, &packet)?;
+            count += gathered;
+            if gathered == 0 || !batch.has_room() {
+                break;
+            }
+        }
+        Ok(count)
+    }
 
     /// Answers a request, and has this exchange from then on. After an `Err` it is as it was.
     fn submit(&mut self, request: Request) -> Result<Answer, StationError>

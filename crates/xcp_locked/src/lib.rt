@@ -29,6 +29,7 @@ mod sheaf;
 mod tasks;
 mod telling;
 mod tool;
+mod under_lock;
 mod waiting;
 mod worker;
 

@@ -2,10 +2,12 @@
 ghost use Rattle.std.specs.Prelude.{◌≡◌};
 ghost use Rattle.xcp_locked.specs.Tasks.{Same};
 
-use crate::{Caller, Locked, LockedError, Name, wait_for_packets};
+use crate::under_lock::UnderLock;
+use crate::{Caller, Locked, Name, wait_for_packets};
+use std::alloc::Global;
 use std::sync::atomic::AtomicBool;
 use std::sync::{Mutex, Wait};
-use xcp_framing::{Station, StationError};
+use xcp_framing::{Batch, ServeError, Station, StationError};
 use xcp_packet::Packet;
 use xcp_slave::{Asked, Told};
 
@@ -53,15 +55,28 @@ impl<'a, N: Name, R: Wait> Station for Tool<'a, N, R> {
     fn submit_into(&mut self, asked: Asked<'_>, packet: &mut Packet) -> Result<Told, StationError> {
         // What grows is made before the lock is taken. Where there is no memory, submit says so.
         let _ = self.caller.reserve();
-        let submitted = self
-            .lock
-            .lock(self.rt)
-            .submit_into(&mut self.caller, asked, packet);
-        match submitted {
-            Ok(told) => Ok(told),
-            Err(LockedError::Memory) => Err(StationError::Memory),
-            Err(_) => Err(StationError::JournalFull),
-        }
+        let mut locked = self.lock.lock(self.rt);
+        let mut held = UnderLock {
+            locked: &mut locked,
+            caller: &mut self.caller,
+        };
+        held.submit_into(asked, packet)
+    }
+
+    /// Drains under one hold of the lock.
+    fn drain_into(
+        &mut self,
+        batch: &mut Batch,
+        alloc: Global,
+        most: u8,
+    ) -> Result<u64, ServeError> {
+        let _ = self.caller.reserve();
+        let mut locked = self.lock.lock(self.rt);
+        let mut held = UnderLock {
+            locked: &mut locked,
+            caller: &mut self.caller,
+        };
+        held.drain_into(batch, alloc, most)
     }
 
     /// How many packets wait in the shared slave's outbox. Others may empty it at once.

@@ -1,3 +1,4 @@
 pub mod ChannelRuleLemmas
+pub mod CrossingLemmas
 pub mod SendingLemmas
 pub mod WireLemmas

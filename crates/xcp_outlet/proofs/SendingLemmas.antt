@@ -60,7 +60,7 @@ mark_wrote b n k held t from before after old new w = subst (λ (z : List (List 
 
 -- the data end's end mark, once taken, is noted in the line and brings no packet
 pub data_ends : (line : Line) (t : List Message) {before after : Option (List ℕ)} {old new : ℕ} → Progress line t before after old new
-    → Progress (record { frames = line.frames; flushed = line.flushed; broken = line.broken; replies_ended = line.replies_ended; data_ended = true }) (t ++ message true None ∷ []) before after old new
+    → Progress (record { frames = line.frames; most = line.most; flushed = line.flushed; broken = line.broken; replies_ended = line.replies_ended; data_ended = true }) (t ++ message true None ∷ []) before after old new
 data_ends line t {before = before} {after = after} {old = old} {new = new} g = record {
   wrote = mark_wrote line.broken line.flushed line.frames.sent line.frames.held t true before after old new g.wrote;
   reply_mark = g.reply_mark ∙ still false t (message true None) refl;
@@ -69,7 +69,7 @@ data_ends line t {before = before} {after = after} {old = old} {new = new} g = r
 
 -- the same of the reply end's end mark
 pub replies_end : (line : Line) (t : List Message) {before after : Option (List ℕ)} {old new : ℕ} → Progress line t before after old new
-    → Progress (record { frames = line.frames; flushed = line.flushed; broken = line.broken; replies_ended = true; data_ended = line.data_ended }) (t ++ message false None ∷ []) before after old new
+    → Progress (record { frames = line.frames; most = line.most; flushed = line.flushed; broken = line.broken; replies_ended = true; data_ended = line.data_ended }) (t ++ message false None ∷ []) before after old new
 replies_end line t {before = before} {after = after} {old = old} {new = new} g = record {
   wrote = mark_wrote line.broken line.flushed line.frames.sent line.frames.held t false before after old new g.wrote;
   reply_mark = gets false t (message false None) refl;
@@ -168,7 +168,7 @@ begun line t from {a = a} {b = b} {old = old} {new = new} g = record {
 -- the frame of a packet is held
 pub added : (line : Line) (t : List Message) (from : Bool) (ps : List (List ℕ)) (p : List ℕ) (frames : FrameWriterValue) {a b : Option (List ℕ)} {old new : ℕ} → line.broken ≡ false → frames.held ≡ line.frames.held ++ frame_bytes line.frames.sent p
     → frames.sent ≡ (line.frames.sent + 1) % 18446744073709551616 → Progress line (t ++ message from (Some ps) ∷ []) a b old new
-    → Progress (record { frames = frames; flushed = line.flushed; broken = line.broken; replies_ended = line.replies_ended; data_ended = line.data_ended }) (t ++ message from (Some (ps ++ p ∷ [])) ∷ []) a b old new
+    → Progress (record { frames = frames; most = line.most; flushed = line.flushed; broken = line.broken; replies_ended = line.replies_ended; data_ended = line.data_ended }) (t ++ message from (Some (ps ++ p ∷ [])) ∷ []) a b old new
 added line t from ps p frames {a = a} {b = b} {old = old} {new = new} well is counts g =
     let u : List Message = t ++ message from (Some ps) ∷ [] in
     let was : Holds line.flushed line.frames.sent line.frames.held (all_packets u) a b old new = subst (λ (x : Bool). Wrote x line.flushed line.frames.sent line.frames.held (all_packets u) a b old new) well g.wrote in
@@ -183,7 +183,7 @@ added line t from ps p frames {a = a} {b = b} {old = old} {new = new} well is co
 -- what is held is written
 pub flushed : (line : Line) (t : List Message) (frames : FrameWriterValue) (count : ℕ) (a b c : Option (List ℕ)) {old new last : ℕ} → line.broken ≡ false → frames.held ≡ [] → frames.sent ≡ line.frames.sent → count ≡ frames.sent
     → Appends b c line.frames.held → last ≡ new → Progress line t a b old new
-    → Progress (record { frames = frames; flushed = count; broken = line.broken; replies_ended = line.replies_ended; data_ended = line.data_ended }) t a c old last
+    → Progress (record { frames = frames; most = line.most; flushed = count; broken = line.broken; replies_ended = line.replies_ended; data_ended = line.data_ended }) t a c old last
 flushed line t frames count a b c {old = old} {new = new} {last = last} well none same all h unfailed g =
     let was : Holds line.flushed line.frames.sent line.frames.held (all_packets t) a b old new = subst (λ (x : Bool). Wrote x line.flushed line.frames.sent line.frames.held (all_packets t) a b old new) well g.wrote in
     let now : Holds count frames.sent frames.held (all_packets t) a c old last = rw (none, all, same) (holds_flushed line.flushed line.frames.sent line.frames.held (all_packets t) a b c was h unfailed) in
@@ -195,7 +195,7 @@ flushed line t frames count a b c {old = old} {new = new} {last = last} well non
 
 -- its write failed
 pub broken : (line : Line) (t : List Message) (frames : FrameWriterValue) (a b c : Option (List ℕ)) {old new last : ℕ} → line.broken ≡ false → AppendsFront b c line.frames.held → last ≡ new + 1 → Progress line t a b old new
-    → Progress (record { frames = frames; flushed = line.flushed; broken = true; replies_ended = line.replies_ended; data_ended = line.data_ended }) t a c old last
+    → Progress (record { frames = frames; most = line.most; flushed = line.flushed; broken = true; replies_ended = line.replies_ended; data_ended = line.data_ended }) t a c old last
 broken line t frames a b c {old = old} {new = new} {last = last} well h failed g =
     let was : Holds line.flushed line.frames.sent line.frames.held (all_packets t) a b old new = subst (λ (x : Bool). Wrote x line.flushed line.frames.sent line.frames.held (all_packets t) a b old new) well g.wrote in
     record { wrote = holds_broken line.flushed line.frames.sent line.frames.held (all_packets t) a b c was h failed; reply_mark = g.reply_mark; data_mark = g.data_mark }

@@ -15,6 +15,12 @@ knows p = view p
 abbrev pub Outlet : Type 0
 Outlet = TableId × Badge (Key Message)
 
+-- for who has to name some outlet before there is one: no outlet is this
+abbrev pub no_outlet : Outlet
+no_outlet =
+    let table : TableId = record { words = 0; slots = 0; views_name = 0; atom = 0; block = 0; offset = 0; slot_names = [] } in
+    (table, record { marker = record {}; table_id = table; id = 0; views = [] })
+
 abbrev pub outlet_of : Pass Message Known → Outlet
 outlet_of p = (p.table_id, p.me.0.of)
 

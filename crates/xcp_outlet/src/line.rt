@@ -1,5 +1,5 @@
 //! Frames of packets that were taken, from their making to their writing.
-ghost use Rattle.std.specs.Prelude.{◌≡◌, ℕ, Bool, List, Option, Some, [], ◌∷◌, ◌++◌, false};
+ghost use Rattle.std.specs.Prelude.{◌≡◌, ◌≤◌, ℕ, Bool, List, Option, Some, [], ◌∷◌, ◌++◌, false, length};
 ghost use Rattle.xcp_framing.specs.FrameOutput.{Fits};
 ghost use Rattle.xcp_outlet.specs.declared.message.Message.{Message};
 ghost use Rattle.xcp_outlet.specs.Sending.{Sends};
@@ -10,13 +10,14 @@ use crate::fault::SendError;
 use crate::message::Message;
 use std::io::Write;
 use xcp_framing::{Batch, FrameWriter, Watched};
-use xcp_packet::Packet;
 
 /// How far the sending is.
 #[derive(Drop)]
 pub(crate) struct Line {
     /// The packets whose frames were made, and the frames that were made and not written.
     pub(crate) frames: FrameWriter,
+    /// The most bytes of frames that are written together, where a frame alone doesn't have more.
+    pub(crate) most: usize,
     /// Those of the packets whose frames were written.
     pub(crate) flushed: u64,
     /// A write failed.
@@ -27,13 +28,14 @@ pub(crate) struct Line {
 
 impl Line {
     /// Nothing was sent yet.
-    pub(crate) fn new(frames: FrameWriter) -> Line
+    pub(crate) fn new(frames: FrameWriter, most: usize) -> Line
         requires { frames ≡ record { sent = 0; held = [] } }
         ensures { (before : Option (List ℕ)) (failures : ℕ)
             → Progress result [] before before failures failures }
     {
         Line {
             frames,
+            most,
             flushed: 0,
             broken: false,
             replies_ended: false,
@@ -64,27 +66,29 @@ impl Line {
     }
 
     /// Writes what is held where it leaves no room for the packet's frame.
-    fn make_room<W: Write>(&mut self, packet: &Packet, writer: &mut Watched<W>)
+    fn make_room<W: Write>(&mut self, packet: &[u8], writer: &mut Watched<W>)
+        requires { length packet.now ≤ 255 }
         ensures goes_on { (before : Option (List ℕ)) (failures : ℕ) (taken : List Message)
             → Progress self.old taken
             before (W.contents writer.old.inner) failures writer.old.failures
             → Progress self.new taken
             before (W.contents writer.new.inner) failures writer.new.failures }
-        ensures room { self.new.broken ≡ false → Fits self.new.frames packet.now.items }
+        ensures room { self.new.broken ≡ false → Fits self.new.frames packet.now }
     {
-        if !self.frames.has_room(packet) {
+        if !self.frames.has_room_within(packet, self.most) {
             self.flush(writer);
         }
     }
 
     /// Makes the frame of a packet that was taken, whose number is that of the packets before, of both
     /// ends. After a failed write it makes no frame.
-    fn add_packet<W: Write>(&mut self, packet: &Packet, writer: &mut Watched<W>)
+    fn add_packet<W: Write>(&mut self, packet: &[u8], writer: &mut Watched<W>)
+        requires { length packet.now ≤ 255 }
         ensures { (before : Option (List ℕ)) (failures : ℕ) (taken : List Message) (from : Bool)
             (done : List (List ℕ))
             → Progress self.old (taken ++ message from (Some done) ∷ [])
             before (W.contents writer.old.inner) failures writer.old.failures
-            → Progress self.new (taken ++ message from (Some (done ++ packet.now.items ∷ [])) ∷ [])
+            → Progress self.new (taken ++ message from (Some (done ++ packet.now ∷ [])) ∷ [])
             before (W.contents writer.new.inner) failures writer.new.failures }
     {
         self.make_room(packet, writer);
@@ -103,12 +107,11 @@ impl Line {
             before (W.contents writer.new.inner) failures writer.new.failures }
     {
         let mut packets = batch.packets();
-        let mut packet = Packet::new();
         'packets: loop {
-            if !packets.next_into(&mut packet) {
+            let Some(packet) = packets.next() else {
                 return;
-            }
-            self.add_packet(&packet, writer);
+            };
+            self.add_packet(packet, writer);
         }
     }
 

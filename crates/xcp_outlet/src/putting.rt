@@ -1,25 +1,27 @@
-//! An end that puts, beside the runtime by which it waits.
+//! An end that puts, beside the runtime by which it waits, and by whom its packets go out.
 ghost use Rattle.std.specs.Prelude.{◌≡◌};
 
 use crate::end::PutEnd;
+use crate::forward::Forward;
 use crate::side::Side;
 use std::alloc::Global;
 use std::sync::Wait;
 use xcp_framing::{Batch, End};
 
-/// An end that puts, as one that takes batch behind batch. A put waits while the channel is full.
+/// An end that puts, as one that takes batch behind batch.
 #[derive(Drop)]
-pub struct WaitingEnd<'a, S: Side, R: Wait> {
+pub struct WaitingEnd<'a, S: Side, F: Forward + Drop, R: Wait> {
     rt: &'a R,
     end: PutEnd<S>,
+    forward: F,
 }
 
-impl<'a, S: Side, R: Wait> WaitingEnd<'a, S, R> {
-    /// This end, with the runtime by which it waits.
-    pub fn new(rt: &'a R, end: PutEnd<S>) -> WaitingEnd<'a, S, R>
+impl<'a, S: Side, F: Forward + Drop, R: Wait> WaitingEnd<'a, S, F, R> {
+    /// This end, with the runtime by which it waits, and by whom its packets go out.
+    pub fn new(rt: &'a R, end: PutEnd<S>, forward: F) -> WaitingEnd<'a, S, F, R>
         ensures { result.end ≡ end }
     {
-        WaitingEnd { rt, end }
+        WaitingEnd { rt, end, forward }
     }
 
     /// The end, with all that it has put.
@@ -30,7 +32,7 @@ impl<'a, S: Side, R: Wait> WaitingEnd<'a, S, R> {
     }
 }
 
-impl<'a, S: Side, R: Wait> End for WaitingEnd<'a, S, R> {
+impl<'a, S: Side, F: Forward + Drop, R: Wait> End for WaitingEnd<'a, S, F, R> {
     ghost use Rattle.std.specs.Prelude.{◌≡◌};
     ghost use Rattle.std.proofs.Common.{refl, ◌∙◌};
 
@@ -42,8 +44,12 @@ impl<'a, S: Side, R: Wait> End for WaitingEnd<'a, S, R> {
 
     ghost same_trans = { λ x y z p q. (q.0 ∙ p.0, q.1 ∙ p.1) };
 
-    fn put(&mut self, batch: Batch) -> Result<(), Batch> {
-        self.end.put(self.rt, batch)
+    fn put(&mut self, batch: Batch, more: bool) -> Result<(), Batch> {
+        self.forward.put(self.rt, &mut self.end, batch, more)
+    }
+
+    fn flush(&mut self) {
+        self.forward.flush(self.rt);
     }
 
     fn alloc(&self) -> Global {

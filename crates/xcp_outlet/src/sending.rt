@@ -10,6 +10,9 @@ use std::io::Write;
 use std::sync::Wait;
 use xcp_framing::Watched;
 
+/// The most bytes that a sender's thread writes together.
+const WRITE_SIZE: usize = 4096;
+
 /// What a sender has sent, and what it has taken.
 #[derive(Drop)]
 pub struct Sent {
@@ -30,7 +33,7 @@ impl SendEnd {
             writer.old.failures writer.new.failures }
     {
         let (mut intake, frames) = self.open();
-        let mut line = Line::new(frames);
+        let mut line = Line::new(frames, WRITE_SIZE);
         for _ in rt.forever() {
             if line.replies_ended && line.data_ended {
                 break;

@@ -2,6 +2,10 @@
 
 use crate::port::Port;
 use std::net::{TcpListener, TcpStream};
+use xcp_datagrams::LONGEST;
+
+/// The most bytes of frames that one write to a connection takes.
+const STREAM_WRITE: usize = 4_096;
 
 /// By what tools reach a server.
 #[derive(Drop)]
@@ -17,4 +21,14 @@ pub enum Access {
 pub(crate) enum Line<'a> {
     Stream(TcpStream),
     Datagrams(&'a Port),
+}
+
+impl Line<'_> {
+    /// The most bytes of frames that one write takes: those of a datagram, where there are datagrams.
+    pub(crate) fn write_size(&self) -> usize {
+        match self {
+            Line::Stream(_) => STREAM_WRITE,
+            Line::Datagrams(_) => LONGEST,
+        }
+    }
 }

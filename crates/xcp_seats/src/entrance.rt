@@ -14,25 +14,27 @@ use std::time::Clock;
 #[derive(Drop)]
 pub struct Gate {
     socket: TcpStream,
+    how: Shutdown,
 }
 
 impl Gate {
     /// The gate of a listener, or of a port.
     pub fn new(access: &Access) -> io::Result<Gate> {
         // A call of the system shuts a socket whether it listens, is connected or takes datagrams: only its type here has none.
-        let socket = match access {
-            Access::Streams(listener) => OwnedFd::from(listener.try_clone()?),
-            Access::Datagrams(port) => OwnedFd::from(port.socket().try_clone()?),
+        let (socket, how) = match access {
+            Access::Streams(listener) => (OwnedFd::from(listener.try_clone()?), Shutdown::Both),
+            Access::Datagrams(port) => (OwnedFd::from(port.socket().try_clone()?), Shutdown::Read),
         };
         Ok(Gate {
             socket: TcpStream::from(socket),
+            how,
         })
     }
 
-    /// Shuts the socket: who waits there for a tool waits no more, and nobody can connect.
+    /// Shuts the socket: who waits there for a tool waits no more, and nobody can connect. What is on its way to a tool goes out.
     pub fn shut(&self) {
         // Where the system has closed it, there is nothing to do.
-        let _ = self.socket.shutdown(Shutdown::Both);
+        let _ = self.socket.shutdown(self.how);
     }
 }
 

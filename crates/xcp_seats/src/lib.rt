@@ -1,7 +1,7 @@
 //! Seats for tools that come and go, tasks without an end, and what else a server that stays runs, each part in a thread of its own.
 //!
 //! Whoever runs them deals callers and readers out to them, and settles what they did. A seat has one thread while nobody is there; for
-//! each tool that it accepts its connection's pump and sender get threads of their own.
+//! each tool that it accepts its connection's pump gets a thread of its own.
 //!
 //! Tools come by connections of TCP, or by datagrams of UDP, and an [`Access`] says by which: one at a time then, and a `Port` says who.
 //!

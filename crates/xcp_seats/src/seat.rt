@@ -44,8 +44,8 @@ pub struct Place<'a, W> {
     pub watcher: &'a W,
 }
 
-/// A seat: a member for its tools, and one for their pumps. It takes one tool after another out of the lobby, and serves each by three parts, of which it is
-/// the first; the others have threads of their own as long as the tool is there.
+/// A seat: a member for its tools, and one for their pumps. It takes one tool after another out of the lobby, and serves each by two parts, of which it is
+/// the first; the other, the pump, has a thread of its own as long as the tool is there.
 #[derive(Drop)]
 pub struct Seat<'a, N: Name, M: Route, W, T> {
     pub rt: &'a T,
@@ -211,6 +211,7 @@ fn serve_tool<
     ensures { (pair result.0.member result.1.member ≡ pair tool.entry.member pump.entry.member)
         ⊎ Attends place.now.max_cto result.2 (pair tool.entry.member pump.entry.member) (pair result.0.member result.1.member) }
 {
+    let write_size = line.write_size();
     let Some((reader, writer)) = ends_of(rt, place, line, address, was_idle) else {
         return (tool, pump, Err(ServeError::Memory));
     };
@@ -230,6 +231,7 @@ fn serve_tool<
             pump_turns: PUMP_TURNS,
             goes_on: true,
         },
+        write_size,
     );
     place.door.clear(rt);
     match attended {

@@ -9,10 +9,9 @@ use Rattle.xcp_framing.specs.CountedCalls.{Watched}
 use Rattle.xcp_memory.specs.Layout.{LayoutValue}
 use Rattle.xcp_slave.specs.SlaveValue.{SlaveValue}
 use Rattle.xcp_trace.specs.declared.Entry.{Entry}
-use Rattle.xcp_connection.specs.Parts.{Connection, Parted}
+use Rattle.xcp_outlet.specs.OutletEnds.{Outlet}
 use Rattle.xcp_connection.specs.declared.closing.Closed.{Closed}
 use Rattle.xcp_connection.specs.declared.connection.Limits.{Limits}
-use Rattle.xcp_locked.specs.declared.tool.Tool.{Tool}
 use Rattle.xcp_server.specs.declared.dealing.Ended.{Ended}
 use Rattle.xcp_server.specs.declared.dealing.Duties.{Duties}
 use Rattle.xcp_locked.specs.declared.tasks.Done.{Done}
@@ -24,10 +23,9 @@ use Rattle.xcp_locked.specs.LockedSlave.{IsReached}
 use Rattle.xcp_locked.specs.PairedLists.{EachFrom}
 use Rattle.xcp_server.specs.private.ServerRoom.{IsEndedRoom}
 use Rattle.xcp_locked.specs.TaskOutcome.{DoneAs, IsTaskOf, WorkedAs}
-use Rattle.xcp_server.specs.ServerOutcome.{ServedAt}
-use Rattle.xcp_server.specs.private.ConnectionParts.{CameOfTools, IsConnectionWithin, IsEndOf}
-use Rattle.xcp_server.proofs.ConnectionOutcomeLemmas.{served_at}
-use Rattle.xcp_locked.proofs.PairedListLemmas.{each_length, each_through, zip_from, zip_through}
+use Rattle.xcp_server.specs.private.ConnectionParts.{IsConnectionWithin}
+use Rattle.xcp_server.proofs.ConnectionOutcomeLemmas.{zip_mapped}
+use Rattle.xcp_locked.proofs.PairedListLemmas.{each_length, each_through, zip_from}
 use Rattle.xcp_locked.proofs.TaskOutcomeLemmas.{worked_as}
 
 -- the list of n callers that have made no call has n of them
@@ -68,11 +66,7 @@ each_at_place {A} {B} {X} R f front rest (x ∷ xs) (y ∷ ys) h =
 pub each_also : {A B X : Type 0} (R : ℕ → A → B → Type 0) (f : B → X) (xs : List A) (ys : List B) → EachFrom R 0 xs ys → EachFrom (λ i x y. R i x y × (slice_get (map f ys) i ≡ Some (f y))) 0 xs ys
 each_also R f xs ys h = subst (λ zs. EachFrom (λ i x y. R i x y × (slice_get zs i ≡ Some (f y))) 0 xs ys) (append-nil (map f ys)) (each_at_place R f [] [] xs ys h)
 
--- what came of a connection, and of its parts
-abbrev Came : {N T R I P O : Type 0} → (I → Option (List ℕ)) → (O → Option (List ℕ)) → Connection N T (Tool N R) I P O → Closed CallerValue I O → Type 0
-Came {N} {T} {R} {I} {P} {O} remaining contents c k = (p : Parted (Tool N R) I O) × CameOfTools remaining contents c p × IsEndOf p k
-
-module _ {N G R I O : Type 0} (limits : Limits) (cycles chapter tasks : ℕ) (opened : List CallerValue) (readers : List ReaderEnd) (streams : List (Watched I × Watched O)) (d : Duties N G R I O) (deal : Dealt limits cycles chapter tasks opened readers streams d) where
+module _ {N G R L I O : Type 0} (limits : Limits) (cycles chapter tasks : ℕ) (opened : List CallerValue) (readers : List ReaderEnd) (streams : List (Watched I × Watched O)) (outlets : List Outlet) (d : Duties N G R L I O) (deal : Dealt limits cycles chapter tasks opened readers (map (λ s. s.0) streams) outlets d) where
   abbrev tools : List CallerValue
   tools = map (λ c. c.0.station.caller) d.connections.items
 
@@ -83,7 +77,7 @@ module _ {N G R I O : Type 0} (limits : Limits) (cycles chapter tasks : ℕ) (op
   drains = map (λ c. c.1.station.caller) d.connections.items
 
   pub as_many_connections : length d.connections.items ≡ length streams
-  as_many_connections = AllZip-long (IsConnectionWithin limits) streams d.connections.items deal.connections
+  as_many_connections = AllZip-long (IsConnectionWithin limits) (map (λ s. s.0) streams) d.connections.items deal.connections ∙ length_map (λ s. s.0) streams
 
   pub as_many_tools : length (map (λ c. c.0.station.caller) d.connections.items) ≡ length streams
   as_many_tools = length_map (λ c. c.0.station.caller) d.connections.items ∙ as_many_connections
@@ -111,15 +105,12 @@ module _ {N G R I O : Type 0} (limits : Limits) (cycles chapter tasks : ℕ) (op
       let w = length_map (λ w. w.reader) deal.workers in
       let n = deal.hired in omega (arith, whole, a, w, n)
 
-  -- each connection was served for the callers of its place
-  pub all_served : limits.goes_on ≡ false → (remaining : I → Option (List ℕ)) (contents : O → Option (List ℕ)) (parted : List (Parted (Tool N R) I O)) (closed : List (Closed CallerValue I O)) → AllZip (CameOfTools remaining contents) d.connections.items parted → AllZip IsEndOf parted closed
-      → EachFrom (ServedAt remaining contents limits.max_cto limits.turns tools drains) 0 streams closed
-  all_served once remaining contents parted closed came put =
-      each_through (λ i e c. (IsConnectionWithin limits e c × (slice_get tools i ≡ Some c.0.station.caller)) × (slice_get drains i ≡ Some c.1.station.caller)) (Came remaining contents) (ServedAt remaining contents limits.max_cto limits.turns tools drains)
-      (λ i e c k is h. served_at remaining contents limits once tools drains i e c h.0 k is.0.0 is.0.1 is.1 h.1 h.2) 0 streams d.connections.items closed
-      (each_also (λ i e c. IsConnectionWithin limits e c × (slice_get tools i ≡ Some c.0.station.caller)) (λ c. c.1.station.caller) streams d.connections.items
-      (each_also (λ i e c. IsConnectionWithin limits e c) (λ c. c.0.station.caller) streams d.connections.items (zip_from (IsConnectionWithin limits) 0 streams d.connections.items deal.connections)))
-      (zip_through (CameOfTools remaining contents) IsEndOf (Came remaining contents) (λ c p k x y. (p, x, y)) d.connections.items parted closed came put)
+  -- each connection is that of its stream, for the callers of its place
+  pub all_dealt : EachFrom (λ i e c. (IsConnectionWithin limits e.0 c × (slice_get tools i ≡ Some c.0.station.caller)) × (slice_get drains i ≡ Some c.1.station.caller)) 0 streams d.connections.items
+  all_dealt =
+      each_also (λ i e c. IsConnectionWithin limits e.0 c × (slice_get tools i ≡ Some c.0.station.caller)) (λ c. c.1.station.caller) streams d.connections.items
+      (each_also (λ i e c. IsConnectionWithin limits e.0 c) (λ c. c.0.station.caller) streams d.connections.items
+      (zip_from (λ e c. IsConnectionWithin limits e.0 c) 0 streams d.connections.items (zip_mapped (λ s. s.0) (IsConnectionWithin limits) streams d.connections.items deal.connections)))
 
   -- each task was done for the worker of its place
   pub all_worked : (layout : LayoutValue) (may_end : Type 0) (done : List (Done N)) → AllZip (DoneAs layout may_end) d.tasks.items done → EachFrom (WorkedAs layout may_end cycles chapter) 0 deal.workers done

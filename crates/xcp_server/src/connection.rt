@@ -10,10 +10,12 @@ use xcp_connection::{Closed, Heard, Pumped, Wrote, close};
 use xcp_framing::Whole;
 use xcp_locked::{Caller, Locked, Name, Tool};
 
-/// The three parts of a connection, which have one outlet between them.
-pub type Connection<'a, N, R, I, O> = xcp_connection::Connection<
+/// The two parts of a connection, which have one outlet between them.
+pub type Connection<'a, 'd, N, R, L, I, O> = xcp_connection::Connection<
     'a,
+    'd,
     N,
+    L,
     Locked<N>,
     Tool<'a, N, R>,
     I,
@@ -21,7 +23,7 @@ pub type Connection<'a, N, R, I, O> = xcp_connection::Connection<
     O,
 >;
 
-/// What comes of the three parts of a connection, with its stations or with their callers.
+/// What comes of the two parts of a connection, with its stations or with their callers, and of what was written for it.
 pub type Parted<S, I, O> = (Heard<S, I>, Pumped<S>, Wrote<O>);
 
 /// Puts together what came of the parts of each connection, for which there is room.
@@ -40,7 +42,7 @@ pub(crate) fn close_each<N: Name, R: Wait, I: Read + Drop, O: Write + Drop>(
     closed
 }
 
-/// What came of the three parts of a connection, with the callers of its stations in place of these.
+/// What came of a connection, with the callers of its stations in place of these.
 fn with_callers<N: Name, R: Wait, I: Read + Drop, O: Write + Drop>(
     parted: Parted<Tool<'_, N, R>, I, O>,
 ) -> Parted<Caller<N>, I, O>

@@ -2,7 +2,8 @@
 ghost use Rattle.std.specs.Prelude.{◌≡◌, ◌≤◌, ◌+◌, ◌++◌, [], All, IfOk, None, map, length, vec_len, vec_capacity};
 ghost use Rattle.std.specs.Vec.Iter.{into_iter_items, into_iter_len};
 ghost use Rattle.xcp_server.specs.private.DealtCallers.{Dealt};
-ghost use Rattle.std.specs.List.{AllZip};
+ghost use Rattle.std.specs.List.{AllByRecursion, AllZip};
+ghost use Rattle.xcp_server.specs.private.Dispatching.{IsUnput};
 ghost use Rattle.xcp_locked.specs.TaskOutcome.{chapters_of};
 ghost use Rattle.xcp_server.specs.private.ConnectionParts.{IsConnectionWithin};
 ghost use Rattle.xcp_locked.specs.Excerpts.{HandsNone, way_of};
@@ -19,46 +20,55 @@ use xcp_framing::{ServeError, Served, Watched, Whole};
 use xcp_locked::{
     Caller, Chapters, Gate, Handing, Locked, Name, Reader, Task, Tool, Worker, number_tasks,
 };
+use xcp_outlet::{DataEnd, Dispatch, LineName, ReplyEnd};
 
 /// Connections and tasks that have not begun, and the callers and readers that have nothing to do.
 #[derive(Drop)]
-pub struct Duties<'a, N: Name, G: Gate, R: Wait, I: Read + Drop, O: Write + Drop> {
-    pub connections: Vec<Connection<'a, N, R, I, O>>,
+pub struct Duties<'a, 'd, N: Name, G: Gate, R: Wait, L: LineName, I: Read + Drop, O: Write + Drop> {
+    pub connections: Vec<Connection<'a, 'd, N, R, L, I, O>>,
     pub tasks: Vec<Task<'a, N, G>>,
     pub spare: IntoIter<Caller<N>>,
     pub unused: IntoIter<Reader<N>>,
 }
 
-/// Deals the callers out: the first to the readers and writers, the next to so many tasks, the next
+/// Deals the callers out: the first to the streams that are read, the next to so many tasks, the next
 /// to the connections' pumps. The first readers go to the tasks, and the first task hands its chapters'
-/// excerpts in, if they go anywhere. Each connection has a stop of its own.
-pub fn deal<'a, N: Name, G: Gate, R: Wait, I: Read + Drop, O: Write + Drop>(
+/// excerpts in, if they go anywhere. Each connection has a stop of its own, the two ends of an outlet, and a dispatch.
+pub fn deal<'a, 'd, N: Name, G: Gate, R: Wait, L: LineName, I: Read + Drop, O: Write + Drop>(
     rt: &'a R,
     alloc: Global,
     lock: &'a Mutex<Locked<N>>,
     gate: &'a G,
     stops: &'a [AtomicBool],
+    dispatches: &'d [Mutex<Dispatch<L, O>>],
     callers: Vec<Caller<N>>,
     readers: Vec<Reader<N>>,
-    streams: Vec<(Watched<I>, Watched<O>)>,
+    streams: Vec<Watched<I>>,
+    ends: Vec<(ReplyEnd, DataEnd)>,
     tasks: u8,
     cycles: u32,
     chapter: u32,
     limits: Limits,
     handing: Option<Handing>,
-) -> Result<Duties<'a, N, G, R, I, O>, AllocError>
+) -> Result<Duties<'a, 'd, N, G, R, L, I, O>, AllocError>
     requires enough { vec_len streams + tasks + vec_len streams ≤ vec_len callers }
     requires few { (tasks ≤ 16) × (tasks ≤ vec_len readers) }
     requires stops { length stops.now ≡ vec_len streams }
+    requires dispatches { length dispatches.now ≡ vec_len streams }
+    requires ends { vec_len ends ≡ vec_len streams }
+    requires unput { AllByRecursion IsUnput ends.items }
     requires handing { HandsNone handing × (tasks ≡ 0 → handing ≡ None) }
-    ensures dealt { IfOk result (λ d. Dealt limits cycles chapter tasks callers.items readers.items streams.items d) }
+    ensures dealt { IfOk result (λ d. Dealt limits cycles chapter tasks callers.items readers.items streams.items
+        (map (λ e. e.0.outlet) ends.items) d) }
     ensures way { IfOk result (λ d. first_way d.tasks.items ≡ way_of handing) }
 {
     let mut spare = callers.into_iter();
     let mut unused = readers.into_iter();
     let tools = next_callers(alloc, &mut spare, streams.len())?;
     let workers = employ(alloc, &mut spare, &mut unused, tasks, handing)?;
-    let connections = connect(rt, alloc, lock, stops, streams, tools, &mut spare, limits)?;
+    let connections = connect(
+        rt, alloc, lock, stops, dispatches, streams, ends, tools, &mut spare, limits,
+    )?;
     let tasks = number_tasks(alloc, lock, workers, cycles, chapter, gate)?;
     Ok(Duties {
         connections,
@@ -88,28 +98,35 @@ pub fn next_callers<N: Name>(
     Ok(taken)
 }
 
-/// A connection for each reader and writer, in order, each with the next of these tools' callers, with
-/// the next of the other callers for its pump, and with an outlet of its own.
-pub fn connect<'a, N: Name, R: Wait, I: Read + Drop, O: Write + Drop>(
+/// A connection for each stream that is read, in order, each with the next of these tools' callers, with
+/// the next of the other callers for its pump, with the next ends of an outlet, and with the next dispatch.
+pub fn connect<'a, 'd, N: Name, R: Wait, L: LineName, I: Read + Drop, O: Write + Drop>(
     rt: &'a R,
     alloc: Global,
     lock: &'a Mutex<Locked<N>>,
     stops: &'a [AtomicBool],
-    streams: Vec<(Watched<I>, Watched<O>)>,
+    dispatches: &'d [Mutex<Dispatch<L, O>>],
+    streams: Vec<Watched<I>>,
+    ends: Vec<(ReplyEnd, DataEnd)>,
     tools: Vec<Caller<N>>,
     pumps: &mut IntoIter<Caller<N>>,
     limits: Limits,
-) -> Result<Vec<Connection<'a, N, R, I, O>>, AllocError>
+) -> Result<Vec<Connection<'a, 'd, N, R, L, I, O>>, AllocError>
     requires tools { vec_len tools ≡ vec_len streams }
     requires pumps { vec_len streams ≤ length (into_iter_items pumps.old) }
     requires stops { length stops.now ≡ vec_len streams }
+    requires dispatches { length dispatches.now ≡ vec_len streams }
+    requires ends { vec_len ends ≡ vec_len streams }
+    requires unput { AllByRecursion IsUnput ends.items }
     ensures each { IfOk result (λ cs. AllZip (IsConnectionWithin limits) streams.items cs.items) }
+    ensures outlets { IfOk result (λ cs. map (λ c. c.0.replies.outlet) cs.items ≡ map (λ e. e.0.outlet) ends.items) }
     ensures tools { IfOk result (λ cs. map (λ c. c.0.station.caller) cs.items ≡ tools.items) }
     ensures dealt { IfOk result (λ cs.
         map (λ c. c.1.station.caller) cs.items ++ into_iter_items pumps.new ≡ into_iter_items pumps.old) }
 {
     let mut connections = Vec::with_capacity(alloc, streams.len())?;
     let mut tools = tools.into_iter();
+    let mut ends = ends.into_iter();
     let mut place = 0;
     for stream in streams {
         let Some(tool) = tools.next() else {
@@ -118,34 +135,43 @@ pub fn connect<'a, N: Name, R: Wait, I: Read + Drop, O: Write + Drop>(
         let Some(pump) = pumps.next() else {
             unreachable!()
         };
+        let Some(two) = ends.next() else {
+            unreachable!()
+        };
         let stop = &stops[place];
-        connections.push_reserved(connection(rt, alloc, lock, stop, stream, tool, pump, limits)?);
+        let dispatch = &dispatches[place];
+        connections.push_reserved(connection(
+            rt, alloc, lock, stop, dispatch, stream, two, tool, pump, limits,
+        ));
         place += 1;
     }
     Ok(connections)
 }
 
-/// A connection with a new outlet, whose stations submit for these callers.
-fn connection<'a, N: Name, R: Wait, I: Read + Drop, O: Write + Drop>(
+/// A connection whose stations submit for these callers.
+fn connection<'a, 'd, N: Name, R: Wait, L: LineName, I: Read + Drop, O: Write + Drop>(
     rt: &'a R,
     alloc: Global,
     lock: &'a Mutex<Locked<N>>,
     stop: &'a AtomicBool,
-    stream: (Watched<I>, Watched<O>),
+    dispatch: &'d Mutex<Dispatch<L, O>>,
+    stream: Watched<I>,
+    ends: (ReplyEnd, DataEnd),
     tool: Caller<N>,
     pump: Caller<N>,
     limits: Limits,
-) -> Result<Connection<'a, N, R, I, O>, AllocError>
-    ensures is { IfOk result (λ c. IsConnectionWithin limits stream c) }
-    ensures tool { IfOk result (λ c. c.0.station.caller ≡ tool) }
-    ensures pump { IfOk result (λ c. c.1.station.caller ≡ pump) }
+) -> Connection<'a, 'd, N, R, L, I, O>
+    requires { IsUnput ends }
+    ensures is { IsConnectionWithin limits stream result }
+    ensures outlet { result.0.replies.outlet ≡ ends.0.outlet }
+    ensures tool { result.0.station.caller ≡ tool }
+    ensures pump { result.1.station.caller ≡ pump }
 {
     let tool = Tool::new(rt, lock, tool);
     let pump = Tool::new(rt, lock, pump);
-    match xcp_connection::connect(alloc, lock, stop, stream, tool, pump, Whole, limits) {
-        Ok(connection) => Ok(connection),
-        Err(_) => Err(AllocError),
-    }
+    xcp_connection::connect(
+        alloc, lock, stop, dispatch, stream, ends, tool, pump, Whole, limits,
+    )
 }
 
 /// So many workers, with the next callers and the next readers. The first one's chapters are handed in here, if they are anywhere.

@@ -13,6 +13,7 @@
 mod closing;
 mod connection;
 mod dealing;
+mod dispatching;
 mod laws;
 mod recording;
 mod report;
@@ -26,4 +27,4 @@ pub use laws::a_connection_ends_as_its_parts;
 pub use report::{Ending, Report, conclude};
 pub use server::run_server;
 pub use serving::serve_ends;
-pub use tools::{Tools, accept_tools};
+pub use tools::{Incoming, Outgoing, Tools, accept_tools};

@@ -1,6 +1,6 @@
 //! Connections and tasks of one slave, all at the same time.
-ghost use Rattle.std.specs.Prelude.{◌≡◌, ◌<◌, ◌≤◌, ◌+◌, [], IfOk, false, vec_len};
-ghost use Rattle.std.specs.List.{AllZip};
+ghost use Rattle.std.specs.Prelude.{◌≡◌, ◌<◌, ◌≤◌, ◌+◌, ℕ, [], IfOk, None, false, length, map, vec_len};
+ghost use Rattle.std.specs.List.{AllByRecursion, AllZip};
 ghost use Rattle.xcp_bank.specs.BankEnds.{six_readers};
 ghost use Rattle.xcp_locked.specs.Caller.{callers_of};
 ghost use Rattle.xcp_locked.specs.Publications.{image_of};
@@ -9,6 +9,9 @@ ghost use Rattle.xcp_slave.specs.SlaveValue.{opening};
 ghost use Rattle.xcp_server.specs.ServerOutcome.{Closes, CountTheirCommands};
 ghost use Rattle.xcp_server.specs.ServerEnd.{LeavesAll};
 ghost use Rattle.xcp_server.specs.private.ConnectionParts.{CameOfTools};
+ghost use Rattle.xcp_locked.specs.Excerpts.{HandsNone};
+ghost use Rattle.xcp_server.specs.private.Dispatching.{IsFresh, IsUnput, before_at, failures_at, outlet_at};
+ghost use Rattle.xcp_server.specs.private.Performing.{Performs};
 ghost use Rattle.xcp_server.specs.private.ReadyServer.{IsReady};
 ghost use Rattle.xcp_server.specs.private.ServerRoom.{IsRoom};
 ghost use Rattle.xcp_server.specs.private.WrittenChapters.{relay_of};
@@ -17,22 +20,26 @@ use crate::Closing;
 use crate::closing::{Rooms, close_all, make_rooms};
 use crate::connection::{Connection, Parted, close_each};
 use crate::dealing::{Duties, deal};
+use crate::dispatching::{Dispatched, Ends, finish_each, open_dispatches, open_outlets};
 use crate::recording::Writing;
 use std::alloc::{AllocError, Global};
 use std::io::{Read, Write};
+use std::marker::Brand;
 use std::sync::atomic::AtomicBool;
 use std::sync::{Mutex, Wait};
 use std::thread::Threads;
+use std::vec::IntoIter;
 use together::run_crews_and;
-use xcp_connection::Limits;
+use xcp_connection::{Heard, Limits, Pumped};
 use xcp_framing::Watched;
 use xcp_locked::{Caller, Done, Gate, Handing, Locked, Name, Opening, Reader, Task, Tool, Unnamed};
+use xcp_outlet::{DataEnd, Dispatch, LineName, ReplyEnd};
 use xcp_scribe::Scribe;
 
 /// Opens a slave, serves each reader and writer by frames, and runs so many tasks, all at the same
 /// time; joins them all; and submits a last `Hangup` as the first caller. A task has a thread of its
-/// own. A connection has three: one hears the tool, a pump drains what the slave samples, and a sender
-/// writes the answers and the data packets as they come. The first callers are those of the tools, the
+/// own. A connection has two: one hears the tool and writes the answers, and a pump drains what the slave samples and
+/// writes the data packets as they come. The first callers are those of the tools, the
 /// next those of the tasks, which also have the first readers, and the next those of the pumps. Each
 /// connection has at most `turns` reads, and is closed when it ends; its pump has `pump_turns`. Task 0
 /// cuts the open chapter from `chapter` calls on, 1 to 65,536, and with `each_store` behind each store of pages too. The scribe is given
@@ -205,6 +212,48 @@ fn run_ready<
         ready.callers.items ready.readers.items ready.streams.items r.0) }
     ensures leaves { IfOk result (λ r. LeavesAll N.layout (vec_len ready.callers) (S.wrote r.1) r.0) }
 {
+    let outlets = open_outlets(alloc, ready.streams.len())?;
+    run_named::<N, Brand, G, I, O, S, R>(
+        rt, alloc, ready, outlets, gate, tasks, cycles, chapter, each_store, limits,
+    )
+}
+
+/// The same with an outlet for each connection, whose dispatches have a name.
+fn run_named<
+    N: Name + Send + Sync,
+    L: LineName + Send + Sync,
+    G: Gate + Sync,
+    I: Read + Send + Drop,
+    O: Write + Send + Drop,
+    S: Scribe,
+    R: Threads + Wait + Sync,
+>(
+    rt: &R,
+    alloc: Global,
+    ready: Ready<N, I, O, S>,
+    outlets: Vec<Ends>,
+    gate: &G,
+    tasks: u8,
+    cycles: u32,
+    chapter: u32,
+    each_store: bool,
+    limits: Limits,
+) -> Result<(Closing<N, I, O>, S), AllocError>
+    requires some { 0 < vec_len ready.streams }
+    requires enough { vec_len ready.streams + tasks + vec_len ready.streams ≤ vec_len ready.callers }
+    requires few { (tasks ≤ 16) × (tasks ≤ vec_len ready.readers) }
+    requires ready { IsReady tasks each_store ready }
+    requires once { limits.goes_on ≡ false }
+    requires all { vec_len outlets ≡ vec_len ready.streams }
+    requires fresh { AllByRecursion IsFresh outlets.items }
+    requires outlets { (place : ℕ) → L.outlet place ≡ outlet_at outlets.items place }
+    requires before { (place : ℕ) → L.before place ≡ before_at O.contents ready.streams.items place }
+    requires failures { (place : ℕ) → L.failures place ≡ failures_at ready.streams.items place }
+    ensures closes { IfOk result (λ r. Closes I.remaining O.contents N.layout G.may_end
+        limits.max_cto limits.turns cycles chapter each_store tasks
+        ready.callers.items ready.readers.items ready.streams.items r.0) }
+    ensures leaves { IfOk result (λ r. LeavesAll N.layout (vec_len ready.callers) (S.wrote r.1) r.0) }
+{
     let Ready {
         locked,
         callers,
@@ -215,17 +264,40 @@ fn run_ready<
         handing,
         writing,
     } = ready;
+    let Dispatched {
+        readers: heard,
+        ends,
+        dispatches,
+    } = open_dispatches::<L, I, O>(alloc, streams, outlets)?;
     let lock = Mutex::new(locked);
-    let Duties {
-        connections,
-        tasks,
+    let Performed {
+        parted,
+        done,
         spare,
         unused,
-    } = deal(
-        rt, alloc, &lock, gate, &stops, callers, readers, streams, tasks, cycles, chapter, limits,
+        writing,
+        room,
+    } = perform(
+        rt,
+        alloc,
+        &lock,
+        gate,
+        &stops,
+        &dispatches,
+        callers,
+        readers,
+        heard,
+        ends,
+        tasks,
+        cycles,
+        chapter,
+        limits,
         handing,
+        writing,
     )?;
-    let (parted, done, writing) = run_all(rt, alloc, connections, tasks, writing)?;
+    let Some(parted) = finish_each(rt, parted, dispatches, room) else {
+        return Err(AllocError);
+    };
     let closed = close_each(parted, rooms.closed);
     let (closing, handing) = close_all(
         alloc,
@@ -242,6 +314,78 @@ fn run_ready<
     Ok((closing, scribe))
 }
 
+/// What came of connections and of tasks, each at its place, the callers and readers that had nothing to do, who writes chapters down, and
+/// room for the connections as they will be when all is written.
+#[derive(Drop)]
+pub struct Performed<'a, N: Name, R: Wait, I: Read + Drop, O: Write + Drop, S: Scribe> {
+    pub parted: Vec<(Heard<Tool<'a, N, R>, I>, Pumped<Tool<'a, N, R>>)>,
+    pub done: Vec<Done<N>>,
+    pub spare: IntoIter<Caller<N>>,
+    pub unused: IntoIter<Reader<N>>,
+    pub writing: Writing<S>,
+    pub room: Vec<Parted<Tool<'a, N, R>, I, O>>,
+}
+
+/// Deals the callers out to connections and tasks, and runs these.
+fn perform<
+    'a,
+    'd,
+    N: Name + Send + Sync,
+    L: LineName + Send + Sync,
+    G: Gate + Sync,
+    I: Read + Send + Drop,
+    O: Write + Send + Drop,
+    S: Scribe,
+    R: Threads + Wait + Sync,
+>(
+    rt: &'a R,
+    alloc: Global,
+    lock: &'a Mutex<Locked<N>>,
+    gate: &'a G,
+    stops: &'a [AtomicBool],
+    dispatches: &'d [Mutex<Dispatch<L, O>>],
+    callers: Vec<Caller<N>>,
+    readers: Vec<Reader<N>>,
+    streams: Vec<Watched<I>>,
+    ends: Vec<(ReplyEnd, DataEnd)>,
+    tasks: u8,
+    cycles: u32,
+    chapter: u32,
+    limits: Limits,
+    handing: Option<Handing>,
+    writing: Writing<S>,
+) -> Result<Performed<'a, N, R, I, O, S>, AllocError>
+    requires enough { vec_len streams + tasks + vec_len streams ≤ vec_len callers }
+    requires few { (tasks ≤ 16) × (tasks ≤ vec_len readers) }
+    requires stops { length stops.now ≡ vec_len streams }
+    requires dispatches { length dispatches.now ≡ vec_len streams }
+    requires ends { vec_len ends ≡ vec_len streams }
+    requires unput { AllByRecursion IsUnput ends.items }
+    requires handing { HandsNone handing × (tasks ≡ 0 → handing ≡ None) }
+    ensures { IfOk result (Performs G L I.remaining N.layout G.may_end limits cycles chapter tasks
+        callers.items readers.items streams.items (map (λ e. e.0.outlet) ends.items) handing writing) }
+{
+    let room = Vec::with_capacity(alloc, streams.len())?;
+    let Duties {
+        connections,
+        tasks,
+        spare,
+        unused,
+    } = deal(
+        rt, alloc, lock, gate, stops, dispatches, callers, readers, streams, ends, tasks, cycles,
+        chapter, limits, handing,
+    )?;
+    let (parted, done, writing) = run_all(rt, alloc, connections, tasks, writing)?;
+    Ok(Performed {
+        parted,
+        done,
+        spare,
+        unused,
+        writing,
+        room,
+    })
+}
+
 /// A stop for each connection, which its reading sets when it ends.
 fn make_stops(alloc: Global, count: usize) -> Result<Vec<AtomicBool>, AllocError>
     ensures { IfOk result (λ s. vec_len s ≡ count) }
@@ -254,8 +398,12 @@ fn make_stops(alloc: Global, count: usize) -> Result<Vec<AtomicBool>, AllocError
 }
 
 /// What comes of connections and of tasks, each at its place, and of a scribe.
-type Results<'a, N, R, I, O, S> = Result<
-    (Vec<Parted<Tool<'a, N, R>, I, O>>, Vec<Done<N>>, Writing<S>),
+type Results<'a, N, R, I, S> = Result<
+    (
+        Vec<(Heard<Tool<'a, N, R>, I>, Pumped<Tool<'a, N, R>>)>,
+        Vec<Done<N>>,
+        Writing<S>,
+    ),
     AllocError,
 >;
 
@@ -263,7 +411,9 @@ type Results<'a, N, R, I, O, S> = Result<
 /// writes chapters down meanwhile.
 fn run_all<
     'a,
+    'd,
     N: Name + Send + Sync,
+    L: LineName + Send + Sync,
     G: Gate + Sync,
     I: Read + Send + Drop,
     O: Write + Send + Drop,
@@ -272,12 +422,12 @@ fn run_all<
 >(
     rt: &R,
     alloc: Global,
-    connections: Vec<Connection<'a, N, R, I, O>>,
+    connections: Vec<Connection<'a, 'd, N, R, L, I, O>>,
     tasks: Vec<Task<'a, N, G>>,
     writing: Writing<S>,
-) -> Results<'a, N, R, I, O, S>
+) -> Results<'a, N, R, I, S>
     ensures parted { IfOk result (λ r.
-        AllZip (CameOfTools I.remaining O.contents) connections.entry.items r.0.items) }
+        AllZip (CameOfTools I.remaining) connections.entry.items r.0.items) }
     ensures worked { IfOk result (λ r. AllZip (DoneAs N.layout G.may_end) tasks.entry.items r.1.items) }
     ensures writing { IfOk result (λ r. relay_of r.2 ≡ relay_of writing) }
 {

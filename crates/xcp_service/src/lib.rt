@@ -38,6 +38,7 @@ mod sessions;
 mod shelved;
 mod stores;
 mod timekeeper;
+mod under_lock;
 mod waiting;
 
 pub use calling::{CHAPTER, call, call_for, cut_in_time, finish_store};

@@ -3,25 +3,21 @@ ghost use Rattle.std.specs.Prelude.{◌≡◌};
 ghost use Rattle.xcp_locked.specs.Tasks.{Same};
 ghost use Rattle.xcp_service.specs.Telling.{TellsTime};
 
-use crate::calling::call_for;
 use crate::member::Member;
 use crate::post::Post;
 use crate::pumps::wait_for_packets;
 use crate::resident::Resident;
 use crate::route::Route;
-use crate::sessions::has_code;
 use crate::timekeeper::Timekeeper;
+use crate::under_lock::{Hold, UnderLock};
 use std::alloc::Global;
 use std::sync::atomic::AtomicBool;
 use std::sync::{Mutex, Wait};
 use std::time::Clock;
-use xcp_framing::{Station, StationError};
-use xcp_locked::{LockedError, Name};
+use xcp_framing::{Batch, ServeError, Station, StationError};
+use xcp_locked::Name;
 use xcp_packet::Packet;
 use xcp_slave::{Asked, Told};
-
-/// The code of GET_DAQ_CLOCK.
-const GET_DAQ_CLOCK: u8 = 0xDC;
 
 /// A slave that stays, under its lock, the post of its keeper, and who tells the slave the time, where its layout has a clock. Who takes the
 /// lock of the latter has the slave's already.
@@ -119,26 +115,29 @@ impl<'a, N: Name, M: Route, R: Wait + Clock> Station for Seated<'a, N, M, R> {
         self.shared.post.wait_for_keeper(self.rt);
         // What grows is made before the lock is taken. Where there is no memory, submit says so.
         self.member.reserve();
-        let mut resident = self.shared.lock.lock(self.rt);
-        if has_code(GET_DAQ_CLOCK, asked) {
-            self.shared
-                .tell_time(self.rt, self.rt, self.alloc, &mut resident);
-        }
-        let called = call_for(
-            self.rt,
-            self.alloc,
-            &mut resident,
-            &self.shared.post,
-            &mut self.member,
-            self.seat,
-            asked,
-            packet,
-        );
-        match called {
-            Ok(told) => Ok(told),
-            Err(LockedError::Memory) => Err(StationError::Memory),
-            Err(_) => Err(StationError::JournalFull),
-        }
+        let mut hold = Hold::take(self.rt, self.alloc, self.shared, self.seat);
+        let mut held = UnderLock {
+            hold: &mut hold,
+            member: &mut self.member,
+        };
+        held.submit_into(asked, packet)
+    }
+
+    /// Drains what waits for this seat, under one hold of the lock. Before that it waits until the keeper is not far behind.
+    fn drain_into(
+        &mut self,
+        batch: &mut Batch,
+        alloc: Global,
+        most: u8,
+    ) -> Result<u64, ServeError> {
+        self.shared.post.wait_for_keeper(self.rt);
+        self.member.reserve();
+        let mut hold = Hold::take(self.rt, self.alloc, self.shared, self.seat);
+        let mut held = UnderLock {
+            hold: &mut hold,
+            member: &mut self.member,
+        };
+        held.drain_into(batch, alloc, most)
     }
 
     /// How many packets wait for this seat: none, where the session isn't its own. It may be another's at once.

@@ -233,7 +233,7 @@ fn run_tasks<
         post: &shared.post,
         halt,
     };
-    let none: Vec<(Idle, Idle, Idle)> = Vec::new(alloc);
+    let none: Vec<(Idle, Idle)> = Vec::new(alloc);
     let (_none, rested, kept) = run_crews_and(rt, alloc, none, tickers, keeping)?;
     Ok((rested, kept))
 }

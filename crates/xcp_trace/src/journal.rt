@@ -87,7 +87,7 @@ impl Journal {
         let mut clock = [0; TIME_BYTES];
         let parts = spell(asked, told, packet, &mut clock);
         self.tape
-            .push(&[caller], &parts.head, parts.asked, parts.told);
+            .push_called(caller, &parts.head, parts.asked, parts.told);
     }
 
     /// The entry at an index from 0 on, if there is one. It passes over those before it.

@@ -2,6 +2,7 @@
 ghost use Rattle.std.specs.Prelude.{◌≡◌, ◌≤◌, ◌<◌, ◌+◌, [], ◌∷◌, ◌++◌, length, Some, None, IfOk, OnOk, OnErr, MatchOption, slice_get, vec_len, vec_capacity};
 ghost use Rattle.xcp_trace.specs.Tape.{behind_string, framed, length_at, spelt, string_at};
 
+use crate::spelling::HEAD_BYTES;
 use std::alloc::{AllocError, Global};
 use std::marker::Model;
 use std::mem;
@@ -64,16 +65,55 @@ impl Tape {
         self.bytes.reserve(LENGTH_BYTES + most)
     }
 
-    /// Puts a string behind the others, of which these are the parts. It takes no memory.
-    pub fn push(&mut self, first: &[u8], second: &[u8], third: &[u8], fourth: &[u8])
-        requires short { length first.now + length second.now + length third.now + length fourth.now
-            < 65536 }
-        requires room { 2 + (length first.now + length second.now + length third.now
-            + length fourth.now) ≤ self.old.room }
-        ensures { self.new.strings
-            ≡ self.old.strings ++ (first.now ++ second.now ++ third.now ++ fourth.now) ∷ [] }
+    /// Puts a string behind the others. It takes no memory.
+    pub fn push_whole(&mut self, string: &[u8])
+        requires short { length string.now < 65536 }
+        requires room { 2 + length string.now ≤ self.old.room }
+        ensures { self.new.strings ≡ self.old.strings ++ string.now ∷ [] }
     {
-        put_string(&mut self.bytes, first, second, third, fourth);
+        self.push_parts(&[], string, &[]);
+    }
+
+    /// Puts a head and two more parts behind the others, as one string. It takes no memory.
+    pub(crate) fn push_headed(&mut self, head: &[u8; HEAD_BYTES], second: &[u8], third: &[u8])
+        requires short { length head.now + length second.now + length third.now < 65536 }
+        requires room { 2 + (length head.now + length second.now + length third.now)
+            ≤ self.old.room }
+        ensures { self.new.strings
+            ≡ self.old.strings ++ (head.now ++ second.now ++ third.now) ∷ [] }
+    {
+        self.push_parts(head, second, third);
+    }
+
+    /// Puts a caller's number, a head and two more parts behind the others, as one string. It takes no memory.
+    pub(crate) fn push_called(
+        &mut self,
+        caller: u8,
+        head: &[u8; HEAD_BYTES],
+        second: &[u8],
+        third: &[u8],
+    )
+        requires short { 1 + length head.now + length second.now + length third.now < 65536 }
+        requires room { 2 + (1 + length head.now + length second.now + length third.now)
+            ≤ self.old.room }
+        ensures { self.new.strings
+            ≡ self.old.strings ++ (caller ∷ [] ++ head.now ++ second.now ++ third.now) ∷ [] }
+    {
+        let called = [caller, head[0], head[1], head[2], head[3], head[4], head[5]];
+        self.push_parts(&called, second, third);
+    }
+
+    /// Puts a few bytes and two more parts behind the others, as one string.
+    #[inline(always)]
+    fn push_parts<const N: usize>(&mut self, few: &[u8; N], second: &[u8], third: &[u8])
+        requires few { N ≤ 8 }
+        requires short { length few.now + length second.now + length third.now < 65536 }
+        requires room { 2 + (length few.now + length second.now + length third.now)
+            ≤ self.old.room }
+        ensures { self.new.strings
+            ≡ self.old.strings ++ (few.now ++ second.now ++ third.now) ∷ [] }
+    {
+        put_string(&mut self.bytes, few, second, third);
         self.count += 1;
     }
 
@@ -103,26 +143,38 @@ impl Tape {
     }
 }
 
-/// Appends a string behind its length.
-fn put_string(bytes: &mut Vec<u8>, first: &[u8], second: &[u8], third: &[u8], fourth: &[u8])
-    requires short { length first.now + length second.now + length third.now + length fourth.now
-        < 65536 }
-    requires room { vec_len bytes.old + (2 + (length first.now + length second.now
-        + length third.now + length fourth.now)) ≤ vec_capacity bytes.old }
+/// Appends a few bytes and two more parts, as one string behind its length.
+#[inline(always)]
+fn put_string<const N: usize>(bytes: &mut Vec<u8>, few: &[u8; N], second: &[u8], third: &[u8])
+    requires few { N ≤ 8 }
+    requires short { length few.now + length second.now + length third.now < 65536 }
+    requires room { vec_len bytes.old + (2 + (length few.now + length second.now
+        + length third.now)) ≤ vec_capacity bytes.old }
     ensures { bytes.new.items
-        ≡ bytes.old.items ++ framed (first.now ++ second.now ++ third.now ++ fourth.now) }
+        ≡ bytes.old.items ++ framed (few.now ++ second.now ++ third.now) }
 {
     // In a local Vec the length stays in a register: behind the reference it would be stored with
     // each piece that is put.
     let alloc = *bytes.allocator();
     let mut local = mem::replace(bytes, Vec::new(alloc));
-    let length = first.len() + second.len() + third.len() + fourth.len();
-    put(&mut local, &(length as u16).to_le_bytes());
-    put(&mut local, first);
+    let length = N + second.len() + third.len();
+    put_few(&mut local, &(length as u16).to_le_bytes());
+    put_few(&mut local, few);
     put(&mut local, second);
     put(&mut local, third);
-    put(&mut local, fourth);
     *bytes = local;
+}
+
+/// Appends a few bytes for which there is room.
+#[inline(always)]
+fn put_few<const N: usize>(bytes: &mut Vec<u8>, few: &[u8; N])
+    requires few { N ≤ 8 }
+    requires room { vec_len bytes.old + N ≤ vec_capacity bytes.old }
+    ensures items { bytes.new.items ≡ bytes.old.items ++ few.now }
+    ensures len { vec_len bytes.new ≡ vec_len bytes.old + N }
+    ensures capacity { vec_capacity bytes.new ≡ vec_capacity bytes.old }
+{
+    let _none = put_piece::<N>(bytes, few);
 }
 
 /// Appends bytes for which there is room.

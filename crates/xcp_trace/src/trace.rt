@@ -66,7 +66,7 @@ impl Trace {
         let mut clock = [0; TIME_BYTES];
         let spelled = spell(asked, told, packet, &mut clock);
         self.tape
-            .push(&[], &spelled.head, spelled.asked, spelled.told);
+            .push_headed(&spelled.head, spelled.asked, spelled.told);
     }
 
     /// The exchange at an index from 0 on, if there is one. It passes over those before it.

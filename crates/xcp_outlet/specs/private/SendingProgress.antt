@@ -5,7 +5,8 @@ use Rattle.xcp_framing.specs.Wire.{wire, wire_from}
 use Rattle.xcp_outlet.specs.declared.message.Message.{Message}
 use Rattle.xcp_outlet.specs.declared.line.Line.{Line}
 use Rattle.xcp_outlet.specs.ChannelRule.{of}
-use Rattle.xcp_outlet.specs.OutletEnds.{all_packets, has_mark}
+use Rattle.xcp_framing.specs.CountedCalls.{Watched}
+use Rattle.xcp_outlet.specs.OutletEnds.{Taking, all_packets, has_mark}
 use Rattle.xcp_outlet.specs.Sending.{WritesPart}
 
 -- The first packets are written, and the frames of the others are held to be written together.
@@ -28,6 +29,13 @@ pub record Progress (line : Line) (taken : List Message) (before after : Option 
   pub wrote : Wrote line.broken line.flushed line.frames.sent line.frames.held (all_packets taken) before after old new
   pub reply_mark : line.replies_ended ≡ has_mark (of false taken)
   pub data_mark : line.data_ended ≡ has_mark (of true taken)
+
+-- a dispatch as contracts see it: what it has taken, how far the sending is, and the writer
+pub record DispatchValue (W : Type 0) : Type 0 where
+  pub place : ℕ
+  pub intake : Taking
+  pub line : Line
+  pub writer : Watched W
 
 -- where no write has failed, the packets that were taken are all written, and no frame waits to be
 abbrev pub NoneInHand : Line → List Message → Type 0

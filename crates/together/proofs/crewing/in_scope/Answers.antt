@@ -10,12 +10,11 @@ returns-then-both-clause-crews g c =
       all = search rules;
       each = λ i w t low.
           let k = c.join_crews-done.ensures.each i t (omega (arith, len, low)) in
-          let stands = subst (CrewStands (slice_index_or c.args.crews.items i w)) (sym k.three_is) (all.each i w k.three low) in
+          let stands = subst (CrewStands (slice_index_or c.args.crews.items i w)) (sym k.two_is) (all.each i w k.two low) in
           let gave = slice_index_or c.join_crews-done.result.items i t in
           record {
             first = subst (λ x. g.A.Work.gives x gave.0) stands.first k.kept.first;
             second = subst (λ x. g.B.Work.gives x gave.1) stands.second k.kept.second;
-            third = subst (λ x. g.C.Work.gives x gave.2) stands.third k.kept.third;
           };
     }
 

@@ -16,7 +16,7 @@ loop-crew-preserved g c =
       (λ k d below. let h = was.1 (k + 1) d in grind rules),
       (λ k w h below. below_more (λ i. CrewStands (get_or crews i w) (get_or (vec_items c.push.new.self) i h)) stand
           (λ i low. subst (CrewStands (get_or crews i w)) (sym (places.0 i h low)) (was.2 i w h low))
-          (subst (CrewStands (get_or crews stand w)) (sym (places.1 h (search rules))) (subst (λ x. CrewStands x c.in-Some-start_crew.three) (next w) c.in-Some-start_crew.ensures)) k (omega arith)),
+          (subst (CrewStands (get_or crews stand w)) (sym (places.1 h (search rules))) (subst (λ x. CrewStands x c.in-Some-start_crew.two) (next w) c.in-Some-start_crew.ensures)) k (omega arith)),
       search rules,
     )
 

@@ -3,7 +3,7 @@ use Rattle.std.proofs.lemmas.Bool.{false≢true}
 use Rattle.xcp_framing.proofs.ExchangeLemmas.{passed_on}
 use Rattle.xcp_framing.proofs.StreamLemmas.{nothing_held, reader_goes_on, ends_for}
 use Rattle.xcp_framing.proofs.ReadSizeLemmas.{no_read, one_read_more}
-use Rattle.xcp_framing.specs.Serve.{IsStreamRead}
+use Rattle.xcp_framing.specs.Serve.{IsReadOf}
 use Rattle.xcp_framing.proofs.AnsweredStreamLemmas.{along_start, along_more, streams_read, streams_all, streams_truncated, streams_part, streams_held}
 use Rattle.xcp_framing.proofs.passage.answer_stream.Goals as goal
 
@@ -12,13 +12,13 @@ loop-turn-init g c =
     record {
       along = rw (c.new-framer.ensures) (along_start g.A.Answerer.answers c.requires.packets.none _ _ _);
       rests = c.requires.rests;
-      size = c.requires.size;
+      size = refl;
       limit = rw (c.new-framer.ensures) refl;
       bound = omega (arith, c.requires.sent);
       few = omega arith;
       calls = omega arith;
       failures = refl;
-      reads = no_read IsStreamRead _;
+      reads = no_read (IsReadOf _) _;
     }
 
 pub returns-in_default-clause-streams : goal.returns-in_default-clause-streams
@@ -65,7 +65,7 @@ loop-turn-preserved g c =
     let handed = c.requires.handing_on.handed _ _ _ _ _ _ answered c.in_ok-hand_on.ensures.hands in
     let ends = rw (c.loop-turn.invariant.limit) at c.in_ok-answered.ensures.ends in
     let count = rw (c.loop-turn.invariant.limit) at c.in_ok-answered.ensures.counts in
-    let piece : length (take c.in-Ok.length c.read_next.new.buffer) ≤ 512 = omega (arith, c.in-Ok.ensures.bound.0, length-take c.in-Ok.length c.read_next.new.buffer, c.read_next.auto.buffer, c.loop-turn.invariant.size) in
+    let piece : length (take c.in-Ok.length c.read_next.new.buffer) ≤ 4096 = omega (arith, c.in-Ok.ensures.bound.0, length-take c.in-Ok.length c.read_next.new.buffer, c.read_next.auto.buffer, c.loop-turn.invariant.size, c.requires.most) in
     record {
       along = along_more g.A.Answerer.answers c.requires.packets.more _ _ _ _ _ _ _ _ _ _ c.loop-turn.invariant.along c.in-Ok.ensures.bytes.0 c.in-Ok.ensures.gives handed ends.0 ends.1 count;
       rests = c.hand_on.ensures.rests;
@@ -75,20 +75,20 @@ loop-turn-preserved g c =
       few = omega (arith, c.in_ok-answered.ensures.few, c.loop-turn.invariant.few, piece);
       calls = omega (arith, c.in-Ok.ensures.counted.calls, c.loop-turn.invariant.calls);
       failures = c.in-Ok.ensures.counted.failures ∙ c.loop-turn.invariant.failures;
-      reads = one_read_more IsStreamRead _ _ _ _ c.loop-turn.invariant.reads c.in-Ok.ensures.asked c.loop-turn.invariant.size;
+      reads = one_read_more (IsReadOf _) _ _ _ _ c.loop-turn.invariant.reads c.in-Ok.ensures.asked c.loop-turn.invariant.size;
     }
 
 pub returns-in_default-clause-sizes : goal.returns-in_default-clause-sizes
-returns-in_default-clause-sizes g c = one_read_more IsStreamRead _ _ _ _ c.loop-turn.invariant.reads c.in_default.ensures.asked c.loop-turn.invariant.size
+returns-in_default-clause-sizes g c = one_read_more (IsReadOf _) _ _ _ _ c.loop-turn.invariant.reads c.in_default.ensures.asked c.loop-turn.invariant.size
 
 pub returns-then-inside-clause-sizes : goal.returns-then-inside-clause-sizes
-returns-then-inside-clause-sizes g c = one_read_more IsStreamRead _ _ _ _ c.loop-turn.invariant.reads c.in-Ok.ensures.asked c.loop-turn.invariant.size
+returns-then-inside-clause-sizes g c = one_read_more (IsReadOf _) _ _ _ _ c.loop-turn.invariant.reads c.in-Ok.ensures.asked c.loop-turn.invariant.size
 
 pub returns-then-length-eq0-clause-sizes : goal.returns-then-length-eq0-clause-sizes
-returns-then-length-eq0-clause-sizes g c = one_read_more IsStreamRead _ _ _ _ c.loop-turn.invariant.reads c.in-Ok.ensures.asked c.loop-turn.invariant.size
+returns-then-length-eq0-clause-sizes g c = one_read_more (IsReadOf _) _ _ _ _ c.loop-turn.invariant.reads c.in-Ok.ensures.asked c.loop-turn.invariant.size
 
 pub returns-in_err-hand_on-clause-sizes : goal.returns-in_err-hand_on-clause-sizes
-returns-in_err-hand_on-clause-sizes g c = one_read_more IsStreamRead _ _ _ _ c.loop-turn.invariant.reads c.in-Ok.ensures.asked c.loop-turn.invariant.size
+returns-in_err-hand_on-clause-sizes g c = one_read_more (IsReadOf _) _ _ _ _ c.loop-turn.invariant.reads c.in-Ok.ensures.asked c.loop-turn.invariant.size
 
 pub returns-in_err-answered-clause-sizes : goal.returns-in_err-answered-clause-sizes
-returns-in_err-answered-clause-sizes g c = one_read_more IsStreamRead _ _ _ _ c.loop-turn.invariant.reads c.in-Ok.ensures.asked c.loop-turn.invariant.size
+returns-in_err-answered-clause-sizes g c = one_read_more (IsReadOf _) _ _ _ _ c.loop-turn.invariant.reads c.in-Ok.ensures.asked c.loop-turn.invariant.size

@@ -1,7 +1,7 @@
 use Rattle.std.proofs.Common.{rules, refl}
 use Rattle.xcp_framing.proofs.PutPacketLemmas.{puts_behind, puts_before, puts_handed, puts_held, by_memory, by_of, refused_by}
 use Rattle.xcp_framing.proofs.ReadSizeLemmas.{no_read}
-use Rattle.xcp_framing.specs.Serve.{IsStreamRead}
+use Rattle.xcp_framing.specs.ServeBy.{IsHearingRead}
 use Rattle.xcp_framing.proofs.serving_by.serve_by.Goals as goal
 
 pub answer_stream-requires-clause-packets : goal.answer_stream-requires-clause-packets
@@ -30,7 +30,7 @@ pub returns-clause-refused : goal.returns-clause-refused
 returns-clause-refused g c = refused_by _ _ _ _ _ _ _ _ _ _ _ _ _ _ c.answer_stream.ensures.streams
 
 pub returns-in_default-clause-sizes : goal.returns-in_default-clause-sizes
-returns-in_default-clause-sizes g c = no_read IsStreamRead _
+returns-in_default-clause-sizes g c = no_read IsHearingRead _
 
 pub returns-then-is_err-clause-sizes : goal.returns-then-is_err-clause-sizes
-returns-then-is_err-clause-sizes g c = no_read IsStreamRead _
+returns-then-is_err-clause-sizes g c = no_read IsHearingRead _

@@ -1,4 +1,4 @@
-use Rattle.std.proofs.Common.{[], refl, inl, sym, ◌∙◌, append-nil}
+use Rattle.std.proofs.Common.{rules, [], refl, inl, sym, ◌∙◌, append-nil}
 use Rattle.xcp_locked.specs.Tasks.{duty}
 use Rattle.xcp_seats.proofs.TickLemmas.{closes_as, raised_of, took_of}
 use Rattle.xcp_seats.proofs.ticker.cycle.Goals as goal
@@ -18,6 +18,7 @@ returns-then-task-eq0 g c =
       grown = c.store.ensures.stored.1;
       closes = closes_as p c.store.ensures.stored.0 c.if-task-eq0.true c.store.ensures.stored.2;
       took = took_of g.N.Name.layout _ c.args.member.now.number _ _ _ _ _ _ _ _ c.raise.ensures.told c.take_image.ensures.seen c.take_image.ensures.took;
+      whole = search rules;
     }
 
 pub returns-else-task-eq0 : goal.returns-else-task-eq0
@@ -33,4 +34,5 @@ returns-else-task-eq0 g c =
       grown = sym (append-nil c.raise.new.member.receipts);
       closes = inl refl;
       took = took_of g.N.Name.layout _ c.args.member.now.number _ _ _ _ _ _ _ _ c.raise.ensures.told c.take_image.ensures.seen c.take_image.ensures.took;
+      whole = search rules;
     }

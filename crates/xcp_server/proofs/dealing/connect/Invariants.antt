@@ -1,7 +1,8 @@
 use Rattle.std.specs.Prelude.{◌≡◌, ◌+◌, ◌≤◌, ◌++◌, map, length, vec_len, vec_capacity}
 use Rattle.std.specs.Vec.Iter.{into_iter_items, into_iter_len}
-use Rattle.std.specs.List.{AllZip}
+use Rattle.std.specs.List.{AllByRecursion, AllZip}
 use Rattle.xcp_server.specs.private.ConnectionParts.{IsConnectionWithin}
+use Rattle.xcp_server.specs.private.Dispatching.{IsUnput}
 use Rattle.xcp_server.proofs.dealing.connect.Given as goal
 
 abbrev pub invariant-loop-stream : goal.invariant-loop-stream
@@ -16,3 +17,7 @@ invariant-loop-stream g l =
     × (map (λ c. c.1.station.caller) l.connections.items ++ into_iter_items l.pumps ≡ into_iter_items l.fn.pumps)
     × (into_iter_len rest ≤ length (into_iter_items l.pumps))
     × (l.place + into_iter_len rest ≡ length l.stops)
+    × (l.place + into_iter_len rest ≡ length l.dispatches)
+    × (map (λ c. c.0.replies.outlet) l.connections.items ++ map (λ e. e.0.outlet) (into_iter_items l.ends) ≡ map (λ e. e.0.outlet) (into_iter_items l.initial.ends))
+    × (into_iter_len rest ≡ length (into_iter_items l.ends))
+    × AllByRecursion IsUnput (into_iter_items l.ends)

@@ -55,6 +55,7 @@ returns-clause-way g c = first_way_of c.args.cycles c.args.chapter 0 c.in_ok-wor
 pub returns-clause-dealt : goal.returns-clause-dealt
 returns-clause-dealt g c = record {
   connections = c.in_ok-connections.ensures.each;
+  outlets_are = c.in_ok-connections.ensures.outlets;
   workers = c.in_ok-workers.workers.items;
   hired = search rules;
   fresh = c.in_ok-workers.ensures.fresh;
