@@ -86,9 +86,10 @@ def packed(data):
 def documents():
     """The documents: those for who uses the program or the library, with what their links name of docs/."""
     found = {"README.md": read("README.md"), "CHANGELOG.md": read("CHANGELOG.md"), "copyright": LICENCE.encode()}
-    for name in sorted(os.listdir(os.path.join(ROOT, "docs"))):
-        if name.endswith((".md", ".svg")):
-            found[f"docs/{name}"] = read(f"docs/{name}")
+    for folder in ("docs", "docs/promises"):
+        for name in sorted(os.listdir(os.path.join(ROOT, folder))):
+            if name.endswith((".md", ".svg")):
+                found[f"{folder}/{name}"] = read(f"{folder}/{name}")
     for name, path in EXAMPLES.items():
         found[f"examples/{name}"] = read(path)
     for name in sorted(os.listdir(os.path.join(ROOT, ENGINE))):

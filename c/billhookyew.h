@@ -1,6 +1,6 @@
 /* Billhookyew: the proved XCP slave, for programs in C and C++.
  *
- * What the library promises of each call stands in docs/PROMISES.md, clause by clause. It is proved for calls that keep
+ * What the library promises of each call stands in docs/promises/xcp_c.md, clause by clause. It is proved for calls that keep
  * to what stands here: no proof sees the C side.
  *
  * ALL CALLS
@@ -49,8 +49,8 @@ typedef struct { void *at; } xcp_framer;
 
 enum {
     XCP_TEXT_BYTES = 65536,  /* the longest text of a layout file */
-    XCP_STORED_BYTES = 2126, /* the longest file of stored pages */
-    XCP_IMAGE_BYTES = 2040,  /* an image: the controller's pages of all segments, in order, then zeros */
+    XCP_STORED_BYTES = 2126, /* the longest file of stored pages; 1,048,710 for a layout of class = "large" */
+    XCP_IMAGE_BYTES = 2040,  /* an image: the controller's pages of all segments, in order, then zeros; of class = "large": xcp_image_bytes */
     XCP_READERS = 6,         /* readers of one slave */
     XCP_SIGNAL_BYTES = 64,   /* the most signals of an event */
     XCP_PACKET_BYTES = 255,  /* the longest packet */
@@ -192,6 +192,7 @@ bool xcp_hangup(xcp_slave *slave, xcp_answer *answer);       /* the tool's conne
 bool xcp_time(xcp_slave *slave, uint64_t ticks, xcp_answer *answer);
 
 /* 0 where the handle is closed. */
+size_t xcp_image_bytes(xcp_slave *slave); /* an image: XCP_IMAGE_BYTES, or of class = "large" up to 1,048,576 bytes */
 uint8_t xcp_max_cto(xcp_slave *slave); /* the longest command, and packet that answers one: 8 to 255 bytes */
 uint8_t xcp_pending(xcp_slave *slave); /* packets that wait for xcp_drain: 0 to 64 */
 uint8_t xcp_held(xcp_slave *slave);    /* buffers beside the current one that readers hold: 0 to 6 */

@@ -20,7 +20,7 @@ static void each_is_refused(void) {
     want(!xcp_time(&slave, 1, &answer), "xcp_time");
     want(!xcp_hangup(&slave, &answer), "xcp_hangup");
     want(!xcp_time(&slave, 5, &answer), "xcp_time");
-    want(xcp_max_cto(&slave) == 0 && xcp_pending(&slave) == 0 && xcp_held(&slave) == 0, "what is asked");
+    want(xcp_max_cto(&slave) == 0 && xcp_pending(&slave) == 0 && xcp_held(&slave) == 0 && xcp_image_bytes(&slave) == 0, "what is asked");
     want(xcp_reader_open(&slave, &reader) == XCP_SLAVE_CLOSED, "xcp_reader_open");
     want(!xcp_acquire(&reader), "xcp_acquire");
     want(!xcp_read(&reader, 0, out, 4) && out[0] == 1 && out[3] == 4, "xcp_read");

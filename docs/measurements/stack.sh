@@ -1,7 +1,7 @@
 #!/bin/bash
 # Tells how much stack the program needs (kB, by halves): `replay` with each layout file that is shipped, and with the
 # deepest keys, arrays and tables that the reader accepts; and `serve` with the shipped ones, six tasks that cut chapters,
-# and two tools that connect.
+# and two tools that connect, and so with `--stay`, where it is told to stop.
 here=$(cd "$(dirname "$0")/../.." && pwd)
 room=$(mktemp -d)
 trap 'rm -rf "$room"' EXIT
@@ -30,11 +30,12 @@ for file in "$here/crates/xcpd/data/L.toml" "$here/crates/xcpd/data/engine.toml"
   echo "$(basename "$file"): $high kB"
 done
 
-# Whether `serve` ends by itself so, with its tools answered or not.
+# Whether `serve` ends by itself so, with these words, with its tools answered or not.
 serves() {
   local port=$((20000 + RANDOM % 20000)) process status
-  (ulimit -s "$2" && exec timeout 10 "$program" serve --config "$1" --port $port --tools 2 --tasks 6 --cycles 20 --chapter 5) \
-    >"$room/out" 2>/dev/null &
+  : >"$room/out" # what it said with another stack counts for nothing
+  (ulimit -s "$2" && exec timeout 10 "$program" serve --config "$1" --port $port --tools 2 --tasks 6 "${@:3}") \
+    >"$room/out" 2>/dev/null < <(sleep 1 && echo stop) &
   process=$!
   for _ in $(seq 60); do
     if grep -q listening "$room/out" || ! kill -0 $process 2>/dev/null; then break; fi
@@ -48,12 +49,16 @@ serves() {
   [ $status -lt 124 ]
 }
 
-for file in "$here/crates/xcpd/data/L.toml" "$here/crates/xcpd/data/engine.toml"; do
-  low=16 high=8192
-  serves "$file" $high 2>/dev/null || { echo "serve, $(basename "$file"): more than $high kB"; continue; }
-  while [ $((high - low)) -gt 8 ]; do
-    middle=$(((low + high) / 2))
-    if serves "$file" $middle 2>/dev/null; then high=$middle; else low=$middle; fi
+for words in "--cycles 20 --chapter 5" --stay; do
+  for file in "$here/crates/xcpd/data/L.toml" "$here/crates/xcpd/data/engine.toml"; do
+    name="serve $words, $(basename "$file")" low=16 high=8192
+    # shellcheck disable=SC2086 # several words
+    serves "$file" $high $words 2>/dev/null || { echo "$name: more than $high kB"; continue; }
+    while [ $((high - low)) -gt 8 ]; do
+      middle=$(((low + high) / 2))
+      # shellcheck disable=SC2086
+      if serves "$file" $middle $words 2>/dev/null; then high=$middle; else low=$middle; fi
+    done
+    echo "$name: $high kB"
   done
-  echo "serve, $(basename "$file"): $high kB"
 done

@@ -2,7 +2,8 @@
 //! has them. Words have their low byte first.
 ghost use Rattle.std.specs.Prelude.{◌+◌, ◌≤◌};
 
-pub type Image = [u8; 2040];
+/// The bytes of both segments.
+pub type Image = [u8; 38];
 
 /// How long an injector is to be open at a pressure (kPa), in microseconds: the map's value, corrected, and the time
 /// that an injector takes to open.
@@ -41,7 +42,7 @@ fn point_before(image: &Image, pressure: f64) -> usize
 }
 
 fn word(image: &Image, at: usize) -> f64
-    requires { at + 2 ≤ 2040 }
+    requires { at + 2 ≤ 38 }
 {
     f64::from(u16::from_le_bytes([image[at], image[at + 1]]))
 }

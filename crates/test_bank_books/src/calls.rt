@@ -30,7 +30,7 @@ pub fn submitted<N: Name>(
 
 /// What a reader holds, whole, if it holds something.
 fn held<N: Name>(reader: &mut Reader<N>) -> Option<[u8; IMAGE_BYTES]> {
-    if !reader.holds() {
+    if !reader.holds() || reader.size() != IMAGE_BYTES {
         return None;
     }
     let mut image = [0xEE; IMAGE_BYTES];

@@ -161,6 +161,9 @@ impl<N: Name> Opened<N> {
     /// The ECU image, and how many calls the open chapter has.
     fn image(&mut self, alloc: Global) -> Said {
         let mut image = [0; IMAGE_BYTES];
+        if self.locked.slave().layout().image_size() != IMAGE_BYTES {
+            return Ok(None);
+        }
         let place = self.locked.image(&mut image);
         let image = image_text(alloc, &image)?;
         Ok(Some(format!(in alloc; "{image} at {place}")?))

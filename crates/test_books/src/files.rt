@@ -65,7 +65,7 @@ fn audited(
     lines: bool,
 ) -> Result<String, Trouble> {
     let text = section.layout()?;
-    let a2l = a2l_of(alloc, text)?;
+    let a2l = a2l_of(alloc, text, &[])?;
     let layout = layout_stored(alloc, text, a2l, section.pages)?;
     let mut reader = Watched::new(file);
     let mut printer = Printer::new(alloc, Vec::new(alloc));

@@ -33,7 +33,7 @@ fn described(
     transport: Transport,
 ) -> Result<String, AllocError> {
     let mut writer = Watched::new(Vec::new(alloc));
-    let ended = describe(alloc, file, host, port, transport, &mut writer);
+    let ended = describe(alloc, file, &[], host, port, transport, &mut writer);
     text_of(alloc, writer.into_inner().as_slice(), ended)
 }
 
@@ -115,7 +115,7 @@ fn is_otherwise(findings: &Findings, lines: &str) -> bool {
 /// refuses the file otherwise than it says, how that does, in lines behind its own.
 pub fn check_of(alloc: Global, file: &[u8], between: char) -> Result<String, Trouble> {
     let mut writer = Watched::new(Vec::new(alloc));
-    let findings = check(alloc, file, &mut writer)?;
+    let findings = check(alloc, file, &[], &mut writer)?;
     let status = findings.status();
     let ended = Ok::<(), Fault>(());
     let lines = text_of(alloc, writer.into_inner().as_slice(), ended)?;

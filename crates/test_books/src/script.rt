@@ -50,7 +50,7 @@ pub fn replayed(
 ) -> Result<String, Trouble> {
     let mut reader = Watched::new(script);
     let mut writer = Watched::new(Vec::new(alloc));
-    let ended = match a2l_of(alloc, layout) {
+    let ended = match a2l_of(alloc, layout, &[]) {
         Ok(a2l) => replay(alloc, layout, a2l, pages, &mut reader, &mut writer, TURNS),
         Err(fault) => Err(fault),
     };
@@ -67,13 +67,13 @@ pub fn replayed(
 /// The layout with which the slave of a part begins.
 pub fn begun(alloc: Global, section: &Section<'_>) -> Result<Layout, Trouble> {
     let text = section.layout()?;
-    let a2l = a2l_of(alloc, text)?;
+    let a2l = a2l_of(alloc, text, &[])?;
     Ok(layout_stored(alloc, text, a2l, section.pages)?)
 }
 
 /// The ECU image of a slave in hex. Its last zeros are left out, but for those that so many digits would write.
 fn image_of(alloc: Global, slave: &Slave, digits: usize) -> Result<String, Trouble> {
-    let mut image = [0; 2040];
+    let mut image = vec![in alloc; 0; slave.layout().image_size()]?;
     slave.image(&mut image);
     let all = hex::encode_upper(alloc, image.as_slice())?;
     let told = all.as_str().trim_end_matches('0').len().max(digits);

@@ -4,7 +4,8 @@ ghost use Rattle.std.specs.Io.KnownBytes.{Consumes, IsAtEnd};
 ghost use Rattle.xcp_memory.specs.Layout.{A2lFileValue};
 ghost use Rattle.xcp_slave.specs.SlaveValue.{SlaveValue};
 ghost use Rattle.xcp_trace.specs.declared.Entry.{Entry};
-ghost use Rattle.xcp_program.specs.Beginning.{Begins};
+ghost use Rattle.xcp_config.specs.TableLayout.{File};
+ghost use Rattle.xcp_program.specs.Beginning.{BeginsWith};
 ghost use Rattle.xcp_record.specs.Audit.{Audits, Hears, HoldsRun, SaysSettled};
 ghost use Rattle.xcp_record.specs.declared.Ending.{Ending};
 ghost use Rattle.xcp_record.specs.declared.Roster.{Roster};
@@ -40,7 +41,7 @@ pub fn print_audit<R: Read, W: Write>(
     printer: &mut Printer<W>,
     lines: bool,
 ) -> Result<(), Fault>
-    requires begins { (a2l : Option A2lFileValue) × (flash : Option (List ℕ)) × Begins config.now a2l flash layout }
+    requires begins { (files : List File) × (a2l : Option A2lFileValue) × (flash : Option (List ℕ)) × BeginsWith files config.now a2l flash layout }
     requires head { IfSome (R.remaining reader.old.inner) (λ all. head.now ≡ take 38 all) }
     // Memory may be short before anything is read or printed.
     ensures ends { ((result ≡ Err Fault.Memory) × (reader.new ≡ reader.old) × (printer.new ≡ printer.old))

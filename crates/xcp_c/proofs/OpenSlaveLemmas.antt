@@ -1,14 +1,18 @@
--- The pages that are kept beside a slave have its segments' sizes, and so their file has its room, and at most 2,126 bytes.
-use Rattle.std.proofs.Common.{◌≡◌, ◌∙◌, ◌+◌, ◌*◌, ◌≤◌, ℕ, List, [], ◌∷◌, length, map, sum_by, arith, sym, subst}
+-- The pages that are kept beside a slave have its segments' sizes, and so their file has its room, and no more bytes than its class has.
+use Rattle.std.proofs.Common.{◌≡◌, ◌∙◌, ◌+◌, ◌*◌, ◌≤◌, ℕ, List, [], ◌∷◌, length, map, sum_by, arith, refl, sym, subst}
 use Rattle.std.proofs.lemmas.List.Sums.{sum_by-cons}
 use Rattle.xcp_flash.specs.FlashFile.{file_size, pages_size}
 use Rattle.xcp_flash.specs.References.{AreReferences}
+use Rattle.xcp_memory.specs.ClassLimits.{limits_of}
+use Rattle.xcp_memory.specs.declared.class.Class.{Class}
+use Rattle.xcp_memory.specs.declared.class.Class.TheVariants.{Papers, Large}
 use Rattle.xcp_memory.specs.Layout.{IsLayout, LayoutValue, SegmentValue}
 use Rattle.xcp_slave.specs.SlaveValue.{SlaveValue, layout_of}
 use Rattle.xcp_slave.specs.Step.{Answers}
 use Rattle.xcp_slave.specs.Outcomes.{Answer}
 use Rattle.xcp_slave.specs.declared.request.Request.{Request}
 use Rattle.xcp_slave.proofs.LayoutKeptLemmas.{answers-layout}
+use Rattle.xcp_c.specs.StoredPages.{most_stored}
 
 -- no request changes the sizes
 pub still_sized : (v : SlaveValue) (q : Request) (a : Answer) (w : SlaveValue) (pages : List (List ℕ)) → Answers v q a w → AreReferences pages (layout_of v) → AreReferences pages (layout_of w)
@@ -25,10 +29,15 @@ pages_bytes (s ∷ segments) =
     let first = sum_by-cons (λ (x : SegmentValue). length x.bytes) s segments in
     omega (arith, rest, first)
 
--- at most four pages, with 2,040 bytes in all
-pub most_bytes : (pages : List (List ℕ)) (l : LayoutValue) → IsLayout l → AreReferences pages l → file_size (map (λ page. length page) pages) ≤ 2126
+-- a head, a length for each page, and the bytes of all
+most_by : (class : Class) → most_stored class ≡ 70 + 4 * (limits_of class).segments + (limits_of class).bytes
+most_by Papers = refl
+most_by Large = refl
+
+-- at most as many pages as the class has segments, with as many bytes in all
+pub most_bytes : (pages : List (List ℕ)) (l : LayoutValue) → IsLayout l → AreReferences pages l → file_size (map (λ page. length page) pages) ≤ most_stored l.class
 most_bytes pages l lawful sized =
     let bytes = pages_bytes l.segments in
     let count = lawful.segments_most in
     let total = lawful.total in
-    subst (λ (sizes : List ℕ). file_size sizes ≤ 2126) (sym sized) (omega (arith, bytes, count, total))
+    subst (λ (sizes : List ℕ). file_size sizes ≤ most_stored l.class) (sym sized) (omega (arith, bytes, count, total, most_by l.class))

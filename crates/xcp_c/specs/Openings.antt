@@ -13,19 +13,20 @@ use Rattle.xcp_flash.specs.FlashFile.{file_of}
 use Rattle.xcp_flash.specs.References.{AreReferences, with_references}
 use Rattle.xcp_flash.specs.Restoring.{IsFaultOfBoth, IsRestoredByEither}
 use Rattle.xcp_flash.specs.declared.fault.FlashError.{FlashError}
+use Rattle.xcp_memory.specs.EcuImage.{image_size}
 use Rattle.xcp_memory.specs.Layout.{LayoutValue}
-use Rattle.xcp_slave.specs.SlaveValue.{opening}
+use Rattle.xcp_slave.specs.SlaveValue.{layout_of, opening}
 use Rattle.xcp_c.specs.Held.{IsOpen}
 use Rattle.xcp_c.specs.OpenValue.{OpenValue}
 use Rattle.xcp_c.specs.StoredPages.{number_of_stored}
 
--- What an opening by something with this SHA-256 gives: a slave with this layout at its opening, whose image of 2,040 bytes is
+-- What an opening by something with this SHA-256 gives: a slave with this layout at its opening, whose image is
 -- published, and six readers to be taken, which hold nothing.
 pub record IsOpeningBy (digest : List ℕ) (l : LayoutValue) (slave : Option OpenValue) : Type 0 where
   pub value : OpenValue
   pub is : slave ≡ Some value
   pub opened : value.controller.slave ≡ opening l
-  pub size : image_bytes value.controller.writer.bank ≡ 2040
+  pub size : image_bytes value.controller.writer.bank ≡ image_size l
   pub writer : value.controller.writer ≡ new_writer value.controller.writer.bank (image_of (opening l))
   pub six : value.controller.spare ≡ six_readers value.controller.writer.bank (image_of (opening l))
   pub digested : value.digest ≡ digest
@@ -95,14 +96,14 @@ TellsFile text file n new =
     → (n ≡ 7) ⊎ ((n ≡ 0) × IsOpening l (with_references pages l) new))
     × ((e : FlashError) → IsFaultOfBoth l (sha256 (pages_decided l)) (sha256 text) file e → (n ≡ 7) ⊎ (n ≡ number_of_stored e))
 
--- This reader of images of 2,040 bytes, which nobody had taken, is taken, and the slave is as it was.
+-- This reader of the slave's images, which nobody had taken, is taken, and the slave is as it was.
 pub record Takes (old new : Option OpenValue) (taken : ReaderEnd) : Type 0 where
   pub before : OpenValue
   pub after : OpenValue
   pub was : old ≡ Some before
   pub is : new ≡ Some after
   pub from : before.controller.spare ≡ after.controller.spare ++ taken ∷ []
-  pub size : image_bytes taken.bank ≡ 2040
+  pub size : image_bytes taken.bank ≡ image_size (layout_of before.controller.slave)
   pub same : (after.controller.slave ≡ before.controller.slave) × (after.controller.writer ≡ before.controller.writer) × (after.digest ≡ before.digest)
 
 -- a slave, each of whose readers was taken

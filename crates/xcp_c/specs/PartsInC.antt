@@ -1,6 +1,7 @@
 -- A layout as a C program says it, in a struct and without a text.
 use Rattle.std.specs.Prelude.{◌≡◌, ℕ, ℤ, pos, Bool, ◌==◌, not, List, [], ◌∷◌, map, sum_by, take, drop, if◌then◌else◌}
 use Rattle.std.specs.List.{before_first}
+use Rattle.xcp_memory.specs.declared.class.Class.TheVariants.{Papers}
 use Rattle.xcp_memory.specs.declared.clock.ClockPart.{ClockPart}
 use Rattle.xcp_memory.specs.declared.parts.EventPart.{EventPart}
 use Rattle.xcp_memory.specs.declared.parts.Parts.{Parts}
@@ -72,8 +73,9 @@ clock_in c =
     if c.clock_size == 0 then record { size = pos 0; unit = pos 0; ticks = pos 1 }
     else record { size = pos c.clock_size; unit = pos c.clock_unit; ticks = pos (or_else 1 c.clock_ticks) }
 
--- What the struct says, with these reference bytes: checksums are ADD_14 where nothing is said.
+-- What the struct says, with these reference bytes: a layout of the class of 2,040 bytes; checksums are ADD_14 where nothing is said.
 pub record Says (c : XcpParts) (reference : List ℕ) (p : Parts) : Type 0 where
+  pub class : p.class ≡ Papers
   pub id : p.id.items ≡ text_in c.id
   pub max_cto : p.max_cto ≡ pos c.max_cto
   pub max_dto : p.max_dto ≡ pos c.max_dto

@@ -1,5 +1,6 @@
 //! What a C program asks of a slave, under its lock. Nothing changes for tools.
 ghost use Rattle.std.specs.Prelude.{◌≡◌, ◌⊎◌, MatchOption, None, length};
+ghost use Rattle.xcp_memory.specs.EcuImage.{image_size};
 ghost use Rattle.xcp_slave.specs.SlaveValue.{layout_of};
 ghost use Rattle.xcp_c.specs.Requests.{Counted};
 
@@ -22,6 +23,23 @@ pub extern "C" fn xcp_max_cto(alloc: Global, slave: &mut SlaveHandle) -> u8
     let most = opened.max_cto();
     *slave = SlaveHandle::of(opened);
     most
+}
+
+/// How many bytes an image has: 2,040, or in the large class as many as the segments, rounded up to a multiple of eight; 0 where the
+/// handle owns no slave.
+#[unsafe(no_mangle)]
+pub extern "C" fn xcp_image_bytes(alloc: Global, slave: &mut SlaveHandle) -> usize
+    ensures size { MatchOption slave.old.value (result ≡ 0)
+        (λ v. result ≡ image_size (layout_of v.controller.slave)) }
+    ensures same { slave.new.value ≡ slave.old.value }
+{
+    if !slave.is_open() {
+        return 0;
+    }
+    let opened = mem::replace(slave, SlaveHandle::closed(alloc)).into_box();
+    let size = opened.image_bytes();
+    *slave = SlaveHandle::of(opened);
+    size
 }
 
 /// How many packets wait to be sent, 0 to 64: `xcp_drain` takes them. 0 where the handle owns no slave.

@@ -1,6 +1,7 @@
 //! A slave that a C program opened, and room for the file of its stored pages.
 ghost use Rattle.std.specs.Prelude.{◌≡◌, ◌<◌, ◌≤◌, [], ◌∷◌, ◌++◌, IfOk, IfSome, IsTrue, None, drop, false, length, map, vec_capacity, vec_len};
 ghost use Rattle.xcp_bank.specs.BankId.{image_bytes};
+ghost use Rattle.xcp_memory.specs.EcuImage.{image_size};
 ghost use Rattle.xcp_bank.specs.BankEnds.{new_writer, six_readers, HeldDoes};
 ghost use Rattle.xcp_controller.specs.ControllerValue.{Publishes, image_of};
 ghost use Rattle.xcp_flash.specs.FlashFile.{file_of, file_size};
@@ -10,7 +11,7 @@ ghost use Rattle.xcp_slave.specs.AskedRequest.{IsShort, request_asked};
 ghost use Rattle.xcp_slave.specs.SlaveValue.{layout_of, opening};
 ghost use Rattle.xcp_slave.specs.Step.{Answers};
 ghost use Rattle.xcp_c.specs.OpenValue.{OpenValue};
-ghost use Rattle.xcp_c.specs.StoredPages.{IsWritten, LacksRoom};
+ghost use Rattle.xcp_c.specs.StoredPages.{IsWritten, LacksRoom, most_stored};
 
 use std::alloc::{AllocError, Global};
 use std::marker::Model;
@@ -53,7 +54,7 @@ impl OpenSlave {
         digest: [u8; 32],
     ) -> Result<OpenSlave, AllocError>
         ensures slave { IfOk result (λ o. o.controller.slave ≡ opening layout) }
-        ensures size { IfOk result (λ o. image_bytes o.controller.writer.bank ≡ 2040) }
+        ensures size { IfOk result (λ o. image_bytes o.controller.writer.bank ≡ image_size layout) }
         ensures writer { IfOk result (λ o. o.controller.writer
             ≡ new_writer o.controller.writer.bank (image_of (opening layout))) }
         ensures spare { IfOk result (λ o. o.controller.spare
@@ -97,6 +98,13 @@ impl OpenSlave {
         self.controller.max_cto()
     }
 
+    /// How many bytes an image has.
+    pub(crate) fn image_bytes(&self) -> usize
+        ensures { result ≡ image_size (layout_of self.now.controller.slave) }
+    {
+        self.controller.slave().layout().image_size()
+    }
+
     /// How many packets wait to be sent.
     pub(crate) fn pending(&self) -> u8
         ensures { result ≡ length self.now.controller.slave.outbox }
@@ -115,7 +123,7 @@ impl OpenSlave {
     /// Takes one of the readers that nobody has taken yet.
     pub(crate) fn take_reader(&mut self) -> Option<Box<Reader>>
         ensures some { IfSome result (λ r. self.old.controller.spare ≡ self.new.controller.spare ++ r.value ∷ []) }
-        ensures size { IfSome result (λ r. image_bytes r.value.bank ≡ 2040) }
+        ensures size { IfSome result (λ r. image_bytes r.value.bank ≡ image_size (layout_of self.old.controller.slave)) }
         ensures none { result ≡ None → (self.old.controller.spare ≡ []) × (self.new ≡ self.old) }
         ensures same { (self.new.controller.slave ≡ self.old.controller.slave) × (self.new.controller.writer ≡ self.old.controller.writer) × (self.new.digest ≡ self.old.digest) }
     {
@@ -147,7 +155,7 @@ fn spell(slave: &Slave, digest: &[u8; 32], pages: &mut References, file: &mut Ve
     requires sized { AreReferences pages.old (layout_of slave.now) }
     requires room { file_size (map (λ page. length page) pages.old) ≤ vec_capacity file.old }
     ensures file { file.new.items ≡ file_of digest.now (kept_pages slave.now) }
-    ensures most { vec_len file.new ≤ 2126 }
+    ensures most { vec_len file.new ≤ most_stored (layout_of slave.now).class }
     ensures sized { AreReferences pages.new (layout_of slave.now) }
     ensures room { file_size (map (λ page. length page) pages.new) ≤ vec_capacity file.new }
 {

@@ -4,7 +4,7 @@ ghost use Rattle.std.specs.List.{position, position_or_len};
 ghost use Rattle.xcp_c.specs.PartsInC.{Says, bytes_said, is_zero, channel_in, channel_of, clock_in, or_else, segment_of, segments_in, segments_said, text_in};
 
 use std::alloc::{AllocError, Global};
-use xcp_memory::{ClockPart, EventPart, ExtrasPart, NO_CLOCK, Parts, SegmentPart};
+use xcp_memory::{Class, ClockPart, EventPart, ExtrasPart, NO_CLOCK, Parts, SegmentPart};
 use xcp_packet::Order;
 
 /// How many segments, and how many event channels, there is room for.
@@ -184,6 +184,7 @@ pub(crate) fn parts_of(
     let segments = segments_of(alloc, &parts.segment[..parts.segments as usize], reference)?;
     let events = channels_of(alloc, &parts.channel[..parts.channels as usize])?;
     Ok(Parts {
+        class: Class::Papers,
         id: text_of(alloc, &parts.id)?,
         max_cto: i64::from(parts.max_cto),
         max_dto: i64::from(parts.max_dto),

@@ -1,11 +1,12 @@
 -- A table with a table `clock`, and one without.
-use Rattle.std.proofs.Common.{◌≡◌, ◌++◌, Option, Some, None, sym, ap, ◌∙◌}
+use Rattle.std.proofs.Common.{◌≡◌, ◌++◌, Option, Some, None, refl, sym, ap, ◌∙◌}
 use Rattle.std.specs.Prelude.{is_some, true, false}
 use Rattle.std.specs.Option.{option_map}
 use Rattle.toml.specs.Data.{Data}
 use Rattle.xcp_memory.specs.declared.Key.TheVariants as key
 use Rattle.xcp_packet.specs.Rows.{first_holding}
 use Rattle.xcp_config.specs.declared.config_error.ConfigError.{ConfigError}
+use Rattle.xcp_config.specs.TomlValues.{optional}
 use Rattle.xcp_config.specs.TableLayout.{clock_key}
 use Rattle.xcp_config.specs.TableChecks.{table_checks, clock_key_checks, checks_of_clock, clock_checks}
 use Rattle.xcp_packet.proofs.RowTestLemmas.{holding_left, none_left}
@@ -18,6 +19,11 @@ missing f (Some x) v h e = cc
 pub present : {A : Type 0} (f : A → Data) (o : Option A) (v : Option Data) → option_map f o ≡ v → is_some o ≡ true → (d : Data) × (v ≡ Some d)
 present f None v h e = cc
 present f (Some x) v h e = (f x, sym h)
+
+-- where an optional key is there, its value is its own
+pub given : (default : Data) (v : Option Data) (d : Data) → v ≡ Some d → optional default v ≡ v
+given default None d h = cc
+given default (Some x) d h = refl
 
 -- without the table no check fails
 pub no_clock_passes : (t : Data) → clock_key t ≡ None → first_holding (clock_checks t) ≡ None

@@ -4,3 +4,5 @@ pub mod ClockLemmas
 pub mod ArrayMemberLemmas
 pub mod LimitLemmas
 pub mod TableFaultLemmas
+pub mod DataFileLemmas
+pub mod NoFileLemmas

@@ -1,5 +1,6 @@
 -- Arrays of tables.
-use Rattle.std.proofs.Common.{◌≡◌, ℕ, ◌+◌, ◌<◌, drop, get_or, true, List, [], ◌∷◌, ◌&&◌, length, map, Option, Some, refl, ap, nat_le, is_some}
+use Rattle.std.proofs.Common.{◌≡◌, ℕ, ◌+◌, ◌<◌, drop, get_or, true, List, [], ◌∷◌, ◌&&◌, length, map, min, take, Option, Some, refl, sym, ◌∙◌, ap, nat_le, is_some}
+use Rattle.std.proofs.lemmas.List.{take-map, take_min}
 use Rattle.std.specs.Option.{option_and_then}
 use Rattle.std.specs.List.{list_all}
 use Rattle.toml.specs.Data.{Data, as_array}
@@ -36,3 +37,7 @@ has_members v d ds e f = rw e (record { there = refl; array = rw f refl; members
 pub counted : (k : Key) (most : ℕ) (v : Option Data) (ds : List Data) → HasMembers v ds → first_holding (array_checks k (count_limits most k) v) ≡ first_holding (must (list_all is_table ds) (Kind k) ∷ must (nat_le 1 (length ds)) (Range k) ∷ must (nat_le (length ds) most) (TooMany k) ∷ [])
 unfolding array_checks
 counted k most v ds h = rw (h.there, h.array, h.members) refl
+
+-- the first 16 values, as data
+pub first_few : (xs : List Value) (n : ℕ) → n ≡ min 16 (length xs) → map view (take n xs) ≡ take 16 (map view xs)
+first_few xs n h = ap (λ k. map view (take k xs)) h ∙ ap (map view) (take_min 16 xs) ∙ sym (take-map view 16 xs)

@@ -1,11 +1,13 @@
 -- No check of a table tells that the text is no document, or that an allocation failed.
-use Rattle.std.proofs.Common.{◌≡◌, ◌≢◌, ℕ, Bool, true, false, ◌&&◌, List, [], ◌∷◌, ◌++◌, map, codes, Option, Some, None, refl, sym, if◌then◌else◌}
+use Rattle.std.proofs.Common.{◌≡◌, ◌≢◌, ℕ, ◌+◌, take, sum_by, Bool, true, false, ◌&&◌, List, [], ◌∷◌, ◌++◌, map, codes, Option, Some, None, refl, sym, if◌then◌else◌}
 use Rattle.std.specs.List.{list_all, flat_map, enumerate_from}
 use Rattle.toml.specs.Data.{Data, get}
+use Rattle.xcp_memory.specs.declared.Class.{Class}
 use Rattle.xcp_memory.specs.declared.Key.{Key}
 use Rattle.xcp_memory.specs.declared.Key.TheVariants as key
 use Rattle.xcp_memory.specs.declared.LayoutFault.{LayoutFault}
 use Rattle.xcp_memory.specs.declared.LayoutFault.TheVariants as limit
+use Rattle.xcp_memory.specs.ClassLimits.{limits_of}
 use Rattle.xcp_memory.specs.LayoutParts.{areas}
 use Rattle.xcp_memory.specs.Limits.{Limit, count_limits, segment_counts, event_counts, apart_limits}
 use Rattle.xcp_config.specs.declared.config_error.ConfigError.{ConfigError}
@@ -13,10 +15,10 @@ use Rattle.xcp_config.specs.declared.config_error.ConfigError.TheVariants.{Text,
 use Rattle.xcp_packet.specs.Rows.{first_holding}
 use Rattle.xcp_config.specs.Check.{Check}
 use Rattle.xcp_config.specs.FaultNumbers.{error_of}
-use Rattle.xcp_config.specs.TomlValues.{overloads}
-use Rattle.xcp_memory.specs.Limits.{text_limit}
-use Rattle.xcp_config.specs.TableLayout.{layout_in, clock_key, segments_of, events_of}
-use Rattle.xcp_config.specs.TableChecks.{text_checks, name_checks, integer_checks, data_checks, array_checks, table_checks, boolean_checks, if_there, extras_checks, checks_of_clock, clock_checks, clock_key_checks, own_checks, segment_checks, checks_in, segments_checks, place_checks, signals_checks, event_checks, events_checks, limit_check, limit_checks, checks, first_fault}
+use Rattle.xcp_config.specs.TomlValues.{classes, overloads}
+use Rattle.xcp_memory.specs.Limits.{address_limit, pages_limit, text_limit}
+use Rattle.xcp_config.specs.TableLayout.{File, Filed, file_key, address_of, size_of, pages_of, layout_in, class_of, class_in, clock_key, segments_of, events_of}
+use Rattle.xcp_config.specs.TableChecks.{text_checks, name_checks, integer_checks, data_checks, array_checks, table_checks, boolean_checks, if_there, extras_checks, checks_of_clock, clock_checks, clock_key_checks, own_checks, size_checks, name_of_file_checks, content_checks, checks_of_bytes, bytes_checks, segment_checks, checks_in, segments_checks, place_checks, signals_checks, event_checks, events_checks, limit_check, limit_checks, checks, first_fault}
 
 -- a fault of a table
 abbrev of_table : ConfigError → Bool
@@ -98,17 +100,28 @@ clock_told (Some c) = refl
 
 own_told : (t : Data) → all_of_table (own_checks t) ≡ true
 unfolding own_checks text_checks name_checks integer_checks clock_checks
-own_told t = both (extras_checks t) (clock_checks t) (extras_told t) (clock_told (clock_key t))
+own_told t = both (extras_checks t ++ clock_checks t) (name_checks key.Class classes (class_of t)) (both (extras_checks t) (clock_checks t) (extras_told t) (clock_told (clock_key t))) refl
 
-segment_told : (ss : List Data) (p : ℕ × Data) → all_of_table (checks_in ss p) ≡ true
-unfolding segment_checks integer_checks data_checks
-segment_told ss p = refl
+bytes_told : (i : ℕ) (v : Option Data) (s : Filed) → all_of_table (checks_of_bytes i v s) ≡ true
+unfolding data_checks name_of_file_checks content_checks
+bytes_told i None s = refl
+bytes_told i (Some name) s = refl
 
-segments_told : (t : Data) → all_of_table (segments_checks t) ≡ true
+segment_told : (class : Class) (ss : List Filed) (p : ℕ × Filed) → all_of_table (checks_in class ss p) ≡ true
+unfolding segment_checks integer_checks bytes_checks
+segment_told class ss (i, s) =
+    let a = integer_checks (key.Address i) (address_limit i) (get (codes "address") s.1) in
+    let b = bytes_checks i s in
+    let c = size_checks class i (sum_by size_of (take (i + 1) ss)) (address_of s.1) (size_of s) in
+    let d = integer_checks (key.Pages i) (pages_limit i) (pages_of s.1) in
+    both (a ++ b ++ c) d (both (a ++ b) c (both a b refl (bytes_told i (file_key s.1) s)) refl) refl
+
+segments_told : (files : List File) (t : Data) → all_of_table (segments_checks files t) ≡ true
 unfolding segments_checks
-segments_told t =
-    let ss = segments_of t in
-    both (array_checks key.Segment segment_counts (get (codes "segment") t)) (flat_map (checks_in ss) (enumerate_from 0 ss)) (array_told key.Segment 4 (get (codes "segment") t)) (each (checks_in ss) (segment_told ss) (enumerate_from 0 ss))
+segments_told files t =
+    let ss = segments_of files t in
+    let class = class_in t in
+    both (array_checks key.Segment (segment_counts class) (get (codes "segment") t)) (flat_map (checks_in class ss) (enumerate_from 0 ss)) (array_told key.Segment (limits_of class).segments (get (codes "segment") t)) (each (checks_in class ss) (segment_told class ss) (enumerate_from 0 ss))
 
 signals_told : (t : Data) → all_of_table (signals_checks t) ≡ true
 unfolding signals_checks table_checks place_checks integer_checks
@@ -133,21 +146,21 @@ limits_told : (ls : List Limit) → all_of_table (map limit_check ls) ≡ true
 limits_told [] = refl
 limits_told (l ∷ ls) = rw (limit_told l.1) (limits_told ls)
 
-overlaps_told : (t : Data) → all_of_table (limit_checks t) ≡ true
+overlaps_told : (files : List File) (t : Data) → all_of_table (limit_checks files t) ≡ true
 unfolding limit_checks
-overlaps_told t = limits_told (apart_limits (areas (layout_in t)))
+overlaps_told files t = limits_told (apart_limits (areas (layout_in files t)))
 
-told : (t : Data) → all_of_table (checks t) ≡ true
+told : (files : List File) (t : Data) → all_of_table (checks files t) ≡ true
 unfolding checks
-told t =
-    both (own_checks t ++ segments_checks t ++ signals_checks t ++ events_checks t) (limit_checks t)
-    (both (own_checks t ++ segments_checks t ++ signals_checks t) (events_checks t)
-    (both (own_checks t ++ segments_checks t) (signals_checks t)
-    (both (own_checks t) (segments_checks t) (own_told t) (segments_told t))
+told files t =
+    both (own_checks t ++ segments_checks files t ++ signals_checks t ++ events_checks t) (limit_checks files t)
+    (both (own_checks t ++ segments_checks files t ++ signals_checks t) (events_checks t)
+    (both (own_checks t ++ segments_checks files t) (signals_checks t)
+    (both (own_checks t) (segments_checks files t) (own_told t) (segments_told files t))
     (signals_told t))
     (events_told t))
-    (overlaps_told t)
+    (overlaps_told files t)
 
 -- no table is refused as no document
-pub not_text : (t : Data) → first_fault t ≢ Some Text
-not_text t h = let bad : false ≡ true = first_told (checks t) Text (told t) h in cc
+pub not_text : (files : List File) (t : Data) → first_fault files t ≢ Some Text
+not_text files t h = let bad : false ≡ true = first_told (checks files t) Text (told files t) h in cc

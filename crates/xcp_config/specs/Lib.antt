@@ -4,4 +4,5 @@ pub mod TomlValues
 pub mod TableChecks
 pub mod TableLayout
 pub mod ConfigText
+pub mod ConfigLaws
 pub mod private

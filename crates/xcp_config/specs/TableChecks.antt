@@ -1,9 +1,10 @@
 -- The layout of a table: the checks of a configuration's table, in the order in which they are made. A key that isn't named here
 -- is ignored.
-use Rattle.std.specs.Prelude.{ℕ, ℤ, ◌+◌, List, [], ◌∷◌, ◌++◌, length, map, sum_by, take, codes, Option, Some, None, is_some, not, ◌==◌}
+use Rattle.std.specs.Prelude.{ℕ, ℤ, ◌+◌, List, [], ◌∷◌, ◌++◌, length, map, sum_by, take, codes, Option, Some, None, is_some, unwrap_or, not, ◌==◌}
 use Rattle.std.specs.Option.{option_and_then}
 use Rattle.std.specs.List.{flat_map, enumerate_from}
 use Rattle.toml.specs.Data.{Data, get, as_integer, as_str, as_bool, as_table}
+use Rattle.xcp_memory.specs.declared.Class.{Class}
 use Rattle.xcp_memory.specs.declared.Key.{Key}
 use Rattle.xcp_memory.specs.declared.Key.TheVariants as key
 use Rattle.xcp_memory.specs.declared.LayoutFault.TheVariants as limit
@@ -14,8 +15,8 @@ use Rattle.xcp_config.specs.declared.config_error.ConfigError.TheVariants.{Missi
 use Rattle.xcp_config.specs.FaultNumbers.{error_of}
 use Rattle.xcp_packet.specs.Rows.{first_holding, must}
 use Rattle.xcp_config.specs.Check.{Check}
-use Rattle.xcp_config.specs.TomlValues.{text_of, integer_of, bytes_of, members_of, is_array_of_tables, named, byte_orders, checksums, overloads}
-use Rattle.xcp_config.specs.TableLayout.{layout_in, byte_order_of, checksum_of, clock_key, clock_setting, clock_part, segments_of, signals_of, events_of, address_of, size_of, pages_of, length_of, setting}
+use Rattle.xcp_config.specs.TomlValues.{is_file_name, text_of, integer_of, bytes_of, members_of, is_array_of_tables, named, byte_orders, checksums, classes, overloads}
+use Rattle.xcp_config.specs.TableLayout.{File, Filed, file_key, layout_in, byte_order_of, checksum_of, class_of, class_in, clock_key, clock_setting, clock_part, segments_of, signals_of, events_of, address_of, size_of, pages_of, length_of, setting}
 
 -- the check that a limit of a layout makes
 abbrev pub limit_check : Limit → Check
@@ -117,30 +118,55 @@ own_checks t =
     ++ name_checks key.Checksum checksums (checksum_of t)
     ++ extras_checks t
     ++ clock_checks t
+    ++ name_checks key.Class classes (class_of t)
 
--- how many bytes there are in all with those of segment i, and where the last one of these lies
-abbrev pub size_checks : ℕ → ℕ → ℤ → ℕ → List Check
-size_checks i total address size =
-    limit_check (total_limit i total)
+-- segment i names a file: it doesn't write its bytes, too, and the name is a text in its range
+unfoldable pub name_of_file_checks : ℕ → Data → Data → List Check
+name_of_file_checks i name s =
+    must (not (is_some (get (codes "data") s))) (Kind (key.Data i))
+    ∷ must (is_some (as_str name)) (Kind (key.Data i))
+    ∷ must (is_file_name (text_of (Some name))) (Range (key.Data i))
+    ∷ []
+
+-- the file is there, and has as many bytes as keep the limit
+unfoldable pub content_checks : ℕ → File → List Check
+content_checks i file =
+    must (is_some file) (Missing (key.Data i))
+    ∷ limit_check (data_limit i (length (unwrap_or file [])))
+    ∷ []
+
+-- the bytes of segment i: those of the file that its table names, or else those that its table writes
+abbrev pub checks_of_bytes : ℕ → Option Data → Filed → List Check
+checks_of_bytes i None (file, s) = data_checks (key.Data i) (data_limit i) (get (codes "data") s)
+checks_of_bytes i (Some name) (file, s) = name_of_file_checks i name s ++ content_checks i file
+
+unfoldable pub bytes_checks : ℕ → Filed → List Check
+bytes_checks i (file, s) = checks_of_bytes i (file_key s) (file, s)
+
+-- how many bytes there are in all with those of segment i, by the class, and where the last one of these lies
+abbrev pub size_checks : Class → ℕ → ℕ → ℤ → ℕ → List Check
+size_checks class i total address size =
+    limit_check (total_limit class i total)
     ∷ limit_check (end_limit (key.Address i) address size)
     ∷ []
 
 -- segment i, with which there are so many bytes in all
-unfoldable pub segment_checks : ℕ → ℕ → Data → List Check
-segment_checks i total s =
+unfoldable pub segment_checks : Class → ℕ → ℕ → Filed → List Check
+segment_checks class i total (file, s) =
     integer_checks (key.Address i) (address_limit i) (get (codes "address") s)
-    ++ data_checks (key.Data i) (data_limit i) (get (codes "data") s)
-    ++ size_checks i total (address_of s) (size_of s)
+    ++ bytes_checks i (file, s)
+    ++ size_checks class i total (address_of s) (size_of (file, s))
     ++ integer_checks (key.Pages i) (pages_limit i) (pages_of s)
 
 -- segment i of these, by the bytes up to its own
-abbrev pub checks_in : List Data → ℕ × Data → List Check
-checks_in ss (i, s) = segment_checks i (sum_by size_of (take (i + 1) ss)) s
+abbrev pub checks_in : Class → List Filed → ℕ × Filed → List Check
+checks_in class ss (i, s) = segment_checks class i (sum_by size_of (take (i + 1) ss)) s
 
-unfoldable pub segments_checks : Data → List Check
-segments_checks t =
-    array_checks key.Segment segment_counts (get (codes "segment") t)
-    ++ flat_map (checks_in (segments_of t)) (enumerate_from 0 (segments_of t))
+-- the segments, which keep the limits of the class
+unfoldable pub segments_checks : List File → Data → List Check
+segments_checks files t =
+    array_checks key.Segment (segment_counts (class_in t)) (get (codes "segment") t)
+    ++ flat_map (checks_in (class_in t) (segments_of files t)) (enumerate_from 0 (segments_of files t))
 
 -- where the signals end
 abbrev pub end_checks : ℤ → ℤ → List Check
@@ -172,13 +198,13 @@ events_checks t =
     ++ flat_map event_checks (enumerate_from 0 (events_of t))
 
 -- no two areas share an address: each with those behind it, the segments first and then the signals
-unfoldable pub limit_checks : Data → List Check
-limit_checks t = map limit_check (apart_limits (areas (layout_in t)))
+unfoldable pub limit_checks : List File → Data → List Check
+limit_checks files t = map limit_check (apart_limits (areas (layout_in files t)))
 
--- all checks of a table, in their order
-unfoldable pub checks : Data → List Check
-checks t = own_checks t ++ segments_checks t ++ signals_checks t ++ events_checks t ++ limit_checks t
+-- all checks of a table, with these files, in their order
+unfoldable pub checks : List File → Data → List Check
+checks files t = own_checks t ++ segments_checks files t ++ signals_checks t ++ events_checks t ++ limit_checks files t
 
 -- the fault of the first check of a table that fails
-abbrev pub first_fault : Data → Option ConfigError
-first_fault t = first_holding (checks t)
+abbrev pub first_fault : List File → Data → Option ConfigError
+first_fault files t = first_holding (checks files t)

@@ -1,14 +1,16 @@
 -- The layout that the table of a configuration has.
-use Rattle.std.specs.Prelude.{ℕ, ℤ, pos, Bool, false, List, map, length, codes, Option, Some, None, unwrap_or}
+use Rattle.std.specs.Prelude.{ℕ, ℤ, pos, Bool, false, List, [], ◌∷◌, map, length, codes, Option, Some, None, unwrap_or}
 use Rattle.toml.specs.Data.{Data, integer, string, table, no_members, get}
 use Rattle.xcp_packet.specs.declared.Order.{Order}
 use Rattle.xcp_packet.specs.declared.Order.TheVariants.{Intel}
+use Rattle.xcp_memory.specs.declared.Class.{Class}
+use Rattle.xcp_memory.specs.declared.Class.TheVariants.{Papers}
 use Rattle.xcp_memory.specs.declared.ChecksumKind.{ChecksumKind}
 use Rattle.xcp_memory.specs.declared.ChecksumKind.TheVariants.{Add14}
 use Rattle.xcp_memory.specs.LayoutParts.{number, clock_of}
 use Rattle.xcp_memory.specs.declared.ClockPart.{ClockPart}
 use Rattle.xcp_memory.specs.Layout.{LayoutValue, SegmentValue, EventValue, ExtrasValue}
-use Rattle.xcp_config.specs.TomlValues.{optional, text_of, integer_of, boolean_of, bytes_of, members_of, named, byte_orders, checksums, overloads}
+use Rattle.xcp_config.specs.TomlValues.{optional, text_of, integer_of, boolean_of, bytes_of, members_of, named, byte_orders, checksums, classes, overloads}
 
 -- the byte order, `intel` where none is given
 abbrev pub byte_order_of : Data → Option Data
@@ -23,6 +25,13 @@ checksum_of t = optional (string (codes "ADD_14")) (get (codes "checksum") t)
 
 abbrev pub checksum_in : Data → ChecksumKind
 checksum_in t = unwrap_or (named checksums (text_of (checksum_of t))) Add14
+
+-- the class, `papers` where none is given
+abbrev pub class_of : Data → Option Data
+class_of t = optional (string (codes "papers")) (get (codes "class") t)
+
+abbrev pub class_in : Data → Class
+class_in t = unwrap_or (named classes (text_of (class_of t))) Papers
 
 -- the name of the A2L file, of no bytes where none is given
 abbrev pub a2l_in : Data → List ℕ
@@ -64,10 +73,28 @@ clock_in (Some c) = clock_part c
 abbrev pub clock_key : Data → Option Data
 clock_key t = get (codes "clock") t
 
--- the tables of the array `segment`, and of the array `event`
-abbrev pub segments_of : Data → List Data
-segments_of t = members_of (get (codes "segment") t)
+-- the bytes of the file that a segment's table names, if there is such a file
+abbrev pub File : Type 0
+File = Option (List ℕ)
 
+-- a segment's table, behind the file that it names
+abbrev pub Filed : Type 0
+Filed = File × Data
+
+-- each table with its file: none where there is none for its number
+abbrev pub filed : List File → List Data → List Filed
+filed files [] = []
+filed [] (s ∷ ss) = (None, s) ∷ filed [] ss
+filed (file ∷ files) (s ∷ ss) = (file, s) ∷ filed files ss
+
+-- the tables of the array `segment`, and these with the files that they name, by their numbers
+abbrev pub segment_tables : Data → List Data
+segment_tables t = members_of (get (codes "segment") t)
+
+abbrev pub segments_of : List File → Data → List Filed
+segments_of files t = filed files (segment_tables t)
+
+-- the tables of the array `event`
 abbrev pub events_of : Data → List Data
 events_of t = members_of (get (codes "event") t)
 
@@ -75,14 +102,23 @@ events_of t = members_of (get (codes "event") t)
 abbrev pub signals_of : Data → Data
 signals_of t = unwrap_or (get (codes "signals") t) (table no_members)
 
--- a segment's first address, its bytes, and how many there are
+-- a segment's first address
 abbrev pub address_of : Data → ℤ
 address_of s = integer_of (get (codes "address") s)
 
-abbrev pub data_of : Data → List ℕ
-data_of s = bytes_of (get (codes "data") s)
+-- where a segment's table names a file
+abbrev pub file_key : Data → Option Data
+file_key s = get (codes "data_file") s
 
-abbrev pub size_of : Data → ℕ
+-- a segment's bytes, which are those of its file, where its table names one, and else those that its table writes; and how many there are
+abbrev pub data_by : Option Data → Filed → List ℕ
+data_by None (file, s) = bytes_of (get (codes "data") s)
+data_by (Some name) (file, s) = unwrap_or file []
+
+abbrev pub data_of : Filed → List ℕ
+data_of (file, s) = data_by (file_key s) (file, s)
+
+abbrev pub size_of : Filed → ℕ
 size_of s = length (data_of s)
 
 -- how many pages a segment has, 2 where no number is given
@@ -97,8 +133,8 @@ length_of s = integer_of (get (codes "length") s)
 abbrev pub setting : List ℕ → Data → Option Data
 setting name e = optional (integer (pos 0)) (get name e)
 
-abbrev pub segment_in : Data → SegmentValue
-segment_in s = record { address = number (address_of s); bytes = data_of s; pages = number (integer_of (pages_of s)) }
+abbrev pub segment_in : Filed → SegmentValue
+segment_in (file, s) = record { address = number (address_of s); bytes = data_of (file, s); pages = number (integer_of (pages_of s)) }
 
 abbrev pub event_in : Data → EventValue
 event_in e = record {
@@ -108,16 +144,17 @@ event_in e = record {
   priority = number (integer_of (setting (codes "priority") e));
 }
 
--- the layout, where no check of the table fails
-abbrev pub layout_in : Data → LayoutValue
-layout_in t = record {
+-- the layout, with these files, where no check of the table fails
+abbrev pub layout_in : List File → Data → LayoutValue
+layout_in files t = record {
+  class = class_in t;
   id = text_of (get (codes "id") t);
   max_cto = number (integer_of (get (codes "max_cto") t));
   max_dto = number (integer_of (get (codes "max_dto") t));
   checksum = checksum_in t;
   order = order_in t;
   clock = clock_of (clock_in (clock_key t));
-  segments = map segment_in (segments_of t);
+  segments = map segment_in (segments_of files t);
   signals_address = number (address_of (signals_of t));
   signals_length = number (length_of (signals_of t));
   events = map event_in (events_of t);

@@ -1,5 +1,5 @@
 -- The values that a TOML document has at its keys (TOML v1.1.0: keys, arrays and tables), read as a configuration reads them.
-use Rattle.std.specs.Prelude.{ℕ, ℤ, pos, Bool, true, false, List, [], ◌∷◌, ◌&&◌, codes, Option, Some, None, Result, Ok, Err, is_some, unwrap_or, if◌then◌else◌}
+use Rattle.std.specs.Prelude.{ℕ, ℤ, pos, Bool, true, false, List, [], ◌∷◌, ◌==◌, ◌&&◌, ◌||◌, not, codes, Option, Some, None, Result, Ok, Err, is_some, unwrap_or, if◌then◌else◌}
 use Rattle.std.specs.Option.{option_and_then}
 use Rattle.std.specs.List.{list_all}
 use Rattle.std.specs.Str.{bytes_eq}
@@ -8,6 +8,9 @@ use Rattle.hex.specs.declared.FromHexError.{FromHexError}
 use Rattle.toml.specs.Data.{Data, Items, no_items, item, as_integer, as_str, as_bool, as_array, as_table}
 use Rattle.xcp_packet.specs.declared.Order.{Order}
 use Rattle.xcp_packet.specs.declared.Order.TheVariants.{Intel, Motorola}
+use Rattle.xcp_memory.specs.declared.Class.{Class}
+use Rattle.xcp_memory.specs.declared.Class.TheVariants.{Papers, Large}
+use Rattle.xcp_memory.specs.Limits.{is_text}
 use Rattle.xcp_memory.specs.declared.ChecksumKind.{ChecksumKind}
 use Rattle.xcp_memory.specs.declared.ChecksumKind.TheVariants.{Add11, Add12, Add14, Add22, Add24, Add44}
 
@@ -36,6 +39,16 @@ decoded (Err e) = []
 -- the bytes that a text of hex digits of either case writes, and none where a digit is wrong or their number is odd
 abbrev pub bytes_of : Option Data → List ℕ
 bytes_of v = decoded (decode_of (text_of v))
+
+-- The name of a file that lies beside a layout's file: 1 to 64 printable characters, no slash among them, and not a name of a folder.
+abbrev pub has_no_slash : List ℕ → Bool
+has_no_slash name = list_all (λ c. not (c == 47)) name
+
+abbrev pub is_folder : List ℕ → Bool
+is_folder name = bytes_eq name (codes ".") || bytes_eq name (codes "..")
+
+abbrev pub is_file_name : List ℕ → Bool
+is_file_name name = is_text 64 name && has_no_slash name && not (is_folder name)
 
 -- the members of an array as a list
 abbrev pub list_of : Items → List Data
@@ -79,3 +92,7 @@ checksums =
 -- (ASAM MCD-1 XCP, protocol layer, event packets: EV_DAQ_OVERLOAD.)
 abbrev pub overloads : List (List ℕ × Bool)
 overloads = (codes "event", true) ∷ []
+
+-- the classes of layouts: which limits hold
+abbrev pub classes : List (List ℕ × Class)
+classes = (codes "papers", Papers) ∷ (codes "large", Large) ∷ []

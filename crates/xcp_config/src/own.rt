@@ -7,17 +7,18 @@ ghost use Rattle.xcp_memory.specs.LayoutParts.{extras_of, number, kind_numbered}
 ghost use Rattle.xcp_memory.specs.Limits.{is_within};
 ghost use Rattle.xcp_packet.specs.Rows.{first_holding};
 ghost use Rattle.xcp_config.specs.TomlValues.{byte_orders, checksums, integer_of, named, text_of};
-ghost use Rattle.xcp_config.specs.TableLayout.{byte_order_of, checksum_in, checksum_of, clock_in, clock_key, extras_in, order_in};
+ghost use Rattle.xcp_config.specs.TableLayout.{byte_order_of, checksum_in, checksum_of, class_in, clock_in, clock_key, extras_in, order_in};
 ghost use Rattle.xcp_config.specs.TableChecks.{own_checks, name_checks};
 
 use crate::ConfigError;
+use crate::class::read_class;
 use crate::clock::read_clock;
 use crate::extras::read_extras;
 use crate::values::{read_integer, read_text, text_in};
 use std::alloc::Global;
 use toml::Value;
 use xcp_memory::limits::MAX_ID;
-use xcp_memory::{ChecksumKind, ClockPart, ExtrasPart, Key};
+use xcp_memory::{ChecksumKind, Class, ClockPart, ExtrasPart, Key};
 use xcp_packet::Order;
 
 /// The values of the slave itself.
@@ -31,6 +32,7 @@ pub(crate) struct Own {
     pub(crate) checksum: i64,
     pub(crate) extras: ExtrasPart,
     pub(crate) clock: ClockPart,
+    pub(crate) class: Class,
 }
 
 /// The byte order with this name.
@@ -94,8 +96,8 @@ fn read_checksum(table: &Value) -> Result<ChecksumKind, ConfigError>
 }
 
 impl Own {
-    /// Reads the identification, MAX_CTO, MAX_DTO, the byte order, the type of checksums, what only some slaves have, and the
-    /// clock, in this order.
+    /// Reads the identification, MAX_CTO, MAX_DTO, the byte order, the type of checksums, what only some slaves have, the
+    /// clock, and the class, in this order.
     pub(crate) fn read(alloc: Global, table: &Value) -> Result<Own, ConfigError>
         ensures passes { IfOk result (λ o. first_holding (own_checks (view table.now)) ≡ None) }
         ensures id { IfOk result (λ o. o.id.items ≡ text_of (get (codes "id") (view table.now))) }
@@ -106,6 +108,7 @@ impl Own {
         ensures range { IfOk result (λ o. is_within 1 6 o.checksum ≡ true) }
         ensures extras { IfOk result (λ o. extras_of o.extras ≡ extras_in (view table.now)) }
         ensures clock { IfOk result (λ o. o.clock ≡ clock_in (clock_key (view table.now))) }
+        ensures class { IfOk result (λ o. o.class ≡ class_in (view table.now)) }
         ensures refused { IfErr result (λ e. (e ≡ ConfigError.Memory) ⊎ (first_holding (own_checks (view table.now)) ≡ Some e)) }
     {
         let id = read_text(alloc, table, "id", Key::Id, MAX_ID)?;
@@ -115,6 +118,7 @@ impl Own {
         let checksum = read_checksum(table)?;
         let extras = read_extras(alloc, table)?;
         let clock = read_clock(table)?;
+        let class = read_class(table)?;
         Ok(Own {
             id,
             max_cto,
@@ -123,6 +127,7 @@ impl Own {
             checksum: i64::from(checksum.number()),
             extras,
             clock,
+            class,
         })
     }
 }

@@ -9,7 +9,7 @@ use Rattle.std.proofs.lemmas.List.Sums.{sum_by-cons, sum_by-take-drop, sum_by_mo
 use Rattle.xcp_memory.specs.ComputedAccess.{is_inside, lies_inside_by, overwritten, pages_written, place_in, segment_of, segment_written, write_refusal, write_refusal_by, written_by}
 use Rattle.xcp_memory.specs.Layout.{IsLayout, LayoutValue, SegmentValue, signals_extent}
 use Rattle.xcp_memory.specs.Memory.{LiesIn}
-use Rattle.xcp_memory.specs.EcuImage.{ecu_image, ecu_pages}
+use Rattle.xcp_memory.specs.EcuImage.{bytes_in_all, ecu_image, ecu_pages, image_place, image_size}
 use Rattle.xcp_memory.specs.Pages.{IsPages, PagesValue, SegmentPages, ecu_page, no_pages, no_segment, segment_at, xcp_page}
 use Rattle.xcp_memory.proofs.PageLemmas.{length-overwritten}
 use Rattle.xcp_memory.proofs.RangeLemmas.{located}
@@ -17,7 +17,7 @@ use Rattle.xcp_memory.proofs.ReadLaws.{controller_sized}
 use Rattle.xcp_memory.proofs.AreaLaws as areas
 use Rattle.xcp_slave.proofs.TransferInvariantLemmas.{outside}
 use Rattle.xcp_controller.specs.ImageRanges.{SameOutside}
-use Rattle.xcp_controller.specs.private.SegmentPlaces.{image_place, StandsWithin}
+use Rattle.xcp_controller.specs.private.SegmentPlaces.{StandsWithin}
 
 -- both lists have the same elements at all other places, however long they are
 abbrev Outside : ℕ → ℕ → List ℕ → List ℕ → Type 0
@@ -88,13 +88,14 @@ written-page s place bytes there room = elim (cases_eq s.ecu s.xcp) [
 ]
 
 -- images of pages that differ in a range of one segment
-image-outside : (p q : PagesValue) (i from to at : ℕ) (y : SegmentPages) → i < length p.segments → q.segments ≡ slice_set p.segments i y → length (ecu_page y) ≡ length (ecu_page (segment_at p i)) → at ≡ length (flat_map ecu_page (take i p.segments)) → Outside from to (ecu_page (segment_at p i)) (ecu_page y) → Outside (at + from) (at + to) (ecu_image p) (ecu_image q)
-image-outside p q i from to at y below is size place h k o =
+image-outside : (p q : PagesValue) (i from to at : ℕ) (y : SegmentPages) → q.layout ≡ p.layout → i < length p.segments → q.segments ≡ slice_set p.segments i y → length (ecu_page y) ≡ length (ecu_page (segment_at p i)) → at ≡ length (flat_map ecu_page (take i p.segments)) → Outside from to (ecu_page (segment_at p i)) (ecu_page y) → Outside (at + from) (at + to) (ecu_image p) (ecu_image q)
+image-outside p q i from to at y layout below is size place h k o =
     let pages : ecu_pages q ≡ flat_map ecu_page (slice_set p.segments i y) = ap (flat_map ecu_page) is in
     let long : length (ecu_pages q) ≡ length (ecu_pages p) = ap length pages ∙ pages-long p.segments i y size in
     let outside : Outside (at + from) (at + to) (ecu_pages p) (ecu_pages q) = λ j b. ap (λ (xs : List ℕ). get_or xs j 0) pages ∙ pages-outside p.segments i from to at y below size place h j b in
-    ap (λ (n : ℕ). get_or (ecu_pages q ++ replicate (2040 - n) 0) k 0) long
-    ∙ before-same (ecu_pages p) (ecu_pages q) (replicate (2040 - length (ecu_pages p)) 0) (at + from) (at + to) long outside k o
+    ap (λ (n : ℕ). get_or (ecu_pages q ++ replicate (image_size q.layout - n) 0) k 0) long
+    ∙ ap (λ (l : LayoutValue). get_or (ecu_pages q ++ replicate (image_size l - length (ecu_pages p)) 0) k 0) layout
+    ∙ before-same (ecu_pages p) (ecu_pages q) (replicate (image_size p.layout - length (ecu_pages p)) 0) (at + from) (at + to) long outside k o
 
 -- the controller's pages of the first segments are as long as the layout says
 pages-sum : (xs : List SegmentPages) (ys : List SegmentValue) (i : ℕ) → length xs ≡ length ys → ((k : ℕ) → k < length xs → length (ecu_page (get_or xs k no_pages)) ≡ length (get_or ys k no_segment).bytes) → length (flat_map ecu_page (take i xs)) ≡ sum_by (λ (s : SegmentValue). length s.bytes) (take i ys)
@@ -120,7 +121,7 @@ write-outside p a i bytes h found =
     let page = written-page (segment_at p i) here bytes lies.ecu room in
     let is : (pages_written p a bytes).segments ≡ slice_set p.segments i (segment_written (segment_at p i) here bytes) = ap (λ (o : Option ℕ). (written_by o p a bytes).segments) found in
     let place : image_place p.layout i ≡ length (flat_map ecu_page (take i p.segments)) = sym (pages-sum p.segments p.layout.segments i h.count (controller_sized p h)) in
-    image-outside p (pages_written p a bytes) i here (here + length bytes) (image_place p.layout i) (segment_written (segment_at p i) here bytes) lies.paged is page.0 place page.1
+    image-outside p (pages_written p a bytes) i here (here + length bytes) (image_place p.layout i) (segment_written (segment_at p i) here bytes) (ap (λ (o : Option ℕ). (written_by o p a bytes).layout) found) lies.paged is page.0 place page.1
 
 -- a range that may be written lies in a segment
 segment-by : (o : Option ℕ) (p : PagesValue) (a n : ℕ) → write_refusal_by o p a n ≡ None → (i : ℕ) × (o ≡ Some i)
@@ -142,11 +143,11 @@ pub place-next : (l : LayoutValue) (i : ℕ) → i < length l.segments → image
 place-next l i below = sum_by_more (λ (s : SegmentValue). length s.bytes) l.segments i no_segment below
 
 -- the bytes of a segment end within those of all segments
-pub place-room : (l : LayoutValue) (i : ℕ) → IsLayout l → i < length l.segments → image_place l i + length (get_or l.segments i no_segment).bytes ≤ 2040
-place-room l i h below =
+pub place-room : (l : LayoutValue) (i : ℕ) → i < length l.segments → image_place l i + length (get_or l.segments i no_segment).bytes ≤ bytes_in_all l
+place-room l i below =
     let next = place-next l i below in
     let parts = sum_by-take-drop (λ (s : SegmentValue). length s.bytes) l.segments (i + 1) in
-    omega (arith, h.total, next, parts)
+    omega (arith, next, parts)
 
 -- the last address of a range that lies in segment i is found there
 last-found : (l : LayoutValue) (a n i : ℕ) (o : Option ℕ) → IsLayout l → 0 < n → segment_of l a n ≡ Some i → o ≡ segment_of l (a + n - 1) 1 → o ≡ Some i

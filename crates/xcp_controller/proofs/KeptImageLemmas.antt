@@ -1,7 +1,7 @@
 -- Requests that leave the controller's image as it is.
 use Rattle.std.proofs.Common.{◌≡◌, ℕ, zero, suc, ◌-◌, ◌<◌, replicate, List, [], ◌∷◌, ◌++◌, length, refl, ap, ◌∙◌, get_or, arith}
 use Rattle.std.specs.List.{flat_map}
-use Rattle.xcp_memory.specs.EcuImage.{ecu_pages, ecu_image}
+use Rattle.xcp_memory.specs.EcuImage.{ecu_pages, ecu_image, image_size}
 use Rattle.xcp_memory.specs.Pages.{PagesValue, SegmentPages, ecu_page, no_pages, segment_at}
 use Rattle.xcp_slave.specs.declared.Exchange.{Exchange}
 use Rattle.xcp_slave.specs.declared.Request.{Request}
@@ -23,7 +23,7 @@ same_page p q h i = ap (λ z. get_or z (segment_at q i).ecu []) (h.pages i) ∙ 
 pub same_image : (p q : PagesValue) → SameMemory p q → ecu_image q ≡ ecu_image p
 same_image p q h =
     let same : ecu_pages q ≡ ecu_pages p = same_pages q.segments p.segments h.count (same_page p q h) in
-    ap (λ z. z ++ replicate (2040 - length z) 0) same
+    ap (λ z. z ++ replicate (image_size q.layout - length z) 0) same ∙ ap (λ l. ecu_pages p ++ replicate (image_size l - length (ecu_pages p)) 0) h.layout
 
 all_one : (x : Exchange) → IsReading x.request → (k : ℕ) (d : Exchange) → k < 1 → IsReading (get_or (x ∷ []) k d).request
 all_one x h zero d below = h

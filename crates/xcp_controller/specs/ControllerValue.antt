@@ -14,9 +14,9 @@ pub record ControllerValue : Type 0 where
   -- the packet that is lent to the slave
   pub lent : ArrayVec ℕ
 
--- a reader of images of 2,040 bytes
-abbrev pub ReadsImages : ReaderEnd → Type 0
-ReadsImages r = image_bytes r.bank ≡ 2040
+-- a reader of images of so many bytes
+abbrev pub ReadsImages : ℕ → ReaderEnd → Type 0
+ReadsImages size r = image_bytes r.bank ≡ size
 
 -- the controller's image of a slave
 abbrev pub image_of : SlaveValue → List ℕ

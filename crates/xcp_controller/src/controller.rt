@@ -1,7 +1,8 @@
 //! A slave, and the bank in which its images are published.
-ghost use Rattle.std.specs.Prelude.{◌≡◌, ◌≤◌, [], ◌∷◌, ◌++◌, IfOk, IfSome, None, length};
+ghost use Rattle.std.specs.Prelude.{◌≡◌, ◌%◌, ◌<◌, ◌≤◌, [], ◌∷◌, ◌++◌, IfOk, IfSome, None, length};
 ghost use Rattle.xcp_bank.specs.BankId.{image_bytes};
 ghost use Rattle.xcp_bank.specs.BankEnds.{new_writer, six_readers, HeldDoes};
+ghost use Rattle.xcp_memory.specs.EcuImage.{image_size};
 ghost use Rattle.xcp_slave.specs.AnswerInBytes.{answer_in};
 ghost use Rattle.xcp_slave.specs.AskedRequest.{IsShort, request_asked};
 ghost use Rattle.xcp_slave.specs.SlaveValue.{layout_of, opening};
@@ -12,7 +13,7 @@ use crate::publishing::publish_changed;
 use crate::readers::boxed_bank;
 use std::alloc::{AllocError, Global};
 use std::marker::Model;
-use xcp_bank::{IMAGE_BYTES, Reader, Writer};
+use xcp_bank::{MAX_IMAGE_BYTES, Reader, Writer};
 use xcp_memory::Layout;
 use xcp_packet::Packet;
 use xcp_slave::{Asked, Slave, Told};
@@ -37,21 +38,23 @@ impl Model for Controller {
     ghost use Rattle.std.specs.Prelude.{◌≡◌, map};
     ghost use Rattle.xcp_bank.specs.BankEnds.{newest};
     ghost use Rattle.xcp_bank.specs.BankId.{image_bytes};
+    ghost use Rattle.xcp_memory.specs.EcuImage.{image_size};
+    ghost use Rattle.xcp_slave.specs.SlaveValue.{layout_of};
     ghost use Rattle.xcp_controller.specs.ControllerValue.{ControllerValue, IsPublished, ReadsImages, image_of};
 
     ghost Value = { ControllerValue };
 
     ghost view = { λ c. record { slave = c.slave.value; writer = c.writer; spare = map (λ b. b.value) c.spare.items; lent = c.lent } };
 
-    ghost invariant = { λ c. (c.last.items ≡ image_of c.slave.value) × (newest c.writer ≡ c.last.items) × IsPublished c.slave.value c.writer × (image_bytes c.writer.bank ≡ 2040) × AllByRecursion ReadsImages (map (λ b. b.value) c.spare.items) };
+    ghost invariant = { λ c. (c.last.items ≡ image_of c.slave.value) × (newest c.writer ≡ c.last.items) × IsPublished c.slave.value c.writer × (image_bytes c.writer.bank ≡ image_size (layout_of c.slave.value)) × AllByRecursion (ReadsImages (image_size (layout_of c.slave.value))) (map (λ b. b.value) c.spare.items) };
 }
 
 impl Controller {
-    /// A slave with this layout at its opening, whose image of 2,040 bytes is published, with six readers to
+    /// A slave with this layout at its opening, whose image is published, with six readers to
     /// be taken, which hold nothing.
     pub fn open(alloc: Global, layout: Layout) -> Result<Controller, AllocError>
         ensures slave { IfOk result (λ c. c.slave ≡ opening layout) }
-        ensures size { IfOk result (λ c. image_bytes c.writer.bank ≡ IMAGE_BYTES) }
+        ensures size { IfOk result (λ c. image_bytes c.writer.bank ≡ image_size layout) }
         ensures writer { IfOk result (λ c. c.writer
             ≡ new_writer c.writer.bank (image_of (opening layout))) }
         ensures spare { IfOk result (λ c. c.spare
@@ -70,10 +73,10 @@ impl Controller {
     }
 
     /// Takes one of the readers that nobody has taken yet, the last one first. There is none once six
-    /// were taken. It reads images of 2,040 bytes.
+    /// were taken. It reads images of the slave's size.
     pub fn take_reader(&mut self) -> Option<Box<Reader>>
         ensures some { IfSome result (λ r. self.old.spare ≡ self.new.spare ++ r.value ∷ []) }
-        ensures size { IfSome result (λ r. image_bytes r.value.bank ≡ IMAGE_BYTES) }
+        ensures size { IfSome result (λ r. image_bytes r.value.bank ≡ image_size (layout_of self.old.slave)) }
         ensures none { result ≡ None → (self.old.spare ≡ []) × (self.new.spare ≡ []) }
         ensures same { (self.new.slave ≡ self.old.slave) × (self.new.writer ≡ self.old.writer) × (self.new.lent ≡ self.old.lent) }
     {
@@ -163,9 +166,12 @@ fn boxed_slave(alloc: Global, layout: Layout) -> Result<Box<Slave>, AllocError>
 #[inline(never)]
 fn image_in(alloc: Global, slave: &Slave) -> Result<Vec<u8>, AllocError>
     ensures value { IfOk result (λ image. image.items ≡ image_of slave.now) }
-    ensures size { IfOk result (λ image. length image.items ≡ IMAGE_BYTES) }
+    ensures size { IfOk result (λ image. length image.items ≡ image_size (layout_of slave.now)) }
+    ensures words { IfOk result (λ image. length image.items % 8 ≡ 0) }
+    ensures least { IfOk result (λ image. 0 < length image.items) }
+    ensures most { IfOk result (λ image. length image.items ≤ MAX_IMAGE_BYTES) }
 {
-    let mut image = [0; IMAGE_BYTES];
+    let mut image = vec![in alloc; 0; slave.layout().image_size()]?;
     slave.image(&mut image);
-    image.to_vec(alloc)
+    Ok(image)
 }

@@ -1,18 +1,18 @@
 //! What is published of the controller's images.
-ghost use Rattle.std.specs.Prelude.{◌≡◌, ◌≢◌, ◌≤◌, [], ◌∷◌, ◌++◌, MatchBool, ℕ, length};
+ghost use Rattle.std.specs.Prelude.{◌≡◌, ◌≢◌, [], ◌∷◌, ◌++◌, MatchBool, ℕ};
 ghost use Rattle.arrayvec.specs.ArrayVec.{ArrayVec};
 ghost use Rattle.xcp_bank.specs.BankId.{image_bytes};
 ghost use Rattle.xcp_bank.specs.BankEnds.{newest};
 ghost use Rattle.xcp_transfer.specs.Laws.{IsLawful};
 ghost use Rattle.xcp_slave.specs.AnswerInBytes.{answer_in};
 ghost use Rattle.xcp_slave.specs.AskedRequest.{request_asked};
-ghost use Rattle.xcp_slave.specs.SlaveValue.{SlaveValue};
+ghost use Rattle.xcp_memory.specs.EcuImage.{image_size};
+ghost use Rattle.xcp_slave.specs.SlaveValue.{SlaveValue, layout_of};
 ghost use Rattle.xcp_slave.specs.Step.{Answers};
 ghost use Rattle.xcp_controller.specs.ControllerValue.{image_of};
-ghost use Rattle.xcp_controller.specs.ImageRanges.{SameOutside};
 
 use crate::changing::changed_within;
-use xcp_bank::{IMAGE_BYTES, Writer};
+use xcp_bank::Writer;
 use xcp_slave::{Asked, Slave, Told};
 
 /// Publishes the image of a slave that has executed a request and told this, if it isn't the one published last, and says whether it is
@@ -26,7 +26,7 @@ pub fn publish_changed(
     asked: Asked<'_>,
     told: &Told,
 ) -> bool
-    requires size { image_bytes writer.old.bank ≡ IMAGE_BYTES }
+    requires size { image_bytes writer.old.bank ≡ image_size (layout_of slave.now) }
     requires newest { newest writer.old ≡ last.old }
     requires step { (before : SlaveValue) × (packet : ArrayVec ℕ) × IsLawful before.transfer
         × Answers before (request_asked asked) (answer_in told.now packet) slave.now × (last.old ≡ image_of before) }
@@ -38,42 +38,13 @@ pub fn publish_changed(
         ((image_of slave.now ≡ last.old) × (writer.new.publications ≡ writer.old.publications)) }
 {
     let (from, to) = changed_within(asked, told, slave);
+    slave.audit();
     if from == to {
-        slave.audit();
         return false;
     }
-    publish_within(writer, last, slave, from, to)
-}
-
-/// The same where only the bytes `from..to` of the image can have changed. It isn't inlined, since the room for the image would then be
-/// part of each request's stack.
-#[inline(never)]
-fn publish_within(
-    writer: &mut Writer,
-    last: &mut [u8],
-    slave: &Slave,
-    from: usize,
-    to: usize,
-) -> bool
-    requires size { image_bytes writer.old.bank ≡ IMAGE_BYTES }
-    requires long { length last.old ≡ IMAGE_BYTES }
-    requires newest { newest writer.old ≡ last.old }
-    requires order { from ≤ to }
-    requires inside { to ≤ IMAGE_BYTES }
-    requires outside { SameOutside from to last.old (image_of slave.now) }
-    ensures bank { writer.new.bank ≡ writer.old.bank }
-    ensures last { last.new ≡ image_of slave.now }
-    ensures newest { newest writer.new ≡ last.new }
-    ensures outcome { MatchBool result
-        ((image_of slave.now ≢ last.old) × (writer.new.publications ≡ writer.old.publications ++ image_of slave.now ∷ []))
-        ((image_of slave.now ≡ last.old) × (writer.new.publications ≡ writer.old.publications)) }
-{
-    let mut image = [0; IMAGE_BYTES];
-    slave.image(&mut image);
-    if image[from..to] == last[from..to] {
+    if !slave.image_part(from, &mut last[from..to]) {
         return false;
     }
-    writer.publish_within(&image, from, to);
-    last.copy_from_slice(&image);
+    writer.publish_within(last, from, to);
     true
 }

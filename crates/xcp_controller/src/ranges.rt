@@ -1,7 +1,8 @@
 //! Where an address range stands in the image.
 ghost use Rattle.std.specs.Prelude.{◌≡◌, ◌≤◌, ◌<◌, ◌+◌, ℕ, length, get_or};
+ghost use Rattle.xcp_memory.specs.EcuImage.{image_place, image_size};
 ghost use Rattle.xcp_memory.specs.Pages.{no_segment};
-ghost use Rattle.xcp_controller.specs.private.SegmentPlaces.{image_place, StandsWithin};
+ghost use Rattle.xcp_controller.specs.private.SegmentPlaces.{StandsWithin};
 
 use xcp_memory::Layout;
 
@@ -15,7 +16,7 @@ const DOUBLE_WORD: usize = 4;
 /// lies that ends there.
 pub(crate) fn places_up_to(layout: &Layout, end: u32) -> (usize, usize)
     ensures order { result.0 ≤ result.1 }
-    ensures inside { result.1 ≤ 2040 }
+    ensures inside { result.1 ≤ image_size layout.now }
     ensures few { result.1 ≤ result.0 + MOST_WRITTEN }
     ensures within { (a n : ℕ) → 0 < n → n ≤ 255 → a + n ≡ end → StandsWithin layout.now a n result.0 result.1 }
 {
@@ -33,7 +34,7 @@ pub(crate) fn places_up_to(layout: &Layout, end: u32) -> (usize, usize)
 /// Where in the image the double word stands that begins at this address, if it lies in a segment.
 pub(crate) fn places_from(layout: &Layout, address: u32) -> (usize, usize)
     ensures order { result.0 ≤ result.1 }
-    ensures inside { result.1 ≤ 2040 }
+    ensures inside { result.1 ≤ image_size layout.now }
     ensures few { result.1 ≤ result.0 + DOUBLE_WORD }
     ensures within { StandsWithin layout.now address 4 result.0 result.1 }
 {
@@ -48,7 +49,8 @@ pub(crate) fn places_from(layout: &Layout, address: u32) -> (usize, usize)
 fn place_of(layout: &Layout, segment: usize) -> usize
     requires { segment < length layout.now.segments }
     ensures place { result ≡ image_place layout.now segment }
-    ensures room { result + length (get_or layout.now.segments segment no_segment).bytes ≤ 2040 }
+    ensures room { result + length (get_or layout.now.segments segment no_segment).bytes ≤ image_size layout.now }
+    ensures bound { result ≤ 1048576 }
 {
     layout.audit();
     let mut at = 0;

@@ -1,20 +1,22 @@
 //! The readers of a bank, each in a box of its own.
-ghost use Rattle.std.specs.Prelude.{◌≡◌, ◌++◌, length, map, IfOk};
+ghost use Rattle.std.specs.Prelude.{◌≡◌, ◌%◌, ◌<◌, ◌≤◌, ◌++◌, length, map, IfOk};
 ghost use Rattle.xcp_bank.specs.BankId.{image_bytes};
 ghost use Rattle.xcp_bank.specs.BankEnds.{new_writer, six_readers};
 
 use std::alloc::{AllocError, Global};
-use xcp_bank::{Bank, IMAGE_BYTES, Reader, Writer};
+use xcp_bank::{Bank, MAX_IMAGE_BYTES, Reader, Writer};
 
 /// A bank in which this image is published: its writer, and its readers, each in a box.
 pub(crate) fn boxed_bank(
     alloc: Global,
     image: &[u8],
 ) -> Result<(Writer, Vec<Box<Reader>>), AllocError>
-    requires { length image.now ≡ IMAGE_BYTES }
+    requires some_bytes { 0 < length image.now }
+    requires whole_words { length image.now % 8 ≡ 0 }
+    requires few_bytes { length image.now ≤ MAX_IMAGE_BYTES }
     ensures { IfOk result (λ r. (r.0 ≡ new_writer r.0.bank image.now)
         × (map (λ b. b.value) r.1.items ≡ six_readers r.0.bank image.now)
-        × (image_bytes r.0.bank ≡ IMAGE_BYTES)) }
+        × (image_bytes r.0.bank ≡ length image.now)) }
 {
     let (writer, readers) = Bank::new(alloc, image)?;
     let spare = boxed(alloc, Vec::from_array(alloc, readers)?)?;

@@ -5,6 +5,7 @@ use Rattle.xcp_config.specs.declared.config_error.ConfigError.{ConfigError}
 use Rattle.xcp_describe.specs.declared.refusal.DescribeError.{DescribeError}
 use Rattle.xcp_describe.specs.declared.refusal.DescribeError.TheVariants.{Host, Program, Parameter, Measurement}
 use Rattle.toml.specs.Data.{table}
+use Rattle.xcp_config.specs.TableLayout.{File}
 use Rattle.xcp_config.specs.declared.config_error.ConfigError.TheVariants.{Text}
 use Rattle.xcp_describe.specs.declared.findings.Findings.{Findings}
 use Rattle.xcp_describe.specs.Findings.{IsChecked, IsEntry, IsFound, IsUnreadable}
@@ -49,8 +50,8 @@ entry_in P None h = tt
 entry_in P (Some e) h = h.0
 
 -- a check of a document
-pub checked_is_found : (file : List ℕ) (f : Findings) (text : List ℕ) → IsChecked file f text → IsFound file f text
-checked_is_found file f text p = record {
+pub checked_is_found : (files : List File) (file : List ℕ) (f : Findings) (text : List ℕ) → IsChecked files file f text → IsFound files file f text
+checked_is_found files file f text p = record {
   found = inr p;
   clean = (
     λ h. p.told ∙ clean_told f.fault (unread_keys (table p.members)) f.refused h.0 (sym p.unread ∙ h.1) h.2,
@@ -59,8 +60,8 @@ checked_is_found file f text p = record {
 }
 
 -- and of a file that is none
-pub unreadable_is_found : (file : List ℕ) (f : Findings) (text : List ℕ) → IsUnreadable file f text → IsFound file f text
-unreadable_is_found file f text p = record {
+pub unreadable_is_found : (files : List File) (file : List ℕ) (f : Findings) (text : List ℕ) → IsUnreadable file f text → IsFound files file f text
+unreadable_is_found files file f text p = record {
   found = inl p;
   clean = (
     λ h. absurd (some_fault (sym (ap (λ x. x.fault) p.found) ∙ h.0)),

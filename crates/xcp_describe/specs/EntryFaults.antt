@@ -11,7 +11,8 @@ use Rattle.xcp_packet.specs.Rows.{first_holding, must}
 use Rattle.xcp_memory.specs.Layout.{LayoutValue}
 use Rattle.xcp_memory.specs.Limits.{is_within}
 use Rattle.xcp_memory.specs.ComputedAccess.{lies_inside, segment_of}
-use Rattle.xcp_config.specs.TableLayout.{layout_in}
+use Rattle.xcp_config.specs.ConfigText.{HasLayoutWith}
+use Rattle.xcp_config.specs.TableLayout.{File}
 use Rattle.xcp_config.specs.TomlValues.{members_of}
 use Rattle.xcp_describe.specs.declared.refusal.Why.{Why}
 use Rattle.xcp_describe.specs.declared.refusal.Why.TheVariants as why
@@ -129,15 +130,21 @@ measurements_checks l t =
     must (is_array_or_none (get (codes "measurement") t)) (Measurement 0 why.Table)
     ∷ flat_map (measurement_checks l (map name_of (parameters_in t)) (measurements_in t)) (enumerate_from 0 (measurements_in t))
 
--- all faults of all entries, and the first one
-unfoldable pub entries_checks : Data → List (Bool × DescribeError)
-entries_checks t = parameters_checks (layout_in t) t ++ measurements_checks (layout_in t) t
+-- all faults of all entries in a layout, and the first one
+unfoldable pub entries_checks : LayoutValue → Data → List (Bool × DescribeError)
+entries_checks l t = parameters_checks l t ++ measurements_checks l t
 
-abbrev pub first_refusal : Data → Option DescribeError
-first_refusal t = first_holding (entries_checks t)
+abbrev pub first_refusal : LayoutValue → Data → Option DescribeError
+first_refusal l t = first_holding (entries_checks l t)
 
--- The text is a document, and the first fault of its entries is this one, or they have none.
-pub record IsFirstRefusal (text : List ℕ) (r : Option DescribeError) : Type 0 where
+-- The text is a document, and the first fault of its entries in a layout is this one, or they have none.
+pub record IsFirstRefusalIn (l : LayoutValue) (text : List ℕ) (r : Option DescribeError) : Type 0 where
   pub members : Members
   pub document : parse_document text ≡ Some members
-  pub first : first_refusal (table members) ≡ r
+  pub first : first_refusal l (table members) ≡ r
+
+-- the same in the layout that the text describes, where its segments may name these files
+pub record IsFirstRefusal (files : List File) (text : List ℕ) (r : Option DescribeError) : Type 0 where
+  pub layout : LayoutValue
+  pub has : HasLayoutWith files text layout
+  pub is : IsFirstRefusalIn layout text r

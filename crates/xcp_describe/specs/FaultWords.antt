@@ -2,7 +2,7 @@
 use Rattle.std.specs.Prelude.{ℕ, List, [], ◌++◌, codes}
 use Rattle.std.specs.Fmt.{decimal}
 use Rattle.xcp_memory.specs.declared.Key.{Key}
-use Rattle.xcp_memory.specs.declared.Key.TheVariants.{Id, MaxCto, MaxDto, ByteOrder, Checksum, A2l, UploadA2l, Overload, Clock, ClockSize, ClockUnit, ClockTicks, Segment, Address, Data, Pages, Signals, SignalsAddress, SignalsLength, Event, Name, Cycle, Unit, Priority}
+use Rattle.xcp_memory.specs.declared.Key.TheVariants.{Id, MaxCto, MaxDto, ByteOrder, Checksum, A2l, UploadA2l, Overload, Clock, ClockSize, ClockUnit, ClockTicks, Class, Segment, Address, Data, Pages, Signals, SignalsAddress, SignalsLength, Event, Name, Cycle, Unit, Priority}
 use Rattle.xcp_memory.specs.declared.Area.{Area}
 use Rattle.xcp_memory.specs.declared.Area.TheVariants as area
 use Rattle.xcp_config.specs.declared.config_error.ConfigError.{ConfigError}
@@ -41,6 +41,7 @@ name_of_key Clock = codes "clock"
 name_of_key ClockSize = codes "size"
 name_of_key ClockUnit = codes "unit"
 name_of_key ClockTicks = codes "ticks"
+name_of_key Class = codes "class"
 name_of_key Segment = codes "segment"
 name_of_key (Address n) = codes "address"
 name_of_key (Data n) = codes "data"
@@ -62,6 +63,7 @@ type_of_key Checksum = codes "a text"
 type_of_key A2l = codes "a text"
 type_of_key UploadA2l = codes "true or false"
 type_of_key Overload = codes "a text"
+type_of_key Class = codes "a text"
 type_of_key (Data n) = codes "a text"
 type_of_key (Name n) = codes "a text"
 type_of_key Segment = codes "an array of tables"
@@ -84,6 +86,7 @@ range_of_key Clock = []
 range_of_key ClockSize = codes ": 1, 2 or 4"
 range_of_key ClockUnit = codes ", 0 to 12"
 range_of_key ClockTicks = codes ", 1 to 65535"
+range_of_key Class = codes ": papers or large"
 range_of_key Segment = codes ", one at least"
 range_of_key (Address n) = codes ", 0 to 0xFFFFFFFE, and so has its last address"
 range_of_key (Data n) = codes " of hex digits, two for a byte, and one byte at least"
@@ -97,11 +100,11 @@ range_of_key (Cycle n) = codes ", 0 to 255"
 range_of_key (Unit n) = codes ", 0 to 255"
 range_of_key (Priority n) = codes ", 0 to 255"
 
--- how much there is at most of what a key says
+-- how much there is at most of what a key says, in either class
 abbrev pub most_of_key : Key → List ℕ
-most_of_key Segment = codes "4 segments"
+most_of_key Segment = codes "4 segments, or 16 in the class large"
 most_of_key Event = codes "8 event channels"
-most_of_key _ = codes "2040 bytes in all segments"
+most_of_key _ = codes "2040 bytes in all segments, or 1048576 in the class large"
 
 abbrev pub area_text : Area → List ℕ
 area_text (area.Segment n) = codes "segment " ++ decimal n

@@ -7,6 +7,7 @@ use Rattle.xcp_config.specs.declared.config_error.ConfigError.{ConfigError}
 use Rattle.xcp_config.specs.declared.config_error.ConfigError.TheVariants.{Text}
 use Rattle.xcp_config.specs.ConfigText.{IsNoDocument}
 use Rattle.xcp_config.specs.TableChecks.{first_fault}
+use Rattle.xcp_config.specs.TableLayout.{File, layout_in}
 use Rattle.xcp_describe.specs.declared.findings.Findings.{Findings}
 use Rattle.xcp_describe.specs.declared.refusal.DescribeError.{DescribeError}
 use Rattle.xcp_describe.specs.declared.refusal.DescribeError.TheVariants.{Host, Program, Parameter, Measurement}
@@ -34,24 +35,24 @@ IsEntry (Program fault) = ⊥
 IsEntry (Parameter number why) = ⊤
 IsEntry (Measurement number why) = ⊤
 
--- the first fault of the entries of a document, where its layout has none
-abbrev pub refused_in : Option ConfigError → Data → Option DescribeError
-refused_in None t = first_refusal t
-refused_in (Some fault) t = None
+-- the first fault of the entries of a document, where its layout with these files has none
+abbrev pub refused_in : List File → Option ConfigError → Data → Option DescribeError
+refused_in files None t = first_refusal (layout_in files t) t
+refused_in files (Some fault) t = None
 
--- What is found in a document: the first fault of its layout, exactly if that has one; as many unread keys as there are; an entry only
--- where the layout has no fault, and then the first one that has a fault, with its first fault, exactly if there is one. The text has a
--- line for each of them.
-pub record IsChecked (file : List ℕ) (f : Findings) (text : List ℕ) : Type 0 where
+-- What is found in a document whose segments may name these files: the first fault of its layout, exactly if that has one; as many unread
+-- keys as there are; an entry only where the layout has no fault, and then the first one that has a fault, with its first fault, exactly if
+-- there is one. The text has a line for each of them.
+pub record IsChecked (files : List File) (file : List ℕ) (f : Findings) (text : List ℕ) : Type 0 where
   pub members : Members
   pub document : parse_document file ≡ Some members
-  pub fault : f.fault ≡ first_fault (table members)
+  pub fault : f.fault ≡ first_fault files (table members)
   pub unread : f.unread ≡ length (unread_keys (table members))
   pub refused : IfSome f.refused (λ e. IsEntry e × (f.fault ≡ None))
-  pub first : f.refused ≡ refused_in f.fault (table members)
+  pub first : f.refused ≡ refused_in files f.fault (table members)
   pub told : text ≡ findings_text f.fault (unread_keys (table members)) f.refused
 
 -- what a check found and wrote: the line that says that nothing was found exactly where nothing was
-pub record IsFound (file : List ℕ) (f : Findings) (text : List ℕ) : Type 0 where
-  pub found : IsUnreadable file f text ⊎ IsChecked file f text
+pub record IsFound (files : List File) (file : List ℕ) (f : Findings) (text : List ℕ) : Type 0 where
+  pub found : IsUnreadable file f text ⊎ IsChecked files file f text
   pub clean : IsClean f ↔ (text ≡ clean_text)

@@ -9,14 +9,14 @@ use Rattle.xcp_describe.specs.Places.{Place, no_table, table_named, member_of, P
 
 -- the keys that are read outside of the tables
 abbrev pub top_keys : List (List ℕ)
-top_keys = codes "id" ∷ codes "max_cto" ∷ codes "max_dto" ∷ codes "byte_order" ∷ codes "checksum" ∷ codes "a2l" ∷ codes "upload_a2l" ∷ codes "overload" ∷ codes "clock" ∷ codes "segment" ∷ codes "signals" ∷ codes "event" ∷ codes "parameter" ∷ codes "measurement" ∷ []
+top_keys = codes "id" ∷ codes "max_cto" ∷ codes "max_dto" ∷ codes "byte_order" ∷ codes "checksum" ∷ codes "a2l" ∷ codes "upload_a2l" ∷ codes "overload" ∷ codes "clock" ∷ codes "class" ∷ codes "segment" ∷ codes "signals" ∷ codes "event" ∷ codes "parameter" ∷ codes "measurement" ∷ []
 
 -- those of the clock, of a segment, of the signals and of an event channel
 abbrev pub clock_keys : List (List ℕ)
 clock_keys = codes "size" ∷ codes "unit" ∷ codes "ticks" ∷ []
 
 abbrev pub segment_keys : List (List ℕ)
-segment_keys = codes "address" ∷ codes "data" ∷ codes "pages" ∷ []
+segment_keys = codes "address" ∷ codes "data" ∷ codes "data_file" ∷ codes "pages" ∷ []
 
 abbrev pub signals_keys : List (List ℕ)
 signals_keys = codes "address" ∷ codes "length" ∷ []

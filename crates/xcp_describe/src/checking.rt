@@ -5,9 +5,8 @@ ghost use Rattle.std.specs.Io.KnownBytes.{Appends};
 ghost use Rattle.toml.specs.View.{view};
 ghost use Rattle.xcp_framing.specs.Prefix.{AppendsFront};
 ghost use Rattle.xcp_memory.specs.Layout.{LayoutValue};
-ghost use Rattle.xcp_config.specs.ConfigText.{HasLayout};
+ghost use Rattle.xcp_config.specs.ConfigText.{HasLayoutWith};
 ghost use Rattle.xcp_config.specs.TableChecks.{first_fault};
-ghost use Rattle.xcp_config.specs.TableLayout.{layout_in};
 ghost use Rattle.xcp_describe.specs.EntryFaults.{first_refusal};
 ghost use Rattle.xcp_describe.specs.Findings.{IsClean, IsEntry, IsFound, refused_in, unreadable};
 ghost use Rattle.xcp_describe.specs.FindingsText.{IsSyntaxLine, clean_text, fault_line, findings_text, line_if, no_utf8_text, refused_line, unread_line};
@@ -24,25 +23,26 @@ use std::alloc::{AllocError, Global};
 use std::io::Write;
 use toml::Value;
 use toml::de::Error;
-use xcp_config::{ConfigError, read_layout};
+use xcp_config::{ConfigError, DataFile, read_layout_with};
 use xcp_framing::Watched;
 use xcp_memory::Layout;
 use xcp_program::Fault;
 
 /// Looks at the bytes of a layout file, and writes one line for each thing that it finds: the first fault of the layout, each
 /// key that nothing reads, and the first entry that `describe` refuses; where there is none of these, one line that says so.
-/// The whole text is made before any of it is written.
+/// The whole text is made before any of it is written. `files` are the files that segments name, by the segments' numbers.
 ///
 /// Faults: `Memory` where an allocation fails, `Stream(2)` where a write failed.
 pub fn check<W: Write>(
     alloc: Global,
     file: &[u8],
+    files: &[DataFile],
     writer: &mut Watched<W>,
 ) -> Result<Findings, Fault>
     // A file that is no document is told as that alone; else the fault and the keys are those of its document, neither more nor fewer,
     // and what is written is one text, all of it: their lines.
-    ensures found { IfOk result (λ f. (text : List ℕ) × IsFound file.now f text × Appends (W.contents writer.old.inner) (W.contents writer.new.inner) text) }
-    ensures layout { IfOk result (λ f. f.fault ≡ None → (l : LayoutValue) × HasLayout file.now l) }
+    ensures found { IfOk result (λ f. (text : List ℕ) × IsFound files.now file.now f text × Appends (W.contents writer.old.inner) (W.contents writer.new.inner) text) }
+    ensures layout { IfOk result (λ f. f.fault ≡ None → (l : LayoutValue) × HasLayoutWith files.now file.now l) }
     ensures refused { IfErr result (λ e. (e ≡ Fault.Memory) ⊎ (e ≡ Fault.Stream 2)) }
     ensures clean { IfOk result (λ f. IsClean f → Appends (W.contents writer.old.inner) (W.contents writer.new.inner) clean_text) }
     // A fault of the writer comes exactly where a write failed, and want of memory before anything is written.
@@ -51,7 +51,7 @@ pub fn check<W: Write>(
     ensures unfailed { result ≢ Err (Fault.Stream 2) → writer.new.failures ≡ writer.old.failures }
     ensures unwritten { result ≡ Err Fault.Memory → writer.new ≡ writer.old }
 {
-    let (findings, text) = findings_in(alloc, file)?;
+    let (findings, text) = findings_in(alloc, file, files)?;
     match writer.write_all(text.as_bytes()) {
         Ok(()) => Ok(findings),
         Err(_) => Err(Fault::Stream(2)),
@@ -59,16 +59,16 @@ pub fn check<W: Write>(
 }
 
 /// What is found in a file, and the text that tells it.
-fn findings_in(alloc: Global, file: &[u8]) -> Result<(Findings, String), Fault>
-    ensures found { IfOk result (λ r. IsFound file.now r.0 (string_bytes r.1)) }
-    ensures layout { IfOk result (λ r. r.0.fault ≡ None → (l : LayoutValue) × HasLayout file.now l) }
+fn findings_in(alloc: Global, file: &[u8], files: &[DataFile]) -> Result<(Findings, String), Fault>
+    ensures found { IfOk result (λ r. IsFound files.now file.now r.0 (string_bytes r.1)) }
+    ensures layout { IfOk result (λ r. r.0.fault ≡ None → (l : LayoutValue) × HasLayoutWith files.now file.now l) }
     ensures refused { IfErr result (λ e. e ≡ Fault.Memory) }
 {
     let Ok(config) = str::from_utf8(file) else {
         return no_document(no_utf8(alloc));
     };
     match toml::table_from_str(alloc, config) {
-        Ok(table) => findings_of(alloc, config, &Value::Table(table)),
+        Ok(table) => findings_of(alloc, config, files, &Value::Table(table)),
         Err(e) if e.is_memory() => Err(Fault::Memory),
         Err(e) => no_document(syntax(alloc, &e)),
     }
@@ -105,13 +105,18 @@ fn syntax(alloc: Global, error: &Error) -> Result<String, AllocError>
 }
 
 /// What is found in a document, which this text is, and the text that tells it.
-fn findings_of(alloc: Global, config: &str, document: &Value) -> Result<(Findings, String), Fault>
+fn findings_of(
+    alloc: Global,
+    config: &str,
+    files: &[DataFile],
+    document: &Value,
+) -> Result<(Findings, String), Fault>
     requires { IsDocument config.now (view document.now) }
-    ensures found { IfOk result (λ r. IsFound config.now r.0 (string_bytes r.1)) }
-    ensures layout { IfOk result (λ r. r.0.fault ≡ None → (l : LayoutValue) × HasLayout config.now l) }
+    ensures found { IfOk result (λ r. IsFound files.now config.now r.0 (string_bytes r.1)) }
+    ensures layout { IfOk result (λ r. r.0.fault ≡ None → (l : LayoutValue) × HasLayoutWith files.now config.now l) }
     ensures refused { IfErr result (λ e. e ≡ Fault.Memory) }
 {
-    let (fault, refused) = layout_findings(alloc, config, document)?;
+    let (fault, refused) = layout_findings(alloc, config, files, document)?;
     let Ok(unread) = unread_in(alloc, document) else {
         return Err(Fault::Memory);
     };
@@ -130,16 +135,17 @@ fn findings_of(alloc: Global, config: &str, document: &Value) -> Result<(Finding
 fn layout_findings(
     alloc: Global,
     config: &str,
+    files: &[DataFile],
     document: &Value,
 ) -> Result<(Option<ConfigError>, Option<DescribeError>), Fault>
     requires { IsDocument config.now (view document.now) }
-    ensures fault { IfOk result (λ r. r.0 ≡ first_fault (view document.now)) }
-    ensures layout { IfOk result (λ r. r.0 ≡ None → (l : LayoutValue) × HasLayout config.now l) }
+    ensures fault { IfOk result (λ r. r.0 ≡ first_fault files.now (view document.now)) }
+    ensures layout { IfOk result (λ r. r.0 ≡ None → (l : LayoutValue) × HasLayoutWith files.now config.now l) }
     ensures entry { IfOk result (λ r. IfSome r.1 (λ e. IsEntry e × (r.0 ≡ None))) }
-    ensures first { IfOk result (λ r. r.1 ≡ refused_in r.0 (view document.now)) }
+    ensures first { IfOk result (λ r. r.1 ≡ refused_in files.now r.0 (view document.now)) }
     ensures refused { IfErr result (λ e. e ≡ Fault.Memory) }
 {
-    match read_layout(alloc, config) {
+    match read_layout_with(alloc, config, files) {
         Ok(layout) => Ok((None, refused_in(alloc, document, &layout)?)),
         Err(ConfigError::Memory) => Err(Fault::Memory),
         Err(fault) => Ok((Some(fault), None)),
@@ -152,9 +158,8 @@ fn refused_in(
     document: &Value,
     layout: &Layout,
 ) -> Result<Option<DescribeError>, Fault>
-    requires { layout.now ≡ layout_in (view document.now) }
     ensures entry { IfOk result (λ r. IfSome r IsEntry) }
-    ensures first { IfOk result (λ r. r ≡ first_refusal (view document.now)) }
+    ensures first { IfOk result (λ r. r ≡ first_refusal layout.now (view document.now)) }
     ensures refused { IfErr result (λ e. e ≡ Fault.Memory) }
 {
     match Tables::read(alloc, document, layout) {

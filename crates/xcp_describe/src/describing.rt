@@ -5,10 +5,10 @@ ghost use Rattle.std.specs.Io.KnownBytes.{Appends};
 ghost use Rattle.std.specs.List.{list_all};
 ghost use Rattle.xcp_framing.specs.Prefix.{AppendsFront};
 ghost use Rattle.xcp_memory.specs.Layout.{LayoutValue};
-ghost use Rattle.xcp_config.specs.ConfigText.{HasLayout};
-ghost use Rattle.xcp_program.specs.ReplayOutcome.{IsFault};
+ghost use Rattle.xcp_config.specs.ConfigText.{HasLayoutWith};
+ghost use Rattle.xcp_program.specs.ReplayOutcome.{IsFaultWith};
 ghost use Rattle.xcp_describe.specs.A2lFiles.{IsFileOf};
-ghost use Rattle.xcp_describe.specs.EntryFaults.{IsFirstRefusal};
+ghost use Rattle.xcp_describe.specs.EntryFaults.{IsFirstRefusal, IsFirstRefusalIn};
 ghost use Rattle.xcp_describe.specs.Files.{IsFile, TellsEpk, epk_line, epk_of, marked};
 ghost use Rattle.xcp_describe.specs.Findings.{IsEntry};
 ghost use Rattle.xcp_describe.specs.Hosts.{IsHost};
@@ -35,10 +35,11 @@ use crate::transport::Transport;
 use std::alloc::{AllocError, Global};
 use std::io::Write;
 use toml::Value;
+use xcp_config::DataFile;
 use xcp_framing::Watched;
 use xcp_memory::Layout;
 use xcp_packet::{Command, Packet};
-use xcp_program::{Fault, layout_of};
+use xcp_program::{Fault, layout_of_with};
 
 /// Where the signals of a layout stand: no command tells it.
 #[derive(Clone, Copy)]
@@ -48,7 +49,8 @@ struct Signals {
 }
 
 /// Writes the A2L description of the slave that the text of a layout file describes, for tools that reach it at this host and
-/// port, by this transport layer. The whole text is made before any of it is written.
+/// port, by this transport layer. The whole text is made before any of it is written. `files` are the files that segments name, by the
+/// segments' numbers.
 ///
 /// Faults: `Host` first, where the host isn't 1 to 255 printable ASCII characters without a blank; then `Program` of
 /// `Configuration`, 1 to 6, where the text describes no layout; then `Parameter` and `Measurement` of the first entry that has
@@ -56,22 +58,23 @@ struct Signals {
 pub fn describe<W: Write>(
     alloc: Global,
     config: &str,
+    files: &[DataFile],
     host: &str,
     port: u16,
     transport: Transport,
     writer: &mut Watched<W>,
 ) -> Result<(), DescribeError>
     // What is written is one text, all of it or a front of it, and of a layout alone.
-    ensures written { OnOk result ((text : List ℕ) × IsFileOf config.now text × Appends (W.contents writer.old.inner) (W.contents writer.new.inner) text) }
+    ensures written { OnOk result ((text : List ℕ) × IsFileOf files.now config.now text × Appends (W.contents writer.old.inner) (W.contents writer.new.inner) text) }
     // It tells that tools reach the slave by this transport layer, at this host and port.
     ensures transport { OnOk result ((text : List ℕ) × TellsTransport transport host.now port text × Appends (W.contents writer.old.inner) (W.contents writer.new.inner) text) }
-    ensures layout { OnOk result ((l : LayoutValue) × HasLayout config.now l) }
+    ensures layout { OnOk result ((l : LayoutValue) × HasLayoutWith files.now config.now l) }
     ensures host { (result ≡ Err DescribeError.Host) ↔ (¬ (IsHost host.now)) }
-    ensures configuration { (f : Fault) → result ≡ Err (DescribeError.Program f) → (f ≡ Fault.Memory) ⊎ (f ≡ Fault.Stream 2) ⊎ IsFault config.now f }
+    ensures configuration { (f : Fault) → result ≡ Err (DescribeError.Program f) → (f ≡ Fault.Memory) ⊎ (f ≡ Fault.Stream 2) ⊎ IsFaultWith files.now config.now f }
     // An entry is refused exactly if one has a fault, if memory doesn't run out first: the first that has one, with its first fault.
-    ensures entries { OnOk result (IsFirstRefusal config.now None) }
-    ensures entry { IfErr result (λ e. IsEntry e → IsFirstRefusal config.now (Some e)) }
-    ensures entries_first { result ≡ Err (DescribeError.Program (Fault.Stream 2)) → IsFirstRefusal config.now None }
+    ensures entries { OnOk result (IsFirstRefusal files.now config.now None) }
+    ensures entry { IfErr result (λ e. IsEntry e → IsFirstRefusal files.now config.now (Some e)) }
+    ensures entries_first { result ≡ Err (DescribeError.Program (Fault.Stream 2)) → IsFirstRefusal files.now config.now None }
     // A fault of the writer comes exactly where a write failed, and any other before anything is written.
     ensures write { result ≡ Err (DescribeError.Program (Fault.Stream 2)) → writer.new.failures ≡ writer.old.failures + 1 }
     ensures front { result ≡ Err (DescribeError.Program (Fault.Stream 2)) → (text : List ℕ) × AppendsFront (W.contents writer.old.inner) (W.contents writer.new.inner) text }
@@ -81,7 +84,7 @@ pub fn describe<W: Write>(
     if !is_host(host) {
         return Err(DescribeError::Host);
     }
-    let layout = layout_of(alloc, config)?;
+    let layout = layout_of_with(alloc, config, files)?;
     let reached = Reached {
         host,
         port,
@@ -94,19 +97,19 @@ pub fn describe<W: Write>(
     }
 }
 
-/// The text of the description, for the layout that a layout file describes.
+/// The text of the description of a slave with this layout, with the entries that the text of a layout file has.
 pub(crate) fn described(
     alloc: Global,
     config: &str,
     layout: Layout,
     reached: Reached<'_>,
 ) -> Result<String, DescribeError>
-    requires { HasLayout config.now layout }
-    ensures written { IfOk result (λ text. IsFileOf config.now (string_bytes text)) }
+    ensures file { IfOk result (λ text. IsFile (string_bytes text)) }
+    ensures epk { layout.extras.uploads_a2l ≡ true → IfOk result (λ text. TellsEpk (epk_of config.now) (string_bytes text)) }
     ensures transport { IfOk result (λ text. TellsTransport reached.entry.transport reached.entry.host.now reached.entry.port (string_bytes text)) }
     ensures refused { IfErr result IsEntryOrMemory }
-    ensures entries { IfOk result (λ _. IsFirstRefusal config.now None) }
-    ensures entry { IfErr result (λ e. IsEntry e → IsFirstRefusal config.now (Some e)) }
+    ensures entries { IfOk result (λ _. IsFirstRefusalIn layout config.now None) }
+    ensures entry { IfErr result (λ e. IsEntry e → IsFirstRefusalIn layout config.now (Some e)) }
 {
     let Ok(table) = toml::table_from_str(alloc, config) else {
         return Err(DescribeError::Program(Fault::Memory));

@@ -4,7 +4,6 @@ ghost use Rattle.std.specs.List.{flat_map, enumerate_from};
 ghost use Rattle.toml.specs.Data.{get};
 ghost use Rattle.toml.specs.View.{view};
 ghost use Rattle.xcp_packet.specs.Rows.{first_holding};
-ghost use Rattle.xcp_config.specs.TableLayout.{layout_in};
 ghost use Rattle.xcp_config.specs.TomlValues.{members_of};
 ghost use Rattle.xcp_describe.specs.EntryFaults.{axes_checks, first_refusal, measurement_checks, measurement_faults, measurements_checks, parameter_checks, parameter_faults, parameters_checks, parameters_in};
 ghost use Rattle.xcp_describe.specs.Axes.{form_of};
@@ -30,16 +29,15 @@ pub(crate) struct Tables<'a> {
 }
 
 impl<'a> Tables<'a> {
-    /// Those of a layout file, which describes this layout: the parameters first. The first entry with a fault is refused.
+    /// Those of a layout file, in this layout: the parameters first. The first entry with a fault is refused.
     pub(crate) fn read(
         alloc: Global,
         document: &'a Value,
         layout: &Layout,
     ) -> Result<Tables<'a>, DescribeError>
-        requires { layout.now ≡ layout_in (view document.now) }
-        ensures passes { IfOk result (λ _. first_refusal (view document.now) ≡ None) }
+        ensures passes { IfOk result (λ _. first_refusal layout.now (view document.now) ≡ None) }
         ensures refused { IfErr result IsEntryOrMemory }
-        ensures first { IfErr result (λ e. Refuses (first_refusal (view document.now)) e) }
+        ensures first { IfErr result (λ e. Refuses (first_refusal layout.now (view document.now)) e) }
     {
         let parameters = read_parameters(alloc, document, layout)?;
         let measurements = read_measurements(alloc, document, layout, parameters.as_slice())?;

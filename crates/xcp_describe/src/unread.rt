@@ -14,7 +14,7 @@ use std::alloc::{AllocError, Global};
 use toml::{Table, Value};
 
 /// The keys of a layout file, outside its tables.
-const TOP_KEYS: [&str; 14] = [
+const TOP_KEYS: [&str; 15] = [
     "id",
     "max_cto",
     "max_dto",
@@ -24,6 +24,7 @@ const TOP_KEYS: [&str; 14] = [
     "upload_a2l",
     "overload",
     "clock",
+    "class",
     "segment",
     "signals",
     "event",
@@ -35,7 +36,7 @@ const TOP_KEYS: [&str; 14] = [
 const CLOCK_KEYS: [&str; 3] = ["size", "unit", "ticks"];
 
 /// Those of a segment.
-const SEGMENT_KEYS: [&str; 3] = ["address", "data", "pages"];
+const SEGMENT_KEYS: [&str; 4] = ["address", "data", "data_file", "pages"];
 
 /// Those of the signals.
 const SIGNALS_KEYS: [&str; 2] = ["address", "length"];

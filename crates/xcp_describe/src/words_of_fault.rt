@@ -98,6 +98,7 @@ fn name_of(key: Key) -> &'static str
         Key::Clock => "clock",
         Key::ClockSize => "size",
         Key::ClockTicks => "ticks",
+        Key::Class => "class",
         Key::Segment => "segment",
         Key::Address(_) | Key::SignalsAddress => "address",
         Key::Data(_) => "data",
@@ -122,6 +123,7 @@ fn kind_of(key: Key) -> &'static str
         | Key::Checksum
         | Key::A2l
         | Key::Overload
+        | Key::Class
         | Key::Data(_)
         | Key::Name(_) => "a text",
         Key::UploadA2l => "true or false",
@@ -144,6 +146,7 @@ fn range_of(key: Key) -> &'static str
         Key::ClockSize => ": 1, 2 or 4",
         Key::ClockUnit => ", 0 to 12",
         Key::ClockTicks => ", 1 to 65535",
+        Key::Class => ": papers or large",
         Key::Segment | Key::Event => ", one at least",
         Key::Address(_) | Key::SignalsAddress => ", 0 to 0xFFFFFFFE, and so has its last address",
         Key::Data(_) => " of hex digits, two for a byte, and one byte at least",
@@ -155,13 +158,13 @@ fn range_of(key: Key) -> &'static str
     }
 }
 
-/// How much there is at most of what a key says.
+/// How much there is at most of what a key says, in either class: the fault doesn't tell the class.
 fn most_of(key: Key) -> &'static str
     ensures { result.now ≡ most_of_key key }
 {
     match key {
-        Key::Segment => "4 segments",
+        Key::Segment => "4 segments, or 16 in the class large",
         Key::Event => "8 event channels",
-        _ => "2040 bytes in all segments",
+        _ => "2040 bytes in all segments, or 1048576 in the class large",
     }
 }

@@ -19,13 +19,13 @@ impl Model for Page {
 
     ghost view = { λ p. p.bytes.items };
 
-    ghost invariant = { λ p. length p.bytes.items ≤ 2040 };
+    ghost invariant = { λ p. length p.bytes.items ≤ 1048576 };
 }
 
 impl Page {
     /// A page of these bytes.
     pub(crate) fn new(alloc: Global, bytes: &[u8]) -> Result<Page, AllocError>
-        requires { length bytes.now ≤ 2040 }
+        requires { length bytes.now ≤ 1048576 }
         ensures { IfOk result (λ p. p ≡ bytes.now) }
     {
         let bytes = bytes.to_vec(alloc)?;

@@ -50,10 +50,10 @@ pub record Turned (p q : Publisher) : Type 0 where
   pub writer : q.writer ≡ p.writer
   pub first : q.first ≡ p.first + vec_len p.places - 1
   pub places : q.places.items ≡ 0 ∷ []
-  pub last : q.last ≡ p.last
+  pub last : q.last.items ≡ p.last.items
 
-pub kept_cut : (bank : BankId) (v w base : SlaveValue) (xs : List Exchange) (none : List Entry) (p q : Publisher) → Run v xs w → IsKept bank v xs w p → Turned p q → none ≡ [] → w ≡ base → IsKept bank base (exchanges none) w q
-kept_cut bank v w base xs none p q run k t empty is =
+pub kept_cut : {size : ℕ} (bank : BankId) (v w base : SlaveValue) (xs : List Exchange) (none : List Entry) (p q : Publisher) → Run v xs w → IsKept size bank v xs w p → Turned p q → none ≡ [] → w ≡ base → IsKept size bank base (exchanges none) w q
+kept_cut {size} bank v w base xs none p q run k t empty is =
     let e = published_end v xs w k.list k.published run in
     let list : images_of k.list ≡ images_of e.0 ++ image_of w ∷ [] = ap images_of e.2 ∙ map-append (λ (z : Publication). z.image) e.0 (publication e.1 (image_of w) ∷ []) in
     let long : length k.list ≡ length e.0 + 1 = ap length e.2 ∙ length-append e.0 (publication e.1 (image_of w) ∷ []) in
@@ -73,12 +73,12 @@ kept_cut bank v w base xs none p q run k t empty is =
       last = t.last ∙ k.last;
       newest = ap newest t.writer ∙ (k.newest ∙ sym t.last);
       named = ap (λ z. z.bank) t.writer ∙ k.named;
-      size = k.size;
+      sized = k.sized;
     }
 
 -- a chapter publishes at most as often as it has calls
-pub few_more : (bank : BankId) (v w : SlaveValue) (es : List Entry) (p : Publisher) (before : ℕ) → IsKept bank v (exchanges es) w p → p.first ≤ before → p.first + vec_len p.places - 1 ≤ before + length es
-few_more bank v w es p before k low =
+pub few_more : {size : ℕ} (bank : BankId) (v w : SlaveValue) (es : List Entry) (p : Publisher) (before : ℕ) → IsKept size bank v (exchanges es) w p → p.first ≤ before → p.first + vec_len p.places - 1 ≤ before + length es
+few_more {size} bank v w es p before k low =
     let places : length p.places.items ≡ length k.list = ap length k.places ∙ places_length k.list in
     let room : length p.places.items ≡ vec_len p.places = sym p.places.ok.0 in
     let few = k.few in
@@ -104,10 +104,10 @@ all_on l n base w xs x u images more r a is h = record {
 
 -- the same, of a journal that is said to be one call longer, where the image was offered
 pub all_goes_on : (l : LayoutValue) (n : ℕ) (base : SlaveValue) (es more : List Entry) (w : SlaveValue) (by : ℕ) (q : Request) (a : Answer) (u : SlaveValue) (place : ℕ) (old mid new : Publisher) → more ≡ es ++ entry by q a ∷ [] → Run base (exchanges es) w → Answers w q a u
-    → mid.writer ≡ old.writer → mid.last ≡ old.last → old.last ≡ image_of w → Offers place (image_of u) mid new → AreAllImages l n base (exchanges es) old.writer.publications → AreAllImages l n base (exchanges more) new.writer.publications
+    → mid.writer ≡ old.writer → mid.last.items ≡ old.last.items → old.last.items ≡ image_of w → Offers place (image_of u) mid new → AreAllImages l n base (exchanges es) old.writer.publications → AreAllImages l n base (exchanges more) new.writer.publications
 all_goes_on l n base es more w by q a u place old mid new is run step writer last before o h =
     let were = ap (λ z. z.publications) writer in
-    let at : mid.last ≡ image_of w = last ∙ before in
+    let at : mid.last.items ≡ image_of w = last ∙ before in
     subst (λ xs. AreAllImages l n base xs new.writer.publications) (sym (ap exchanges is ∙ exchanges_snoc es (entry by q a)))
     (all_on l n base w (exchanges es) (record { request = q; answer = a }) u old.writer.publications new.writer.publications run step
     (elim o.outcome [

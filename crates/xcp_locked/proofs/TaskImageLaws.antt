@@ -103,9 +103,9 @@ reads_look_at_nothing r words k (suc n) =
     omega (arith, e, f)
 
 -- the current image is taken, and all of it is read
-pub took_image : (t : Taken) (a b c : ReaderEnd) (y : List ℕ) (k n size : ℕ) → size ≡ 2040 → (b.bank ≡ a.bank) × (b.index ≡ a.index) → AcquireDoes t a b → ((p q : ℕ) → HoldsNumber a p → HoldsNumber b q → p ≤ q)
-    → ReadDoes k n b c → (c.bank ≡ b.bank) × (c.index ≡ b.index) → (c.held ≡ b.held) × (c.seen ≡ b.seen) → length (image_held b) ≡ 2040 → y ≡ take size (drop 0 (image_held b)) → TookImage a c y
-took_image t a b c y k n size all reader acquires rises reads again same whole bytes =
+pub took_image : (t : Taken) (a b c : ReaderEnd) (y : List ℕ) (k n size most : ℕ) → size ≡ most → (b.bank ≡ a.bank) × (b.index ≡ a.index) → AcquireDoes t a b → ((p q : ℕ) → HoldsNumber a p → HoldsNumber b q → p ≤ q)
+    → ReadDoes k n b c → (c.bank ≡ b.bank) × (c.index ≡ b.index) → (c.held ≡ b.held) × (c.seen ≡ b.seen) → length (image_held b) ≡ most → y ≡ take size (drop 0 (image_held b)) → TookImage a c y
+took_image t a b c y k n size most all reader acquires rises reads again same whole bytes =
     let more = reads_of b.index reads.words k n in
     let did : Does (suc a.index) b.history b.pending c.history c.pending more = subst (λ j. Does (suc j) b.history b.pending c.history c.pending more) reader.1 reads.did in
     let image : image_held b ≡ image_held c = (λ i. image_at (sym same.0 i) (sym same.1 i)) in

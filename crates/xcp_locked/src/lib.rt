@@ -13,6 +13,7 @@ mod excerpt;
 mod excerpts;
 mod gate;
 mod holding;
+mod image;
 mod joining;
 mod laws;
 mod ledger;
@@ -40,6 +41,7 @@ pub use errors::LockedError;
 pub use excerpt::Excerpt;
 pub use excerpts::{Excerpts, Handing};
 pub use gate::Gate;
+pub use image::ImageBuffer;
 pub use joining::{Discord, check_joined, settle_chapters};
 pub use laws::{
     a_gap_is_no_join, a_settled_image_is_the_one_held, acquiring_is_looking, places_are_the_least,

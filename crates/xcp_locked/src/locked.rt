@@ -2,7 +2,7 @@
 ghost use Rattle.std.specs.Prelude.{◌≡◌, ◌≢◌, ◌↔◌, ◌⊎◌, ◌+◌, ◌*◌, ◌<◌, ◌≤◌, IfErr, [], ◌∷◌, ◌++◌, length, OnErr, OnOk, IfOk, Err, vec_capacity, vec_len};
 ghost use Rattle.xcp_bank.specs.BankEnds.{newest};
 ghost use Rattle.xcp_bank.specs.BankId.{image_bytes};
-ghost use Rattle.xcp_memory.specs.EcuImage.{ecu_image};
+ghost use Rattle.xcp_memory.specs.EcuImage.{ecu_image, image_size};
 ghost use Rattle.xcp_slave.specs.Run.{Run};
 ghost use Rattle.xcp_slave.specs.Step.{Answers};
 ghost use Rattle.xcp_slave.specs.AnswerInBytes.{answer_in};
@@ -57,6 +57,7 @@ pub struct Locked<N: Name> {
 impl<N: Name> Model for Locked<N> {
     ghost use Rattle.std.specs.Prelude.{◌≡◌, ◌≤◌, ◌+◌, ◌*◌, length};
     ghost use Rattle.std.specs.Arc.{arc_value};
+    ghost use Rattle.xcp_memory.specs.EcuImage.{image_size};
     ghost use Rattle.xcp_slave.specs.Run.{Run};
     ghost use Rattle.xcp_slave.specs.SlaveValue.{layout_of};
     ghost use Rattle.xcp_locked.specs.LockedSlave.{IsReached, LockedValue};
@@ -68,7 +69,7 @@ impl<N: Name> Model for Locked<N> {
 
     ghost view = { λ l. record { slave = l.slave; chapter = l.chapter; base = arc_value l.base; journal = l.journal.entries; before = l.before; writer = l.publisher.writer; first = l.publisher.first } };
 
-    ghost invariant = { λ l. Run (arc_value l.base) (exchanges l.journal.entries) l.slave × (l.book.total ≡ l.before + length l.journal.entries) × (length l.journal.entries ≤ journal_limit) × (layout_of l.slave ≡ N.layout) × IsKept N.bank (arc_value l.base) (exchanges l.journal.entries) l.slave l.publisher × IsReached N.layout l.before (arc_value l.base) × (l.before ≤ l.chapter * journal_limit) × (l.chapter ≤ last_chapter) × (l.publisher.first ≤ l.before) × AreAllImages N.layout l.before (arc_value l.base) (exchanges l.journal.entries) l.publisher.writer.publications };
+    ghost invariant = { λ l. Run (arc_value l.base) (exchanges l.journal.entries) l.slave × (l.book.total ≡ l.before + length l.journal.entries) × (length l.journal.entries ≤ journal_limit) × (layout_of l.slave ≡ N.layout) × IsKept (image_size N.layout) N.bank (arc_value l.base) (exchanges l.journal.entries) l.slave l.publisher × IsReached N.layout l.before (arc_value l.base) × (l.before ≤ l.chapter * journal_limit) × (l.chapter ≤ last_chapter) × (l.publisher.first ≤ l.before) × AreAllImages N.layout l.before (arc_value l.base) (exchanges l.journal.entries) l.publisher.writer.publications };
 }
 
 impl<N: Name> Locked<N> {
@@ -232,7 +233,8 @@ impl<N: Name> Locked<N> {
     }
 
     /// Writes the ECU image out, and answers its place: the number of calls that the open chapter has.
-    pub fn image(&self, out: &mut [u8; 2040]) -> u64
+    pub fn image(&self, out: &mut [u8]) -> u64
+        requires size { length out.old ≡ image_size (layout_of self.now.slave) }
         ensures image { out.new ≡ ecu_image self.now.slave.transfer.pages }
         ensures place { result ≡ length self.now.journal }
     {
@@ -287,7 +289,7 @@ fn make_room(
     ensures entries { journal.new.entries ≡ journal.old.entries }
     ensures writer { publisher.new.writer ≡ publisher.old.writer }
     ensures places { publisher.new.places.items ≡ publisher.old.places.items }
-    ensures last { publisher.new.last ≡ publisher.old.last }
+    ensures last { publisher.new.last.items ≡ publisher.old.last.items }
     ensures first { publisher.new.first ≡ publisher.old.first }
     ensures receipts { receipts.new.list ≡ receipts.old.list }
 {
@@ -310,9 +312,9 @@ fn execute(
     requires short { IsShort asked }
     requires room { room_for_any_entry ≤ journal.old.room }
     requires room_for_place { vec_len publisher.old.places < vec_capacity publisher.old.places }
-    requires size { image_bytes publisher.old.writer.bank ≡ 2040 }
-    requires last { publisher.old.last ≡ image_of slave.old }
-    requires newest { newest publisher.old.writer ≡ publisher.old.last }
+    requires size { image_bytes publisher.old.writer.bank ≡ image_size (layout_of slave.old) }
+    requires last { publisher.old.last.items ≡ image_of slave.old }
+    requires newest { newest publisher.old.writer ≡ publisher.old.last.items }
     ensures answers { Answers slave.old (request_asked asked.entry) (answer_in result packet.new) slave.new }
     ensures journal { journal.new.entries ≡ journal.old.entries
         ++ entry caller (request_asked asked.entry) (answer_in result packet.new) ∷ [] }

@@ -3,6 +3,7 @@ ghost use Rattle.std.specs.Prelude.{◌≡◌, ◌<◌, ◌≤◌, [], ◌∷◌
 ghost use Rattle.std.specs.Arc.{arc_value};
 ghost use Rattle.std.specs.List.{AllByRecursion};
 ghost use Rattle.xcp_bank.specs.BankEnds.{new_writer, six_readers};
+ghost use Rattle.xcp_memory.specs.EcuImage.{image_size};
 ghost use Rattle.xcp_slave.specs.SlaveValue.{layout_of, opening};
 ghost use Rattle.xcp_locked.specs.Caller.{callers_of, fresh_caller};
 ghost use Rattle.xcp_locked.specs.Publications.{image_of};
@@ -27,15 +28,16 @@ pub struct Unnamed {
     slave: Slave,
     callers: u8,
     blank: Blank,
-    image: [u8; 2040],
+    image: Vec<u8>,
     writer: Writer,
     readers: [xcp_bank::Reader; 6],
 }
 
 impl Model for Unnamed {
-    ghost use Rattle.std.specs.Prelude.{◌≡◌, ◌≤◌};
+    ghost use Rattle.std.specs.Prelude.{◌≡◌, ◌<◌, ◌≤◌};
     ghost use Rattle.xcp_bank.specs.BankEnds.{new_writer, six_readers};
     ghost use Rattle.xcp_bank.specs.BankId.{image_bytes};
+    ghost use Rattle.xcp_memory.specs.EcuImage.{image_size};
     ghost use Rattle.xcp_locked.specs.Publications.{image_of};
     ghost use Rattle.xcp_slave.specs.SlaveValue.{layout_of, opening};
     ghost use Rattle.xcp_locked.specs.UnnamedSlave.{UnnamedValue};
@@ -44,7 +46,7 @@ impl Model for Unnamed {
 
     ghost view = { λ u. record { layout = layout_of u.slave; callers = u.callers; name = u.blank.name; bank = u.writer.bank } };
 
-    ghost invariant = { λ u. (u.slave ≡ opening (layout_of u.slave)) × (u.blank.parts ≡ u.callers) × (1 ≤ u.callers) × (u.callers ≤ 16) × (u.image ≡ image_of u.slave) × (u.writer ≡ new_writer u.writer.bank u.image) × (u.readers ≡ six_readers u.writer.bank u.image) × (image_bytes u.writer.bank ≡ 2040) };
+    ghost invariant = { λ u. (u.slave ≡ opening (layout_of u.slave)) × (u.blank.parts ≡ u.callers) × (1 ≤ u.callers) × (u.callers ≤ 16) × (u.image.items ≡ image_of u.slave) × (u.writer ≡ new_writer u.writer.bank u.image.items) × (u.readers ≡ six_readers u.writer.bank u.image.items) × (image_bytes u.writer.bank ≡ image_size (layout_of u.slave)) × (0 < image_size (layout_of u.slave)) };
 }
 
 impl Unnamed {
@@ -54,7 +56,7 @@ impl Unnamed {
         ensures { IfOk result (λ u. (u.layout ≡ layout) × (u.callers ≡ callers)) }
     {
         let slave = Slave::new(alloc, layout)?;
-        let mut image = [0; 2040];
+        let mut image = vec![in alloc; 0; slave.layout().image_size()]?;
         slave.image(&mut image);
         let (writer, readers) = Bank::new(alloc, &image)?;
         Ok(Unnamed {
@@ -218,12 +220,12 @@ fn new_caller<N: Name>(alloc: Global, number: u8, layout: &Layout, share: Share<
 
 /// A new bank's readers, by their opening's name.
 fn name_readers<N: Name>(readers: [xcp_bank::Reader; 6]) -> [Reader<N>; 6]
-    requires { AllByRecursion (λ r. IsOwnBank N.bank r.bank) readers }
+    requires { AllByRecursion (λ r. IsOwnBank (image_size N.layout) N.bank r.bank) readers }
     ensures { result ≡ readers }
 {
     readers.map(
         |reader| -> Reader<N>
-            requires { IsOwnBank N.bank reader.bank }
+            requires { IsOwnBank (image_size N.layout) N.bank reader.bank }
             ensures { result ≡ reader }
         { Reader::new(reader) },
     )

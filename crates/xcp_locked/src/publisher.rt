@@ -5,7 +5,8 @@ ghost use Rattle.xcp_bank.specs.BankEnds.{newest};
 ghost use Rattle.xcp_bank.specs.BankId.{image_bytes};
 ghost use Rattle.xcp_slave.specs.AnswerInBytes.{answer_in};
 ghost use Rattle.xcp_slave.specs.AskedRequest.{request_asked};
-ghost use Rattle.xcp_slave.specs.SlaveValue.{SlaveValue};
+ghost use Rattle.xcp_memory.specs.EcuImage.{image_size};
+ghost use Rattle.xcp_slave.specs.SlaveValue.{SlaveValue, layout_of};
 ghost use Rattle.xcp_slave.specs.Step.{Answers};
 ghost use Rattle.xcp_transfer.specs.Laws.{IsLawful};
 ghost use Rattle.xcp_locked.specs.Publications.{image_of};
@@ -24,16 +25,16 @@ pub(crate) struct Publisher {
     pub(crate) writer: Writer,
     pub(crate) first: u64,
     pub(crate) places: Vec<u64>,
-    pub(crate) last: [u8; 2040],
+    pub(crate) last: Vec<u8>,
 }
 
 impl Publisher {
     /// A publisher whose writer has published this image alone, before any call. `places` is empty, and has room for one.
-    pub(crate) fn new(places: Vec<u64>, writer: Writer, image: [u8; 2040]) -> Publisher
+    pub(crate) fn new(places: Vec<u64>, writer: Writer, image: Vec<u8>) -> Publisher
         requires empty { places.items ≡ [] }
         requires room { vec_len places < vec_capacity places }
         ensures { (result.writer ≡ writer) × (result.places.items ≡ 0 ∷ [])
-            × (result.last ≡ image) × (result.first ≡ 0) }
+            × (result.last.items ≡ image.items) × (result.first ≡ 0) }
     {
         let mut places = places;
         places.push_reserved(0);
@@ -50,7 +51,7 @@ impl Publisher {
         ensures ok { OnOk result (vec_len self.new.places < vec_capacity self.new.places) }
         ensures writer { self.new.writer ≡ self.old.writer }
         ensures places { self.new.places.items ≡ self.old.places.items }
-        ensures last { self.new.last ≡ self.old.last }
+        ensures last { self.new.last.items ≡ self.old.last.items }
         ensures first { self.new.first ≡ self.old.first }
     {
         self.places.reserve(1)
@@ -72,7 +73,7 @@ impl Publisher {
         ensures writer { self.new.writer ≡ self.old.writer }
         ensures first { self.new.first ≡ self.old.first + vec_len self.old.places - 1 }
         ensures places { self.new.places.items ≡ 0 ∷ [] }
-        ensures last { self.new.last ≡ self.old.last }
+        ensures last { self.new.last.items ≡ self.old.last.items }
     {
         let mut places = places;
         places.push_reserved(0);
@@ -84,10 +85,10 @@ impl Publisher {
     /// its place.
     pub(crate) fn offer(&mut self, slave: &Slave, asked: Asked<'_>, told: &Told, place: u64)
         requires room { vec_len self.old.places < vec_capacity self.old.places }
-        requires size { image_bytes self.old.writer.bank ≡ 2040 }
-        requires newest { newest self.old.writer ≡ self.old.last }
+        requires size { image_bytes self.old.writer.bank ≡ image_size (layout_of slave.now) }
+        requires newest { newest self.old.writer ≡ self.old.last.items }
         requires step { (before : SlaveValue) × (packet : ArrayVec ℕ) × IsLawful before.transfer
-            × Answers before (request_asked asked) (answer_in told.now packet) slave.now × (self.old.last ≡ image_of before) }
+            × Answers before (request_asked asked) (answer_in told.now packet) slave.now × (self.old.last.items ≡ image_of before) }
         ensures { Offers place (image_of slave.now) self.old self.new }
     {
         if publish_changed(&mut self.writer, &mut self.last, slave, asked, told) {

@@ -3,6 +3,8 @@ ghost use Rattle.std.specs.Prelude.{◌≡◌, ◌↔◌, ℕ, ◌+◌, ◌-◌,
 ghost use mathlib.Core.List.{IsPrefix};
 ghost use Rattle.xcp_bank.specs.SeatKnowledge.{AllBegin};
 ghost use Rattle.xcp_bank.specs.BankEnds.{AcquireDoes, FollowsTold, Holds, HoldsNumber, IsRun, KnowsMore, LeavesBy, ReadDoes, TellsTaken, image_held, words_in};
+ghost use Rattle.xcp_bank.specs.BankId.{buffer_words, image_bytes};
+ghost use Rattle.xcp_memory.specs.EcuImage.{image_size};
 ghost use Rattle.xcp_locked.specs.private.OfferedImages.{IsOwnBank};
 
 use crate::Name;
@@ -19,19 +21,20 @@ pub struct Reader<N: Name> {
 
 impl<N: Name> Model for Reader<N> {
     ghost use Rattle.xcp_bank.specs.BankEnds.{ReaderEnd};
+    ghost use Rattle.xcp_memory.specs.EcuImage.{image_size};
     ghost use Rattle.xcp_locked.specs.private.OfferedImages.{IsOwnBank};
 
     ghost Value = { ReaderEnd };
 
     ghost view = { λ r. r.inner };
 
-    ghost invariant = { λ r. IsOwnBank N.bank r.inner.bank };
+    ghost invariant = { λ r. IsOwnBank (image_size N.layout) N.bank r.inner.bank };
 }
 
 impl<N: Name> Reader<N> {
     /// A bank's reader, by its opening's name.
     pub(crate) fn new(inner: xcp_bank::Reader) -> Reader<N>
-        requires { IsOwnBank N.bank inner.bank }
+        requires { IsOwnBank (image_size N.layout) N.bank inner.bank }
         ensures { result ≡ inner }
     {
         Reader {
@@ -62,18 +65,28 @@ impl<N: Name> Reader<N> {
         self.inner.holds()
     }
 
+    /// How many bytes an image has: 2,040, or in the large class as many as the layout says.
+    pub fn size(&self) -> usize
+        ensures value { result ≡ image_size N.layout }
+        ensures bank { result ≡ image_bytes self.now.bank }
+        ensures some { 0 < result }
+    {
+        self.inner.size()
+    }
+
     /// Reads the bytes of the held image from `at` on, as many as `out` has. What it holds and has
-    /// seen stays. An image has 2,040 bytes.
+    /// seen stays. `size` tells how many bytes an image has.
     pub fn read(&mut self, at: usize, out: &mut [u8])
         requires holds { Holds self.old }
-        requires inside { at + length out.old ≤ 2040 }
+        requires inside { at + length out.old ≤ image_size N.layout }
         ensures bytes { out.new ≡ take (length out.old) (drop at (image_held self.old)) }
         ensures same_reader { (self.new.bank ≡ self.old.bank) × (self.new.index ≡ self.old.index) }
         ensures same { (self.new.held ≡ self.old.held) × (self.new.seen ≡ self.old.seen) }
         ensures does { ReadDoes (at / 8) (words_in at (length out.old)) self.old self.new }
         ensures run { IsRun self.new }
         ensures follows { 0 < length out.old → FollowsTold self.old self.new }
-        ensures whole { 0 < length out.old → length (image_held self.old) ≡ 2040 }
+        ensures whole { 0 < length out.old → length (image_held self.old) ≡ image_size N.layout }
+        ensures some { 0 < image_size N.layout }
     {
         self.inner.read(at, out);
     }
@@ -84,7 +97,7 @@ impl<N: Name> Reader<N> {
         ensures number { (b p : ℕ) → self.old.held ≡ Some (b, p) → result ≡ p % 18446744073709551616 }
         ensures same_reader { (self.new.bank ≡ self.old.bank) × (self.new.index ≡ self.old.index) }
         ensures same { (self.new.held ≡ self.old.held) × (self.new.seen ≡ self.old.seen) }
-        ensures does { ReadDoes 255 1 self.old self.new }
+        ensures does { ReadDoes (buffer_words self.old.bank - 1) 1 self.old self.new }
         ensures run { IsRun self.new }
         ensures follows { FollowsTold self.old self.new }
         ensures known { (b p : ℕ) → self.old.held ≡ Some (b, p) → p < length self.new.seen }

@@ -2,12 +2,13 @@
 ghost use Rattle.std.specs.Prelude.{◌≡◌, ◌≤◌, ◌+◌, ℕ, List, [], ◌∷◌, IfErr, IfSome, MatchBool, MatchResult, is_none, length, replicate, true};
 ghost use Rattle.xcp_bank.specs.BankEnds.{HoldsNumber};
 ghost use Rattle.xcp_bank.specs.SeatKnowledge.{AllBegin};
+ghost use Rattle.xcp_memory.specs.EcuImage.{image_size};
 ghost use Rattle.xcp_locked.specs.FaultNumbers.{task_number};
 ghost use Rattle.xcp_locked.specs.TaskImages.{IsTold, Took, TookImage};
 ghost use Rattle.xcp_locked.specs.Tasks.{Grew, HasCut, IsFresh, IsOwn, Same, closing_of, duty, event_of};
 ghost use Rattle.xcp_locked.specs.private.TaskSteps.{Adds};
 
-use crate::{Caller, Gate, Locked, LockedError, Name, Reader, Worker};
+use crate::{Caller, Gate, ImageBuffer, Locked, LockedError, Name, Reader, Worker};
 use arrayvec::ArrayVec;
 use std::alloc::{AllocError, Global};
 use std::sync::{Mutex, Wait};
@@ -268,13 +269,14 @@ fn submit_and_tell<N: Name>(
 
 /// Takes the current image, and reads all of it. No lock is taken. What the reader had seen before stays the beginning of what it has
 /// seen, and the image is no older than the last of that.
-pub fn take_image<N: Name>(reader: &mut Reader<N>, last: &mut [u8; 2040])
+pub fn take_image<N: Name>(reader: &mut Reader<N>, last: &mut ImageBuffer<N>)
     ensures took { TookImage reader.old reader.new last.new }
+    ensures whole { length last.new ≡ image_size N.layout }
     ensures seen { AllBegin (reader.old.seen ∷ reader.old.past) reader.new.seen }
     ensures newest { (number : ℕ) → HoldsNumber reader.new number → length reader.old.seen ≤ number + 1 }
 {
     reader.acquire();
-    reader.read(0, last);
+    reader.read(0, &mut last.bytes);
 }
 
 /// Of task 0, finishes a store, and tells whether pages were stored.

@@ -1,9 +1,11 @@
 -- Areas that share no address.
-use Rattle.std.proofs.Common.{◌≡◌, ℕ, ◌+◌, ◌<◌, true, false, List, length, map, ◌∷◌, take, drop, Some, None, sym, ◌∙◌, ap, arith, add-one, get_or, if◌then◌else◌, suc, ◌-◌, length-drop}
-use Rattle.std.proofs.lemmas.List.{take_all}
+use Rattle.std.proofs.Common.{◌≡◌, ℕ, ◌+◌, ◌<◌, true, false, List, [], length, map, ◌∷◌, ◌++◌, take, drop, Some, None, sym, ◌∙◌, ap, arith, add-one, get_or, if◌then◌else◌, suc, ◌-◌, length-drop}
+use Rattle.std.proofs.lemmas.List.{take_all, take_more, length-take-le}
 use Rattle.std.proofs.Math.Seq.{drop-cons}
 use Rattle.xcp_memory.specs.declared.key.LayoutFault.{LayoutFault}
-use Rattle.xcp_memory.specs.LayoutParts.{Placed}
+use Rattle.std.specs.List.{enumerate_from}
+use Rattle.xcp_memory.specs.Layout.{SegmentValue}
+use Rattle.xcp_memory.specs.LayoutParts.{Placed, placed_segment}
 use Rattle.xcp_packet.specs.Rows.{first_holding}
 use Rattle.xcp_memory.specs.Limits.{apart_limit, apart_limits}
 use Rattle.xcp_packet.proofs.RowTestLemmas.{holding_left, none_left}
@@ -39,3 +41,17 @@ area_broken xs i x f h e k =
 -- a slice from one of its places to its end
 pub slice_rest : {A : Type 0} (xs : List A) (n : ℕ) → take (length xs - n) (drop n xs) ≡ drop n xs
 slice_rest xs n = let e = length-drop n xs in take_all (length xs - n) (drop n xs) (omega arith)
+
+-- one more segment, by its number
+pub placed_more : (ss : List SegmentValue) (i : ℕ) (s : SegmentValue) → i < length ss → s ≡ get_or ss i s → map placed_segment (enumerate_from 0 (take (i + 1) ss)) ≡ map placed_segment (enumerate_from 0 (take i ss)) ++ placed_segment (i, s) ∷ []
+placed_more ss i s h e =
+    ap (λ (xs : List SegmentValue). map placed_segment (enumerate_from 0 xs)) (take_more ss i s h)
+    ∙ from 0 (take i ss) (get_or ss i s)
+    ∙ ap (λ (x : SegmentValue). map placed_segment (enumerate_from 0 (take i ss)) ++ placed_segment (0 + length (take i ss), x) ∷ []) (sym e)
+    ∙ ap (λ (n : ℕ). map placed_segment (enumerate_from 0 (take i ss)) ++ placed_segment (n, s) ∷ []) (omega (arith, length-take-le i ss (omega (arith, h))))
+  where
+    from : (n : ℕ) (xs : List SegmentValue) (x : SegmentValue) → map placed_segment (enumerate_from n (xs ++ x ∷ [])) ≡ map placed_segment (enumerate_from n xs) ++ placed_segment (n + length xs, x) ∷ []
+    from n [] x = let here : n ≡ n + length {A = SegmentValue} [] = omega arith in ap (λ (k : ℕ). placed_segment (k, x) ∷ []) here
+    from n (y ∷ xs) x =
+        let later : n + 1 + length xs ≡ n + length (y ∷ xs) = omega arith in
+        ap (λ (ps : List Placed). placed_segment (n, y) ∷ ps) (from (n + 1) xs x ∙ ap (λ (k : ℕ). map placed_segment (enumerate_from (n + 1) xs) ++ placed_segment (k, x) ∷ []) later)

@@ -5,9 +5,11 @@ use Rattle.std.proofs.Math.Seq.{drop-cons}
 use Rattle.std.proofs.lemmas.List.{take-append-drop, take_more, map-id}
 use Rattle.std.proofs.lemmas.List.Sums.{sum_by-append}
 use Rattle.xcp_packet.proofs.RowTestLemmas.{holding_left, none_left}
+use Rattle.xcp_memory.specs.declared.class.Class.{Class}
 use Rattle.xcp_memory.specs.declared.key.LayoutFault.{LayoutFault}
 use Rattle.xcp_memory.specs.declared.parts.SegmentPart.{SegmentPart}
 use Rattle.xcp_memory.specs.declared.parts.EventPart.{EventPart}
+use Rattle.xcp_memory.specs.ClassLimits.{limits_of}
 use Rattle.xcp_memory.specs.LayoutParts.{size}
 use Rattle.xcp_packet.specs.Rows.{first_holding}
 use Rattle.xcp_memory.specs.Limits.{Limit, limits_in, segment_limits, segments_limits, event_limits, events_limits}
@@ -50,13 +52,13 @@ split_at all xs x h k =
     sym (take-append-drop n all) ∙ ap (λ ys. ys ++ drop n all) (sym h ∙ map-id xs) ∙ ap (λ ys. xs ++ ys) here
 
 -- the limits of the segment behind those that were read
-pub limits_here : (all xs : List SegmentPart) (x : SegmentPart) → map (λ y. y) xs ≡ take (length xs) all → (length xs < length all) × (x ≡ get_or all (length xs) x) → limits_in all (length xs, x) ≡ segment_limits (length xs) (sum_by size xs + size x) x
-limits_here all xs x h k =
+pub limits_here : (class : Class) (all xs : List SegmentPart) (x : SegmentPart) → map (λ y. y) xs ≡ take (length xs) all → (length xs < length all) × (x ≡ get_or all (length xs) x) → limits_in class all (length xs, x) ≡ segment_limits class (length xs) (sum_by size xs + size x) x
+limits_here class all xs x h k =
     let n = length xs in
     let front = take_more all n x k.0 ∙ ap (λ ys. ys ++ get_or all n x ∷ []) (sym h ∙ map-id xs) ∙ ap (λ y. xs ++ y ∷ []) (sym k.1) in
     let total = ap (sum_by size) front ∙ sum_by-append size xs (x ∷ []) in
     let e : sum_by size (take (n + 1) all) ≡ sum_by size xs + size x = omega (arith, total) in
-    ap (λ t. segment_limits n t x) e
+    ap (λ t. segment_limits class n t x) e
 
 -- what is read of a list's elements, in their order: so many of them, and the next one
 pub record IsNext {A : Type 0} (all xs : List A) (x : A) : Type 0 where
@@ -65,9 +67,9 @@ pub record IsNext {A : Type 0} (all xs : List A) (x : A) : Type 0 where
   pub next : x ≡ get_or all (length xs) x
 
 -- one more segment keeps its limits
-pub segment_kept : (all xs : List SegmentPart) (x : SegmentPart) (i total : ℕ) → IsNext all xs x → i ≡ length xs → total ≡ sum_by size xs → first_holding (flat_map (limits_in all) (enumerate_from 0 xs)) ≡ None → first_holding (segment_limits i (total + size x) x) ≡ None → first_holding (flat_map (limits_in all) (enumerate_from 0 (xs ++ x ∷ []))) ≡ None
-segment_kept all xs x i total n p q h k =
-    one_more_kept (limits_in all) xs x h (ap first_holding (limits_here all xs x n.front (n.below, n.next)) ∙ (rw (← p, ← q) k))
+pub segment_kept : (class : Class) (all xs : List SegmentPart) (x : SegmentPart) (i total : ℕ) → IsNext all xs x → i ≡ length xs → total ≡ sum_by size xs → first_holding (flat_map (limits_in class all) (enumerate_from 0 xs)) ≡ None → first_holding (segment_limits class i (total + size x) x) ≡ None → first_holding (flat_map (limits_in class all) (enumerate_from 0 (xs ++ x ∷ []))) ≡ None
+segment_kept class all xs x i total n p q h k =
+    one_more_kept (limits_in class all) xs x h (ap first_holding (limits_here class all xs x n.front (n.below, n.next)) ∙ (rw (← p, ← q) k))
 
 -- where there is one at least, and no more than the most, the limits behind decide
 within_counts : (n most : ℕ) → 1 ≤ n → n ≤ most → (a b : LayoutFault) (r : Option LayoutFault) {s : Option LayoutFault} → r ≡ s → (if not (nat_le 1 n) then Some a else (if not (nat_le n most) then Some b else r)) ≡ s
@@ -77,11 +79,11 @@ within_counts n most h k a b r e =
     rw (least, few) e
 
 -- one more segment breaks one
-pub segment_broken : (all xs : List SegmentPart) (x : SegmentPart) (i total : ℕ) (e : LayoutFault) → IsNext all xs x → i ≡ length xs → total ≡ sum_by size xs → first_holding (flat_map (limits_in all) (enumerate_from 0 xs)) ≡ None → first_holding (segment_limits i (total + size x) x) ≡ Some e → 1 ≤ length all → length all ≤ 4 → first_holding (segments_limits all) ≡ Some e
-segment_broken all xs x i total e n p q h k least most =
-    let broken = one_more_broken (limits_in all) xs x (drop (length xs + 1) all) e h (ap first_holding (limits_here all xs x n.front (n.below, n.next)) ∙ (rw (← p, ← q) k)) in
-    let whole = ap (λ ys. first_holding (flat_map (limits_in all) (enumerate_from 0 ys))) (split_at all xs x n.front (n.below, n.next)) ∙ broken in
-    within_counts (length all) 4 least most _ _ _ whole
+pub segment_broken : (class : Class) (all xs : List SegmentPart) (x : SegmentPart) (i total : ℕ) (e : LayoutFault) → IsNext all xs x → i ≡ length xs → total ≡ sum_by size xs → first_holding (flat_map (limits_in class all) (enumerate_from 0 xs)) ≡ None → first_holding (segment_limits class i (total + size x) x) ≡ Some e → 1 ≤ length all → length all ≤ (limits_of class).segments → first_holding (segments_limits class all) ≡ Some e
+segment_broken class all xs x i total e n p q h k least most =
+    let broken = one_more_broken (limits_in class all) xs x (drop (length xs + 1) all) e h (ap first_holding (limits_here class all xs x n.front (n.below, n.next)) ∙ (rw (← p, ← q) k)) in
+    let whole = ap (λ ys. first_holding (flat_map (limits_in class all) (enumerate_from 0 ys))) (split_at all xs x n.front (n.below, n.next)) ∙ broken in
+    within_counts (length all) (limits_of class).segments least most _ _ _ whole
 
 -- one more event channel keeps its limits
 pub event_kept : (xs : List EventPart) (x : EventPart) (i : ℕ) → i ≡ length xs → first_holding (flat_map event_limits (enumerate_from 0 xs)) ≡ None → first_holding (event_limits (i, x)) ≡ None → first_holding (flat_map event_limits (enumerate_from 0 (xs ++ x ∷ []))) ≡ None

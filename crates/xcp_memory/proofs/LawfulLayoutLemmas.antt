@@ -8,9 +8,11 @@ use Rattle.std.proofs.lemmas.List.Sums.{AllPass-from_list_all}
 use Rattle.std.proofs.lemmas.Bool.Decides.{nat_tests}
 use Rattle.std.proofs.Math.ListN.{get_or-map}
 use Rattle.xcp_memory.specs.declared.key.Area.TheVariants as area
+use Rattle.xcp_memory.specs.declared.class.Class.{Class}
 use Rattle.xcp_memory.specs.declared.parts.Parts.{Parts}
 use Rattle.xcp_memory.specs.declared.parts.SegmentPart.{SegmentPart}
 use Rattle.xcp_memory.specs.declared.parts.EventPart.{EventPart}
+use Rattle.xcp_memory.specs.ClassLimits.{limits_of}
 use Rattle.xcp_memory.specs.Layout.{LayoutValue, IsLayout, IsApart, IsPrintable, Extent, SegmentValue, extents, segment_extent, signals_extent, no_extent}
 use Rattle.xcp_memory.specs.LayoutParts.{Placed, placed_segment, areas, number, size, segment_of_part, event_of_part, layout_of}
 use Rattle.xcp_memory.specs.declared.key.Key.TheVariants as key
@@ -92,25 +94,26 @@ pub record IsGoodSegment (s : SegmentPart) : Type 0 where
   pub ends : number s.address + size s ≤ 0xFFFF_FFFF
   pub paged : (2 ≤ number s.pages) × (number s.pages ≤ 4)
 
-good_segment : (ss : List SegmentPart) (i : ℕ) (s : SegmentPart) → first_holding (limits_in ss (i, s)) ≡ None → (sum_by size (take (i + 1) ss) ≤ 2040) × IsGoodSegment s
-good_segment ss i s h =
-    let k = all_kept (limits_in ss (i, s)) h in
+good_segment : (class : Class) (ss : List SegmentPart) (i : ℕ) (s : SegmentPart) → first_holding (limits_in class ss (i, s)) ≡ None → (sum_by size (take (i + 1) ss) ≤ (limits_of class).bytes) × IsGoodSegment s
+good_segment class ss i s h =
+    let k = all_kept (limits_in class ss (i, s)) h in
+    let most = (limits_of class).bytes in
     let filled = kept (nat_le 1 (size s)) k.1.0 in
-    let total = kept (nat_le (sum_by size (take (i + 1) ss)) 2040) k.1.1.0 in
+    let total = kept (nat_le (sum_by size (take (i + 1) ss)) most) k.1.1.0 in
     let ends = kept (nat_le (number s.address + size s) 0xFFFF_FFFF) k.1.1.1.0 in
     let paged = within_number 2 4 s.pages (kept (is_within 2 4 s.pages) k.1.1.1.1.0) in
     (grind (arith, nat_tests), record { filled = grind (arith, nat_tests); ends = grind (arith, nat_tests); paged = paged })
 
 -- the last segment's limit is that of all bytes
-pub total_kept : (ss xs : List SegmentPart) (n : ℕ) → 1 ≤ length xs → n + length xs ≡ length ss → first_holding (flat_map (limits_in ss) (enumerate_from n xs)) ≡ None → sum_by size ss ≤ 2040
-total_kept ss [] n h e k = absurd (omega arith)
-total_kept ss (x ∷ []) n h e k =
-    let b = none_both (limits_in ss (n, x)) [] k in
-    let P : List SegmentPart → Type 0 = λ ys. sum_by size ys ≤ 2040 in
-    subst P (take_all (n + 1) ss (omega arith)) (good_segment ss n x b.0).0
-total_kept ss (x ∷ (y ∷ xs)) n h e k =
-    let b = none_both (limits_in ss (n, x)) (flat_map (limits_in ss) (enumerate_from (n + 1) (y ∷ xs))) k in
-    total_kept ss (y ∷ xs) (n + 1) (omega arith) (omega arith) b.1
+pub total_kept : (class : Class) (ss xs : List SegmentPart) (n : ℕ) → 1 ≤ length xs → n + length xs ≡ length ss → first_holding (flat_map (limits_in class ss) (enumerate_from n xs)) ≡ None → sum_by size ss ≤ (limits_of class).bytes
+total_kept class ss [] n h e k = absurd (omega arith)
+total_kept class ss (x ∷ []) n h e k =
+    let b = none_both (limits_in class ss (n, x)) [] k in
+    let P : List SegmentPart → Type 0 = λ ys. sum_by size ys ≤ (limits_of class).bytes in
+    subst P (take_all (n + 1) ss (omega arith)) (good_segment class ss n x b.0).0
+total_kept class ss (x ∷ (y ∷ xs)) n h e k =
+    let b = none_both (limits_in class ss (n, x)) (flat_map (limits_in class ss) (enumerate_from (n + 1) (y ∷ xs))) k in
+    total_kept class ss (y ∷ xs) (n + 1) (omega arith) (omega arith) b.1
 
 -- the sum of the values is that of the parts
 pub sum_of_parts : (ss : List SegmentPart) → sum_by (λ s. length s.bytes) (map segment_of_part ss) ≡ sum_by size ss
@@ -154,7 +157,7 @@ extents-areas l =
 -- the limits of parts, group by group
 pub record NoneBroken (p : Parts) : Type 0 where
   pub own : first_holding (own_limits p) ≡ None
-  pub segments : first_holding (segments_limits p.segments.items) ≡ None
+  pub segments : first_holding (segments_limits p.class p.segments.items) ≡ None
   pub signals : first_holding (signals_limits p.signals_address p.signals_length) ≡ None
   pub events : first_holding (events_limits p.events.items) ≡ None
   pub apart : first_holding (apart_limits (areas (layout_of p))) ≡ None
@@ -162,10 +165,10 @@ pub record NoneBroken (p : Parts) : Type 0 where
 -- parts that break no limit break none in any group of them
 pub none_broken : (p : Parts) → first_fault p ≡ None → NoneBroken p
 none_broken p h =
-    let a = none_both (own_limits p ++ segments_limits p.segments.items ++ signals_limits p.signals_address p.signals_length ++ events_limits p.events.items) (apart_limits (areas (layout_of p))) h in
-    let b = none_both (own_limits p ++ segments_limits p.segments.items ++ signals_limits p.signals_address p.signals_length) (events_limits p.events.items) a.0 in
-    let c = none_both (own_limits p ++ segments_limits p.segments.items) (signals_limits p.signals_address p.signals_length) b.0 in
-    let d = none_both (own_limits p) (segments_limits p.segments.items) c.0 in
+    let a = none_both (own_limits p ++ segments_limits p.class p.segments.items ++ signals_limits p.signals_address p.signals_length ++ events_limits p.events.items) (apart_limits (areas (layout_of p))) h in
+    let b = none_both (own_limits p ++ segments_limits p.class p.segments.items ++ signals_limits p.signals_address p.signals_length) (events_limits p.events.items) a.0 in
+    let c = none_both (own_limits p ++ segments_limits p.class p.segments.items) (signals_limits p.signals_address p.signals_length) b.0 in
+    let d = none_both (own_limits p) (segments_limits p.class p.segments.items) c.0 in
     record { own = d.0; segments = d.1; signals = c.1; events = b.1; apart = a.1 }
 
 -- what the limits of an event channel say
@@ -209,16 +212,16 @@ counted a b rest h =
     record { least = c.0; most = c.1.0; behind = k.1 }
 
 -- the segments of parts that break no limit, and the event channels
-abbrev pub segments_counted : List SegmentPart → Type 0
-segments_counted ss = IsCounted (must (nat_le 1 (length ss)) (Range key.Segment)) (must (nat_le (length ss) 4) (TooMany key.Segment)) (flat_map (limits_in ss) (enumerate_from 0 ss))
+abbrev pub segments_counted : Class → List SegmentPart → Type 0
+segments_counted class ss = IsCounted (must (nat_le 1 (length ss)) (Range key.Segment)) (must (nat_le (length ss) (limits_of class).segments) (TooMany key.Segment)) (flat_map (limits_in class ss) (enumerate_from 0 ss))
 
 -- there are 1 to 8 event channels, and none of them breaks a limit
 abbrev pub events_counted : List EventPart → Type 0
 events_counted es = IsCounted (must (nat_le 1 (length es)) (Range key.Event)) (must (nat_le (length es) 8) (TooMany key.Event)) (flat_map event_limits (enumerate_from 0 es))
 
 -- each segment is good, and so is each event channel
-pub good_segments : (ss : List SegmentPart) → segments_counted ss → All IsGoodSegment ss
-good_segments ss c = each_kept (limits_in ss) IsGoodSegment (λ i s h. (good_segment ss i s h).1) 0 ss c.behind
+pub good_segments : (class : Class) (ss : List SegmentPart) → segments_counted class ss → All IsGoodSegment ss
+good_segments class ss c = each_kept (limits_in class ss) IsGoodSegment (λ i s h. (good_segment class ss i s h).1) 0 ss c.behind
 
 -- event channels that break no limit have names of 1 to 32 printable characters
 pub good_events : (es : List EventPart) → events_counted es → All IsGoodEvent es
@@ -241,9 +244,9 @@ lawful p h =
     let signals = all_kept (signals_limits p.signals_address p.signals_length) g.signals in
     let signals_number = within_number 1 64 p.signals_length (kept _ signals.1.0) in
     let signals_end : nat_le (number p.signals_address + number p.signals_length) 0xFFFF_FFFF ≡ true = kept _ signals.1.1.0 in
-    let segments : segments_counted ss = counted _ _ _ g.segments in
+    let segments : segments_counted p.class ss = counted _ _ _ g.segments in
     let events : events_counted es = counted _ _ _ g.events in
-    let good = good_segments ss segments in
+    let good = good_segments p.class ss segments in
     let named = good_events es events in
     let Ends : Extent → Type 0 = λ e. e.address + e.size ≤ 0xFFFF_FFFF in
     let last_segments : All Ends (map segment_extent l.segments) =
@@ -262,9 +265,9 @@ lawful p h =
       ticks_least = ticks.0;
       ticks_most = ticks.1;
       segments_least = rw length-map (at_most 1 (length ss) (kept _ segments.least));
-      segments_most = rw length-map (at_most (length ss) 4 (kept _ segments.most));
+      segments_most = rw length-map (at_most (length ss) (limits_of p.class).segments (kept _ segments.most));
       filled = All-map (λ s. 1 ≤ length s.bytes) segment_of_part ss (λ k d b. (good k d b).filled);
-      total = rw sum_of_parts (total_kept ss ss 0 (at_most 1 (length ss) (kept _ segments.least)) (omega arith) segments.behind);
+      total = rw sum_of_parts (total_kept p.class ss ss 0 (at_most 1 (length ss) (kept _ segments.least)) (omega arith) segments.behind);
       paged = All-map (λ s. (2 ≤ s.pages) × (s.pages ≤ 4)) segment_of_part ss (λ k d b. (good k d b).paged);
       signals_least = signals_number.0;
       signals_most = signals_number.1;

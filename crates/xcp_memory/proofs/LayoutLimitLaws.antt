@@ -9,9 +9,11 @@ use Rattle.std.proofs.lemmas.List.Elements.{All-get_or, All-from_get_or}
 use Rattle.std.proofs.lemmas.List.Sums.{sum_by-append, list_all-from_AllPass}
 use Rattle.std.proofs.Math.ListN.{get_or-map}
 use Rattle.xcp_memory.specs.declared.key.Area.TheVariants as area
+use Rattle.xcp_memory.specs.declared.class.Class.{Class}
 use Rattle.xcp_memory.specs.declared.parts.Parts.{Parts}
 use Rattle.xcp_memory.specs.declared.parts.SegmentPart.{SegmentPart}
 use Rattle.xcp_memory.specs.declared.parts.EventPart.{EventPart}
+use Rattle.xcp_memory.specs.ClassLimits.{limits_of}
 use Rattle.xcp_memory.specs.Layout.{LayoutValue, IsLayout, IsApart, IsPrintable, Extent, extents, no_extent}
 use Rattle.xcp_memory.specs.LayoutLaws.{IsNatural, IsByte, AreNumbers}
 use Rattle.xcp_memory.specs.Pages.{no_segment}
@@ -78,15 +80,15 @@ record Keeps (s : SegmentPart) : Type 0 where
   address : IsNatural s.address
   pages : IsNatural s.pages
 
-segment_keeps : (ss : List SegmentPart) → sum_by size ss ≤ 2040 → (i : ℕ) (s : SegmentPart) → Keeps s → first_holding (limits_in ss (i, s)) ≡ None
-segment_keeps ss h i s k =
+segment_keeps : (class : Class) (ss : List SegmentPart) → sum_by size ss ≤ (limits_of class).bytes → (i : ℕ) (s : SegmentPart) → Keeps s → first_holding (limits_in class ss (i, s)) ≡ None
+segment_keeps class ss h i s k =
     let filled = k.good.filled in
     let ends = k.good.ends in
     let here = up_to ss (i + 1) in
     let address = within 0 0xFFFF_FFFE s.address k.address (omega arith) (omega arith) in
     let pages = within 2 4 s.pages k.pages k.good.paged.0 k.good.paged.1 in
-    let total = at_most (sum_by size (take (i + 1) ss)) 2040 (omega arith) in
-    keeps (limits_in ss (i, s)) (ap not address, (ap not (at_most 1 (size s) filled), (ap not total, (ap not (at_most (number s.address + size s) 0xFFFF_FFFF ends), (ap not pages, tt)))))
+    let total = at_most (sum_by size (take (i + 1) ss)) (limits_of class).bytes (omega arith) in
+    keeps (limits_in class ss (i, s)) (ap not address, (ap not (at_most 1 (size s) filled), (ap not total, (ap not (at_most (number s.address + size s) 0xFFFF_FFFF ends), (ap not pages, tt)))))
 
 record KeepsEvent (e : EventPart) : Type 0 where
   lengths : (1 ≤ length e.name.items) × (length e.name.items ≤ 32)
@@ -128,20 +130,20 @@ areas_apart l h =
     (let k = h.apart i j p (omega arith) in
     subst (λ x. IsApart x (get_or (areas l) j no_area).extent) (at i) (subst (λ x. IsApart (get_or (extents l) i no_extent) x) (at j) k)))
 
-segments_keep : (p : Parts) → IsLayout (layout_of p) → AreNumbers p → first_holding (segments_limits p.segments.items) ≡ None
+segments_keep : (p : Parts) → IsLayout (layout_of p) → AreNumbers p → first_holding (segments_limits p.class p.segments.items) ≡ None
 segments_keep p h n =
     let l = layout_of p in
     let ss = p.segments.items in
     let long = length-map ss segment_of_part in
     let least = h.segments_least in
     let most = h.segments_most in
-    let counts = keeps (segment_counts (length ss)) (ap not (at_most 1 (length ss) (omega arith)), (ap not (at_most (length ss) 4 (omega arith)), tt)) in
-    let total = subst (λ k. k ≤ 2040) (sum_of_parts ss) h.total in
+    let counts = keeps (segment_counts p.class (length ss)) (ap not (at_most 1 (length ss) (omega arith)), (ap not (at_most (length ss) (limits_of p.class).segments (omega arith)), tt)) in
+    let total = subst (λ k. k ≤ (limits_of p.class).bytes) (sum_of_parts ss) h.total in
     let filled = of_each (λ s. 1 ≤ length s.bytes) segment_of_part ss h.filled in
     let paged = of_each (λ s. (2 ≤ s.pages) × (s.pages ≤ 4)) segment_of_part ss h.paged in
     let ends = of_each (λ s. s.address + length s.bytes ≤ 0xFFFF_FFFF) segment_of_part ss (All-from_get_or (λ s. s.address + length s.bytes ≤ 0xFFFF_FFFF) l.segments no_segment (λ i m. segment_last l i h m)) in
     let each : All Keeps ss = λ k d b. record { good = record { filled = filled k d b; ends = ends k d b; paged = paged k d b }; address = (n.segments k d b).0; pages = (n.segments k d b).1 } in
-    none_left (segment_counts (length ss)) (flat_map (limits_in ss) (enumerate_from 0 ss)) counts ∙ each_keeps (limits_in ss) Keeps (segment_keeps ss total) 0 ss each
+    none_left (segment_counts p.class (length ss)) (flat_map (limits_in p.class ss) (enumerate_from 0 ss)) counts ∙ each_keeps (limits_in p.class ss) Keeps (segment_keeps p.class ss total) 0 ss each
 
 events_keep : (p : Parts) → IsLayout (layout_of p) → AreNumbers p → first_holding (events_limits p.events.items) ≡ None
 events_keep p h n =
@@ -185,16 +187,16 @@ own_keep p h n =
 
 keep : (p : Parts) → IsLayout (layout_of p) → AreNumbers p → first_fault p ≡ None
 keep p h n =
-    behind_4 (own_limits p) (segments_limits p.segments.items) (signals_limits p.signals_address p.signals_length) (events_limits p.events.items) (apart_limits (areas (layout_of p))) (own_keep p h n) (segments_keep p h n) (signals_keep p h n) (events_keep p h n)
+    behind_4 (own_limits p) (segments_limits p.class p.segments.items) (signals_limits p.signals_address p.signals_length) (events_limits p.events.items) (apart_limits (areas (layout_of p))) (own_keep p h n) (segments_keep p h n) (signals_keep p h n) (events_keep p h n)
     ∙ areas_apart (layout_of p) h
 
 -- parts that break no limit have such numbers
 byte_of : (z : ℤ) → is_within 0 255 z ≡ true → IsByte z
 byte_of z h = (natural 0 255 z h, (within_number 0 255 z h).1)
 
-segment_numbers : (ss : List SegmentPart) (i : ℕ) (s : SegmentPart) → first_holding (limits_in ss (i, s)) ≡ None → IsNatural s.address × IsNatural s.pages
-segment_numbers ss i s h =
-    let k = all_kept (limits_in ss (i, s)) h in
+segment_numbers : (class : Class) (ss : List SegmentPart) (i : ℕ) (s : SegmentPart) → first_holding (limits_in class ss (i, s)) ≡ None → IsNatural s.address × IsNatural s.pages
+segment_numbers class ss i s h =
+    let k = all_kept (limits_in class ss (i, s)) h in
     (natural 0 0xFFFF_FFFE s.address (kept _ k.0), natural 2 4 s.pages (kept _ k.1.1.1.1.0))
 
 event_numbers : (i : ℕ) (e : EventPart) → first_holding (event_limits (i, e)) ≡ None → IsByte e.cycle × IsByte e.unit × IsByte e.priority
@@ -209,7 +211,7 @@ numbers p h =
     let signals = all_kept (signals_limits p.signals_address p.signals_length) g.signals in
     let ss = p.segments.items in
     let es = p.events.items in
-    let segments : segments_counted ss = counted _ _ _ g.segments in
+    let segments : segments_counted p.class ss = counted _ _ _ g.segments in
     let events : events_counted es = counted _ _ _ g.events in
     record {
       cto = natural 8 255 p.max_cto (kept _ own.1.0);
@@ -221,7 +223,7 @@ numbers p h =
       stamp_known = is_other _ own.1.1.1.1.1.1.0;
       unit = natural 0 12 p.clock.unit (kept _ own.1.1.1.1.1.1.1.0);
       ticks = natural 1 65535 p.clock.ticks (kept _ own.1.1.1.1.1.1.1.1.0);
-      segments = each_kept (limits_in ss) (λ s. IsNatural s.address × IsNatural s.pages) (segment_numbers ss) 0 ss segments.behind;
+      segments = each_kept (limits_in p.class ss) (λ s. IsNatural s.address × IsNatural s.pages) (segment_numbers p.class ss) 0 ss segments.behind;
       signals_address = natural 0 0xFFFF_FFFE p.signals_address (kept _ signals.0);
       signals_length = natural 1 64 p.signals_length (kept _ signals.1.0);
       events = each_kept event_limits (λ e. IsByte e.cycle × IsByte e.unit × IsByte e.priority) event_numbers 0 es events.behind;

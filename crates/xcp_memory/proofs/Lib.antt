@@ -9,6 +9,7 @@ pub mod PageStoreLemmas
 pub mod RangeLemmas
 pub mod OpeningPageLemmas
 pub mod EcuImageLemmas
+pub mod ImagePartLemmas
 pub mod PageSwitchLemmas
 pub mod ReadLaws
 pub mod OverwriteLemmas

@@ -17,47 +17,47 @@ use Rattle.xcp_packet.proofs.RowTestLemmas.{kept, behind_4, holding_1_of_5, hold
 pub fault_of_own : (p : Parts) (f : LayoutFault) → first_holding (own_limits p) ≡ Some f → first_fault p ≡ Some f
 fault_of_own p f h =
     let a = own_limits p in
-    let b = segments_limits p.segments.items in
+    let b = segments_limits p.class p.segments.items in
     let c = signals_limits p.signals_address p.signals_length in
     let d = events_limits p.events.items in
     let e = apart_limits (areas (layout_of p)) in
     holding_1_of_5 a b c d e f h
 
 -- a fault of the segments, where the slave's own values are good
-pub fault_of_segments : (p : Parts) (f : LayoutFault) → first_holding (own_limits p) ≡ None → first_holding (segments_limits p.segments.items) ≡ Some f → first_fault p ≡ Some f
+pub fault_of_segments : (p : Parts) (f : LayoutFault) → first_holding (own_limits p) ≡ None → first_holding (segments_limits p.class p.segments.items) ≡ Some f → first_fault p ≡ Some f
 fault_of_segments p f h i =
     let a = own_limits p in
-    let b = segments_limits p.segments.items in
+    let b = segments_limits p.class p.segments.items in
     let c = signals_limits p.signals_address p.signals_length in
     let d = events_limits p.events.items in
     let e = apart_limits (areas (layout_of p)) in
     holding_2_of_5 a b c d e f h i
 
 -- a fault of the signals, where the segments are good, too
-pub fault_of_signals : (p : Parts) (f : LayoutFault) → first_holding (own_limits p) ≡ None → first_holding (segments_limits p.segments.items) ≡ None → first_holding (signals_limits p.signals_address p.signals_length) ≡ Some f → first_fault p ≡ Some f
+pub fault_of_signals : (p : Parts) (f : LayoutFault) → first_holding (own_limits p) ≡ None → first_holding (segments_limits p.class p.segments.items) ≡ None → first_holding (signals_limits p.signals_address p.signals_length) ≡ Some f → first_fault p ≡ Some f
 fault_of_signals p f h i j =
     let a = own_limits p in
-    let b = segments_limits p.segments.items in
+    let b = segments_limits p.class p.segments.items in
     let c = signals_limits p.signals_address p.signals_length in
     let d = events_limits p.events.items in
     let e = apart_limits (areas (layout_of p)) in
     holding_3_of_5 a b c d e f h i j
 
 -- a fault of the event channels, where the signals are good, too
-pub fault_of_events : (p : Parts) (f : LayoutFault) → first_holding (own_limits p) ≡ None → first_holding (segments_limits p.segments.items) ≡ None → first_holding (signals_limits p.signals_address p.signals_length) ≡ None → first_holding (events_limits p.events.items) ≡ Some f → first_fault p ≡ Some f
+pub fault_of_events : (p : Parts) (f : LayoutFault) → first_holding (own_limits p) ≡ None → first_holding (segments_limits p.class p.segments.items) ≡ None → first_holding (signals_limits p.signals_address p.signals_length) ≡ None → first_holding (events_limits p.events.items) ≡ Some f → first_fault p ≡ Some f
 fault_of_events p f h i j k =
     let a = own_limits p in
-    let b = segments_limits p.segments.items in
+    let b = segments_limits p.class p.segments.items in
     let c = signals_limits p.signals_address p.signals_length in
     let d = events_limits p.events.items in
     let e = apart_limits (areas (layout_of p)) in
     holding_4_of_5 a b c d e f h i j k
 
 -- where all values are good, the areas decide
-pub fault_of_areas : (p : Parts) → first_holding (own_limits p) ≡ None → first_holding (segments_limits p.segments.items) ≡ None → first_holding (signals_limits p.signals_address p.signals_length) ≡ None → first_holding (events_limits p.events.items) ≡ None → first_fault p ≡ first_holding (apart_limits (areas (layout_of p)))
+pub fault_of_areas : (p : Parts) → first_holding (own_limits p) ≡ None → first_holding (segments_limits p.class p.segments.items) ≡ None → first_holding (signals_limits p.signals_address p.signals_length) ≡ None → first_holding (events_limits p.events.items) ≡ None → first_fault p ≡ first_holding (apart_limits (areas (layout_of p)))
 fault_of_areas p h i j k =
     let a = own_limits p in
-    let b = segments_limits p.segments.items in
+    let b = segments_limits p.class p.segments.items in
     let c = signals_limits p.signals_address p.signals_length in
     let d = events_limits p.events.items in
     let e = apart_limits (areas (layout_of p)) in
@@ -68,7 +68,7 @@ pub areas_built : (p : Parts) (ss : List SegmentValue) (signals : Extent) → ss
 areas_built p ss signals e f = rw (e, f) refl
 
 -- what was read is the layout
-pub layout_built : (p : Parts) (cto dto : ℕ) (kind : ChecksumKind) (clock : Clock) (ss : List SegmentValue) (signals : Extent) (es : List EventValue) (extras : ExtrasValue) → cto ≡ number p.max_cto → dto ≡ number p.max_dto → kind ≡ kind_numbered (number p.checksum) → clock ≡ clock_of p.clock → ss ≡ map segment_of_part p.segments.items → signals ≡ signals_extent (layout_of p) → es ≡ map event_of_part p.events.items → extras ≡ extras_of p.extras → (let l : LayoutValue = record { id = p.id.items; max_cto = cto; max_dto = dto; checksum = kind; order = p.order; clock = clock; segments = ss; signals_address = signals.address; signals_length = signals.size; events = es; extras = extras } in l) ≡ layout_of p
+pub layout_built : (p : Parts) (cto dto : ℕ) (kind : ChecksumKind) (clock : Clock) (ss : List SegmentValue) (signals : Extent) (es : List EventValue) (extras : ExtrasValue) → cto ≡ number p.max_cto → dto ≡ number p.max_dto → kind ≡ kind_numbered (number p.checksum) → clock ≡ clock_of p.clock → ss ≡ map segment_of_part p.segments.items → signals ≡ signals_extent (layout_of p) → es ≡ map event_of_part p.events.items → extras ≡ extras_of p.extras → (let l : LayoutValue = record { class = p.class; id = p.id.items; max_cto = cto; max_dto = dto; checksum = kind; order = p.order; clock = clock; segments = ss; signals_address = signals.address; signals_length = signals.size; events = es; extras = extras } in l) ≡ layout_of p
 layout_built p cto dto kind clock ss signals es extras a b c g d e f h = rw (a, b, c, g, d, e, f, h) refl
 
 -- where no limit of the slave's own values is broken, the A2L file's name is within its limits

@@ -1,8 +1,10 @@
 -- A layout: what a controller shows to a calibration tool.
 use Rattle.std.specs.Prelude.{◌≡◌, ℕ, Bool, false, Option, Some, None, List, [], ◌∷◌, ◌++◌, length, map, sum_by, All, ◌+◌, ◌<◌, ◌≤◌, ◌⊎◌, slice_index_or as get_or}
 use Rattle.xcp_packet.specs.declared.Order.{Order}
+use Rattle.xcp_memory.specs.declared.class.Class.{Class}
 use Rattle.xcp_memory.specs.declared.clock.Clock.{Clock}
 use Rattle.xcp_memory.specs.declared.checksum_kind.ChecksumKind.{ChecksumKind}
+use Rattle.xcp_memory.specs.ClassLimits.{limits_of}
 
 -- A segment: its first address, the bytes of its reference page, and how many pages it has.
 -- (ASAM MCD-1 XCP, protocol layer: calibration data segments and pages.)
@@ -59,10 +61,11 @@ no_extras = record { a2l = []; uploads_a2l = false; tells_overload = false; file
 abbrev pub with_file : A2lFileValue → ExtrasValue → ExtrasValue
 with_file file e = record e { file = Some file }
 
--- The identification, the greatest lengths of command and data packets (MAX_CTO, MAX_DTO), the type of
+-- The class, whose limits hold, the identification, the greatest lengths of command and data packets (MAX_CTO, MAX_DTO), the type of
 -- checksums, the byte order of words and double words in packets, the clock, the segments, where the signals stand that the
 -- controller measures, the event channels, and what the slave has beyond others.
 pub record LayoutValue : Type 0 where
+  pub class : Class
   pub id : List ℕ
   pub max_cto : ℕ
   pub max_dto : ℕ
@@ -131,9 +134,9 @@ pub record IsLayout (l : LayoutValue) : Type 0 where
   pub ticks_least : 1 ≤ l.clock.ticks
   pub ticks_most : l.clock.ticks ≤ 65535
   pub segments_least : 1 ≤ length l.segments
-  pub segments_most : length l.segments ≤ 4
+  pub segments_most : length l.segments ≤ (limits_of l.class).segments
   pub filled : All (λ s. 1 ≤ length s.bytes) l.segments
-  pub total : sum_by (λ s. length s.bytes) l.segments ≤ 2040
+  pub total : sum_by (λ s. length s.bytes) l.segments ≤ (limits_of l.class).bytes
   pub paged : All (λ s. (2 ≤ s.pages) × (s.pages ≤ 4)) l.segments
   pub signals_least : 1 ≤ l.signals_length
   pub signals_most : l.signals_length ≤ 64

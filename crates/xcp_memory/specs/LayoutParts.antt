@@ -59,6 +59,7 @@ event_of_part e = record { name = e.name.items; cycle = number e.cycle; unit = n
 -- the layout of these parts
 abbrev pub layout_of : Parts → LayoutValue
 layout_of p = record {
+  class = p.class;
   id = p.id.items;
   max_cto = number p.max_cto;
   max_dto = number p.max_dto;

@@ -1,3 +1,4 @@
+pub mod ClassLimits
 pub mod Layout
 pub mod FaultNumbers
 pub mod LayoutParts

@@ -2,6 +2,7 @@
 use Rattle.std.specs.Prelude.{ℕ, ℤ, pos, negsuc, ◌+◌, Bool, false, ◌&&◌, ◌||◌, List, [], ◌∷◌, ◌++◌, length, map, sum_by, take, Option, nat_le, not, ◌==◌}
 use Rattle.std.specs.List.{flat_map, enumerate_from, list_all}
 use Rattle.xcp_packet.specs.Rows.{first_holding, must}
+use Rattle.xcp_memory.specs.declared.class.Class.{Class}
 use Rattle.xcp_memory.specs.declared.parts.Parts.{Parts}
 use Rattle.xcp_memory.specs.declared.parts.SegmentPart.{SegmentPart}
 use Rattle.xcp_memory.specs.declared.parts.EventPart.{EventPart}
@@ -10,6 +11,7 @@ use Rattle.xcp_memory.specs.declared.key.Key.{Key}
 use Rattle.xcp_memory.specs.declared.key.Key.TheVariants as key
 use Rattle.xcp_memory.specs.declared.key.LayoutFault.{LayoutFault}
 use Rattle.xcp_memory.specs.declared.key.LayoutFault.TheVariants.{Range, Overlap, TooMany}
+use Rattle.xcp_memory.specs.ClassLimits.{limits_of}
 use Rattle.xcp_memory.specs.LayoutParts.{Placed, number, size, layout_of, areas}
 use Rattle.xcp_memory.specs.Layout.{Extent}
 
@@ -97,9 +99,10 @@ own_limits p =
     ∷ a2l_limit p.extras.a2l.items
     ∷ clock_limits p.clock
 
--- how many segments there are; of segment i the first address, its bytes, the bytes in all with its own, and its pages
-abbrev pub segment_counts : ℕ → List Limit
-segment_counts = count_limits 4 key.Segment
+-- how many segments there are, by the layout's class; of segment i the first address, its bytes, the bytes in all with its own, and its
+-- pages
+abbrev pub segment_counts : Class → ℕ → List Limit
+segment_counts class = count_limits (limits_of class).segments key.Segment
 
 abbrev pub address_limit : ℕ → ℤ → Limit
 address_limit i = number_limit 0 0xFFFF_FFFE (key.Address i)
@@ -107,28 +110,28 @@ address_limit i = number_limit 0 0xFFFF_FFFE (key.Address i)
 abbrev pub data_limit : ℕ → ℕ → Limit
 data_limit i = least_limit (key.Data i)
 
-abbrev pub total_limit : ℕ → ℕ → Limit
-total_limit i = most_limit 2040 (key.Data i)
+abbrev pub total_limit : Class → ℕ → ℕ → Limit
+total_limit class i = most_limit (limits_of class).bytes (key.Data i)
 
 abbrev pub pages_limit : ℕ → ℤ → Limit
 pages_limit i = number_limit 2 4 (key.Pages i)
 
 -- segment i, with which there are so many bytes in all: each counts once, on however many pages it stands
-abbrev pub segment_limits : ℕ → ℕ → SegmentPart → List Limit
-segment_limits i total s =
+abbrev pub segment_limits : Class → ℕ → ℕ → SegmentPart → List Limit
+segment_limits class i total s =
     address_limit i s.address
     ∷ data_limit i (size s)
-    ∷ total_limit i total
+    ∷ total_limit class i total
     ∷ end_limit (key.Address i) s.address (size s)
     ∷ pages_limit i s.pages
     ∷ []
 
 -- segment i of these, by the bytes up to its own
-abbrev pub limits_in : List SegmentPart → ℕ × SegmentPart → List Limit
-limits_in ss (i, s) = segment_limits i (sum_by size (take (i + 1) ss)) s
+abbrev pub limits_in : Class → List SegmentPart → ℕ × SegmentPart → List Limit
+limits_in class ss (i, s) = segment_limits class i (sum_by size (take (i + 1) ss)) s
 
-abbrev pub segments_limits : List SegmentPart → List Limit
-segments_limits ss = segment_counts (length ss) ++ flat_map (limits_in ss) (enumerate_from 0 ss)
+abbrev pub segments_limits : Class → List SegmentPart → List Limit
+segments_limits class ss = segment_counts class (length ss) ++ flat_map (limits_in class ss) (enumerate_from 0 ss)
 
 -- where the signals stand, and how many bytes they have
 abbrev pub signals_address_limit : ℤ → Limit
@@ -187,7 +190,7 @@ apart_limits (a ∷ rest) = map (apart_limit a) rest ++ apart_limits rest
 abbrev pub limits : Parts → List Limit
 limits p =
     own_limits p
-    ++ segments_limits p.segments.items
+    ++ segments_limits p.class p.segments.items
     ++ signals_limits p.signals_address p.signals_length
     ++ events_limits p.events.items
     ++ apart_limits (areas (layout_of p))

@@ -2,3 +2,4 @@
 pub mod RangeInSegment
 pub mod PagesBySide
 pub mod PageStore
+pub mod OwnValues

@@ -41,7 +41,7 @@ impl Default for Placed {
 
 /// The areas in order: the segments, and then the signals.
 pub(crate) fn areas_of(segments: &[Segment], signals: Extent) -> ArrayVec<Placed, MAX_AREAS>
-    requires { length segments.now ≤ 4 }
+    requires { length segments.now ≤ 16 }
     ensures { result.items ≡ map placed_segment (enumerate_from 0 segments.now) ++ record { area = Area.Signals; extent = signals } ∷ [] }
 {
     let mut areas = ArrayVec::new();

@@ -31,6 +31,8 @@ pub enum Key {
     ClockUnit,
     /// How many units a tick has.
     ClockTicks,
+    /// Which limits hold.
+    Class,
     /// The segments.
     Segment,
     /// The first address of a segment.

@@ -1,7 +1,10 @@
 //! A layout: what a controller shows to a tool.
-ghost use Rattle.std.specs.Prelude.{◌≡◌, ◌≢◌, MatchBool, ◌+◌, ◌<◌, ◌≤◌, ◌↔◌, length, All, Some, None, Ok, Err, IfOk, IfErr, IfSome, IsTrue, slice_index_or as get_or};
+ghost use Rattle.std.specs.Prelude.{◌≡◌, ◌≢◌, MatchBool, ◌+◌, ◌%◌, ◌<◌, ◌≤◌, ◌↔◌, length, All, Some, None, Ok, Err, IfOk, IfErr, IfSome, IsFalse, IsTrue, slice_index_or as get_or};
 ghost use Rattle.xcp_memory.specs.Pages.{no_segment};
+ghost use Rattle.xcp_memory.specs.private.OwnValues.{SameValues};
 ghost use Rattle.xcp_memory.specs.ReferencePage.{with_reference};
+ghost use Rattle.xcp_memory.specs.ClassLimits.{limits_of};
+ghost use Rattle.xcp_memory.specs.EcuImage.{bytes_in_all, image_size};
 ghost use Rattle.xcp_memory.specs.Layout.{IsLayout, IsPrintable, described, signals_extent, no_event};
 ghost use Rattle.xcp_memory.specs.declared.key.LayoutFault.{LayoutFault};
 ghost use Rattle.xcp_memory.specs.LayoutParts.{clock_of, layout_of, number, kind_numbered};
@@ -12,9 +15,9 @@ ghost use Rattle.xcp_memory.specs.ComputedAccess.{segment_of, is_inside, Located
 use crate::areas::{areas_of, check_apart};
 use crate::event_channel::{EventChannel, copy_events, read_events, same_events};
 use crate::extent::{Extent, read_signals};
-use crate::limits::{MAX_A2L, MAX_EVENTS, MAX_ID, MAX_SEGMENTS, MIN_PACKET};
+use crate::limits::{IMAGE_SIZE, MAX_A2L, MAX_EVENTS, MAX_ID, MAX_SEGMENTS, MIN_PACKET};
 use crate::segment::{Segment, copy_segments, read_segments, same_segments};
-use crate::{A2lFile, ChecksumKind, Clock, Extras, Key, LayoutFault, Parts, checks};
+use crate::{A2lFile, ChecksumKind, Class, Clock, Extras, Key, LayoutFault, Parts, checks};
 use arrayvec::ArrayVec;
 use std::alloc::{AllocError, Global};
 use std::marker::Model;
@@ -25,6 +28,7 @@ use xcp_packet::Order;
 /// is within all limits.
 #[derive(Drop)]
 pub struct Layout {
+    class: Class,
     id: Vec<u8>,
     max_cto: u8,
     max_dto: u8,
@@ -71,9 +75,9 @@ impl Model for Layout {
 
     ghost Value = { LayoutValue };
 
-    ghost view = { λ l. record { id = l.id.items; max_cto = l.max_cto; max_dto = l.max_dto; checksum = l.checksum; order = l.order; clock = l.clock; segments = l.segments.items; signals_address = l.signals.address; signals_length = l.signals.size; events = l.events.items; extras = l.extras } };
+    ghost view = { λ l. record { class = l.class; id = l.id.items; max_cto = l.max_cto; max_dto = l.max_dto; checksum = l.checksum; order = l.order; clock = l.clock; segments = l.segments.items; signals_address = l.signals.address; signals_length = l.signals.size; events = l.events.items; extras = l.extras } };
 
-    ghost invariant = { λ l. IsLayout (record { id = l.id.items; max_cto = l.max_cto; max_dto = l.max_dto; checksum = l.checksum; order = l.order; clock = l.clock; segments = l.segments.items; signals_address = l.signals.address; signals_length = l.signals.size; events = l.events.items; extras = l.extras }) };
+    ghost invariant = { λ l. IsLayout (record { class = l.class; id = l.id.items; max_cto = l.max_cto; max_dto = l.max_dto; checksum = l.checksum; order = l.order; clock = l.clock; segments = l.segments.items; signals_address = l.signals.address; signals_length = l.signals.size; events = l.events.items; extras = l.extras }) };
 }
 
 impl Layout {
@@ -95,6 +99,7 @@ impl Layout {
     {
         let own = OwnValues::read(&parts)?;
         let Parts {
+            class,
             id,
             order,
             segments,
@@ -104,11 +109,12 @@ impl Layout {
             extras,
             ..
         } = parts;
-        let segments = read_segments(segments)?;
+        let segments = read_segments(class, segments)?;
         let signals = read_signals(signals_address, signals_length)?;
         let events = read_events(events)?;
         check_apart(&areas_of(&segments, signals))?;
         Ok(Layout {
+            class,
             id,
             max_cto: own.max_cto,
             max_dto: own.max_dto,
@@ -131,6 +137,7 @@ impl Layout {
         let events = copy_events(alloc, &self.events)?;
         let extras = self.extras.copy()?;
         Ok(Layout {
+            class: self.class,
             id,
             max_cto: self.max_cto,
             max_dto: self.max_dto,
@@ -144,16 +151,25 @@ impl Layout {
         })
     }
 
-    /// Whether both layouts are equal. It takes no memory.
-    pub(crate) fn same(&self, other: &Layout) -> bool
-        ensures { MatchBool result (self.now ≡ other.now) (self.now ≢ other.now) }
+    // Whether both have equal values of the slave itself.
+    fn same_values(&self, other: &Layout) -> bool
+        ensures yes { IsTrue result → SameValues self.now other.now }
+        ensures no { IsFalse result → self.now ≢ other.now }
     {
-        self.id == other.id
+        self.class == other.class
+            && self.id == other.id
             && self.max_cto == other.max_cto
             && self.max_dto == other.max_dto
             && self.checksum == other.checksum
             && self.order == other.order
             && self.clock == other.clock
+    }
+
+    /// Whether both layouts are equal. It takes no memory.
+    pub(crate) fn same(&self, other: &Layout) -> bool
+        ensures { MatchBool result (self.now ≡ other.now) (self.now ≢ other.now) }
+    {
+        self.same_values(other)
             && self.signals.address() == other.signals.address()
             && self.signals.size() == other.signals.size()
             && same_segments(&self.segments, &other.segments)
@@ -166,6 +182,43 @@ impl Layout {
         ensures { IsLayout self.now }
     {
         let _ = &self.segments;
+    }
+
+    /// The class, whose limits hold.
+    pub fn class(&self) -> Class
+        ensures { result ≡ self.now.class }
+    {
+        self.class
+    }
+
+    /// How many bytes the segments have in all, each counted once.
+    pub fn bytes_in_all(&self) -> usize
+        ensures value { result ≡ bytes_in_all self.now }
+        ensures least { 1 ≤ result }
+        ensures most { result ≤ (limits_of self.now.class).bytes }
+        ensures bound { result ≤ 1048576 }
+    {
+        self.audit();
+        let mut sum = 0;
+        for i in 0..self.segment_count() {
+            sum += self.segment_size(i);
+        }
+        sum
+    }
+
+    /// How many bytes an image has: 2,040, or in the large class as many as the segments have, rounded up to a multiple of eight.
+    pub fn image_size(&self) -> usize
+        ensures value { result ≡ image_size self.now }
+        ensures room { bytes_in_all self.now ≤ result }
+        ensures words { result % 8 ≡ 0 }
+        ensures least { 8 ≤ result }
+        ensures most { result ≤ 1048576 }
+    {
+        let bytes = self.bytes_in_all();
+        match self.class {
+            Class::Papers => IMAGE_SIZE,
+            Class::Large => 8 * ((bytes + 7) / 8),
+        }
     }
 
     /// The identification: 1 to 64 bytes of ASCII.
@@ -220,7 +273,8 @@ impl Layout {
     pub fn segment_count(&self) -> usize
         ensures value { result ≡ length self.now.segments }
         ensures least { 1 ≤ result }
-        ensures most { result ≤ 4 }
+        ensures most { result ≤ (limits_of self.now.class).segments }
+        ensures bound { result ≤ 16 }
     {
         self.segments.len()
     }
@@ -239,7 +293,8 @@ impl Layout {
         requires { segment < length self.now.segments }
         ensures value { result ≡ length (get_or self.now.segments segment no_segment).bytes }
         ensures least { 1 ≤ result }
-        ensures most { result ≤ 2040 }
+        ensures most { result ≤ (limits_of self.now.class).bytes }
+        ensures bound { result ≤ 1048576 }
     {
         self.segment_bytes(segment).len()
     }
@@ -249,7 +304,8 @@ impl Layout {
         requires { segment < length self.now.segments }
         ensures value { result.now ≡ (get_or self.now.segments segment no_segment).bytes }
         ensures least { 1 ≤ length result.now }
-        ensures most { length result.now ≤ 2040 }
+        ensures most { length result.now ≤ (limits_of self.now.class).bytes }
+        ensures bound { length result.now ≤ 1048576 }
     {
         self.segments[segment].bytes()
     }

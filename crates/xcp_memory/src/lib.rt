@@ -8,6 +8,7 @@ mod access_laws;
 mod areas;
 mod checks;
 mod checksum_kind;
+mod class;
 mod clock;
 mod event_channel;
 mod extent;
@@ -28,6 +29,7 @@ pub use access_laws::{
 };
 pub use checks::is_text;
 pub use checksum_kind::ChecksumKind;
+pub use class::{Class, ClassLimits};
 pub use clock::{Clock, ClockPart, NO_CLOCK};
 pub use extras::{A2lFile, Extras, ExtrasPart};
 pub use key::{Area, Key, LayoutFault};

@@ -1,10 +1,13 @@
 //! The limits of a layout. Whoever reads the parts of one from a file checks by the same.
 
-/// How many segments there are at most.
-pub const MAX_SEGMENTS: usize = 4;
+/// How many segments there are at most, in the class that has the most.
+pub const MAX_SEGMENTS: usize = 16;
 
-/// How many bytes the segments have at most, in all.
-pub const MAX_BYTES: usize = 2040;
+/// How many bytes an image has in the class `Papers`, and how many bytes its segments have at most, in all.
+pub const IMAGE_SIZE: usize = 2040;
+
+/// How many bytes the segments have at most in all, in the class that has the most.
+pub const MAX_BYTES: usize = 1_048_576;
 
 /// How many pages a segment has at least: the reference page and a working page.
 pub const MIN_PAGES: u8 = 2;
@@ -16,7 +19,7 @@ pub const MAX_PAGES: u8 = 4;
 pub const MAX_EVENTS: usize = 8;
 
 /// How many areas there are at most: the segments and the signals.
-pub const MAX_AREAS: usize = 5;
+pub const MAX_AREAS: usize = 17;
 
 /// How many bytes of signals there are at most.
 pub const MAX_SIGNALS: u32 = 64;

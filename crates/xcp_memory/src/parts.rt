@@ -1,10 +1,12 @@
 //! The parts that a layout is made of.
-use crate::{ClockPart, ExtrasPart};
+use crate::{Class, ClockPart, ExtrasPart};
 use xcp_packet::Order;
 
 /// What a layout is made of, as it was read: no limit has been checked.
 #[derive(Debug, PartialEq, Drop)]
 pub struct Parts {
+    /// Which limits hold.
+    pub class: Class,
     /// The identification: 1 to 64 printable ASCII bytes.
     pub id: Vec<u8>,
     /// MAX_CTO, in bytes: 8 to 255.
@@ -17,7 +19,8 @@ pub struct Parts {
     pub order: Order,
     /// The clock.
     pub clock: ClockPart,
-    /// The segments: 1 to 4, with 2,040 bytes in all, whatever number of pages they have.
+    /// The segments: one at least, and at most as many, with as many bytes in all, as the class has, whatever number of pages they
+    /// have.
     pub segments: Vec<SegmentPart>,
     /// The first address of the signals: 0 to 0xFFFF_FFFE, and so for their last address.
     pub signals_address: i64,

@@ -2,11 +2,12 @@
 ghost use Rattle.std.specs.Prelude.{◌≡◌, ◌≢◌, ◌+◌, ◌≤◌, length, map, Some, None, IfOk, IfErr, MatchBool};
 ghost use Rattle.xcp_memory.specs.LayoutParts.{segment_of_part, size};
 ghost use Rattle.xcp_packet.specs.Rows.{first_holding};
+ghost use Rattle.xcp_memory.specs.ClassLimits.{limits_of};
 ghost use Rattle.xcp_memory.specs.Limits.{segment_limits, segments_limits};
 
 use crate::extent::Extent;
-use crate::limits::{LAST_ADDRESS, MAX_BYTES, MAX_PAGES, MAX_SEGMENTS, MIN_PAGES};
-use crate::{Key, LayoutFault, SegmentPart, checks};
+use crate::limits::{LAST_ADDRESS, MAX_PAGES, MAX_SEGMENTS, MIN_PAGES};
+use crate::{Class, Key, LayoutFault, SegmentPart, checks};
 use arrayvec::ArrayVec;
 use std::alloc::{AllocError, Global};
 use std::default::MadeWith;
@@ -28,14 +29,14 @@ impl Model for Segment {
 
     ghost view = { λ s. record { address = s.address; bytes = s.bytes.items; pages = s.pages } };
 
-    ghost invariant = { λ s. length s.bytes.items ≤ 2040 };
+    ghost invariant = { λ s. length s.bytes.items ≤ 1048576 };
 }
 
 impl Segment {
     ghost use Rattle.xcp_memory.specs.Layout.{segment_extent};
 
     pub(crate) fn new(address: u32, bytes: Vec<u8>, pages: u8) -> Segment
-        requires { length bytes.items ≤ 2040 }
+        requires { length bytes.items ≤ 1048576 }
         ensures { result ≡ record { address = address; bytes = bytes.items; pages = pages } }
     {
         Segment {
@@ -109,18 +110,23 @@ impl MadeWith<Global> for Segment {
 }
 
 /// The segment that a part makes, where there are `before` bytes in the segments before it.
-fn read_segment(part: SegmentPart, number: u8, before: usize) -> Result<Segment, LayoutFault>
-    requires { before ≤ 2040 }
-    ensures ok { IfOk result (λ s. (first_holding (segment_limits number (before + size part) part) ≡ None) × (s ≡ segment_of_part part)) }
-    ensures room { IfOk result (λ s. before + length s.bytes ≤ 2040) }
-    ensures refused { IfErr result (λ e. first_holding (segment_limits number (before + size part) part) ≡ Some e) }
+fn read_segment(
+    class: Class,
+    part: SegmentPart,
+    number: u8,
+    before: usize,
+) -> Result<Segment, LayoutFault>
+    requires { before ≤ (limits_of class).bytes }
+    ensures ok { IfOk result (λ s. (first_holding (segment_limits class number (before + size part) part) ≡ None) × (s ≡ segment_of_part part)) }
+    ensures room { IfOk result (λ s. before + length s.bytes ≤ (limits_of class).bytes) }
+    ensures refused { IfErr result (λ e. first_holding (segment_limits class number (before + size part) part) ≡ Some e) }
 {
     let address = checks::number(part.address, 0, LAST_ADDRESS, Key::Address(number))?;
     let size = part.bytes.len();
     if size == 0 {
         return Err(LayoutFault::Range(Key::Data(number)));
     }
-    if size > MAX_BYTES - before {
+    if size > class.limits().bytes - before {
         return Err(LayoutFault::TooMany(Key::Data(number)));
     }
     if size as u64 - 1 > u64::from(LAST_ADDRESS - address) {
@@ -132,21 +138,22 @@ fn read_segment(part: SegmentPart, number: u8, before: usize) -> Result<Segment,
 
 /// The segments that these parts make.
 pub(crate) fn read_segments(
+    class: Class,
     parts: Vec<SegmentPart>,
 ) -> Result<ArrayVec<Segment, MAX_SEGMENTS, Global>, LayoutFault>
-    ensures ok { IfOk result (λ s. (first_holding (segments_limits parts.items) ≡ None) × (s.items ≡ map segment_of_part parts.items)) }
-    ensures refused { IfErr result (λ e. first_holding (segments_limits parts.items) ≡ Some e) }
+    ensures ok { IfOk result (λ s. (first_holding (segments_limits class parts.items) ≡ None) × (s.items ≡ map segment_of_part parts.items)) }
+    ensures refused { IfErr result (λ e. first_holding (segments_limits class parts.items) ≡ Some e) }
 {
     if parts.is_empty() {
         return Err(LayoutFault::Range(Key::Segment));
     }
-    if parts.len() > MAX_SEGMENTS {
+    if parts.len() > class.limits().segments {
         return Err(LayoutFault::TooMany(Key::Segment));
     }
     let mut segments = ArrayVec::new_in(*parts.allocator());
     let mut total = 0;
     for part in parts {
-        let segment = read_segment(part, segments.len() as u8, total)?;
+        let segment = read_segment(class, part, segments.len() as u8, total)?;
         total += segment.bytes().len();
         segments.push(segment);
     }
@@ -158,7 +165,7 @@ pub(crate) fn copy_segments(
     alloc: Global,
     segments: &[Segment],
 ) -> Result<ArrayVec<Segment, MAX_SEGMENTS, Global>, AllocError>
-    requires { length segments.now ≤ 4 }
+    requires { length segments.now ≤ 16 }
     ensures { IfOk result (λ s. s.items ≡ segments.now) }
 {
     let mut copies = ArrayVec::new_in(alloc);

@@ -13,10 +13,13 @@ use Rattle.xcp_packet.specs.ByteOrder.{byte_order}
 use Rattle.xcp_packet.specs.TimeStamps.{stamp_size}
 use Rattle.xcp_memory.specs.declared.checksum_kind.ChecksumKind.{ChecksumKind}
 use Rattle.xcp_memory.specs.declared.checksum_kind.ChecksumKind.TheVariants.{Add11, Add12, Add14, Add22, Add24, Add44}
+use Rattle.xcp_memory.specs.declared.class.Class.{Class}
+use Rattle.xcp_memory.specs.declared.class.Class.TheVariants.{Papers, Large}
 use Rattle.xcp_memory.specs.Checksum.{checksum_number}
+use Rattle.xcp_memory.specs.ClassLimits.{limits_of}
 use Rattle.xcp_memory.specs.LayoutParts.{kind_numbered, stamp_sized}
 use Rattle.xcp_memory.specs.Layout.{EventValue, Extent, ExtrasValue, IsExtras, IsLayout, LayoutValue, SegmentValue, description, epk, segment_extent, signals_extent, no_extent}
-use Rattle.xcp_program.specs.Decided.{all_decided, answers_decided, bytes_decided, event_decided, extras_decided, flag, own_decided, segment_decided, signals_decided}
+use Rattle.xcp_program.specs.Decided.{all_decided, answers_decided, bytes_decided, class_decided, event_decided, extras_decided, flag, own_decided, segment_decided, signals_decided}
 use Rattle.xcp_program.specs.DecidingLaws.{uploading}
 
 -- two lists whose fronts are equally long are the same in both parts
@@ -58,7 +61,7 @@ same_each f P each (x ∷ xs) (y ∷ ys) r s n p q h =
 
 -- and behind how many they are
 same_all : {A : Type 0} (f : A → List ℕ) (P : A → Type 0) → ((x y : A) (r s : List ℕ) → P x → P y → f x ++ r ≡ f y ++ s → (x ≡ y) × (r ≡ s))
-    → (xs ys : List A) (r s : List ℕ) → length xs ≤ 8 → length ys ≤ 8 → All P xs → All P ys → all_decided f xs ++ r ≡ all_decided f ys ++ s → (xs ≡ ys) × (r ≡ s)
+    → (xs ys : List A) (r s : List ℕ) → length xs ≤ 16 → length ys ≤ 16 → All P xs → All P ys → all_decided f xs ++ r ≡ all_decided f ys ++ s → (xs ≡ ys) × (r ≡ s)
 unfolding all_decided
 same_all f P each xs ys r s low small p q h =
     let count = same_four (length xs) (length ys) (flat_map f xs ++ r) (flat_map f ys ++ s) (omega (arith, low)) (omega (arith, small))
@@ -186,7 +189,7 @@ extras_parts x t =
     let text = bytes_decided (description x) in
     append_assoc ((name ++ flags) ++ id) text t ∙ append_assoc (name ++ flags) id (text ++ t) ∙ append_assoc name flags (id ++ (text ++ t))
 
-same_extras : (x y : ExtrasValue) (r s : List ℕ) → IsExtras x → IsExtras y → extras_decided x ++ r ≡ extras_decided y ++ s → IsSameExtras x y
+same_extras : (x y : ExtrasValue) (r s : List ℕ) → IsExtras x → IsExtras y → extras_decided x ++ r ≡ extras_decided y ++ s → IsSameExtras x y × (r ≡ s)
 same_extras x y r s p q h =
     let a = p.a2l_most in
     let b = q.a2l_most in
@@ -196,14 +199,29 @@ same_extras x y r s p q h =
     let f = q.file.text_most in
     let name = same_bytes x.a2l y.a2l _ _ (omega (arith, a)) (omega (arith, b)) (sym (extras_parts x r) ∙ h ∙ extras_parts y s) in
     let id = same_bytes (epk x) (epk y) (bytes_decided (description x) ++ r) (bytes_decided (description y) ++ s) (omega (arith, c)) (omega (arith, d)) (ap (drop 2) name.1) in
-    let text = same_bytes (description x) (description y) r s (omega (arith, e)) (omega (arith, f)) id.1 in
-    record {
-      a2l = name.0;
-      uploads_a2l = sym (flag_of x.uploads_a2l) ∙ ap (λ l. slice_index l 0 == 1) name.1 ∙ flag_of y.uploads_a2l;
-      tells_overload = sym (flag_of x.tells_overload) ∙ ap (λ l. slice_index l 1 == 1) name.1 ∙ flag_of y.tells_overload;
-      epk = id.0;
-      description = text.0;
-    }
+    let text = same_bytes (description x) (description y) r s (omega (arith, e)) (omega (arith, f)) id.1 in (
+      record {
+        a2l = name.0;
+        uploads_a2l = sym (flag_of x.uploads_a2l) ∙ ap (λ l. slice_index l 0 == 1) name.1 ∙ flag_of y.uploads_a2l;
+        tells_overload = sym (flag_of x.tells_overload) ∙ ap (λ l. slice_index l 1 == 1) name.1 ∙ flag_of y.tells_overload;
+        epk = id.0;
+        description = text.0;
+      },
+      text.1,
+    )
+
+-- the class
+same_class : (c d : Class) → class_decided c ≡ class_decided d → c ≡ d
+unfolding class_decided
+same_class Papers Papers h = refl
+same_class Papers Large h = cc
+same_class Large Papers h = cc
+same_class Large Large h = refl
+
+-- how many segments a class has at most
+few : (c : Class) → (limits_of c).segments ≤ 16
+few Papers = omega arith
+few Large = omega arith
 
 -- each area of a layout ends within four bytes
 abbrev Ends : Extent → Type 0
@@ -219,7 +237,7 @@ last_ends [] e h = h 0 no_extent (omega arith)
 last_ends (s ∷ ss) e h = last_ends ss e (λ j d m. h (suc j) d (omega (arith, m)))
 
 whole_parts : (l : LayoutValue)
-    → answers_decided l ≡ own_decided l ++ (all_decided segment_decided l.segments ++ (signals_decided l ++ (all_decided event_decided l.events ++ extras_decided l.extras)))
+    → answers_decided l ≡ own_decided l ++ (all_decided segment_decided l.segments ++ (signals_decided l ++ (all_decided event_decided l.events ++ (extras_decided l.extras ++ class_decided l.class))))
 unfolding answers_decided
 whole_parts l =
     let own = own_decided l in
@@ -227,18 +245,26 @@ whole_parts l =
     let signals = signals_decided l in
     let events = all_decided event_decided l.events in
     let extras = extras_decided l.extras in
-    append_assoc ((own ++ segments) ++ signals) events extras ∙ append_assoc (own ++ segments) signals (events ++ extras) ∙ append_assoc own segments (signals ++ (events ++ extras))
+    let class = class_decided l.class in
+    append_assoc (((own ++ segments) ++ signals) ++ events) extras class
+    ∙ append_assoc ((own ++ segments) ++ signals) events (extras ++ class)
+    ∙ append_assoc (own ++ segments) signals (events ++ (extras ++ class))
+    ∙ append_assoc own segments (signals ++ (events ++ (extras ++ class)))
 
 pub one_layout : (l m : LayoutValue) → IsLayout l → IsLayout m → answers_decided l ≡ answers_decided m → uploading l ≡ uploading m
 one_layout l m p q h =
     let a = p.segments_most in
     let b = q.segments_most in
+    let c = few l.class in
+    let d = few m.class in
     let own = same_own l m _ _ p q (sym (whole_parts l) ∙ h ∙ whole_parts m) in
-    let segments = same_all segment_decided Fits same_segment l.segments m.segments _ _ (omega (arith, a)) (omega (arith, b)) (each_fits l.segments (signals_extent l ∷ []) p.last) (each_fits m.segments (signals_extent m ∷ []) q.last) own.1 in
+    let segments = same_all segment_decided Fits same_segment l.segments m.segments _ _ (omega (arith, a, c)) (omega (arith, b, d)) (each_fits l.segments (signals_extent l ∷ []) p.last) (each_fits m.segments (signals_extent m ∷ []) q.last) own.1 in
     let signals = same_signals l m _ _ (last_ends l.segments (signals_extent l) p.last) (last_ends m.segments (signals_extent m) q.last) segments.1 in
-    let events = same_all event_decided IsNamed same_event l.events m.events (extras_decided l.extras) (extras_decided m.extras) p.events_most q.events_most p.names q.names signals.2 in
-    let extras = same_extras l.extras m.extras [] [] p.extras q.extras (ap (λ b. b ++ []) events.1) in
+    let events = same_all event_decided IsNamed same_event l.events m.events _ _ (omega (arith, p.events_most)) (omega (arith, q.events_most)) p.names q.names signals.2 in
+    let extras = same_extras l.extras m.extras _ _ p.extras q.extras events.1 in
+    let class = same_class l.class m.class extras.1 in
     (λ i. record {
+      class = class i;
       id = own.0.id i;
       max_cto = own.0.max_cto i;
       max_dto = own.0.max_dto i;
@@ -249,7 +275,7 @@ one_layout l m p q h =
       signals_address = signals.0 i;
       signals_length = signals.1 i;
       events = events.0 i;
-      extras = record { a2l = extras.a2l i; uploads_a2l = extras.uploads_a2l i; tells_overload = extras.tells_overload i; file = Some (record { epk = extras.epk i; text = extras.description i }) };
+      extras = record { a2l = extras.0.a2l i; uploads_a2l = extras.0.uploads_a2l i; tells_overload = extras.0.tells_overload i; file = Some (record { epk = extras.0.epk i; text = extras.0.description i }) };
     })
 
 -- the same file decides the same

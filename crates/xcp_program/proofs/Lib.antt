@@ -6,3 +6,4 @@ pub mod ClapWalkLemmas
 pub mod NoFaultLemmas
 pub mod RefusalLemmas
 pub mod StoredPagesLemmas
+pub mod StoredSizeLemmas

@@ -10,3 +10,8 @@ taken limit all h = grind (arith, common_steps, h)
 pub front-whole : (limit : ℕ) (known : Option (List ℕ)) (bytes : List ℕ) → IfSome (option_map (take limit) known) (λ xs. bytes ≡ [] ++ xs) → length bytes < limit → IfSome known (λ all. bytes ≡ all)
 front-whole limit None bytes h l = tt
 front-whole limit (Some all) bytes h l = let e : bytes ≡ take limit all = h in e ∙ taken limit all (rw (sym e) l)
+
+-- the front of what is known
+pub front-taken : (limit : ℕ) (known : Option (List ℕ)) (bytes : List ℕ) → IfSome (option_map (take limit) known) (λ xs. bytes ≡ [] ++ xs) → IfSome known (λ all. bytes ≡ take limit all)
+front-taken limit None bytes h = tt
+front-taken limit (Some all) bytes h = h

@@ -4,6 +4,8 @@ use Rattle.std.specs.Int.{w16, w32, to_le_bytes}
 use Rattle.std.specs.List.{flat_map}
 use Rattle.xcp_packet.specs.ByteOrder.{byte_order}
 use Rattle.xcp_packet.specs.TimeStamps.{stamp_size}
+use Rattle.xcp_memory.specs.declared.class.Class.{Class}
+use Rattle.xcp_memory.specs.declared.class.Class.TheVariants.{Papers, Large}
 use Rattle.xcp_memory.specs.Checksum.{checksum_number}
 use Rattle.xcp_memory.specs.Layout.{EventValue, ExtrasValue, LayoutValue, SegmentValue, description, epk}
 
@@ -42,6 +44,11 @@ unfoldable pub extras_decided : ExtrasValue → List ℕ
 extras_decided e =
     bytes_decided e.a2l ++ (flag e.uploads_a2l ∷ flag e.tells_overload ∷ []) ++ bytes_decided (epk e) ++ bytes_decided (description e)
 
+-- Of `Papers` nothing, so that what was written before there were classes is of the same layouts; of `Large` a 1.
+unfoldable pub class_decided : Class → List ℕ
+class_decided Papers = []
+class_decided Large = 1 ∷ []
+
 -- things behind how many they are, in four bytes
 unfoldable pub all_decided : {A : Type 0} → (A → List ℕ) → List A → List ℕ
 all_decided decided things = to_le_bytes w32 (length things) ++ flat_map decided things
@@ -54,3 +61,4 @@ answers_decided l =
     ++ signals_decided l
     ++ all_decided event_decided l.events
     ++ extras_decided l.extras
+    ++ class_decided l.class

@@ -1,11 +1,14 @@
 -- The file of stored pages.
-use Rattle.std.specs.Prelude.{◌≡◌, ◌≢◌, ◌⊎◌, ℕ, Bool, true, false, List, ◌∷◌, ◌++◌, ◌==◌, codes, if◌then◌else◌, length, Option, Some, None, Result, Ok, Err}
+use Rattle.std.specs.Prelude.{◌≡◌, ◌≢◌, ◌≤◌, ◌⊎◌, ℕ, map, Bool, true, false, List, ◌∷◌, ◌++◌, ◌==◌, codes, if◌then◌else◌, length, Option, Some, None, Result, Ok, Err}
 use Rattle.std.specs.IoError.{error_kind}
 use Rattle.std.specs.Str.{NoCharPasses}
 use Rattle.std.specs.declared.io.Error.{Error}
 use Rattle.std.specs.declared.io.ErrorKind.TheVariants.{NotFound}
 use Rattle.std.specs.declared.fs.TryLockError.{TryLockError}
 use Rattle.std.specs.declared.fs.TryLockError.TheVariants.{WouldBlock}
+use Rattle.xcp_memory.specs.Layout.{IsLayout, LayoutValue}
+use Rattle.xcp_flash.specs.FlashFile.{file_size}
+use Rattle.xcp_flash.specs.References.{AreReferences}
 use Rattle.xcp_program.specs.declared.fault.Fault.{Fault}
 use Rattle.xcp_program.specs.declared.fault.Fault.TheVariants.{Flash}
 
@@ -15,6 +18,10 @@ IsAnswered (Ok file) wanted answer = answer ≡ Ok (Some file)
 IsAnswered (Err e) wanted answer =
     ((error_kind e ≡ NotFound) × (wanted ≡ false) × (answer ≡ Ok None))
     ⊎ (((error_kind e ≢ NotFound) ⊎ (wanted ≡ true)) × (answer ≡ Err (Flash 1)))
+
+-- Of no layout does the file of its pages have more bytes than are read. It is a law: the contract of a public function of src/law.rt.
+abbrev pub EachFileIsRead : Type 0
+EachFileIsRead = (pages : List (List ℕ)) (l : LayoutValue) → IsLayout l → AreReferences pages l → file_size (map (λ page. length page) pages) ≤ 1048710
 
 -- the code of a slash
 abbrev pub slash : ℕ

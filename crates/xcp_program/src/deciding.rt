@@ -4,10 +4,10 @@ ghost use Rattle.sha2.specs.Hashers.{Holds256};
 ghost use Rattle.sha2.specs.Sha256.{sha256};
 ghost use Rattle.xcp_memory.specs.Layout.{no_event};
 ghost use Rattle.xcp_memory.specs.Pages.{no_segment};
-ghost use Rattle.xcp_program.specs.Decided.{all_decided, answers_decided, bytes_decided, event_decided, extras_decided, own_decided, segment_decided, signals_decided};
+ghost use Rattle.xcp_program.specs.Decided.{all_decided, answers_decided, bytes_decided, class_decided, event_decided, extras_decided, own_decided, segment_decided, signals_decided};
 
 use sha2::{Digest, Sha256};
-use xcp_memory::{Extras, Layout};
+use xcp_memory::{Class, Extras, Layout};
 
 /// The SHA-256 of what decides the answers of a slave that begins with this layout: of all that the layout is, and of nothing else that
 /// stands in a layout file, as a comment.
@@ -21,6 +21,7 @@ pub fn answers_digest(layout: &Layout) -> [u8; 32]
     give_signals(&mut hasher, layout);
     give_events(&mut hasher, layout);
     give_extras(&mut hasher, layout.extras());
+    give_class(&mut hasher, layout.class());
     hasher.finalize()
 }
 
@@ -124,4 +125,15 @@ fn give_extras(hasher: &mut Sha256, extras: &Extras)
     ]);
     give_bytes(hasher, extras.epk());
     give_bytes(hasher, extras.description());
+}
+
+/// Gives a hasher what decides of the class.
+#[tactic(auto, unfolding(crate::specs::Decided::class_decided))]
+fn give_class(hasher: &mut Sha256, class: Class)
+    ensures { (before : List ℕ) → Holds256 hasher.old before → Holds256 hasher.new (before ++ class_decided class) }
+{
+    match class {
+        Class::Papers => {}
+        Class::Large => hasher.update(&[1]),
+    }
 }

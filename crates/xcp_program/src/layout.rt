@@ -1,13 +1,13 @@
 //! The layout that the configuration describes, and the one that a slave begins with.
 ghost use Rattle.std.specs.Prelude.{◌≡◌, ◌⊎◌, Err, IfErr, IfOk, MatchResult, Some, option_map};
-ghost use Rattle.xcp_config.specs.ConfigText.{HasLayout};
-ghost use Rattle.xcp_program.specs.Beginning.{Begins, FitsNone, HasStored, IsUnfit, with_a2l};
-ghost use Rattle.xcp_program.specs.ReplayOutcome.{IsFault};
+ghost use Rattle.xcp_config.specs.ConfigText.{HasLayout, HasLayoutWith};
+ghost use Rattle.xcp_program.specs.Beginning.{Begins, BeginsWith, FitsNone, HasStored, IsUnfit, IsUnfitWith, with_a2l};
+ghost use Rattle.xcp_program.specs.ReplayOutcome.{IsFault, IsFaultWith};
 
 use crate::fault::Fault;
 use sha2::{Digest, Sha256};
 use std::alloc::Global;
-use xcp_config::{ConfigError, read_layout};
+use xcp_config::{ConfigError, DataFile, read_layout_with};
 use xcp_flash::{pages_digest, restore_either};
 use xcp_memory::{A2lFile, Layout};
 
@@ -17,7 +17,15 @@ pub fn layout_of(alloc: Global, config: &str) -> Result<Layout, Fault>
     ensures layout { IfOk result (λ l. HasLayout config.now l) }
     ensures refused { IfErr result (λ f. (f ≡ Fault.Memory) ⊎ IsFault config.now f) }
 {
-    match read_layout(alloc, config) {
+    layout_of_with(alloc, config, &[])
+}
+
+/// The same of a configuration file whose segments may name files for their bytes: these are the files by the segments' numbers.
+pub fn layout_of_with(alloc: Global, config: &str, files: &[DataFile]) -> Result<Layout, Fault>
+    ensures layout { IfOk result (λ l. HasLayoutWith files.now config.now l) }
+    ensures refused { IfErr result (λ f. (f ≡ Fault.Memory) ⊎ IsFaultWith files.now config.now f) }
+{
+    match read_layout_with(alloc, config, files) {
         Ok(layout) => Ok(layout),
         Err(ConfigError::Memory) => Err(Fault::Memory),
         Err(fault) => Err(Fault::Configuration(fault.number())),
@@ -39,7 +47,24 @@ pub fn layout_stored(
     ensures told { IsUnfit config.now (option_map (λ f. f.now) flash.entry)
         → (result ≡ Err (Fault.Flash 1)) ⊎ (result ≡ Err Fault.Memory) }
 {
-    let layout = layout_of(alloc, config)?;
+    layout_stored_with(alloc, config, &[], a2l, flash)
+}
+
+/// The same of a configuration file whose segments may name files for their bytes: these are the files by the segments' numbers.
+pub fn layout_stored_with(
+    alloc: Global,
+    config: &str,
+    files: &[DataFile],
+    a2l: Option<A2lFile>,
+    flash: Option<&[u8]>,
+) -> Result<Layout, Fault>
+    ensures layout { IfOk result (λ l. BeginsWith files.now config.now a2l (option_map (λ f. f.now) flash.entry) l) }
+    ensures refused { IfErr result (λ f. (f ≡ Fault.Memory) ⊎ (IsFaultWith files.now config.now f ⊎ (f ≡ Fault.Flash 1))) }
+    ensures unfit { result ≡ Err (Fault.Flash 1) → IsUnfitWith files.now config.now (option_map (λ f. f.now) flash.entry) }
+    ensures told { IsUnfitWith files.now config.now (option_map (λ f. f.now) flash.entry)
+        → (result ≡ Err (Fault.Flash 1)) ⊎ (result ≡ Err Fault.Memory) }
+{
+    let layout = layout_of_with(alloc, config, files)?;
     let layout = match flash {
         Some(file) => with_pages(layout, config, file)?,
         None => layout,

@@ -10,6 +10,7 @@
 
 mod arguments;
 mod command_line;
+mod data_files;
 mod deciding;
 mod defaults;
 mod end_faults;
@@ -32,6 +33,7 @@ mod untimed;
 mod words;
 
 pub use command_line::options;
+pub use data_files::{beside, read_data};
 pub use deciding::answers_digest;
 pub use defaults::{DEFAULT_HOST, DEFAULT_PORT};
 pub use end_faults::{
@@ -39,11 +41,11 @@ pub use end_faults::{
 };
 pub use fault::Fault;
 pub use hosts::refuse_many;
-pub use law::what_decides_is_of_one_layout;
-pub use layout::{layout_of, layout_stored};
+pub use law::{what_a_layout_stores_is_read, what_decides_is_of_one_layout};
+pub use layout::{layout_of, layout_of_with, layout_stored, layout_stored_with};
 pub use periods::periods_of;
 pub use purpose::{Options, OptionsFault};
-pub use replaying::replay;
+pub use replaying::{replay, replay_with};
 pub use server_lines::{Counts, Listening, ListeningUdp, Network, Recorded};
 pub use serving::Serving;
 pub use source::{read_flash, read_text, read_whole};

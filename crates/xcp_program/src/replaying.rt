@@ -2,12 +2,13 @@
 ghost use Rattle.std.specs.Prelude.{◌≡◌, ◌≢◌, ◌<◌, ◌≤◌, ◌+◌, ◌⊎◌, ℕ, option_map};
 ghost use Rattle.xcp_framing.specs.CountedCalls.{EachRead};
 ghost use Rattle.xcp_script.specs.Replay.{IsTurn};
-ghost use Rattle.xcp_program.specs.ReplayOutcome.{AnswersScript, Ends, ReplaysShort, RunsShort};
+ghost use Rattle.xcp_program.specs.ReplayOutcome.{AnswersScript, Ends, EndsByFiles, ReplaysShort, ReplaysShortWith, RunsShort};
 
 use crate::fault::Fault;
-use crate::layout::layout_stored;
+use crate::layout::layout_stored_with;
 use std::alloc::Global;
 use std::io::{Read, Write};
+use xcp_config::DataFile;
 use xcp_framing::{Desk, Watched};
 use xcp_memory::{A2lFile, Layout};
 use xcp_script::{ReplayError, replay_on};
@@ -48,7 +49,36 @@ pub fn replay<R: Read, W: Write>(
     ensures configuration { (n : ℕ) → result ≡ Err (Fault.Configuration n) → (reader.new ≡ reader.old) × (writer.new ≡ writer.old) }
     ensures flash { (n : ℕ) → result ≡ Err (Fault.Flash n) → (reader.new ≡ reader.old) × (writer.new ≡ writer.old) }
 {
-    let layout = layout_stored(alloc, config, a2l, flash)?;
+    replay_with(alloc, config, &[], a2l, flash, reader, writer, turns)
+}
+
+/// The same of a configuration whose segments may name files for their bytes: these are the files by the segments' numbers.
+pub fn replay_with<R: Read, W: Write>(
+    alloc: Global,
+    config: &str,
+    files: &[DataFile],
+    a2l: Option<A2lFile>,
+    flash: Option<&[u8]>,
+    reader: &mut Watched<R>,
+    writer: &mut Watched<W>,
+    turns: u32,
+) -> Result<u64, Fault>
+    ensures ends { EndsByFiles files.now config.now a2l (option_map (λ f. f.now) flash.entry) (R.remaining reader.old.inner) (W.contents writer.old.inner) (W.contents writer.new.inner) result }
+    // A fault of a stream comes only where that stream failed, or the turns are spent.
+    ensures read { result ≡ Err (Fault.Stream 1) → (reader.old.failures < reader.new.failures) ⊎ (reader.new.calls ≡ reader.old.calls + turns) }
+    ensures read_unfailed { result ≢ Err (Fault.Stream 1) → reader.new.failures ≡ reader.old.failures }
+    ensures reads { reader.new.calls ≤ reader.old.calls + turns }
+    ensures sizes { EachRead IsTurn reader.old reader.new }
+    ensures write { result ≡ Err (Fault.Stream 2) → writer.old.failures < writer.new.failures }
+    ensures write_unfailed { result ≢ Err (Fault.Stream 2) → writer.new.failures ≡ writer.old.failures }
+    // Memory comes before anything is read or written, or at a request of the script.
+    ensures memory { result ≡ Err Fault.Memory
+        → ((reader.new ≡ reader.old) × (writer.new ≡ writer.old))
+        ⊎ ReplaysShortWith files.now config.now a2l (option_map (λ f. f.now) flash.entry) (R.remaining reader.old.inner) (W.contents writer.old.inner) (W.contents writer.new.inner) }
+    ensures configuration { (n : ℕ) → result ≡ Err (Fault.Configuration n) → (reader.new ≡ reader.old) × (writer.new ≡ writer.old) }
+    ensures flash { (n : ℕ) → result ≡ Err (Fault.Flash n) → (reader.new ≡ reader.old) × (writer.new ≡ writer.old) }
+{
+    let layout = layout_stored_with(alloc, config, files, a2l, flash)?;
     match answer_script(alloc, layout, reader, writer, turns) {
         Ok(requests) => Ok(requests),
         Err(ReplayError::Line(number)) => Err(Fault::Line(number)),

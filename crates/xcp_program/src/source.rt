@@ -5,12 +5,14 @@ ghost use Rattle.std.specs.Str.{IsUtf8};
 use crate::fault::Fault;
 use std::alloc::Global;
 use std::io::{ErrorKind, Read};
+use xcp_memory::limits::{MAX_BYTES, MAX_SEGMENTS};
 
 /// The most bytes that a configuration file may have.
 const MOST_BYTES: usize = 65_536;
 
-/// The most bytes that a file of stored pages may have.
-const MOST_STORED_BYTES: usize = 4_096;
+/// The most bytes that a file of stored pages may have: those of its head and its digest, and all bytes of the most segments, each behind
+/// their number.
+const MOST_STORED_BYTES: usize = 70 + 4 * MAX_SEGMENTS + MAX_BYTES;
 
 /// All bytes of a file of so many bytes at most. `unread` comes where reading fails or there are more, `Memory` where an
 /// allocation fails.
@@ -20,7 +22,7 @@ fn bytes_of<R: Read + Drop>(
     most: usize,
     unread: Fault,
 ) -> Result<Vec<u8>, Fault>
-    requires { most ≤ 65536 }
+    requires { most ≤ 0xFFFF_FFFF }
     ensures size { IfOk result (λ bytes. length bytes.items ≤ most) }
     ensures whole { IfOk result (λ bytes. IfSome (R.remaining file) (λ all. bytes.items ≡ all)) }
     ensures refused { IfErr result (λ e. (e ≡ Fault.Memory) ⊎ (e ≡ unread)) }
@@ -45,9 +47,9 @@ pub fn read_whole<R: Read + Drop>(alloc: Global, file: R) -> Result<Vec<u8>, Fau
 }
 
 /// All bytes of a file of stored pages. `Flash(1)` comes where reading fails or there are more than
-/// 4,096, `Memory` where an allocation fails.
+/// 1,048,710, `Memory` where an allocation fails.
 pub fn read_flash<R: Read + Drop>(alloc: Global, file: R) -> Result<Vec<u8>, Fault>
-    ensures size { IfOk result (λ bytes. length bytes.items ≤ 4096) }
+    ensures size { IfOk result (λ bytes. length bytes.items ≤ 1048710) }
     ensures whole { IfOk result (λ bytes. IfSome (R.remaining file) (λ all. bytes.items ≡ all)) }
     ensures refused { IfErr result (λ e. (e ≡ Fault.Memory) ⊎ (e ≡ Fault.Flash 1)) }
 {

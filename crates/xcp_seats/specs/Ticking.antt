@@ -1,5 +1,6 @@
 -- What a task of a controller that stays does, cycle by cycle.
 use Rattle.std.specs.Prelude.{◌≡◌, ◌⊎◌, ◌+◌, ◌%◌, ◌^◌, ℕ, Bool, List, [], ◌∷◌, ◌++◌, length, MatchBool}
+use Rattle.xcp_memory.specs.EcuImage.{image_size}
 use Rattle.xcp_memory.specs.Layout.{LayoutValue}
 use Rattle.xcp_bank.specs.BankEnds.{ReaderEnd}
 use Rattle.xcp_locked.specs.Caller.{CallerValue}
@@ -47,7 +48,7 @@ pub record Ticked (layout : LayoutValue) (task : ℕ) (old new : TaskAt) : Type 
   -- the reader's steps, and the image that it read
   pub took : Took 1 accepted old.reader new.reader old.image new.image
   -- which is a whole one, so that the reader holds one where the event was accepted
-  pub whole : length new.image ≡ 2040
+  pub whole : length new.image ≡ image_size layout
 
 -- All that a task did from its first cycle on: cycle behind cycle.
 pub record Ticks (layout : LayoutValue) (task : ℕ) (caller caller' : CallerValue) (reader reader' : ReaderEnd) : Type 0 where

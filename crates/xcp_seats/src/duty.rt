@@ -101,7 +101,7 @@ impl<'a, N: Name, M: Route, W: Watcher> Ward<'a, N, M, W> {
     /// have stored doesn't lie on the shelf yet. Answers how many have passed then. While the keeper is behind, the next look does.
     fn cut_in_time(&self, rt: &impl Wait, seconds: u32) -> u32 {
         let is_time = self.cut_every.is_some_and(|every| every <= seconds);
-        let mut resident = self.shared.lock.lock(rt);
+        let mut resident = self.shared.lock.as_ref().lock(rt);
         let looked = cut_in_time(rt, self.alloc, &mut resident, &self.shared.post, is_time);
         if is_time && looked { 0 } else { seconds }
     }

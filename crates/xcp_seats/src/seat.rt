@@ -219,7 +219,7 @@ fn serve_tool<
     let attended = attend::<N, Resident<N, M>, _, _, _, _, _>(
         rt,
         alloc,
-        &shared.lock,
+        shared.lock.as_ref(),
         &place.door.stop,
         stream,
         tool,

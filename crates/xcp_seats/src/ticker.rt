@@ -13,7 +13,7 @@ use std::marker::Model;
 use std::sync::Wait;
 use std::time::Clock;
 use together::Work;
-use xcp_locked::{Name, Reader, event, take_image};
+use xcp_locked::{ImageBuffer, Name, Reader, event, take_image};
 use xcp_packet::Packet;
 use xcp_service::{Member, Post, Resident, Route, Shared, call, finish_store};
 use xcp_slave::{Asked, Request};
@@ -26,6 +26,8 @@ pub struct Ticker<'a, N: Name, M: Route, C> {
     pub task: u8,
     pub member: Member<N, M>,
     pub reader: Reader<N>,
+    /// The image that it reads.
+    pub image: ImageBuffer<N>,
     pub pace: &'a Pace<'a, C>,
     pub losses: &'a Losses,
     pub halt: &'a Halt,
@@ -63,11 +65,11 @@ impl<'a, N: Name, M: Route, C: Clock + Wait> Ticker<'a, N, M, C> {
             task,
             mut member,
             mut reader,
+            mut image,
             pace,
             losses,
             halt,
         } = self;
-        let mut image = [0; 2040];
         let mut number: u64 = 0;
         let mut step = 0;
         let mut late: u64 = 0;
@@ -134,7 +136,7 @@ fn cycle<N: Name, M: Route>(
     number: u64,
     member: &mut Member<N, M>,
     reader: &mut Reader<N>,
-    image: &mut [u8; 2040],
+    image: &mut ImageBuffer<N>,
 )
     ensures { Ticked N.layout task (task_at number member.old reader.old image.old)
         (task_at ((number + 1) % 2 ^ 64) member.new reader.new image.new) }
@@ -169,7 +171,7 @@ fn raise<N: Name, M: Route>(
 {
     let request = event(member.caller(), task, (number % 256) as u32);
     member.reserve();
-    let mut resident = shared.lock.lock(rt);
+    let mut resident = shared.lock.as_ref().lock(rt);
     shared.tell_time(rt, clock, alloc, &mut resident);
     submit_and_tell(
         rt,
@@ -228,7 +230,7 @@ fn store<N: Name, M: Route>(
     let _ = finish_store(
         rt,
         alloc,
-        &mut shared.lock.lock(rt),
+        &mut shared.lock.as_ref().lock(rt),
         &shared.post,
         member,
         &mut packet,

@@ -11,7 +11,9 @@ ghost use Rattle.xcp_locked.specs.Chapters.{Disagree, IsWhole, entries_of};
 
 use crate::dealing::{Ended, add_rest, dismiss, take_apart};
 use std::alloc::{AllocError, Global};
+use std::boxed::Box;
 use std::io::{Read, Write};
+use std::sync::Mutex;
 use std::vec::IntoIter;
 use xcp_connection::{Closed, Gone};
 use xcp_framing::{ServeError, Served};
@@ -79,10 +81,11 @@ pub(crate) fn make_rooms<N: Name, I: Read + Drop, O: Write + Drop>(
 }
 
 /// Puts together what came of connections and tasks, for which there is room, and submits the last
-/// `Hangup`; and gives back who handed excerpts of the chapters in.
+/// `Hangup`; and gives back who handed excerpts of the chapters in. It isn't inlined, so that its stack isn't there while the server runs.
+#[inline(never)]
 pub(crate) fn close_all<N: Name, I: Read + Drop, O: Write + Drop>(
     alloc: Global,
-    locked: Locked<N>,
+    lock: Box<Mutex<Locked<N>>>,
     closed: Vec<Closed<Caller<N>, I, O>>,
     done: Vec<Done<N>>,
     spare: IntoIter<Caller<N>>,
@@ -106,6 +109,7 @@ pub(crate) fn close_all<N: Name, I: Read + Drop, O: Write + Drop>(
 {
     let ended = take_apart(closed, ended);
     let ran = collect_workers(done, workers);
+    let locked = Box::into_inner(lock).into_inner();
     put_together(alloc, locked, ended, ran, spare, unused, readers)
 }
 

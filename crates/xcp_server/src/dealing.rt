@@ -18,7 +18,8 @@ use std::vec::IntoIter;
 use xcp_connection::{Closed, Gone, Limits};
 use xcp_framing::{ServeError, Served, Watched, Whole};
 use xcp_locked::{
-    Caller, Chapters, Gate, Handing, Locked, Name, Reader, Task, Tool, Worker, number_tasks,
+    Caller, Chapters, Gate, Handing, ImageBuffer, Locked, Name, Reader, Task, Tool, Worker,
+    number_tasks,
 };
 use xcp_outlet::{DataEnd, Dispatch, LineName, ReplyEnd};
 
@@ -202,7 +203,8 @@ pub fn employ<N: Name>(
         let Some(reader) = readers.next() else {
             unreachable!()
         };
-        workers.push_reserved(Worker::handing_in(alloc, caller, reader, handing.take()));
+        let last = ImageBuffer::new(alloc, &reader)?;
+        workers.push_reserved(Worker::handing_in(alloc, caller, reader, last, handing.take()));
     }
     Ok(workers)
 }

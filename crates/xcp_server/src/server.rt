@@ -23,6 +23,7 @@ use crate::dealing::{Duties, deal};
 use crate::dispatching::{Dispatched, Ends, finish_each, open_dispatches, open_outlets};
 use crate::recording::Writing;
 use std::alloc::{AllocError, Global};
+use std::boxed::Box;
 use std::io::{Read, Write};
 use std::marker::Brand;
 use std::sync::atomic::AtomicBool;
@@ -86,17 +87,17 @@ pub fn run_server<
         pump_turns,
         goes_on: false,
     };
-    let opening = Locked::<N>::new(alloc, unnamed)?;
-    let ready = prepare(alloc, opening, streams, tasks, each_store, scribe)?;
+    let ready = prepare(alloc, unnamed, streams, tasks, each_store, scribe)?;
     Ok(run_ready(
         rt, alloc, ready, gate, tasks, cycles, chapter, each_store, limits,
     )?)
 }
 
-/// A slave that is open, and all that a server needs before anybody begins.
+/// A slave that is open, and all that a server needs before anybody begins. The slave lies in a box, since each function through whose hands
+/// it went would have room for it on the stack for as long as the server runs.
 #[derive(Drop)]
 pub struct Ready<N: Name, I: Read + Drop, O: Write + Drop, S: Scribe> {
-    locked: Locked<N>,
+    lock: Box<Mutex<Locked<N>>>,
     callers: Vec<Caller<N>>,
     readers: Vec<Reader<N>>,
     streams: Vec<(Watched<I>, Watched<O>)>,
@@ -106,35 +107,39 @@ pub struct Ready<N: Name, I: Read + Drop, O: Write + Drop, S: Scribe> {
     writing: Writing<S>,
 }
 
-/// A slave under its lock, its callers and its readers, a stop for each connection, and room for what is given back.
+/// A slave under its lock in a box, its callers and its readers, a stop for each connection, and room for what is given back.
 type Opened<N, I, O> = (
-    Locked<N>,
+    Box<Mutex<Locked<N>>>,
     Vec<Caller<N>>,
     Vec<Reader<N>>,
     Vec<AtomicBool>,
     Rooms<N, I, O>,
 );
 
-/// Makes all that takes memory.
+/// Opens the slave, and makes all that takes memory. It isn't inlined, so that its stack is free again while the server runs.
+#[inline(never)]
 fn prepare<N: Name, I: Read + Drop, O: Write + Drop, S: Scribe>(
     alloc: Global,
-    opening: Opening<N>,
+    unnamed: Unnamed,
     streams: Vec<(Watched<I>, Watched<O>)>,
     tasks: u8,
     each_store: bool,
     scribe: S,
 ) -> Result<Ready<N, I, O, S>, AllocError>
+    requires name { (unnamed.name ≡ N.name) × (unnamed.callers ≡ N.parts)
+        × (unnamed.layout ≡ N.layout) × (unnamed.bank ≡ N.bank) }
     requires scribe { S.wrote scribe [] }
-    ensures callers { IfOk result (λ r. r.callers.items ≡ opening.callers.items) }
-    ensures readers { IfOk result (λ r. r.readers.items ≡ opening.readers) }
+    ensures callers { IfOk result (λ r. r.callers.items ≡ callers_of unnamed.layout unnamed.callers) }
+    ensures readers { IfOk result (λ r. r.readers.items ≡ six_readers N.bank (image_of (opening unnamed.layout))) }
     ensures streams { IfOk result (λ r. r.streams.items ≡ streams.items) }
     ensures ready { IfOk result (λ r. IsReady tasks each_store r) }
 {
+    let opening = Locked::<N>::new(alloc, unnamed)?;
     let opened = open(alloc, opening, streams.len(), tasks)?;
     let (handing, writing) = Writing::new(alloc, scribe, tasks, each_store)?;
-    let (locked, callers, readers, stops, rooms) = opened;
+    let (lock, callers, readers, stops, rooms) = opened;
     Ok(Ready {
-        locked,
+        lock,
         callers,
         readers,
         streams,
@@ -162,9 +167,10 @@ fn open<N: Name, I: Read + Drop, O: Write + Drop>(
         callers,
         readers,
     } = opening;
+    let lock = Box::new(alloc, Mutex::new(locked))?;
     let readers = Vec::from_array(alloc, readers)?;
     let (stops, rooms) = take_room(alloc, callers.len(), streams, tasks, readers.len())?;
-    Ok((locked, callers, readers, stops, rooms))
+    Ok((lock, callers, readers, stops, rooms))
 }
 
 /// A stop for each connection, and room for what is given back of so many callers, connections, tasks and readers.
@@ -255,7 +261,7 @@ fn run_named<
     ensures leaves { IfOk result (λ r. LeavesAll N.layout (vec_len ready.callers) (S.wrote r.1) r.0) }
 {
     let Ready {
-        locked,
+        lock,
         callers,
         readers,
         streams,
@@ -269,7 +275,6 @@ fn run_named<
         ends,
         dispatches,
     } = open_dispatches::<L, I, O>(alloc, streams, outlets)?;
-    let lock = Mutex::new(locked);
     let Performed {
         parted,
         done,
@@ -280,7 +285,7 @@ fn run_named<
     } = perform(
         rt,
         alloc,
-        &lock,
+        lock.as_ref(),
         gate,
         &stops,
         &dispatches,
@@ -301,7 +306,7 @@ fn run_named<
     let closed = close_each(parted, rooms.closed);
     let (closing, handing) = close_all(
         alloc,
-        lock.into_inner(),
+        lock,
         closed,
         done,
         spare,

@@ -11,6 +11,7 @@ use crate::route::Route;
 use crate::timekeeper::Timekeeper;
 use crate::under_lock::{Hold, UnderLock};
 use std::alloc::Global;
+use std::boxed::Box;
 use std::sync::atomic::AtomicBool;
 use std::sync::{Mutex, Wait};
 use std::time::Clock;
@@ -20,10 +21,11 @@ use xcp_packet::Packet;
 use xcp_slave::{Asked, Told};
 
 /// A slave that stays, under its lock, the post of its keeper, and who tells the slave the time, where its layout has a clock. Who takes the
-/// lock of the latter has the slave's already.
+/// lock of the latter has the slave's already. The slave lies in a box, since each function through whose hands it went would have room for
+/// it on the stack for as long as the server runs.
 #[derive(Drop)]
 pub struct Shared<N: Name, M: Route> {
-    pub lock: Mutex<Resident<N, M>>,
+    pub lock: Box<Mutex<Resident<N, M>>>,
     pub post: Post<N, M>,
     pub timekeeper: Option<Mutex<Timekeeper<N, M>>>,
 }
@@ -84,7 +86,7 @@ impl<'a, N: Name, M: Route, R: Wait + Clock> Seated<'a, N, M, R> {
 
     /// The seat's tool has gone: the session isn't the seat's any more.
     pub fn leave_session(&self) {
-        self.shared.lock.lock(self.rt).leave(self.seat);
+        self.shared.lock.as_ref().lock(self.rt).leave(self.seat);
     }
 
     /// The member, with all its receipts.
@@ -145,7 +147,11 @@ impl<'a, N: Name, M: Route, R: Wait + Clock> Station for Seated<'a, N, M, R> {
         ensures kept { self.new ≡ self.old }
         ensures stays { Same self.old.member self.new.member }
     {
-        self.shared.lock.lock(self.rt).pending_for(self.seat)
+        self.shared
+            .lock
+            .as_ref()
+            .lock(self.rt)
+            .pending_for(self.seat)
     }
 
     /// Waits until packets wait for this seat, or `stop` is set.
@@ -153,6 +159,6 @@ impl<'a, N: Name, M: Route, R: Wait + Clock> Station for Seated<'a, N, M, R> {
         ensures kept { self.new ≡ self.old }
         ensures stays { Same self.old.member self.new.member }
     {
-        wait_for_packets(self.rt, &self.shared.lock, self.seat, stop);
+        wait_for_packets(self.rt, self.shared.lock.as_ref(), self.seat, stop);
     }
 }

@@ -55,7 +55,7 @@ impl<'a, N: Name, M: Route, R: Wait + Clock> Hold<'a, N, M, R> {
             rt,
             alloc,
             shared,
-            resident: shared.lock.lock(rt),
+            resident: shared.lock.as_ref().lock(rt),
             seat,
         }
     }

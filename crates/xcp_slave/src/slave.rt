@@ -1,6 +1,6 @@
 //! The slave: its value, and one answer for each request.
-ghost use Rattle.std.specs.Prelude.{◌≡◌, ◌≢◌, MatchBool, ◌≤◌, ◌<◌, Err, IfOk, IsTrue, Some, drop, length, slice_index_or as get_or};
-ghost use Rattle.xcp_memory.specs.EcuImage.{ecu_image};
+ghost use Rattle.std.specs.Prelude.{◌≡◌, ◌≢◌, MatchBool, ◌+◌, ◌≤◌, ◌<◌, Err, IfOk, IsTrue, Some, drop, length, slice_index_or as get_or};
+ghost use Rattle.xcp_memory.specs.EcuImage.{ecu_image, image_part, image_size};
 ghost use Rattle.xcp_memory.specs.Pages.{no_segment, segment_at};
 ghost use Rattle.xcp_memory.specs.ReferencePage.{reference_page};
 ghost use Rattle.xcp_packet.specs.ReplyPacket.{Fits};
@@ -188,10 +188,21 @@ impl Slave {
     }
 
     /// Writes the ECU image out: the ECU pages of the segments in order, then zeros.
-    pub fn image(&self, out: &mut [u8; 2040])
+    pub fn image(&self, out: &mut [u8])
+        requires { length out.old ≡ image_size (layout_of self.now) }
         ensures { out.new ≡ ecu_image self.now.transfer.pages }
     {
         self.transfer.pages().ecu_image(out);
+    }
+
+    /// Writes the bytes of the ECU image from a place on, as many as `out` has, and says whether they are others than those that stood
+    /// there.
+    pub fn image_part(&self, at: usize, out: &mut [u8]) -> bool
+        requires { at + length out.old ≤ image_size (layout_of self.now) }
+        ensures bytes { out.new ≡ image_part at (length out.old) self.now.transfer.pages }
+        ensures differs { MatchBool result (out.new ≢ out.old) (out.new ≡ out.old) }
+    {
+        self.transfer.pages().ecu_image_part(at, out)
     }
 
     /// The bytes of a segment's reference page (page 0): those of the layout, until a store of the segment.

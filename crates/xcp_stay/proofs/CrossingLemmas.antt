@@ -10,6 +10,7 @@ use Rattle.relay.proofs.tray.Tray.TheSendSync as tray
 use Rattle.xcp_locked.specs.declared.name.Name as Name
 use Rattle.xcp_locked.proofs.caller.Caller.TheSendSync as caller
 use Rattle.xcp_locked.proofs.chapter.Chapter.TheSendSync as chapter
+use Rattle.xcp_locked.proofs.image.ImageBuffer.TheSendSync as image
 use Rattle.xcp_locked.proofs.reader.Reader.TheSendSync as reader
 use Rattle.xcp_locked.proofs.sheaf.Sheaf.TheSendSync as sheaf
 use Rattle.xcp_seats.proofs.halt.Halt.TheSendSync as halt
@@ -43,7 +44,7 @@ pub ticker_crosses : (κ : NamedLft) (N M C : RattleType) (g : Name.Ghosts N.Den
 ticker_crosses κ N M C g l h c =
     view_send (TickerInside.the_row κ N M C g l h) _ _ _ _
     (struct_crosses (TickerInside.the_type κ N M C g l h)
-    (search (sendable, crosses, shared.the_sync) depth 20, (search (sendable, crosses) depth 20, (search sendable, (member_crosses N M g l h, (reader.the_send N g l, (search (sendable, crosses) depth 20, (search (sendable, crosses, losses.the_sync) depth 20, (search (sendable, crosses, halt.the_sync) depth 20, tt)))))))))
+    (search (sendable, crosses, shared.the_sync) depth 20, (search (sendable, crosses) depth 20, (search sendable, (member_crosses N M g l h, (reader.the_send N g l, (image.the_send N g l, (search (sendable, crosses) depth 20, (search (sendable, crosses, losses.the_sync) depth 20, (search (sendable, crosses, halt.the_sync) depth 20, tt))))))))))
 
 -- and what comes of it
 pub rested_crosses : (N M : RattleType) (g : Name.Ghosts N.Denot) (l : Ledger.Ghosts N.Denot) (h : Route.Ghosts M.Denot) → IsSend (Rested.the_row N M g l h)

@@ -6,7 +6,7 @@ ghost use Rattle.xcp_stay.specs.Team.{SeatsFrom, TasksFrom};
 use crate::staying::Plan;
 use std::alloc::{AllocError, Global};
 use std::vec::IntoIter;
-use xcp_locked::{Name, Reader};
+use xcp_locked::{ImageBuffer, Name, Reader};
 use xcp_scribe::Scribe;
 use xcp_seats::{Access, Door, Hall, Halt, Lobby, Losses, Pace, Place, Seat, Ticker};
 use xcp_service::{Collector, Member, Route, Shared};
@@ -188,12 +188,14 @@ pub(crate) fn make_tickers<'a, N: Name, M: Route, R>(
         let Some(reader) = readers.next() else {
             unreachable!()
         };
+        let image = ImageBuffer::new(alloc, &reader)?;
         tickers.push_reserved(Ticker {
             shared,
             alloc,
             task,
             member,
             reader,
+            image,
             pace,
             losses,
             halt,

@@ -11,7 +11,8 @@ use crate::running::Ended;
 use crate::unmet::Unmet;
 use crate::unstayed::Unstayed;
 use std::alloc::{AllocError, Global};
-use std::sync::Wait;
+use std::boxed::Box;
+use std::sync::{Mutex, Wait};
 use xcp_locked::{Locked, Name};
 use xcp_scribe::Scribe;
 use xcp_seats::{Left, Rested};
@@ -126,7 +127,7 @@ fn close<N: Name, M: Route, R: Wait>(
 pub(crate) fn conclude<N: Name, M: Route, S: Scribe, R: Wait>(
     rt: &R,
     alloc: Global,
-    resident: Resident<N, M>,
+    lock: Box<Mutex<Resident<N, M>>>,
     post: &Post<N, M>,
     timekeeper: Option<Timekeeper<N, M>>,
     ended: Ended<N, M, S>,
@@ -142,16 +143,17 @@ pub(crate) fn conclude<N: Name, M: Route, S: Scribe, R: Wait>(
     let collector = kept?;
     let late = late_among(&rested);
     let mut members = gather(alloc, left, rested, timekeeper)?;
-    let (locked, collector) = take_rest(rt, alloc, resident, post, collector, &mut members)?;
+    let (locked, collector) = take_rest(rt, alloc, lock, post, collector, &mut members)?;
     settle(alloc, locked, post, collector, members, late)
 }
 
 /// The open chapter is cut off, all members hand over what they have at hand, and the keeper takes what is left. The slave makes no more
-/// calls.
+/// calls. It isn't inlined, nor are `resign` and `settle`, so that each has its stack only for as long as it runs.
+#[inline(never)]
 fn take_rest<N: Name, M: Route, S: Scribe, R: Wait>(
     rt: &R,
     alloc: Global,
-    resident: Resident<N, M>,
+    lock: Box<Mutex<Resident<N, M>>>,
     post: &Post<N, M>,
     collector: Collector<N, M, S>,
     members: &mut [Member<N, M>],
@@ -160,7 +162,7 @@ fn take_rest<N: Name, M: Route, S: Scribe, R: Wait>(
     ensures images { IfOk result (λ r. AreImages (opening N.layout) (exchanges (entries_of r.1.chapters)) r.0.writer.publications) }
     ensures members { members.new ≡ members.old }
 {
-    let mut resident = resident;
+    let mut resident = Box::into_inner(lock).into_inner();
     if close(rt, alloc, &mut resident, post, members) {
         collect_rest(rt, resident, post, collector)
     } else {
@@ -186,6 +188,7 @@ fn collect_rest<N: Name, M: Route, S: Scribe, R: Wait>(
 }
 
 /// The slave is given back, where the keeper took all chapters that were ever cut off it.
+#[inline(never)]
 fn resign<N: Name, M: Route, S: Scribe>(
     resident: Resident<N, M>,
     post: &Post<N, M>,
@@ -204,6 +207,7 @@ fn resign<N: Name, M: Route, S: Scribe>(
 }
 
 /// All members resign, and the keeper meets the slave, which has no open call.
+#[inline(never)]
 fn settle<N: Name, M: Route, S: Scribe>(
     alloc: Global,
     locked: Locked<N>,

@@ -19,11 +19,13 @@ use std::marker::Brand;
 use std::sync::{Mutex, Wait};
 use std::thread::Threads;
 use std::time;
-use xcp_locked::{Locked, Name, Opening, Unnamed};
+use xcp_locked::{Locked, Name, Opening, Reader, Unnamed};
 use xcp_memory::{Clock, Layout};
 use xcp_scribe::Scribe;
 use xcp_seats::{Access, Hall, Halt, Lobby, Losses, Times, Watcher};
-use xcp_service::{Member, Posting, Route, Shared, Timekeeper, Unrouted};
+use xcp_service::{
+    Collector, Member, Post, Posting, Resident, Route, Shared, Timekeeper, Unrouted,
+};
 
 /// How a server stays.
 #[derive(Clone, Copy, Debug)]
@@ -65,10 +67,11 @@ pub fn timekeepers(layout: &Layout) -> u8
     u8::from(layout.clock().stamp.size() > 0)
 }
 
-/// A slave and a post that are open, with MAX_CTO and the clock of the slave.
+/// A slave and a post that are open, with MAX_CTO and the clock of the slave. The slave lies in a box, since each function through whose
+/// hands it went would have room for it on the stack for as long as the server runs.
 #[derive(Drop)]
 struct Ready<N: Name> {
-    opening: Opening<N>,
+    opening: Box<Opening<N>>,
     unrouted: Unrouted<N>,
     max_cto: u8,
     clock: Clock,
@@ -193,12 +196,13 @@ pub fn stay_named<
     Ok(unboxed(stayed))
 }
 
-/// Opens a slave and a post.
+/// Opens a slave and a post. It isn't inlined, so that its stack is free again while the server runs.
+#[inline(never)]
 fn make_ready<N: Name>(alloc: Global, unnamed: Unnamed) -> Result<Ready<N>, AllocError>
     requires name { (unnamed.name ≡ N.name) × (unnamed.callers ≡ N.parts)
         × (unnamed.layout ≡ N.layout) × (unnamed.bank ≡ N.bank) }
-    ensures first { IfOk result (λ r. IsUncut N.layout r.opening.locked) }
-    ensures callers { IfOk result (λ r. r.opening.callers.items ≡ callers_of unnamed.layout unnamed.callers) }
+    ensures first { IfOk result (λ r. IsUncut N.layout r.opening.value.locked) }
+    ensures callers { IfOk result (λ r. r.opening.value.callers.items ≡ callers_of unnamed.layout unnamed.callers) }
     ensures limit { IfOk result (λ r. r.max_cto ≡ unnamed.layout.max_cto) }
     ensures clock { IfOk result (λ r. (r.clock ≡ unnamed.layout.clock) × (r.clock.unit ≤ 12)) }
 {
@@ -206,8 +210,9 @@ fn make_ready<N: Name>(alloc: Global, unnamed: Unnamed) -> Result<Ready<N>, Allo
     let clock = unnamed.clock();
     let unrouted = Unrouted::new(alloc)?;
     let opening = Locked::<N>::new(alloc, unnamed)?;
+    let boxed = Box::new(alloc, opening)?;
     Ok(Ready {
-        opening,
+        opening: boxed,
         unrouted,
         max_cto,
         clock,
@@ -253,11 +258,11 @@ fn stay_by_post<
     watcher: &W,
 ) -> Result<Stayed<N, Boxed<S>>, Unstayed<N>>
     requires relay { ready.unrouted ≡ M.relay }
-    requires first { IsUncut N.layout ready.opening.locked }
-    requires opened { ready.opening.callers.items ≡ callers_of N.layout N.parts }
+    requires first { IsUncut N.layout ready.opening.value.locked }
+    requires opened { ready.opening.value.callers.items ≡ callers_of N.layout N.parts }
     requires limit { ready.max_cto ≡ N.layout.max_cto }
     requires ticks { (ready.clock ≡ N.layout.clock) × (ready.clock.unit ≤ 12) }
-    requires callers { plan.tools + plan.tools + plan.tasks ≤ length ready.opening.callers.items }
+    requires callers { plan.tools + plan.tools + plan.tasks ≤ length ready.opening.value.callers.items }
     requires clock { has_clock N.layout ≡ true → plan.tools + plan.tools + plan.tasks + 1 ≡ N.parts }
     requires readers { plan.tasks ≤ 6 }
     requires scribe { S.wrote scribe.scribe.value [] }
@@ -272,17 +277,13 @@ fn stay_by_post<
         clock,
     } = ready;
     let doors = make_doors(alloc, plan.tools)?;
-    let Opening {
-        locked,
-        callers,
-        readers,
-    } = opening;
-    let Posting {
+    let Posted {
         post,
-        resident,
+        lock,
         members,
+        readers,
         collector,
-    } = unrouted.open::<M, Boxed<S>>(alloc, locked, callers, scribe, plan.keeps_pages)?;
+    } = open_post::<N, M, S>(alloc, unrouted, opening, scribe, plan.keeps_pages)?;
     let hall = Hall::new();
     let lobby = Lobby::new(alloc, plan.tools, plan.queue);
     let losses = Losses::new();
@@ -290,7 +291,7 @@ fn stay_by_post<
     let dealt = deal(alloc, members, readers, collector, plan, has_clock)?;
     let Dealt { crew, timekeepers } = dealt;
     let shared = Shared {
-        lock: Mutex::new(resident),
+        lock,
         post,
         timekeeper: hire(rt, clock, timekeepers),
     };
@@ -314,14 +315,53 @@ fn stay_by_post<
         post,
         timekeeper,
     } = shared;
-    conclude(
-        rt,
-        alloc,
-        lock.into_inner(),
-        &post,
-        dismiss(timekeeper),
-        ended,
-    )
+    conclude(rt, alloc, lock, &post, dismiss(timekeeper), ended)
+}
+
+/// A post that is open, with its members, and the slave whose chapters go by it, under its lock, with its readers.
+#[derive(Drop)]
+struct Posted<N: Name, M: Route, S: Scribe> {
+    post: Post<N, M>,
+    lock: Box<Mutex<Resident<N, M>>>,
+    members: Vec<Member<N, M>>,
+    readers: [Reader<N>; 6],
+    collector: Collector<N, M, Boxed<S>>,
+}
+
+/// Opens the post, and puts the slave into a box. It isn't inlined, so that its stack is free again while the server runs.
+#[inline(never)]
+fn open_post<N: Name, M: Route, S: Scribe>(
+    alloc: Global,
+    unrouted: Unrouted<N>,
+    opening: Box<Opening<N>>,
+    scribe: Boxed<S>,
+    keeps_pages: bool,
+) -> Result<Posted<N, M, S>, AllocError>
+    requires relay { unrouted ≡ M.relay }
+    requires first { IsUncut N.layout opening.value.locked }
+    requires callers { opening.value.callers.items ≡ callers_of N.layout N.parts }
+    requires scribe { S.wrote scribe.scribe.value [] }
+    ensures members { IfOk result (λ p. p.members.items ≡ opening.value.callers.items) }
+{
+    let Opening {
+        locked,
+        callers,
+        readers,
+    } = Box::into_inner(opening);
+    let Posting {
+        post,
+        resident,
+        members,
+        collector,
+    } = unrouted.open::<M, Boxed<S>>(alloc, locked, callers, scribe, keeps_pages)?;
+    let lock = Box::new(alloc, Mutex::new(resident))?;
+    Ok(Posted {
+        post,
+        lock,
+        members,
+        readers,
+        collector,
+    })
 }
 
 /// The first of these members tells the time from now on, under a lock of its own.

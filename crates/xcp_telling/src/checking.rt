@@ -3,7 +3,7 @@ ghost use Rattle.std.specs.Prelude.{◌≡◌, ◌≢◌, ◌⊎◌, ◌+◌, �
 ghost use Rattle.std.specs.Io.KnownBytes.{Appends};
 ghost use Rattle.xcp_framing.specs.Prefix.{AppendsFront};
 ghost use Rattle.xcp_memory.specs.Layout.{LayoutValue};
-ghost use Rattle.xcp_config.specs.ConfigText.{HasLayout};
+ghost use Rattle.xcp_config.specs.ConfigText.{HasLayoutWith};
 ghost use Rattle.xcp_describe.specs.Findings.{IsClean, IsFound};
 ghost use Rattle.xcp_describe.specs.FindingsText.{clean_text};
 ghost use Rattle.xcp_describe.specs.declared.findings.Findings.{Findings};
@@ -12,32 +12,35 @@ ghost use Rattle.xcp_telling.specs.Checking.{IsTold};
 use crate::located::located_bytes;
 use std::alloc::{AllocError, Global};
 use std::io::Write;
+use xcp_config::DataFile;
 use xcp_describe::{Findings, check};
 use xcp_framing::Watched;
 use xcp_program::Fault;
 
 /// Looks at the bytes of a layout file as [`check`] does, and writes its lines, each that begins with a table of an array with the name
-/// of its entry and the line at which the table begins. The whole text is made before any of it is written.
+/// of its entry and the line at which the table begins. The whole text is made before any of it is written. `files` are the files that
+/// segments name, by the segments' numbers.
 ///
 /// Faults: `Memory` where an allocation fails, `Stream(2)` where a write failed.
 pub fn check_located<W: Write>(
     alloc: Global,
     file: &[u8],
+    files: &[DataFile],
     writer: &mut Watched<W>,
 ) -> Result<Findings, Fault>
     // What is written is one text, all of it: the lines of a check of these bytes, in order, each located.
-    ensures found { IfOk result (λ f. (told : List ℕ) × IsTold file.now f told × Appends (W.contents writer.old.inner) (W.contents writer.new.inner) told) }
-    ensures layout { IfOk result (λ f. f.fault ≡ None → (l : LayoutValue) × HasLayout file.now l) }
+    ensures found { IfOk result (λ f. (told : List ℕ) × IsTold files.now file.now f told × Appends (W.contents writer.old.inner) (W.contents writer.new.inner) told) }
+    ensures layout { IfOk result (λ f. f.fault ≡ None → (l : LayoutValue) × HasLayoutWith files.now file.now l) }
     ensures refused { IfErr result (λ e. (e ≡ Fault.Memory) ⊎ (e ≡ Fault.Stream 2)) }
     ensures clean { IfOk result (λ f. IsClean f → Appends (W.contents writer.old.inner) (W.contents writer.new.inner) clean_text) }
     // A fault of the writer comes exactly where a write failed: then a front of such a text was written. Want of memory comes before
     // anything is written.
     ensures write { result ≡ Err (Fault.Stream 2) → writer.new.failures ≡ writer.old.failures + 1 }
-    ensures front { result ≡ Err (Fault.Stream 2) → (f : Findings) × (told : List ℕ) × IsTold file.now f told × AppendsFront (W.contents writer.old.inner) (W.contents writer.new.inner) told }
+    ensures front { result ≡ Err (Fault.Stream 2) → (f : Findings) × (told : List ℕ) × IsTold files.now file.now f told × AppendsFront (W.contents writer.old.inner) (W.contents writer.new.inner) told }
     ensures unfailed { result ≢ Err (Fault.Stream 2) → writer.new.failures ≡ writer.old.failures }
     ensures unwritten { result ≡ Err Fault.Memory → writer.new ≡ writer.old }
 {
-    let Ok((findings, told)) = located_findings(alloc, file) else {
+    let Ok((findings, told)) = located_findings(alloc, file, files) else {
         return Err(Fault::Memory);
     };
     match writer.write_all(told.as_slice()) {
@@ -47,22 +50,30 @@ pub fn check_located<W: Write>(
 }
 
 /// What a check finds in a layout file, and its lines, located.
-fn located_findings(alloc: Global, file: &[u8]) -> Result<(Findings, Vec<u8>), AllocError>
-    ensures found { IfOk result (λ r. IsTold file.now r.0 r.1.items) }
-    ensures layout { IfOk result (λ r. r.0.fault ≡ None → (l : LayoutValue) × HasLayout file.now l) }
+fn located_findings(
+    alloc: Global,
+    file: &[u8],
+    files: &[DataFile],
+) -> Result<(Findings, Vec<u8>), AllocError>
+    ensures found { IfOk result (λ r. IsTold files.now file.now r.0 r.1.items) }
+    ensures layout { IfOk result (λ r. r.0.fault ≡ None → (l : LayoutValue) × HasLayoutWith files.now file.now l) }
 {
-    let (findings, lines) = checked(alloc, file)?;
+    let (findings, lines) = checked(alloc, file, files)?;
     let told = located_bytes(alloc, lines, text_in(file))?;
     Ok((findings, told))
 }
 
 /// What a check finds in a layout file, and all that it writes.
-pub(crate) fn checked(alloc: Global, file: &[u8]) -> Result<(Findings, Vec<u8>), AllocError>
-    ensures found { IfOk result (λ r. IsFound file.now r.0 r.1.items) }
-    ensures layout { IfOk result (λ r. r.0.fault ≡ None → (l : LayoutValue) × HasLayout file.now l) }
+pub(crate) fn checked(
+    alloc: Global,
+    file: &[u8],
+    files: &[DataFile],
+) -> Result<(Findings, Vec<u8>), AllocError>
+    ensures found { IfOk result (λ r. IsFound files.now file.now r.0 r.1.items) }
+    ensures layout { IfOk result (λ r. r.0.fault ≡ None → (l : LayoutValue) × HasLayoutWith files.now file.now l) }
 {
     let mut told = Watched::new(Vec::new(alloc));
-    match check(alloc, file, &mut told) {
+    match check(alloc, file, files, &mut told) {
         Ok(findings) => Ok((findings, told.into_inner())),
         Err(_) => Err(AllocError),
     }

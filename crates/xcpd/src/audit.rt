@@ -1,13 +1,13 @@
 //! An audit of a journal's file, by the program's words.
 
+use crate::configuration::Configuration;
 use crate::flash::stored_in;
-use crate::text_of;
 use std::fs::File;
 use std::io;
 use xcp_audit::{HEAD_BYTES, Printer, from_head, print_audit, read_head};
 use xcp_describe::a2l_of;
 use xcp_framing::Watched;
-use xcp_program::{Fault, layout_stored};
+use xcp_program::{Fault, layout_stored_with};
 
 /// Audits the file of a journal by a slave of this configuration file's layout, with the pages that are stored in a file, if one is
 /// named, and prints what came of it. The journal is opened once the layout has no fault.
@@ -18,10 +18,10 @@ pub fn audit_by(
     flash: &Option<String>,
     lines: bool,
 ) -> Result<(), Fault> {
-    let text = text_of(rt, config)?;
+    let Configuration { text, files } = Configuration::open(rt, config)?;
     let stored = stored_in(rt, flash)?;
-    let a2l = a2l_of(rt.alloc(), text.as_str())?;
-    let layout = layout_stored(rt.alloc(), text.as_str(), a2l, stored.as_deref())?;
+    let a2l = a2l_of(rt.alloc(), text.as_str(), &files)?;
+    let layout = layout_stored_with(rt.alloc(), text.as_str(), &files, a2l, stored.as_deref())?;
     let Ok(file) = File::open(rt, path) else {
         return Err(Fault::Journal(0));
     };

@@ -1,7 +1,7 @@
 //! A description of a slave, and a check of its layout file, by the program's words.
 
+use crate::configuration::{Configuration, files_by, text_of};
 use crate::telling::{About, end_telling};
-use crate::text_of;
 use std::alloc::AllocError;
 use std::fs::File;
 use std::io;
@@ -40,11 +40,12 @@ fn print_description(
     port: u16,
     transport: Transport,
 ) -> Result<(), DescribeError> {
-    let text = text_of(rt, path)?;
+    let Configuration { text, files } = Configuration::open(rt, path)?;
     let mut writer = Watched::new(io::writer(rt));
     describe(
         rt.alloc(),
         text.as_str(),
+        &files,
         host,
         port,
         transport,
@@ -95,11 +96,12 @@ fn print_findings(rt: &HostRuntime, about: About<'_>) -> Result<Findings, Fault>
         return Err(Fault::Configuration(0));
     };
     let bytes = read_whole(rt.alloc(), file)?;
+    let files = files_by(rt, about.config, bytes.as_slice())?;
     let mut writer = Watched::new(io::writer(rt));
     if about.plain {
-        check(rt.alloc(), bytes.as_slice(), &mut writer)
+        check(rt.alloc(), bytes.as_slice(), &files, &mut writer)
     } else {
-        check_located(rt.alloc(), bytes.as_slice(), &mut writer)
+        check_located(rt.alloc(), bytes.as_slice(), &files, &mut writer)
     }
 }
 

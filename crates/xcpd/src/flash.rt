@@ -1,14 +1,15 @@
 //! The file of stored pages, by the program's words.
-ghost use Rattle.std.specs.Prelude.{◌≡◌, ℕ, List, [], ⊤, Option, IfOk, MatchOption, is_some, true};
+ghost use Rattle.std.specs.Prelude.{◌≡◌, ℕ, List, [], ⊤, Option, IfOk, MatchOption, is_some, string_bytes, true};
 ghost use Rattle.sha2.specs.Sha256.{sha256};
-ghost use Rattle.xcp_config.specs.ConfigText.{HasLayout};
+ghost use Rattle.xcp_config.specs.ConfigText.{HasLayoutWith};
 ghost use Rattle.xcp_flash.specs.Decided.{pages_decided};
 ghost use Rattle.xcp_memory.specs.Layout.{A2lFileValue, LayoutValue};
 ghost use Rattle.xcp_describe.specs.A2lFiles.{HasA2l};
-ghost use Rattle.xcp_program.specs.Beginning.{Begins};
+ghost use Rattle.xcp_program.specs.Beginning.{BeginsWith};
 ghost use Rattle.xcp_scribe.specs.Flashing.{HasKept, KeepsNone};
 ghost use Rattle.xcpd.specs.Faults.{fault_of_keeping};
 
+use crate::configuration::Configuration;
 use crate::teller::Teller;
 use std::alloc::AllocError;
 use std::fs::{self, File};
@@ -18,8 +19,8 @@ use xcp_describe::a2l_of;
 use xcp_flash::pages_digest;
 use xcp_memory::Layout;
 use xcp_program::{
-    Fault, fault_of_pages, folder_of, layout_of, layout_stored, read_flash, refuse_second,
-    stored_file,
+    Fault, fault_of_pages, folder_of, layout_of_with, layout_stored_with, read_flash,
+    refuse_second, stored_file,
 };
 use xcp_scribe::{Flashing, Shelf};
 
@@ -86,23 +87,24 @@ pub fn stored_in(rt: &HostRuntime, path: &Option<String>) -> Result<Option<Vec<u
 /// the file, if it is named and there; and what keeps the file, if it is named: for whatever text describes the same segments.
 pub fn begin_with<'a, R: Wait>(
     rt: &'a HostRuntime,
-    text: &str,
+    configuration: &Configuration,
     path: &Option<String>,
     teller: Teller<'a, R>,
 ) -> Result<(Layout, Kept<'a, R>), Fault>
     ensures kept { IfOk result (λ r. KeepsNone r.1) }
-    ensures begins { IfOk result (λ r. (a2l : Option A2lFileValue) × HasA2l text.now a2l × (stored : Option (List ℕ)) × Begins text.now a2l stored r.0) }
-    ensures layout { IfOk result (λ r. MatchOption r.1 ⊤ (λ kept. (own : LayoutValue) × HasLayout text.now own × (kept.layout ≡ sha256 (pages_decided own)))) }
+    ensures begins { IfOk result (λ r. (a2l : Option A2lFileValue) × HasA2l configuration.now.files.items (string_bytes configuration.now.text) a2l × (stored : Option (List ℕ)) × BeginsWith configuration.now.files.items (string_bytes configuration.now.text) a2l stored r.0) }
+    ensures layout { IfOk result (λ r. MatchOption r.1 ⊤ (λ kept. (own : LayoutValue) × HasLayoutWith configuration.now.files.items (string_bytes configuration.now.text) own × (kept.layout ≡ sha256 (pages_decided own)))) }
 {
     let alloc = rt.alloc();
-    let a2l = a2l_of(alloc, text)?;
+    let (text, files) = (configuration.text.as_str(), &*configuration.files);
+    let a2l = a2l_of(alloc, text, files)?;
     let Some(path) = path else {
-        return Ok((layout_stored(alloc, text, a2l, None)?, None));
+        return Ok((layout_stored_with(alloc, text, files, a2l, None)?, None));
     };
     let place = place_at(rt, path, teller)?;
     let stored = stored_at(rt, path, false)?;
-    let layout = layout_stored(alloc, text, a2l, stored.as_deref())?;
-    let decided = pages_digest(&layout_of(alloc, text)?);
+    let layout = layout_stored_with(alloc, text, files, a2l, stored.as_deref())?;
+    let decided = pages_digest(&layout_of_with(alloc, text, files)?);
     match Flashing::new(alloc, place, &layout, decided) {
         Ok(kept) => Ok((layout, Some(kept))),
         Err(AllocError) => Err(Fault::Memory),

@@ -5,6 +5,7 @@
 mod audit;
 mod background;
 mod callers;
+mod configuration;
 mod counts;
 mod describing;
 mod distant;
@@ -30,6 +31,7 @@ ghost use Rattle.xcpd.specs.Counted.{told_at_end};
 
 use crate::audit::audit_by;
 use crate::callers::{callers_of, roster_of};
+use crate::configuration::Configuration;
 use crate::counts::counts_at_end;
 use crate::describing::describe_or_check;
 use crate::flash::{Kept, begin_with, fault_of_keeping, stored_in};
@@ -39,7 +41,6 @@ use crate::stack::{deepen, has_room};
 use crate::stay::stay_by;
 use crate::teller::Teller;
 use crate::telling::{About, end_telling};
-use std::fs::File;
 use std::io;
 use std::net::TcpListener;
 use std::process::ExitCode;
@@ -51,7 +52,7 @@ use xcp_framing::Watched;
 use xcp_locked::Unnamed;
 use xcp_program::{
     Fault, Listening, Options, Serving, Staying, Unasked, asked, fault_at_end, fault_of_print,
-    periods_of, read_text, read_words, refuse_clock, refuse_many, replay, status_at_end,
+    periods_of, read_words, refuse_clock, refuse_many, replay_with, status_at_end,
 };
 use xcp_scribe::Both;
 use xcp_server::{Report, Tools, accept_tools, serve_ends};
@@ -60,24 +61,17 @@ use xcp_telling::take_plain;
 /// The most reads of one replay.
 const TURNS: u32 = 1_000_000;
 
-/// The text of the configuration file.
-pub fn text_of(rt: &HostRuntime, path: &str) -> Result<String, Fault> {
-    let Ok(file) = File::open(rt, path) else {
-        return Err(Fault::Configuration(0));
-    };
-    read_text(rt.alloc(), file)
-}
-
 /// Replays standard input by the configuration file.
 fn run(rt: &HostRuntime, path: &str, flash: &Option<String>) -> Result<u64, Fault> {
-    let text = text_of(rt, path)?;
-    let a2l = a2l_of(rt.alloc(), text.as_str())?;
+    let Configuration { text, files } = Configuration::open(rt, path)?;
+    let a2l = a2l_of(rt.alloc(), text.as_str(), &files)?;
     let stored = stored_in(rt, flash)?;
     let mut reader = Watched::new(rt.reader());
     let mut writer = Watched::new(io::writer(rt));
-    replay(
+    replay_with(
         rt.alloc(),
         text.as_str(),
+        &files,
         a2l,
         stored.as_deref(),
         &mut reader,
@@ -125,10 +119,10 @@ fn admit<'a, R: Wait>(
         × MatchOption r.2.first ⊤ (λ w. w.roster.tools + w.roster.tasks + w.roster.pumps + w.roster.clocks ≡ r.0.callers)) }
     ensures journal { IfOk result (λ r. MatchOption r.2.first ⊤ (λ w. w.layout ≡ sha256 (answers_decided r.0.layout))) }
 {
-    let text = text_of(rt, path)?;
+    let configuration = Configuration::open(rt, path)?;
     let (layout, kept) = begin_with(
         rt,
-        text.as_str(),
+        &configuration,
         flash,
         Teller::new(rt, handle, None, plain),
     )?;
@@ -317,13 +311,16 @@ fn obey<R: Threads + Wait + Clock + Copy + Send + Sync + 'static>(
     }
 }
 
-/// Replays standard input, with the fault on standard error, if there is one, and the status.
+/// Replays standard input, with the fault on standard error, if there is one, and the status. It isn't inlined, nor are `serve_or_tell`,
+/// `stay_asked` and `audit_or_tell`: each has its own stack, and not that of the others too.
+#[inline(never)]
 fn replay_or_tell(rt: &HostRuntime, about: About<'_>) -> ExitCode {
     let fault = run(rt, about.config, about.flash).err();
     end_telling(rt, fault, about)
 }
 
 /// Serves tools as it is asked for, with the fault on standard error, if there is one, and the status.
+#[inline(never)]
 fn serve_or_tell<R: Threads + Wait + Clock + Sync>(
     rt: &HostRuntime,
     handle: &R,
@@ -354,6 +351,7 @@ fn serve_or_tell<R: Threads + Wait + Clock + Sync>(
 }
 
 /// Stays as it is asked for, and answers the status.
+#[inline(never)]
 fn stay_asked<R: Threads + Wait + Clock + Copy + Send + Sync + 'static>(
     rt: &HostRuntime,
     handle: &R,
@@ -376,6 +374,7 @@ fn stay_asked<R: Threads + Wait + Clock + Copy + Send + Sync + 'static>(
 }
 
 /// Audits a journal's file, with the fault on standard error, if there is one, and the status.
+#[inline(never)]
 fn audit_or_tell(rt: &HostRuntime, about: About<'_>, file: &str, lines: bool) -> ExitCode {
     let fault = audit_by(rt, about.config, file, about.flash, lines).err();
     end_telling(rt, fault, about)

@@ -4,7 +4,7 @@ use std::alloc::Global;
 use xcp_program::Fault;
 
 /// What serving takes of the stack below what calls `deepen`, with some to spare, in bytes.
-const DEEPEST: usize = 212 * 1024;
+const DEEPEST: usize = 172 * 1024;
 
 /// As much of the address space as any stack here takes, with what grows before that is there.
 const ROOM: usize = 400 * 1024;

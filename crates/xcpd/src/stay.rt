@@ -6,6 +6,7 @@ ghost use Rattle.xcpd.specs.Planned.{IsPlanned, nanos_of};
 
 use crate::background::is_in_background;
 use crate::callers::{callers_of, roster_of};
+use crate::configuration::Configuration;
 use crate::counts::counts_at_stop;
 use crate::distant::{Distant, distant_at, finish_writing, print_distant};
 use crate::flash::{Kept, begin_with, fault_of_keeping};
@@ -15,7 +16,6 @@ use crate::named::Named;
 use crate::stack::deepen;
 use crate::teller::Teller;
 use crate::telling::{About, end_telling, line_about};
-use crate::text_of;
 use crate::traffic::{access_at, print_listening, print_traffic};
 use std::process::ExitCode;
 use std::sync::{Arc, Wait};
@@ -102,10 +102,10 @@ fn stay_with<R: Threads + Wait + Clock + Copy + Send + Sync + 'static>(
     requires { (1 ≤ staying.tools) × (staying.tools ≤ 4) × (staying.tasks ≤ 6) }
 {
     deepen(rt.alloc(), path)?;
-    let text = text_of(rt, path)?;
+    let configuration = Configuration::open(rt, path)?;
     let (layout, kept) = begin_with(
         rt,
-        text.as_str(),
+        &configuration,
         flash,
         Teller::new(rt, handle, Some(&**lines), false),
     )?;

@@ -1,7 +1,7 @@
 //! How a fault is told: in one line, with the words on it unless they are left out. Where a file or a port is at fault, it is looked at once
 //! more for the words: the number stays what was found first.
 
-use crate::text_of;
+use crate::configuration::{Configuration, files_by};
 use std::alloc::{AllocError, Global};
 use std::fs::File;
 use std::io;
@@ -76,10 +76,13 @@ fn words_on_layout(rt: &HostRuntime, number: u8, path: &str) -> Result<Option<St
     let Ok(file) = File::open(rt, path) else {
         return Ok(None);
     };
-    match read_whole(rt.alloc(), file) {
-        Ok(bytes) => words_of_layout(rt.alloc(), number, bytes.as_slice()),
-        Err(_) => Ok(None),
-    }
+    let Ok(bytes) = read_whole(rt.alloc(), file) else {
+        return Ok(None);
+    };
+    let Ok(files) = files_by(rt, path, bytes.as_slice()) else {
+        return Ok(None);
+    };
+    words_of_layout(rt.alloc(), number, bytes.as_slice(), &files)
 }
 
 /// What is wrong in the file of the stored pages.
@@ -93,8 +96,10 @@ fn words_on_pages(rt: &HostRuntime, about: About<'_>) -> Option<&'static str> {
     let Ok(bytes) = read_flash(rt.alloc(), file) else {
         return Some("the file can't be read, or is too long");
     };
-    match text_of(rt, about.config) {
-        Ok(text) => words_of_pages(rt.alloc(), text.as_str(), bytes.as_slice()),
+    match Configuration::open(rt, about.config) {
+        Ok(Configuration { text, files }) => {
+            words_of_pages(rt.alloc(), text.as_str(), &files, bytes.as_slice())
+        }
         Err(_) => None,
     }
 }

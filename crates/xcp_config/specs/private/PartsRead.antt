@@ -7,7 +7,7 @@ use Rattle.xcp_memory.specs.declared.Parts.{Parts}
 use Rattle.xcp_memory.specs.LayoutParts.{number, kind_numbered, extras_of}
 use Rattle.xcp_memory.specs.Limits.{is_within}
 use Rattle.xcp_config.specs.TomlValues.{text_of, integer_of}
-use Rattle.xcp_config.specs.TableLayout.{order_in, checksum_in, extras_in, clock_in, clock_key, segments_of, signals_of, events_of, address_of, data_of, pages_of, length_of, setting}
+use Rattle.xcp_config.specs.TableLayout.{File, Filed, order_in, checksum_in, class_in, extras_in, clock_in, clock_key, segments_of, signals_of, events_of, address_of, data_of, pages_of, length_of, setting}
 
 -- a segment before its limits are looked at
 pub record Segment : Type 0 where
@@ -18,8 +18,8 @@ pub record Segment : Type 0 where
 abbrev pub segment_read : SegmentPart → Segment
 segment_read s = record { address = s.address; bytes = s.bytes.items; pages = s.pages }
 
-abbrev pub segment_written : Data → Segment
-segment_written d = record { address = address_of d; bytes = data_of d; pages = integer_of (pages_of d) }
+abbrev pub segment_written : Filed → Segment
+segment_written (file, d) = record { address = address_of d; bytes = data_of (file, d); pages = integer_of (pages_of d) }
 
 -- an event channel before its limits are looked at
 pub record Event : Type 0 where
@@ -40,7 +40,8 @@ event_written d = record {
 }
 
 -- what parts have that were read of a table
-pub record Reads (p : Parts) (t : Data) : Type 0 where
+pub record Reads (p : Parts) (files : List File) (t : Data) : Type 0 where
+  pub class : p.class ≡ class_in t
   pub id : p.id.items ≡ text_of (get (codes "id") t)
   pub max_cto : p.max_cto ≡ integer_of (get (codes "max_cto") t)
   pub max_dto : p.max_dto ≡ integer_of (get (codes "max_dto") t)
@@ -49,7 +50,7 @@ pub record Reads (p : Parts) (t : Data) : Type 0 where
   pub order : p.order ≡ order_in t
   pub extras : extras_of p.extras ≡ extras_in t
   pub clock : p.clock ≡ clock_in (clock_key t)
-  pub segments : map segment_read p.segments.items ≡ map segment_written (segments_of t)
+  pub segments : map segment_read p.segments.items ≡ map segment_written (segments_of files t)
   pub signals_address : p.signals_address ≡ address_of (signals_of t)
   pub signals_length : p.signals_length ≡ length_of (signals_of t)
   pub events : map event_read p.events.items ≡ map event_written (events_of t)

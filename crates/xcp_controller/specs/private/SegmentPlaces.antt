@@ -1,11 +1,8 @@
 -- Where the bytes of an address range stand in the image.
-use Rattle.std.specs.Prelude.{◌≡◌, ℕ, ◌+◌, ◌≤◌, length, take, sum_by, Some}
+use Rattle.std.specs.Prelude.{◌≡◌, ℕ, ◌+◌, ◌≤◌, Some}
 use Rattle.xcp_memory.specs.ComputedAccess.{place_in, segment_of}
+use Rattle.xcp_memory.specs.EcuImage.{image_place}
 use Rattle.xcp_memory.specs.Layout.{LayoutValue}
-
--- a segment begins behind the bytes of the segments before it
-abbrev pub image_place : LayoutValue → ℕ → ℕ
-image_place l i = sum_by (λ s. length s.bytes) (take i l.segments)
 
 -- where the n bytes from address a on, which lie in a segment, stand inside of `from..to`
 abbrev pub StandsWithin : LayoutValue → ℕ → ℕ → ℕ → ℕ → Type 0

@@ -60,7 +60,7 @@ impl Pages {
 
 /// Stores each of these segments that is in FREEZE mode, and counts them.
 fn store_each(segments: &mut [PageSet]) -> u8
-    requires few { length segments.old ≤ 4 }
+    requires few { length segments.old ≤ 16 }
     requires pages { All (λ s. s.xcp < length s.pages) segments.old }
     ensures count { result ≡ count_by (λ s. s.freeze) segments.old }
     ensures stored { segments.new ≡ map segment_frozen segments.old }

@@ -3,46 +3,63 @@ use Rattle.std.specs.List.{flat_map, enumerate_from}
 use Rattle.std.proofs.lemmas.Result.{err_from_is_err_and}
 use Rattle.toml.specs.Data.{Data, get}
 use Rattle.toml.specs.View.{view}
+use Rattle.xcp_memory.specs.declared.Class.{Class}
+use Rattle.xcp_memory.specs.declared.ClassLimits.{ClassLimits}
 use Rattle.xcp_memory.specs.declared.Key.TheVariants as key
+use Rattle.xcp_memory.specs.ClassLimits.{limits_of}
 use Rattle.xcp_packet.specs.Rows.{first_holding}
 use Rattle.xcp_config.specs.Check.{Check}
-use Rattle.xcp_config.specs.TableLayout.{segments_of}
-use Rattle.xcp_memory.specs.Limits.{segment_counts}
+use Rattle.xcp_config.specs.TableLayout.{File, Filed, class_in, filed, segment_tables, segments_of}
+use Rattle.xcp_memory.specs.Limits.{count_limits, segment_counts}
 use Rattle.xcp_config.specs.TableChecks.{array_checks, checks_in, segments_checks}
 use Rattle.xcp_config.specs.private.PartsRead.{segment_written}
 use Rattle.xcp_packet.proofs.RowTestLemmas.{holding_left, none_left}
 use Rattle.xcp_config.proofs.CheckLemmas.{if_ok, if_err, or_so}
 use Rattle.xcp_config.proofs.segments.read_segments.Goals as goal
 
-abbrev there : Data → List Check
-there t = array_checks key.Segment segment_counts (get (codes "segment") t)
+-- the checks of the array, by its limits
+abbrev counted : ClassLimits → Data → List Check
+counted limits t = array_checks key.Segment (count_limits limits.segments key.Segment) (get (codes "segment") t)
 
-abbrev each : List Data → List Check
-each ds = flat_map (checks_in ds) (enumerate_from 0 ds)
+abbrev there : Data → List Check
+there t = array_checks key.Segment (segment_counts (class_in t)) (get (codes "segment") t)
+
+abbrev each : Class → List Filed → List Check
+each class ds = flat_map (checks_in class ds) (enumerate_from 0 ds)
+
+-- the limits are those of the table's class
+same_limits : (t : Data) (class : Class) (limits : ClassLimits) → limits ≡ limits_of class → class ≡ class_in t → first_holding (there t) ≡ first_holding (counted limits t)
+same_limits t class limits l c = ap (λ (k : ClassLimits). first_holding (counted k t)) (ap limits_of (sym c) ∙ sym l)
+
+same_each : (files : List File) (t : Data) (class : Class) (ds : List Data) → class ≡ class_in t → ds ≡ segment_tables t → first_holding (each (class_in t) (segments_of files t)) ≡ first_holding (each class (filed files ds))
+same_each files t class ds c d = ap (λ (k : Class). first_holding (each k (segments_of files t))) (sym c) ∙ ap (λ (ds : List Data). first_holding (each class (filed files ds))) (sym d)
 
 pub returns-in_err-members-clause-refused : goal.returns-in_err-members-clause-refused
 unfolding segments_checks
 returns-in_err-members-clause-refused c =
     let t = view c.args.table.now in
     let p = err_from_is_err_and c.from_residual.result c.from_residual.ensures.1 in
-    rw (p.1, p.2) (inr (holding_left (there t) (each (segments_of t)) _ c.in_err-members.ensures.refused))
+    let limits = same_limits t c.args.class c.limits.result c.limits.ensures.value c.requires in
+    rw (p.1, p.2) (inr (holding_left (there t) (each (class_in t) (segments_of c.args.files.now t)) _ (limits ∙ c.in_err-members.ensures.refused)))
 
 pub returns-clause-passes : goal.returns-clause-passes
 unfolding segments_checks
 returns-clause-passes c =
     let t = view c.args.table.now in
-    let e : map view c.in_ok-members.members.now ≡ segments_of t = c.in_ok-members.ensures.value in
-    if_ok c.read_each.result _ _ (λ _ h. none_left (there t) (each (segments_of t)) c.in_ok-members.ensures.passes ∙ ap (λ ds. first_holding (each ds)) (sym e) ∙ h) c.read_each.ensures.passes
+    let limits = same_limits t c.args.class c.limits.result c.limits.ensures.value c.requires in
+    let members = same_each c.args.files.now t c.args.class (map view c.in_ok-members.members.now) c.requires c.in_ok-members.ensures.value in
+    if_ok c.read_each.result _ _ (λ _ h. none_left (there t) (each (class_in t) (segments_of c.args.files.now t)) (limits ∙ c.in_ok-members.ensures.passes) ∙ members ∙ h) c.read_each.ensures.passes
 
 pub returns-clause-read : goal.returns-clause-read
 returns-clause-read c =
     let t = view c.args.table.now in
-    let e : map view c.in_ok-members.members.now ≡ segments_of t = c.in_ok-members.ensures.value in
-    if_ok c.read_each.result _ _ (λ _ h. h ∙ ap (map segment_written) e) c.read_each.ensures.read
+    let e : map view c.in_ok-members.members.now ≡ segment_tables t = c.in_ok-members.ensures.value in
+    if_ok c.read_each.result _ _ (λ _ h. h ∙ ap (λ (ds : List Data). map segment_written (filed c.args.files.now ds)) e) c.read_each.ensures.read
 
 pub returns-clause-refused : goal.returns-clause-refused
 unfolding segments_checks
 returns-clause-refused c =
     let t = view c.args.table.now in
-    let e : map view c.in_ok-members.members.now ≡ segments_of t = c.in_ok-members.ensures.value in
-    if_err c.read_each.result _ _ (λ f h. or_so h (λ k. none_left (there t) (each (segments_of t)) c.in_ok-members.ensures.passes ∙ ap (λ ds. first_holding (each ds)) (sym e) ∙ k)) c.read_each.ensures.refused
+    let limits = same_limits t c.args.class c.limits.result c.limits.ensures.value c.requires in
+    let members = same_each c.args.files.now t c.args.class (map view c.in_ok-members.members.now) c.requires c.in_ok-members.ensures.value in
+    if_err c.read_each.result _ _ (λ f h. or_so h (λ k. none_left (there t) (each (class_in t) (segments_of c.args.files.now t)) (limits ∙ c.in_ok-members.ensures.passes) ∙ members ∙ k)) c.read_each.ensures.refused

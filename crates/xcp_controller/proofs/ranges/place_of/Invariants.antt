@@ -1,5 +1,5 @@
 use Rattle.std.proofs.Common.{◌≡◌}
-use Rattle.xcp_controller.specs.private.SegmentPlaces.{image_place}
+use Rattle.xcp_memory.specs.EcuImage.{image_place}
 use Rattle.xcp_controller.proofs.ranges.place_of.Given as goal
 
 -- what stands before the segments that were counted

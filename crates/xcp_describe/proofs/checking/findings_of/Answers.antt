@@ -11,13 +11,13 @@ use Rattle.xcp_describe.proofs.checking.findings_of.Goals as goal
 pub returns-in-Ok-text_of-clause-found : goal.returns-in-Ok-text_of-clause-found
 returns-in-Ok-text_of-clause-found c =
     let keys = c.in-Ok.ensures ∙ ap unread_keys c.requires.is in
-    checked_is_found _ _ _ (record {
+    checked_is_found _ _ _ _ (record {
       members = c.requires.members;
       document = c.requires.parsed;
-      fault = c.in_ok-fault.ensures.fault ∙ ap first_fault c.requires.is;
+      fault = c.in_ok-fault.ensures.fault ∙ ap (first_fault c.args.files.now) c.requires.is;
       unread = c.len.ensures ∙ sym c.as_slice.ensures.len ∙ ap length c.as_slice.ensures.value ∙ sym (length-map c.in-Ok.unread.items placed) ∙ ap length keys;
       refused = c.in_ok-fault.ensures.entry;
-      first = c.in_ok-fault.ensures.first ∙ ap (refused_in c.in_ok-fault.fault) c.requires.is;
+      first = c.in_ok-fault.ensures.first ∙ ap (refused_in c.args.files.now c.in_ok-fault.fault) c.requires.is;
       told =
           c.in-Ok-text_of.ensures
           ∙ ap (λ ks. findings_text c.in_ok-fault.fault ks c.in_ok-fault.refused) (ap keys_of c.as_slice.ensures.value ∙ keys);

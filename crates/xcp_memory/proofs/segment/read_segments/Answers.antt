@@ -17,7 +17,7 @@ returns-in_err-segment-clause-refused c =
     let turn = YieldsList-turn road xs _ c.loop-part.yielded_by _ c.next.new.self x c.in-Some.is c.next.ensures.steps in
     let next : IsNext all xs x = record { front = YieldsList-so_far road xs _ c.loop-part.yielded_by; below = turn.0; next = turn.1 } in
     let number : c.len-in-loop-part.result ≡ length xs = c.len-in-loop-part.ensures.value ∙ ap length c.loop-part.invariant.items ∙ length-map xs segment_of_part in
-    let broken = segment_broken all xs x _ _ _ next number c.loop-part.invariant.total c.loop-part.invariant.kept c.in_err-segment.ensures.refused (omega arith) (omega arith) in
+    let broken = segment_broken c.args.class all xs x _ _ _ next number c.loop-part.invariant.total c.loop-part.invariant.kept c.in_err-segment.ensures.refused (omega arith) (omega (arith, ap (λ l. l.segments) c.limits.ensures.value)) in
     let p = err_from_is_err_and c.from_residual.result c.from_residual.ensures.1 in
     rw (p.1, p.2) broken
 
@@ -34,5 +34,5 @@ loop-part-preserved c =
       items = grind (arith, common_steps);
       total = grind (arith, common_steps);
       room = grind (arith, common_steps);
-      kept = segment_kept all xs x _ _ next number c.loop-part.invariant.total c.loop-part.invariant.kept c.in_ok-segment.ensures.ok.0;
+      kept = segment_kept c.args.class all xs x _ _ next number c.loop-part.invariant.total c.loop-part.invariant.kept c.in_ok-segment.ensures.ok.0;
     }

@@ -18,7 +18,7 @@ returns-then-task-eq0 g c =
       grown = c.store.ensures.stored.1;
       closes = closes_as p c.store.ensures.stored.0 c.if-task-eq0.true c.store.ensures.stored.2;
       took = took_of g.N.Name.layout _ c.args.member.now.number _ _ _ _ _ _ _ _ c.raise.ensures.told c.take_image.ensures.seen c.take_image.ensures.took;
-      whole = search rules;
+      whole = c.take_image.ensures.whole;
     }
 
 pub returns-else-task-eq0 : goal.returns-else-task-eq0
@@ -34,5 +34,5 @@ returns-else-task-eq0 g c =
       grown = sym (append-nil c.raise.new.member.receipts);
       closes = inl refl;
       took = took_of g.N.Name.layout _ c.args.member.now.number _ _ _ _ _ _ _ _ c.raise.ensures.told c.take_image.ensures.seen c.take_image.ensures.took;
-      whole = search rules;
+      whole = c.take_image.ensures.whole;
     }

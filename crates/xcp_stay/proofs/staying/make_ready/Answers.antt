@@ -6,4 +6,5 @@ use Rattle.xcp_stay.proofs.staying.make_ready.Goals as goal
 pub returns-clause-first : goal.returns-clause-first
 returns-clause-first g c =
     let at = c.in_ok-opening.ensures.locked in
-    (ap (λ (l : LockedValue). l.chapter) at, ap (λ (l : LockedValue). l.before) at, ap (λ (l : LockedValue). l.base) at ∙ ap opening c.requires.name.2)
+    let boxed = (c.in_ok-boxed.ensures {u = tt}).ok in
+    (ap (λ o. o.locked.chapter) boxed ∙ ap (λ (l : LockedValue). l.chapter) at, ap (λ o. o.locked.before) boxed ∙ ap (λ (l : LockedValue). l.before) at, ap (λ o. o.locked.base) boxed ∙ (ap (λ (l : LockedValue). l.base) at ∙ ap opening c.requires.name.2))

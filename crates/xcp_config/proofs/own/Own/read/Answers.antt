@@ -6,8 +6,8 @@ use Rattle.xcp_config.specs.declared.config_error.ConfigError.{ConfigError}
 use Rattle.xcp_packet.specs.Rows.{first_holding}
 use Rattle.xcp_config.specs.Check.{Check}
 use Rattle.xcp_memory.specs.Limits.{id_limit, max_cto_limit, max_dto_limit}
-use Rattle.xcp_config.specs.TomlValues.{byte_orders, checksums}
-use Rattle.xcp_config.specs.TableLayout.{byte_order_of, checksum_of}
+use Rattle.xcp_config.specs.TomlValues.{byte_orders, checksums, classes}
+use Rattle.xcp_config.specs.TableLayout.{byte_order_of, checksum_of, class_of}
 use Rattle.xcp_config.specs.TableChecks.{text_checks, name_checks, integer_checks, extras_checks, clock_checks, own_checks}
 use Rattle.std.proofs.lemmas.Result.{err_from_is_err_and}
 use Rattle.xcp_packet.proofs.RowTestLemmas.{behind_4, holding_left, none_left, holding_1_of_5, holding_2_of_5, holding_3_of_5, holding_4_of_5}
@@ -35,10 +35,16 @@ five t = id t ++ max_cto t ++ max_dto t ++ byte_order t ++ checksum t
 abbrev six : Data → List Check
 six t = five t ++ extras_checks t
 
+abbrev seven : Data → List Check
+seven t = six t ++ clock_checks t
+
+abbrev class : Data → List Check
+class t = name_checks key.Class classes (class_of t)
+
 -- a fault of the first five keys
 of_five : (t : Data) (e : ConfigError) → first_holding (five t) ≡ Some e → first_holding (own_checks t) ≡ Some e
 unfolding own_checks
-of_five t e h = holding_left (six t) (clock_checks t) e (holding_left (five t) (extras_checks t) e h)
+of_five t e h = holding_left (seven t) (class t) e (holding_left (six t) (clock_checks t) e (holding_left (five t) (extras_checks t) e h))
 
 pub returns-in_err-id-clause-refused : goal.returns-in_err-id-clause-refused
 returns-in_err-id-clause-refused c =
@@ -82,7 +88,7 @@ returns-in_err-extras-clause-refused c =
     let r = c.from_residual-in_err-extras in
     let p = err_from_is_err_and r.result r.ensures.1 in
     let fine = behind_4 (id t) (max_cto t) (max_dto t) (byte_order t) (checksum t) c.in_ok-id.ensures.passes c.in_ok-max_cto.ensures.passes c.in_ok-max_dto.ensures.passes c.in_ok-order.ensures.passes ∙ c.in_ok-checksum.ensures.passes in
-    rw (p.1, p.2) (or_so c.in_err-extras.ensures.refused (λ k. holding_left (six t) (clock_checks t) _ (none_left (five t) (extras_checks t) fine ∙ k)))
+    rw (p.1, p.2) (or_so c.in_err-extras.ensures.refused (λ k. holding_left (seven t) (class t) _ (holding_left (six t) (clock_checks t) _ (none_left (five t) (extras_checks t) fine ∙ k))))
 
 pub returns-in_err-clock-clause-refused : goal.returns-in_err-clock-clause-refused
 unfolding own_checks
@@ -91,11 +97,22 @@ returns-in_err-clock-clause-refused c =
     let r = c.from_residual-in_err-clock in
     let p = err_from_is_err_and r.result r.ensures.1 in
     let fine = behind_4 (id t) (max_cto t) (max_dto t) (byte_order t) (checksum t) c.in_ok-id.ensures.passes c.in_ok-max_cto.ensures.passes c.in_ok-max_dto.ensures.passes c.in_ok-order.ensures.passes ∙ c.in_ok-checksum.ensures.passes in
-    rw (p.1, p.2) (inr (none_left (six t) (clock_checks t) (none_left (five t) (extras_checks t) fine ∙ c.in_ok-extras.ensures.passes) ∙ c.in_err-clock.ensures.refused))
+    rw (p.1, p.2) (inr (holding_left (seven t) (class t) _ (none_left (six t) (clock_checks t) (none_left (five t) (extras_checks t) fine ∙ c.in_ok-extras.ensures.passes) ∙ c.in_err-clock.ensures.refused)))
+
+pub returns-in_err-class-clause-refused : goal.returns-in_err-class-clause-refused
+unfolding own_checks
+returns-in_err-class-clause-refused c =
+    let t = view c.args.table.now in
+    let r = c.from_residual-in_err-class in
+    let p = err_from_is_err_and r.result r.ensures.1 in
+    let fine = behind_4 (id t) (max_cto t) (max_dto t) (byte_order t) (checksum t) c.in_ok-id.ensures.passes c.in_ok-max_cto.ensures.passes c.in_ok-max_dto.ensures.passes c.in_ok-order.ensures.passes ∙ c.in_ok-checksum.ensures.passes in
+    let good = none_left (six t) (clock_checks t) (none_left (five t) (extras_checks t) fine ∙ c.in_ok-extras.ensures.passes) ∙ c.in_ok-clock.ensures.passes in
+    rw (p.1, p.2) (inr (none_left (seven t) (class t) good ∙ c.in_err-class.ensures.refused))
 
 pub returns-clause-passes : goal.returns-clause-passes
 unfolding own_checks
 returns-clause-passes c =
     let t = view c.args.table.now in
     let fine = behind_4 (id t) (max_cto t) (max_dto t) (byte_order t) (checksum t) c.in_ok-id.ensures.passes c.in_ok-max_cto.ensures.passes c.in_ok-max_dto.ensures.passes c.in_ok-order.ensures.passes ∙ c.in_ok-checksum.ensures.passes in
-    none_left (six t) (clock_checks t) (none_left (five t) (extras_checks t) fine ∙ c.in_ok-extras.ensures.passes) ∙ c.in_ok-clock.ensures.passes
+    let good = none_left (six t) (clock_checks t) (none_left (five t) (extras_checks t) fine ∙ c.in_ok-extras.ensures.passes) ∙ c.in_ok-clock.ensures.passes in
+    none_left (seven t) (class t) good ∙ c.in_ok-class.ensures.passes

@@ -23,7 +23,7 @@ invariant_of-self g c =
         last = k.last;
         newest = ap (λ (images : List (List ℕ)). slice_index_or images (length images - 1) []) c.held.ensures.same_publications ∙ k.newest;
         named = c.held.ensures.same_bank ∙ k.named;
-        size = k.size;
+        sized = k.sized;
       },
       c.self.invariant.5,
       c.self.invariant.6,

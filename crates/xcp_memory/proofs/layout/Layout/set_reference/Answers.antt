@@ -11,7 +11,7 @@ invariant_of-self c =
     let i = c.self.inside in
     let k = c.args.segment in
     let bytes = c.args.bytes.now in
-    let l : LayoutValue = record { id = i.id.items; max_cto = i.max_cto; max_dto = i.max_dto; checksum = i.checksum; order = i.order; clock = i.clock; segments = i.segments.items; signals_address = i.signals.address; signals_length = i.signals.size; events = i.events.items; extras = i.extras } in
+    let l : LayoutValue = record { class = i.class; id = i.id.items; max_cto = i.max_cto; max_dto = i.max_dto; checksum = i.checksum; order = i.order; clock = i.clock; segments = i.segments.items; signals_address = i.signals.address; signals_length = i.signals.size; events = i.events.items; extras = i.extras } in
     let there : k < length l.segments = subst (λ (v : LayoutValue). k < length v.segments) (sym c.self.view_is) c.requires.segment in
     let sized : length bytes ≡ length (get_or l.segments k no_segment).bytes = subst (λ (v : LayoutValue). length bytes ≡ length (get_or v.segments k no_segment).bytes) (sym c.self.view_is) c.requires.size in
     let s : SegmentValue = record (get_or l.segments k no_segment) { bytes = bytes } in

@@ -1,4 +1,4 @@
-use Rattle.std.proofs.Common.{◌≡◌, ◌≢◌, ◌∙◌, ap, sym, MatchBool, Bool, true, false, List, ℕ}
+use Rattle.std.proofs.Common.{◌≡◌, ◌≢◌, ◌∙◌, ap, sym, MatchBool, Bool, true, false}
 use Rattle.xcp_memory.specs.Pages.{SegmentPages}
 use Rattle.xcp_memory.proofs.PageStoreLemmas.{same_bytes, same_pages}
 use Rattle.xcp_memory.proofs.page_set.PageSet.same_pages.Goals as goal

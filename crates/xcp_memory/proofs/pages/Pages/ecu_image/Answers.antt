@@ -1,9 +1,11 @@
-use Rattle.std.proofs.Common.{arith, ap, length}
-use Rattle.std.specs.List.{flat_map}
-use Rattle.xcp_memory.specs.Pages.{ecu_page}
-use Rattle.xcp_memory.proofs.EcuImageLemmas.{length-ecu_pages}
+use Rattle.std.proofs.Common.{take, ◌∙◌, ap, arith}
+use Rattle.std.proofs.lemmas.List.{take_all}
+use Rattle.xcp_memory.specs.EcuImage.{ecu_image, image_size}
+use Rattle.xcp_memory.proofs.EcuImageLemmas.{length-ecu_image}
 use Rattle.xcp_memory.proofs.pages.Pages.ecu_image.Goals as goal
 
-pub lay-end-requires-clause-room : goal.lay-end-requires-clause-room
-lay-end-requires-clause-room c =
-    omega (arith, length-ecu_pages _ c.self.invariant, c.audit.ensures.total, ap (λ xs. length (flat_map ecu_page xs)) c.deref.ensures.value)
+pub returns : goal.returns
+returns c =
+    let v = c.args.self.now in
+    let long = length-ecu_image v c.audit.ensures.layout c.audit.ensures.pages in
+    c.ecu_image_part.ensures.bytes ∙ ap (λ n. take n (ecu_image v)) c.requires ∙ take_all (image_size v.layout) (ecu_image v) (omega (arith, long))
