@@ -170,7 +170,7 @@ uint8_t xcp_open_parts_stored(const xcp_parts *parts, const uint8_t *reference, 
 
 /* Writes out the file of the slave's reference pages, for xcp_open_stored at a later start: XCP_OPENED, and `used` bytes of
  * `out` are the file; or XCP_NO_ROOM, and it has `used` bytes, which are more than `room`; or XCP_SLAVE_CLOSED. With
- * XCP_STORED_BYTES there is always room. Nothing else of `out` is written, and the slave stays as it is. It takes no memory.
+ * XCP_STORED_BYTES, or 1,048,710 bytes of class = "large", there is always room. Nothing else of `out` is written, and the slave stays as it is. It takes no memory.
  * Once a tool has asked for a store, these are the pages that the store leaves: so they can be kept before xcp_finish_store
  * tells the tool that they are. Else they are those that the slave has, also behind XCP_STORED. */
 uint8_t xcp_stored_pages(xcp_slave *slave, uint8_t *out, size_t room, size_t *used);
