@@ -72,7 +72,8 @@ enum {
     XCP_STORED_DIGEST = 15, /* it was altered */
     XCP_LONG_TEXT = 16,     /* the text has more than XCP_TEXT_BYTES */
     XCP_NO_ROOM = 17,       /* the file has more bytes than there is room for */
-    XCP_OTHER_BYTES = 18    /* there are more or fewer reference bytes than the segments have in all */
+    XCP_OTHER_BYTES = 18    /* there are more or fewer reference bytes than the segments have in all, or than the sizes of their files
+                             * sum up to; or more sizes than segments that name a file */
 };
 
 /* A layout without a text, for a controller that has it in constant data: docs/LAYOUT.md has each value, its range, and what
@@ -149,7 +150,7 @@ typedef struct {
 /* ---- The slave: under your lock ---- */
 
 /* Opens a slave by the text of a layout file, `length` bytes: XCP_OPENED, or a fault. All memory that the slave and its
- * readers ever take is taken here. Of all calls the openings of a slave want the most stack: nearly 30 kilobytes with the engine example's
+ * readers ever take is taken here. Of all calls the openings of a slave want the most stack: nearly 40 kilobytes with the engine example's
  * layout, as measured, and more where keys of a text stand in many tables. */
 uint8_t xcp_open(const uint8_t *text, size_t length, xcp_slave *slave);
 
@@ -167,6 +168,16 @@ uint8_t xcp_open_stored(const uint8_t *text, size_t length, const uint8_t *file,
 /* And xcp_open_parts so: the file is that of a slave that was opened by parts, with the same addresses, lengths and reference
  * bytes of the segments; what else the struct says may be new. */
 uint8_t xcp_open_parts_stored(const xcp_parts *parts, const uint8_t *reference, size_t length, const uint8_t *file, size_t file_length, xcp_slave *slave);
+
+/* xcp_open for a text whose segments name files, by `data_file`: the bytes of a segment that is larger than a text. `data` has the
+ * `data_length` bytes of all files, one file behind the other, in the order of the segments that name one; and `sizes`, how many bytes each
+ * has, `files` of them. A segment that names a file for which there is no size any more has none: XCP_MISSING. XCP_OTHER_BYTES comes
+ * behind XCP_LONG_TEXT and XCP_NO_UTF8, and before all other faults: the sizes don't sum up to `data_length`, or there are more of them
+ * than segments, among the first 16, that name a file. Text, bytes and sizes may go once it has returned. */
+uint8_t xcp_open_data(const uint8_t *text, size_t length, const uint8_t *data, size_t data_length, const uint32_t *sizes, size_t files, xcp_slave *slave);
+
+/* And xcp_open_stored so: what is wrong with the text or with its files comes first, and then the faults of the file of stored pages. */
+uint8_t xcp_open_data_stored(const uint8_t *text, size_t length, const uint8_t *data, size_t data_length, const uint32_t *sizes, size_t files, const uint8_t *file, size_t file_length, xcp_slave *slave);
 
 /* Writes out the file of the slave's reference pages, for xcp_open_stored at a later start: XCP_OPENED, and `used` bytes of
  * `out` are the file; or XCP_NO_ROOM, and it has `used` bytes, which are more than `room`; or XCP_SLAVE_CLOSED. With
@@ -194,7 +205,7 @@ bool xcp_time(xcp_slave *slave, uint64_t ticks, xcp_answer *answer);
 /* 0 where the handle is closed. */
 size_t xcp_image_bytes(xcp_slave *slave); /* an image: XCP_IMAGE_BYTES, or of class = "large" up to 1,048,576 bytes */
 uint8_t xcp_max_cto(xcp_slave *slave); /* the longest command, and packet that answers one: 8 to 255 bytes */
-uint8_t xcp_pending(xcp_slave *slave); /* packets that wait for xcp_drain: 0 to 64 */
+uint16_t xcp_pending(xcp_slave *slave); /* packets that wait for xcp_drain: 0 to 64, or of class = "large" to 512 */
 uint8_t xcp_held(xcp_slave *slave);    /* buffers beside the current one that readers hold: 0 to 6 */
 
 /* ---- An answer's packets: no lock ---- */

@@ -14,9 +14,15 @@ void __wrap_free(void *place);
 }
 #endif
 
+/* A text whose one segment has a file. */
+static const char filed[] =
+    "id = 'F'\nmax_cto = 8\nmax_dto = 8\n[[segment]]\naddress = 0\ndata_file = 'f'\n[signals]\naddress = 16\nlength = 1\n[[event]]\nname = 'e'\n";
+static const uint8_t data[] = {1, 2, 3};
+static const uint32_t size = sizeof data;
+
 static uint8_t stored[XCP_STORED_BYTES];
 static size_t stored_length;
-static bool by_parts, counting;
+static bool by_parts, by_data, counting;
 static long asked, refused_one, blocks;
 
 static bool refuses(void) { return counting && ++asked == refused_one; }
@@ -41,6 +47,8 @@ void __wrap_free(void *place) {
 }
 
 static uint8_t opens(xcp_slave *slave) {
+    if (by_data && stored_length) return xcp_open_data_stored((const uint8_t *)filed, sizeof filed - 1, data, size, &size, 1, stored, stored_length, slave);
+    if (by_data) return xcp_open_data((const uint8_t *)filed, sizeof filed - 1, data, size, &size, 1, slave);
     if (by_parts && stored_length) return xcp_open_parts_stored(&engine_parts, ENGINE_PAGES, stored, stored_length, slave);
     if (by_parts) return xcp_open_parts(&engine_parts, ENGINE_PAGES, slave);
     if (stored_length) return xcp_open_stored(layout, layout_length, stored, stored_length, slave);
@@ -112,6 +120,13 @@ static void each_refused(const char *what) {
     printf("%s: each refused allocation is told or done without, and nothing is lost\n", what);
 }
 
+/* The file of the pages with which the slave opens. */
+static void keep_pages(void) {
+    xcp_slave slave = XCP_CLOSED;
+    want(!opens(&slave) && !xcp_stored_pages(&slave, stored, sizeof stored, &stored_length), "a file of stored pages");
+    xcp_close(&slave);
+}
+
 int main(int argc, char **argv) {
     read_layout(argc, argv);
     each_refused("by a text");
@@ -121,5 +136,9 @@ int main(int argc, char **argv) {
     each_refused("by parts");
     printf("allocations of all other calls: %ld\n", all_calls(500));
     each_refused("by parts with stored pages");
+    by_data = true, stored_length = 0;
+    each_refused("by a text with a file");
+    keep_pages();
+    each_refused("by a text with a file and stored pages");
     return 0;
 }

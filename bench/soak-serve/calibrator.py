@@ -1,5 +1,6 @@
 """A tool that works alone on pages and lists, and a model of what it must be answered."""
 import hashlib
+import os
 import struct
 import threading
 import time
@@ -7,14 +8,17 @@ import tomllib
 from collections import Counter, deque
 from random import Random
 
+from server import TASKS
 from tool import Tool
 from xcp_client import ECU, XCP, Fault
 
 STEP_PAUSE = 0.002  # seconds
 REJOIN, SET_UP = 20, 5  # seconds from one connection to the next, from one setting of the lists to the next
-DONE, NOT_IN_ONE_AREA, PROTECTED = b"\xff", b"\xfe\x24", b"\xfe\x23"
+ALL = 4  # of so many settings of a large layout's lists one is of all lists, ODTs and entries that there may be
+DONE, NOT_IN_ONE_AREA, PROTECTED, FULL = b"\xff", b"\xfe\x24", b"\xfe\x23", b"\xfe\x30"
 # Of each checksum its type, and how many bytes are added into how many.
 SUMS = {"ADD_11": (1, 1, 1), "ADD_12": (2, 1, 2), "ADD_14": (3, 1, 4), "ADD_22": (4, 2, 2), "ADD_24": (5, 2, 4), "ADD_44": (6, 4, 4)}
+FORMS = {1: "B", 2: "H", 4: "I"}  # of what is added
 
 
 def within(counts, part):
@@ -27,11 +31,19 @@ def within(counts, part):
     return 0
 
 
+def content_of(table, folder):
+    """The bytes of a segment: its table has them, or names a file."""
+    if "data" in table:
+        return bytes.fromhex("".join(table["data"].split()))
+    with open(f"{folder}/{table['data_file']}", "rb") as file:
+        return file.read()
+
+
 class Segment:
     """A segment as it should be: its pages, and which of them the tool and the controller have."""
 
-    def __init__(self, table):
-        content = bytes.fromhex("".join(table["data"].split()))
+    def __init__(self, table, folder):
+        content = content_of(table, folder)
         self.address, self.size = table["address"], len(content)
         self.pages = [bytearray(content) for _ in range(table.get("pages", 2))]
         self.page = {ECU: 0, XCP: 0}
@@ -49,10 +61,15 @@ class Layout:
         with open(path, "rb") as file:
             table = tomllib.load(file)
         self.max_cto, self.max_dto, self.id = table["max_cto"], table["max_dto"], table["id"].encode()
-        self.segments = [Segment(it) for it in table["segment"]]
+        self.segments = [Segment(it, os.path.dirname(path)) for it in table["segment"]]
+        self.decided = b"".join(struct.pack("<II", it.address, it.size) + it.pages[0] for it in self.segments)  # what stored pages belong to
+        self.is_large = table.get("class") == "large"
+        self.lists, self.odts, self.entries = (64, 252, 4096) if self.is_large else (16, 64, 256)  # as many as there may be
+        self.events = {b"\xfd\x03", b"\xfd\x06"} if "overload" in table else {b"\xfd\x03"}  # the event packets that there may be
         self.signals, self.signal_bytes = table["signals"]["address"], table["signals"]["length"]
         self.channels = len(table["event"])
         self.sum = SUMS[table.get("checksum", "ADD_14")]
+        self.most_summed = 65_536  # bytes by one BUILD_CHECKSUM of a large layout; no segment of another one has as many
         self.connected = struct.pack("<BBBBHBB", 0xFF, 5, 0xC0, self.max_cto, self.max_dto, 1, 1)
         clock = table.get("clock")
         self.stamp = clock.get("size", 4) if clock is not None else 0  # bytes of a time stamp, if there are any
@@ -78,6 +95,8 @@ class Calibrator:
         self.running, self.tool = False, None
         self.delays = Counter()  # how many round trips took so many milliseconds
         self.early = 0  # stores that were told before the file of stored pages had them
+        self.settings, self.full_settings = 0, 0  # of lists; those of all lists, ODTs and entries that there may be
+        self.pids = set()  # ODTs whose packets came
         self.wanted, self.taken = threading.Event(), threading.Event()  # that it connects once more, and that it did
         self.stamps, self.clocks, self.last_stamp, self.last_clock = 0, 0, None, None
         self.since = time.monotonic()  # when the lists were set up before the last time
@@ -90,6 +109,8 @@ class Calibrator:
         ]  # fmt: skip
         if self.layout.stamp:
             self.steps.append((10, False, self.ask_clock))
+        if self.layout.is_large:
+            self.steps += [(5, True, self.download_on), (3, True, self.add_too_much_up), (1, True, self.take_back)]
 
     def join(self):
         self.tool = Tool(self)
@@ -150,22 +171,18 @@ class Calibrator:
 
     def stored_pages(self):
         """The bytes of the file that has the reference pages."""
-        with open(self.layout.path, "rb") as file:
-            segments = tomllib.load(file)["segment"]
-        decided = b""
-        for it in segments:
-            reference = bytes.fromhex(it["data"])
-            decided += struct.pack("<II", it["address"], len(reference)) + reference
-        content = b"XCPF\x01\x00" + hashlib.sha256(decided).digest()
+        content = b"XCPF\x01\x00" + hashlib.sha256(self.layout.decided).digest()
         for segment in self.segments:
             content += struct.pack("<I", segment.size) + segment.pages[0]
         return content + hashlib.sha256(content).digest()
 
-    def some_range(self, most):
-        """A segment, where in it a range begins, and its bytes: at most so many."""
-        segment = self.random.choice(self.segments)
-        at = self.random.randrange(segment.size)
-        return segment, at, self.random.randint(1, min(most, segment.size - at))
+    def some_range(self, most, least=1):
+        """A segment, where in it a range begins, and its bytes: at most so many, and at least so many in a segment that has them. Now and then
+        the range ends with the segment."""
+        segment = self.random.choice([it for it in self.segments if it.size >= least] or self.segments)
+        count = self.random.randint(min(least, segment.size), min(most, segment.size))
+        end = segment.size - count
+        return segment, end if self.random.random() < 0.1 else self.random.randint(0, end), count
 
     def note(self):
         """Notes what data packets may have from now on. It is called before the command that brings it."""
@@ -175,6 +192,7 @@ class Calibrator:
 
     def check_data(self, packet, _):
         stamp = self.soak.check_shape(packet, self.since)
+        self.pids.add(packet[0])
         if packet[-2:] not in self.contents:
             raise Fault(f"a data packet has {packet[-2:].hex(' ')} of the controller's page, which had no such bytes lately")
         if stamp is not None:
@@ -291,25 +309,57 @@ class Calibrator:
 
     def download(self):
         room = self.layout.max_cto - 2
-        segment, at, count = self.some_range(min(255, 8 * room))
-        content = self.random.randbytes(count)
+        most = min(255, 8 * room)
+        segment, at, count = self.some_range(most, self.random.choice((1, room + 1)))
         self.set_mta(segment, at)
+        self.write_block(segment, at, self.random.randbytes(count))
+
+    def write_block(self, segment, at, content):
+        """A DOWNLOAD at the MTA, which stands there, and the DOWNLOAD_NEXTs that it needs. Gives whether it was accepted."""
+        room, count = self.layout.max_cto - 2, len(content)
         wanted = self.write(segment, at, content)
         pieces = [bytes([0xEF if it else 0xF0, count - it]) + content[it : it + room] for it in range(0, count, room)]
         if wanted == DONE:
             for piece in pieces[:-1]:
                 self.tool.send(piece)
         self.tool.expect(pieces[-1] if wanted == DONE else pieces[0], wanted)
+        return wanted == DONE
+
+    def download_on(self):
+        """Blocks of the largest segment, each where the one before left the MTA, and the sum of them all."""
+        segment, most = max(self.segments, key=lambda it: it.size), min(255, 8 * (self.layout.max_cto - 2))
+        count = 4 * self.random.randint(most, 16 * most)
+        at = self.random.randint(0, segment.size - count)
+        self.set_mta(segment, at)
+        for begin in range(0, count, most):
+            if not self.write_block(segment, at + begin, self.random.randbytes(min(most, count - begin))):
+                return
+        self.check_sum(segment, at, count)
 
     def add_up(self):
-        kind, unit, width = self.layout.sum
+        unit = self.layout.sum[1]
         segment = self.random.choice(self.segments)
-        count = self.random.randint(1, segment.size // unit) * unit
-        at = self.random.randint(0, segment.size - count)
-        content = segment.content(XCP)[at : at + count]
-        total = sum(int.from_bytes(content[it : it + unit], "little") for it in range(0, count, unit)) % (1 << 8 * width)
+        most = min(segment.size, self.layout.most_summed) // unit
+        count = unit * self.random.choice((most, self.random.randint(1, most)))
+        self.check_sum(segment, self.random.randint(0, segment.size - count), count)
+
+    def check_sum(self, segment, at, count):
+        kind, unit, width = self.layout.sum
+        numbers = struct.unpack_from(f"<{count // unit}{FORMS[unit]}", segment.content(XCP), at)
         self.set_mta(segment, at)
-        self.tool.expect(struct.pack("<BxxxI", 0xF3, count), struct.pack("<BBHI", 0xFF, kind, 0, total))
+        self.tool.expect(struct.pack("<BxxxI", 0xF3, count), struct.pack("<BBHI", 0xFF, kind, 0, sum(numbers) % (1 << 8 * width)))
+
+    def add_too_much_up(self):
+        """More bytes than one BUILD_CHECKSUM sums up. It leaves the MTA where it was."""
+        (segment, at, _), most = self.some_range(1), self.layout.most_summed
+        count = self.random.choice((most + 1, most + segment.size, 0xFFFF_FFFF))
+        self.set_mta(segment, at)
+        self.tool.expect(struct.pack("<BxxxI", 0xF3, count), struct.pack("<BBHI", 0xFE, 0x22, 0, most))
+        self.tool.expect(b"\xf5\x01", DONE + segment.content(XCP)[at : at + 1])
+
+    def take_back(self):
+        """Has the session again, which visitors take, so that the packets of all lists come here."""
+        self.tool.expect(b"\xff\x00", self.layout.connected)
 
     def identify(self):
         self.tool.expect(b"\xfa\x00", struct.pack("<BxxxI", 0xFF, len(self.layout.id)))
@@ -327,33 +377,64 @@ class Calibrator:
 
     # DAQ lists
 
+    def some_lists(self):
+        """Lists of ODTs, and of each ODT the sizes of the entries that read signals: one to three lists of one or two ODTs with one such entry,
+        or as many lists, ODTs and entries as there may be."""
+        layout = self.layout
+        self.settings += 1
+        if not layout.is_large or self.settings % ALL != 2:
+            return [[[self.random.randint(1, min(20, layout.signal_bytes))] for _ in range(self.random.randint(1, 2))]
+                    for _ in range(self.random.randint(1, 3))]  # fmt: skip
+        each, more = divmod(layout.entries, layout.odts)
+        odts = [layout.odts // layout.lists + (number < layout.odts % layout.lists) for number in range(layout.lists)]
+        return [[[1] * (each - 1 + (number < more and not odt)) for odt in range(count)] for number, count in enumerate(odts)]
+
     def set_lists_up(self):
-        """Other lists than before: one to three, each of one or two ODTs of some signals and two bytes of the controller's page."""
-        lists = [[self.random.randint(1, min(20, self.layout.signal_bytes)) for _ in range(self.random.randint(1, 2))]
-                 for _ in range(self.random.randint(1, 3))]  # fmt: skip
-        expect = self.tool.expect
-        expect(b"\xd6", DONE)
-        expect(struct.pack("<BxH", 0xD5, len(lists)), DONE)
-        for number, odts in enumerate(lists):
-            expect(struct.pack("<BxHB", 0xD4, number, len(odts)), DONE)
-        for number, odts in enumerate(lists):
-            for odt in range(len(odts)):
-                expect(struct.pack("<BxHBB", 0xD3, number, odt, 2), DONE)
+        """Other lists than before, whose ODTs have some signals and two bytes of the controller's page each."""
+        lists = self.some_lists()
+        self.allocate(lists)
         if self.soak.settings:
             self.since = self.soak.settings[-1][0]
         stamped = [self.random.random() < 0.5 and self.layout.stamp > 0 for _ in lists]
-        shapes = [(signals, has and not odt) for has, odts in zip(stamped, lists) for odt, signals in enumerate(odts)]
+        shapes = [(sum(sizes), has and not odt) for has, odts in zip(stamped, lists) for odt, sizes in enumerate(odts)]
         self.soak.settings.append((time.monotonic(), shapes))
         self.note()
         pid = 0
         for number, odts in enumerate(lists):
-            for odt, signals in enumerate(odts):
-                expect(struct.pack("<BxHBB", 0xE2, number, odt, 0), DONE)
-                expect(struct.pack("<BBBBI", 0xE1, 0xFF, signals, 0, self.layout.signals), DONE)
-                expect(struct.pack("<BBBBI", 0xE1, 0xFF, 2, 0, self.sampled.address), DONE)
-            channel, prescaler = self.random.randrange(self.layout.channels), self.random.randint(50, 255)
-            expect(struct.pack("<BBHHBB", 0xE0, 0x10 * stamped[number], number, channel, prescaler, 0), DONE)
-            expect(struct.pack("<BBH", 0xDE, 2, number), bytes([0xFF, pid]))
+            self.write_entries(number, odts)
+            self.select(number, 0x10 * stamped[number], pid)
             pid += len(odts)
-        expect(b"\xdd\x01", DONE)
+        self.tool.expect(b"\xdd\x01", DONE)
         self.running = True
+
+    def allocate(self, lists):
+        """Lists, ODTs and entries, where these are all that there may be one more of each."""
+        expect, is_all = self.tool.expect, len(lists) == self.layout.lists
+        expect(b"\xd6", DONE)
+        expect(struct.pack("<BxH", 0xD5, len(lists)), DONE)
+        if is_all:
+            expect(struct.pack("<BxH", 0xD5, 1), FULL)
+        for number, odts in enumerate(lists):
+            expect(struct.pack("<BxHB", 0xD4, number, len(odts)), DONE)
+        if is_all:
+            expect(struct.pack("<BxHB", 0xD4, self.random.randrange(len(lists)), 1), FULL)
+        for number, odts in enumerate(lists):
+            for odt, sizes in enumerate(odts):
+                expect(struct.pack("<BxHBB", 0xD3, number, odt, len(sizes) + 1), DONE)
+        if is_all:
+            expect(struct.pack("<BxHBB", 0xD3, self.random.randrange(len(lists)), 0, 1), FULL)
+            self.full_settings += 1
+
+    def write_entries(self, number, odts):
+        """The entries of a list: the signals, and behind them the two bytes of the page."""
+        for odt, sizes in enumerate(odts):
+            self.tool.expect(struct.pack("<BxHBB", 0xE2, number, odt, 0), DONE)
+            for size in sizes:
+                self.tool.expect(struct.pack("<BBBBI", 0xE1, 0xFF, size, 0, self.layout.signals), DONE)
+            self.tool.expect(struct.pack("<BBBBI", 0xE1, 0xFF, 2, 0, self.sampled.address), DONE)
+
+    def select(self, number, mode, pid):
+        """Gives a list a channel that a task raises, and selects it."""
+        channel, prescaler = self.random.randrange(min(self.layout.channels, TASKS)), self.random.randint(50, 255)
+        self.tool.expect(struct.pack("<BBHHBB", 0xE0, mode, number, channel, prescaler, 0), DONE)
+        self.tool.expect(struct.pack("<BBH", 0xDE, 2, number), bytes([0xFF, pid]))

@@ -43,7 +43,7 @@ class Tool(Client):
             raise Fault(f"a frame of {self.address} has another CTR than the one after the frame before")
         for packet in self.data:
             self.owner.check_data(packet, self)
-        if any(event != b"\xfd\x03" for event in self.events):
+        if not self.owner.soak.layout.events.issuperset(self.events):
             raise Fault(f"an event packet is {self.events}")
         self.owner.samples += len(self.data)
         self.data.clear()

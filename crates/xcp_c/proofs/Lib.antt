@@ -7,3 +7,4 @@ pub mod Tested
 pub mod OpenSlaveLemmas
 pub mod OpeningLemmas
 pub mod PartsLemmas
+pub mod DataLemmas

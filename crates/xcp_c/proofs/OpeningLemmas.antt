@@ -1,93 +1,70 @@
 -- What an opening tells: a text describes one layout at most, and of one that does the one fault is that there is no memory.
-use Rattle.std.proofs.Common.{◌≡◌, ◌∙◌, ◌⊎◌, ◌↔◌, inl, inr, ℕ, List, Option, Some, None, Result, Ok, Err, IsOk, IfOk, IfErr, MatchResult, ap, arith, refl, subst, sym}
+use Rattle.std.proofs.Common.{◌≡◌, ◌↔◌, inl, inr, ℕ, List, Option, None, Result, Ok, Err, IsOk, IfOk, IfErr, MatchResult, refl, subst, sym}
 use Rattle.sha2.specs.Sha256.{sha256}
-use Rattle.xcp_config.specs.ConfigText.{HasLayout}
+use Rattle.xcp_config.specs.ConfigText.{HasLayoutWith}
+use Rattle.xcp_config.specs.TableLayout.{File}
 use Rattle.xcp_flash.specs.Decided.{pages_decided}
-use Rattle.xcp_flash.specs.FlashFile.{file_of}
 use Rattle.xcp_flash.specs.References.{AreReferences, with_references}
 use Rattle.xcp_flash.specs.Restoring.{IsFaultOfBoth}
 use Rattle.xcp_flash.specs.declared.fault.FlashError.{FlashError}
 use Rattle.xcp_memory.specs.Layout.{LayoutValue}
 use Rattle.xcp_c.specs.OpenValue.{OpenValue}
-use Rattle.xcp_c.specs.Openings.{IsFaultOfFile, IsOpeningBy, IsText, TellsFile}
+use Rattle.xcp_c.specs.Openings.{IsFileOf, IsOpening, IsOpeningBy, TellsPages, TellsPagesWith}
 use Rattle.xcp_c.specs.StoredPages.{number_of_stored}
 
-one_layout : (text : List ℕ) (l m : LayoutValue) → HasLayout text l → HasLayout text m → l ≡ m
-one_layout text l m a b =
+one_layout : (files : List File) (text : List ℕ) (l m : LayoutValue) → HasLayoutWith files text l → HasLayoutWith files text m → l ≡ m
+one_layout files text l m a b =
     let first = a.document in
     let other = b.document in
     let is = a.is in
     let also = b.is in
     cc
 
--- a fault of the file beside a text's layout
-pub fault_of_file : (text file decided digest : List ℕ) (l : LayoutValue) (e : FlashError) (n : ℕ) → decided ≡ sha256 (pages_decided l) → digest ≡ sha256 text
-    → IsText text × HasLayout text l → IsFaultOfBoth l decided digest file e → n ≡ number_of_stored e → IsFaultOfFile text file n
-fault_of_file text file decided digest l e n is also has fault told = (
-  l,
-  has.0,
-  has.1,
-  e,
-  subst (λ (d : List ℕ). IsFaultOfBoth l d (sha256 text) file e) is (subst (λ (d : List ℕ). IsFaultOfBoth l decided d file e) also fault),
-  told,
-)
+-- what is told of one layout of a text is told of each
+pub tells_each : (files : List File) (text file : List ℕ) (l : LayoutValue) (n : ℕ) (slave : Option OpenValue) → HasLayoutWith files text l → TellsPages l text file n slave → TellsPagesWith files text file n slave
+tells_each files text file l n slave has tells = λ m ok other. subst (λ (x : LayoutValue). TellsPages x text file n slave) (one_layout files text l m has other) tells
 
-module _ (text file decided digest : List ℕ) (l new : LayoutValue) (restored : Result (Unit {0}) FlashError) where
-  -- what restoring promises, as far as it is needed here
-  abbrev pub Whole : Type 0
-  Whole = (pages : List (List ℕ)) → AreReferences pages l → (file ≡ file_of decided pages) ⊎ (file ≡ file_of digest pages) → IsOk restored × (new ≡ with_references pages l)
+-- what restoring says of a fault, where these are the two digests
+pub fault_at : (text file decided digest : List ℕ) (l : LayoutValue) (restored : Result (Unit {0}) FlashError) → decided ≡ sha256 (pages_decided l) → digest ≡ sha256 text
+    → ((e : FlashError) → (restored ≡ Err e) ↔ IsFaultOfBoth l decided digest file e) → (e : FlashError) → IsFaultOfBoth l (sha256 (pages_decided l)) (sha256 text) file e → restored ≡ Err e
+fault_at text file decided digest l restored is also faults e fault =
+    (faults e).1 (subst (λ (d : List ℕ). IsFaultOfBoth l d digest file e) (sym is) (subst (λ (d : List ℕ). IsFaultOfBoth l (sha256 (pages_decided l)) d file e) (sym also) fault))
 
-  abbrev pub Faults : Type 0
-  Faults = (e : FlashError) → (restored ≡ Err e) ↔ IsFaultOfBoth l decided digest file e
+module _ (text file : List ℕ) (l new : LayoutValue) (restored : Result (List ℕ) ℕ) where
+  -- the same of a layout whose pages are restored
+  abbrev pub WholeHere : Type 0
+  WholeHere = (pages : List (List ℕ)) → AreReferences pages l → IsFileOf l text file pages → IsOk restored × (new ≡ with_references pages l)
 
-  -- what a text's layout wants of the file
-  abbrev pub IsFileOf : LayoutValue → List (List ℕ) → Type 0
-  IsFileOf m pages = (file ≡ file_of (sha256 (pages_decided m)) pages) ⊎ (file ≡ file_of (sha256 text) pages)
+  abbrev pub ToldHere : Type 0
+  ToldHere = (e : FlashError) → IsFaultOfBoth l (sha256 (pages_decided l)) (sha256 text) file e → restored ≡ Err (number_of_stored e)
 
-  module _ (is : decided ≡ sha256 (pages_decided l)) (also : digest ≡ sha256 text) (has : HasLayout text l) (whole : Whole) (faults : Faults) where
-    is_file_here : (m : LayoutValue) (pages : List (List ℕ)) → l ≡ m → IsFileOf m pages → (file ≡ file_of decided pages) ⊎ (file ≡ file_of digest pages)
-    is_file_here m pages same (inl e) = inl (e ∙ ap (λ (d : List ℕ). file_of d pages) (ap (λ (x : LayoutValue). sha256 (pages_decided x)) (sym same) ∙ sym is))
-    is_file_here m pages same (inr e) = inr (e ∙ ap (λ (d : List ℕ). file_of d pages) (sym also))
-
-    whole_at : (m : LayoutValue) (pages : List (List ℕ)) → HasLayout text m → AreReferences pages m → IsFileOf m pages → IsOk restored × (new ≡ with_references pages m)
-    whole_at m pages other sized file_is =
-        let same : l ≡ m = one_layout text l m has other in
-        let found = whole pages (subst (λ (x : LayoutValue). AreReferences pages x) (sym same) sized) (is_file_here m pages same file_is) in
-        (found.0, found.1 ∙ ap (with_references pages) same)
-
-    fault_at : (m : LayoutValue) (e : FlashError) → HasLayout text m → IsFaultOfBoth m (sha256 (pages_decided m)) (sha256 text) file e → restored ≡ Err e
-    fault_at m e other fault =
-        let same : m ≡ l = one_layout text m l other has in
-        let here = subst (λ (x : LayoutValue). IsFaultOfBoth x (sha256 (pages_decided x)) (sha256 text) file e) same fault in
-        (faults e).1 (subst (λ (d : List ℕ). IsFaultOfBoth l d digest file e) (sym is) (subst (λ (d : List ℕ). IsFaultOfBoth l (sha256 (pages_decided l)) d file e) (sym also) here))
-
+  module _ (whole : WholeHere) (told : ToldHere) where
     -- a file that isn't restored
-    pub tells_fault : (f : FlashError) (n : ℕ) (slave : Option OpenValue) → restored ≡ Err f → n ≡ number_of_stored f → TellsFile text file n slave
-    tells_fault f n slave err told = λ m ok other. (
+    pub tells_fault : (n : ℕ) (slave : Option OpenValue) → restored ≡ Err n → TellsPages l text file n slave
+    tells_fault n slave err = (
       (λ pages sized file_is.
-          let no = subst (λ (r : Result (Unit {0}) FlashError). IsOk r) err (whole_at m pages other sized file_is).0 in
+          let none = subst (λ (r : Result (List ℕ) ℕ). IsOk r) err (whole pages sized file_is).0 in
           absurd cc),
       (λ e fault.
-          let found = fault_at m e other fault in
-          let one : f ≡ e = cc in
-          inr (told ∙ ap number_of_stored one)),
+          let found = told e fault in
+          let one : n ≡ number_of_stored e = cc in
+          inr one),
     )
 
     -- and one that is
-    pub tells_opened : (u : Unit {0}) (slave : Option OpenValue) → restored ≡ Ok u → IsOpeningBy decided new slave → TellsFile text file 0 slave
-    tells_opened u slave done opening = λ m ok other. (
-      (λ pages sized file_is.
-          let same : l ≡ m = one_layout text l m has other in
-          let by = is ∙ ap (λ (x : LayoutValue). sha256 (pages_decided x)) same in
-          inr (refl, subst (λ (d : List ℕ). IsOpeningBy d (with_references pages m) slave) by (subst (λ (x : LayoutValue). IsOpeningBy decided x slave) (whole_at m pages other sized file_is).1 opening))),
-      (λ e fault. let found = fault_at m e other fault in absurd cc),
+    tells_opened : (d : List ℕ) (slave : Option OpenValue) → restored ≡ Ok d → IsOpening l new slave → TellsPages l text file 0 slave
+    tells_opened d slave done opening = (
+      (λ pages sized file_is. inr (refl, subst (λ (x : LayoutValue). IsOpening l x slave) (whole pages sized file_is).1 opening)),
+      (λ e fault. let found = told e fault in absurd cc),
     )
 
--- where there is no memory
-pub tells_memory : (text file : List ℕ) (n : ℕ) (slave : Option OpenValue) → n ≡ 7 → TellsFile text file n slave
-tells_memory text file n slave is = λ m ok other. ((λ pages sized file_is. inl is), (λ e fault. inl is))
+    -- of what is held then
+    pub tells_held : {H : Type 0} (value : H → Option OpenValue) (d : List ℕ) (held : Result H ℕ) → restored ≡ Ok d → d ≡ sha256 (pages_decided l) → IfOk held (λ h. IsOpeningBy d new (value h)) → IfErr held (λ n. n ≡ 7)
+        → MatchResult held (λ h. TellsPages l text file 0 (value h)) (λ n. TellsPages l text file n None)
+    tells_held value d (Ok h) done is opening memory = tells_opened d (value h) done (subst (λ (x : List ℕ). IsOpeningBy x new (value h)) is opening)
+    tells_held value d (Err n) done is opening memory = ((λ pages sized file_is. inl memory), (λ e fault. inl memory))
 
--- of either outcome
-pub either : {H E : Type 0} (P Q : H → Type 0) (R S : E → Type 0) (b : Result H E) → ((h : H) → P h → Q h) → ((e : E) → R e → S e) → IfOk b P → IfErr b R → MatchResult b Q S
-either P Q R S (Ok h) f g p r = f h p
-either P Q R S (Err e) f g p r = g e r
+-- what is told in one way is told in another
+pub each : {H E : Type 0} (P Q : H → Type 0) (F R S : E → Type 0) (b : Result H E) → ((h : H) → P h → Q h) → ((e : E) → F e → R e → S e) → IfErr b F → MatchResult b P R → MatchResult b Q S
+each P Q F R S (Ok h) f g k p = f h p
+each P Q F R S (Err e) f g k p = g e k p

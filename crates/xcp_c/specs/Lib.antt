@@ -1,4 +1,6 @@
 pub mod Answered
+pub mod DataOpenings
+pub mod GivenFiles
 pub mod Held
 pub mod OpenValue
 pub mod Openings

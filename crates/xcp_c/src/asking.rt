@@ -42,9 +42,9 @@ pub extern "C" fn xcp_image_bytes(alloc: Global, slave: &mut SlaveHandle) -> usi
     size
 }
 
-/// How many packets wait to be sent, 0 to 64: `xcp_drain` takes them. 0 where the handle owns no slave.
+/// How many packets wait to be sent, 0 to 64, or to 512 in the large class: `xcp_drain` takes them. 0 where the handle owns no slave.
 #[unsafe(no_mangle)]
-pub extern "C" fn xcp_pending(alloc: Global, slave: &mut SlaveHandle) -> u8
+pub extern "C" fn xcp_pending(alloc: Global, slave: &mut SlaveHandle) -> u16
     ensures count { MatchOption slave.old.value (result ≡ 0)
         (λ v. result ≡ length v.controller.slave.outbox) }
     ensures same { slave.new.value ≡ slave.old.value }

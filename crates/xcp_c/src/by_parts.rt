@@ -2,7 +2,7 @@
 ghost use Rattle.std.specs.Prelude.{◌⊎◌, IfErr, IfOk};
 ghost use Rattle.xcp_c.specs.PartsOpenings.{Describes, IsFaultOfFileOfParts, IsFaultOfParts, IsOpenedByParts, IsOpenedByPartsWith, OpensByParts, OpensPartsStored};
 
-use crate::opening::{MEMORY, OPEN, hold};
+use crate::opening::{MEMORY, OPEN, OTHER_BYTES, hold};
 use crate::parts::{MAX_CHANNELS, MAX_SEGMENTS, XcpParts, have_bytes, parts_of};
 use crate::slave_handle::SlaveHandle;
 use crate::storing::number_of;
@@ -12,9 +12,6 @@ use xcp_memory::Layout;
 
 /// The number of a fault where there are more segments or event channels than there is room for.
 const TOO_MANY: u8 = 6;
-
-/// The number of a fault where there are more or fewer reference bytes than the segments have.
-const OTHER_BYTES: u8 = 18;
 
 /// Opens a slave by a layout in a struct, and the reference bytes of its segments, one behind the other: 0,
 /// or the number of a fault, or 10 where the handle owns a slave already. Then it is as it was.

@@ -106,7 +106,7 @@ impl OpenSlave {
     }
 
     /// How many packets wait to be sent.
-    pub(crate) fn pending(&self) -> u8
+    pub(crate) fn pending(&self) -> u16
         ensures { result ≡ length self.now.controller.slave.outbox }
     {
         self.controller.pending()

@@ -1,8 +1,13 @@
 //! What a C program opens and closes.
-ghost use Rattle.std.specs.Prelude.{◌≡◌, ◌⊎◌, IfErr, IfOk, MatchResult, None};
+ghost use Rattle.std.specs.Prelude.{◌≡◌, ◌⊎◌, ℕ, Err, IfErr, IfOk, IsOk, List, MatchResult, None, OnOk};
 ghost use Rattle.sha2.specs.Sha256.{sha256};
-ghost use Rattle.xcp_config.specs.ConfigText.{HasLayout};
-ghost use Rattle.xcp_c.specs.Openings.{IsFaultOf, IsFaultOfFile, IsOpened, IsOpenedWith, IsOpening, IsOpeningBy, IsText, OpensBy, OpensReader, OpensStored, TellsFile, TellsText};
+ghost use Rattle.xcp_config.specs.ConfigText.{HasLayout, HasLayoutWith};
+ghost use Rattle.xcp_flash.specs.Decided.{pages_decided};
+ghost use Rattle.xcp_flash.specs.References.{AreReferences, with_references};
+ghost use Rattle.xcp_flash.specs.Restoring.{IsFaultOfBoth, IsRestoredByEither};
+ghost use Rattle.xcp_flash.specs.declared.fault.FlashError.{FlashError};
+ghost use Rattle.xcp_c.specs.Openings.{IsFaultBeside, IsFaultIn, IsFaultOf, IsFaultOfFile, IsFileOf, IsNoText, IsOpened, IsOpenedWith, IsOpening, IsOpeningBy, IsText, OpensBy, OpensReader, OpensStored, TellsFile, TellsText};
+ghost use Rattle.xcp_c.specs.StoredPages.{number_of_stored};
 
 use crate::open_slave::OpenSlave;
 use crate::reader_handle::ReaderHandle;
@@ -11,7 +16,7 @@ use crate::storing::number_of;
 use sha2::{Digest, Sha256};
 use std::alloc::Global;
 use std::{mem, str};
-use xcp_config::read_layout;
+use xcp_config::{DataFile, read_layout_with};
 use xcp_flash::{pages_digest, restore_either};
 use xcp_memory::Layout;
 
@@ -35,6 +40,9 @@ pub(crate) const CLOSED: u8 = 11;
 
 /// The number of a fault where the text has more than 65,536 bytes.
 const LONG_TEXT: u8 = 16;
+
+/// The number of a fault where there are more or fewer bytes than the segments have, or the files that they name.
+pub(crate) const OTHER_BYTES: u8 = 18;
 
 /// Opens a slave by the text of a layout file: 0, or the number of a fault, or 10 where the handle owns a
 /// slave already. Then it is as it was.
@@ -139,28 +147,66 @@ fn open_stored(alloc: Global, text: &[u8], file: &[u8]) -> Result<SlaveHandle, u
         Ok(layout) => layout,
         Err(fault) => return Err(fault),
     };
-    let decided = pages_digest(&layout);
-    if let Err(fault) = restore_either(&mut layout, &decided, &Sha256::digest(text), file) {
-        return Err(number_of(fault));
+    match restore_pages(&mut layout, text, file) {
+        Ok(decided) => hold(alloc, layout, decided),
+        Err(fault) => Err(fault),
     }
-    hold(alloc, layout, decided)
 }
 
-/// The layout that a text describes, or the number of the text's fault.
+/// The layout that a text describes, or the number of the text's fault. (Not inlined, so that its part of the stack is free again
+/// while the slave is made.)
+#[inline(never)]
 fn read(alloc: Global, text: &[u8]) -> Result<Layout, u8>
     ensures layout { IfOk result (λ l. IsText text.now × HasLayout text.now l) }
     ensures fault { IfErr result (λ n. IsFaultOf text.now n) }
 {
-    if text.len() > TEXT_BYTES {
+    match text_of(text) {
+        Ok(text) => layout_of(alloc, text, &[]),
+        Err(fault) => Err(fault),
+    }
+}
+
+/// The text that bytes are, or the number of their fault.
+pub(crate) fn text_of(bytes: &[u8]) -> Result<&str, u8>
+    ensures text { IfOk result (λ text. IsText bytes.now × (text.now ≡ bytes.now)) }
+    ensures fault { IfErr result (λ n. IsNoText bytes.now n) }
+{
+    if bytes.len() > TEXT_BYTES {
         return Err(LONG_TEXT);
     }
-    let Ok(text) = str::from_utf8(text) else {
-        return Err(NO_UTF8);
-    };
-    match read_layout(alloc, text) {
+    match str::from_utf8(bytes) {
+        Ok(text) => Ok(text),
+        Err(_) => Err(NO_UTF8),
+    }
+}
+
+/// The layout that a text describes, whose segments have these files, or the number of the text's fault.
+pub(crate) fn layout_of(alloc: Global, text: &str, files: &[DataFile]) -> Result<Layout, u8>
+    ensures layout { IfOk result (λ l. HasLayoutWith files.now text.now l) }
+    ensures fault { IfErr result (λ n. IsFaultIn files.now text.now n) }
+{
+    match read_layout_with(alloc, text, files) {
         Ok(layout) => Ok(layout),
         Err(fault) => Err(fault.number()),
     }
+}
+
+/// Gives a layout the pages of a file, which were stored by what decides which stored pages are its, or, before, by its text: the
+/// SHA-256 of what decides, or the number of the file's fault.
+pub(crate) fn restore_pages(layout: &mut Layout, text: &[u8], file: &[u8]) -> Result<[u8; 32], u8>
+    ensures decided { IfOk result (λ d. d ≡ sha256 (pages_decided layout.old)) }
+    ensures restored { OnOk result (IsRestoredByEither layout.old (sha256 (pages_decided layout.old)) (sha256 text.now) file.now layout.new) }
+    ensures whole { (pages : List (List ℕ)) → AreReferences pages layout.old → IsFileOf layout.old text.now file.now pages
+        → IsOk result × (layout.new ≡ with_references pages layout.old) }
+    ensures fault { IfErr result (λ n. IsFaultBeside layout.old text.now file.now n) }
+    ensures told { (e : FlashError) → IsFaultOfBoth layout.old (sha256 (pages_decided layout.old)) (sha256 text.now) file.now e
+        → result ≡ Err (number_of_stored e) }
+{
+    let decided = pages_digest(layout);
+    if let Err(fault) = restore_either(layout, &decided, &Sha256::digest(text), file) {
+        return Err(number_of(fault));
+    }
+    Ok(decided)
 }
 
 /// A handle of a slave at the opening of this layout; or the number of a failed allocation.

@@ -276,16 +276,18 @@ events_from i (x ∷ xs) (y ∷ ys) e h =
     let both = none_both (event_checks (i, y)) (flat_map event_checks (enumerate_from (i + 1) ys)) h in
     none_left (event_limits (i, x)) (flat_map event_limits (enumerate_from (i + 1) xs)) (event_kept i x y head both.0) ∙ events_from (i + 1) xs ys tail both.1
 
-events_kept : (p : Parts) (files : List File) (t : Data) → Reads p files t → first_holding (events_checks t) ≡ None → first_holding (events_limits p.events.items) ≡ None
+events_kept : (p : Parts) (files : List File) (t : Data) → Reads p files t → first_holding (events_checks t) ≡ None → first_holding (events_limits p.class p.events.items) ≡ None
 unfolding events_checks
 events_kept p files t r h =
     let es = p.events.items in
     let ds = events_of t in
-    let both = none_both (array_checks key.Event event_counts (get (codes "event") t)) (flat_map event_checks (enumerate_from 0 ds)) h in
-    let counts = array_good key.Event 8 (get (codes "event") t) both.0 in
+    let most = (limits_of (class_in t)).events in
+    let both = none_both (array_checks key.Event (event_counts (class_in t)) (get (codes "event") t)) (flat_map event_checks (enumerate_from 0 ds)) h in
+    let counts = array_good key.Event most (get (codes "event") t) both.0 in
     let n : length es ≡ length ds = sym (length-map es event_read) ∙ ap length r.events ∙ length-map ds event_written in
     let each = events_from 0 es ds r.events both.1 in
-    counted_kept (nat_le 1 (length es)) (nat_le (length es) 8) _ _ _ (ap (nat_le 1) n ∙ counts.0) (ap (λ k. nat_le k 8) n ∙ counts.1) each
+    ap (λ (k : Class). first_holding (events_limits k es)) r.class
+    ∙ counted_kept (nat_le 1 (length es)) (nat_le (length es) most) _ _ _ (ap (nat_le 1) n ∙ counts.0) (ap (λ k. nat_le k most) n ∙ counts.1) each
 
 -- what was read as a segment or an event channel of the layout
 as_segment : Segment → SegmentValue
@@ -313,7 +315,7 @@ areas_decide p files t r h =
     let a = own_limits p in
     let b = segments_limits p.class p.segments.items in
     let c = signals_limits p.signals_address p.signals_length in
-    let d = events_limits p.events.items in
+    let d = events_limits p.class p.events.items in
     let e = apart_limits (areas (layout_of p)) in
     let one = own_kept p files t r some.0 in
     let two = none_left a b one ∙ segments_kept p files t r some.1 in

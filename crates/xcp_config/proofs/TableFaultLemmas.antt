@@ -135,7 +135,7 @@ events_told : (t : Data) → all_of_table (events_checks t) ≡ true
 unfolding events_checks
 events_told t =
     let es = events_of t in
-    both (array_checks key.Event event_counts (get (codes "event") t)) (flat_map event_checks (enumerate_from 0 es)) (array_told key.Event 8 (get (codes "event") t)) (each event_checks event_told (enumerate_from 0 es))
+    both (array_checks key.Event (event_counts (class_in t)) (get (codes "event") t)) (flat_map event_checks (enumerate_from 0 es)) (array_told key.Event (limits_of (class_in t)).events (get (codes "event") t)) (each event_checks event_told (enumerate_from 0 es))
 
 limit_told : (f : LayoutFault) → of_table (error_of f) ≡ true
 limit_told (limit.Range k) = refl

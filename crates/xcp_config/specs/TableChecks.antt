@@ -194,7 +194,7 @@ event_checks (i, e) =
 
 unfoldable pub events_checks : Data → List Check
 events_checks t =
-    array_checks key.Event event_counts (get (codes "event") t)
+    array_checks key.Event (event_counts (class_in t)) (get (codes "event") t)
     ++ flat_map event_checks (enumerate_from 0 (events_of t))
 
 -- no two areas share an address: each with those behind it, the segments first and then the signals

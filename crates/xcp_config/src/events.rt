@@ -3,7 +3,7 @@ ghost use Rattle.std.specs.Prelude.{◌≡◌, ◌≤◌, ◌⊎◌, length, map
 ghost use Rattle.std.specs.List.{flat_map, enumerate_from};
 ghost use Rattle.toml.specs.View.{view};
 ghost use Rattle.xcp_packet.specs.Rows.{first_holding};
-ghost use Rattle.xcp_config.specs.TableLayout.{events_of};
+ghost use Rattle.xcp_config.specs.TableLayout.{class_in, events_of};
 ghost use Rattle.xcp_config.specs.TableChecks.{event_checks, events_checks};
 ghost use Rattle.xcp_config.specs.private.PartsRead.{event_read, event_written};
 
@@ -11,8 +11,8 @@ use crate::ConfigError;
 use crate::values::{read_setting, read_text, tables_in};
 use std::alloc::Global;
 use toml::Value;
-use xcp_memory::limits::{MAX_EVENTS, MAX_NAME};
-use xcp_memory::{EventPart, Key};
+use xcp_memory::limits::MAX_NAME;
+use xcp_memory::{Class, EventPart, Key};
 
 /// The event channel that a table describes.
 fn read_event(alloc: Global, table: &Value, number: u8) -> Result<EventPart, ConfigError>
@@ -34,7 +34,7 @@ fn read_event(alloc: Global, table: &Value, number: u8) -> Result<EventPart, Con
 
 /// The event channels that these tables describe.
 fn read_each(alloc: Global, members: &[Value]) -> Result<Vec<EventPart>, ConfigError>
-    requires { length members.now ≤ 8 }
+    requires { length members.now ≤ 64 }
     ensures passes { IfOk result (λ _. first_holding (flat_map event_checks (enumerate_from 0 (map view members.now))) ≡ None) }
     ensures read { IfOk result (λ parts. map event_read parts.items ≡ map event_written (map view members.now)) }
     ensures refused { IfErr result (λ e. (e ≡ ConfigError.Memory) ⊎ (first_holding (flat_map event_checks (enumerate_from 0 (map view members.now))) ≡ Some e)) }
@@ -47,12 +47,17 @@ fn read_each(alloc: Global, members: &[Value]) -> Result<Vec<EventPart>, ConfigE
     Ok(parts)
 }
 
-/// The event channels of a table.
-pub(crate) fn read_events(alloc: Global, table: &Value) -> Result<Vec<EventPart>, ConfigError>
+/// The event channels of a table that names this class.
+pub(crate) fn read_events(
+    alloc: Global,
+    table: &Value,
+    class: Class,
+) -> Result<Vec<EventPart>, ConfigError>
+    requires { class ≡ class_in (view table.now) }
     ensures passes { IfOk result (λ _. first_holding (events_checks (view table.now)) ≡ None) }
     ensures read { IfOk result (λ parts. map event_read parts.items ≡ map event_written (events_of (view table.now))) }
     ensures refused { IfErr result (λ e. (e ≡ ConfigError.Memory) ⊎ (first_holding (events_checks (view table.now)) ≡ Some e)) }
 {
-    let members = tables_in(table, "event", Key::Event, MAX_EVENTS)?;
+    let members = tables_in(table, "event", Key::Event, class.limits().events)?;
     read_each(alloc, members)
 }

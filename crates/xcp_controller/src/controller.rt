@@ -126,8 +126,8 @@ impl Controller {
         self.slave.max_cto()
     }
 
-    /// How many packets wait to be sent, 0 to 64.
-    pub fn pending(&self) -> u8
+    /// How many packets wait to be sent, at most as many as the layout's class has.
+    pub fn pending(&self) -> u16
         ensures { result ≡ length self.now.slave.outbox }
     {
         self.slave.pending()

@@ -8,21 +8,18 @@ use Rattle.std.proofs.lemmas.List.{length-set, get_or-set_same, get_or-set_other
 use Rattle.std.proofs.lemmas.List.Folds.{list_any_at}
 use Rattle.std.proofs.lemmas.Bool.Decides.{nat_tests}
 use Rattle.std.specs.Prelude.{nat_lt, if◌then◌else◌}
-use Rattle.std.specs.Prelude.{◌||◌, ◌&&◌, ◌==◌, ◌%◌, ◌^◌, not}
-use Rattle.xcp_packet.specs.declared.Code.{Code}
-use Rattle.xcp_packet.specs.declared.Code.TheVariants.{DaqConfig, DaqActive}
-use Rattle.xcp_packet.specs.Rows.{first_holding}
+use Rattle.std.specs.Prelude.{◌&&◌, ◌==◌, ◌%◌, ◌^◌, not}
+use Rattle.xcp_memory.specs.ClassLimits.{limits_of}
 use Rattle.xcp_packet.specs.declared.Stamp.{Stamp}
-use Rattle.xcp_packet.specs.TimeStamps.{stamp_size}
 use Rattle.xcp_daq.specs.declared.mode.Mode.{Mode}
-use Rattle.xcp_daq.specs.Configuring.{moved_on, cleared, clear_daq_list_after, has_no_pointer, pointed_list_runs}
+use Rattle.xcp_daq.specs.Configuring.{moved_on, cleared, clear_daq_list_after}
 use Rattle.xcp_daq.specs.Starting.{stopped, started, synchronised}
 use Rattle.xcp_daq.specs.Sample.{counts, counted}
 use Rattle.std.proofs.lemmas.List.Elements.{All-set, All-append, All-replicate, All-map}
 use Rattle.xcp_daq.specs.declared.element.Element.{Element}
 use Rattle.xcp_daq.specs.declared.pointer.Pointer.{Pointer}
 use Rattle.xcp_daq.specs.declared.allocation.Allocation.{Allocation}
-use Rattle.xcp_daq.specs.DaqLists.{DaqValue, DaqList, no_list, list_at, odt_at, all_odts, all_entries, with_list, odt_size, first_size, any_large, is_large}
+use Rattle.xcp_daq.specs.DaqLists.{DaqValue, DaqList, no_list, list_at, odt_at, all_odts, all_entries, with_list}
 use Rattle.xcp_daq.specs.DaqInvariant.{IsEntry, FitsPackets, IsList, IsPointer, IsPointerOf, IsDaq}
 use Rattle.xcp_daq.specs.Pools.{joined, list_of, lists_of}
 use Rattle.xcp_daq.proofs.DaqListLemmas.{new_mode, list_of_is, length-lists, default_free}
@@ -89,7 +86,7 @@ grown_by v i l g below k h =
     ]
 
 -- list i gives way to a lawful one with room for all
-pub lawful_with : (v : DaqValue) (i : ℕ) (l : DaqList) → IsDaq v → i < length v.lists → IsList l → length (all_odts v.lists) + length l.odts ≤ 64 + length (list_at v i).odts → length (all_entries v.lists) + length (joined l.odts) ≤ 256 + length (joined (list_at v i).odts) → All IsEntry (joined l.odts) → Grows (list_at v i).odts l.odts → IsDaq (with_list v i l)
+pub lawful_with : (v : DaqValue) (i : ℕ) (l : DaqList) → IsDaq v → i < length v.lists → IsList l → length (all_odts v.lists) + length l.odts ≤ (limits_of v.class).odts + length (list_at v i).odts → length (all_entries v.lists) + length (joined l.odts) ≤ (limits_of v.class).entries + length (joined (list_at v i).odts) → All IsEntry (joined l.odts) → Grows (list_at v i).odts l.odts → IsDaq (with_list v i l)
 lawful_with v i l h below lawful odts entries written grows =
     let lists : List DaqList = slice_set v.lists i l in
     let new = entries_by_list lists in
@@ -120,7 +117,7 @@ no_odts zero = refl
 no_odts (suc n) = no_odts n
 
 -- new lists behind the others
-pub lawful_added : (v : DaqValue) (n : ℕ) → IsDaq v → length v.lists + n ≤ 16 → IsDaq (record v { lists = v.lists ++ replicate n no_list })
+pub lawful_added : (v : DaqValue) (n : ℕ) → IsDaq v → length v.lists + n ≤ (limits_of v.class).lists → IsDaq (record v { lists = v.lists ++ replicate n no_list })
 lawful_added v n h few =
     let w : DaqValue = record v { lists = v.lists ++ replicate n no_list } in
     let odts : all_odts w.lists ≡ all_odts v.lists = flat_map-append (λ (x : DaqList). x.odts) v.lists (replicate n no_list) ∙ ap (λ xs. all_odts v.lists ++ xs) (no_odts n) ∙ append-nil (all_odts v.lists) in
@@ -170,7 +167,7 @@ pub lawful_odts : (l : DaqList) (os : List (List (Option Element))) → IsList l
 lawful_odts l os h still = record { event = h.event; prescaler_least = h.prescaler_least; prescaler_most = h.prescaler_most; priority = h.priority; since = h.since; still = h.still; fits = λ e. cc }
 
 -- list i, stopped, has other ODTs
-pub lawful_grown : (v : DaqValue) (i : ℕ) (os : List (List (Option Element))) → IsDaq v → i < length v.lists → (list_at v i).running ≡ false → length (all_odts v.lists) + length os ≤ 64 + length (list_at v i).odts → length (all_entries v.lists) + length (joined os) ≤ 256 + length (joined (list_at v i).odts) → All IsEntry (joined os) → Grows (list_at v i).odts os → IsDaq (with_list v i (record (list_at v i) { odts = os }))
+pub lawful_grown : (v : DaqValue) (i : ℕ) (os : List (List (Option Element))) → IsDaq v → i < length v.lists → (list_at v i).running ≡ false → length (all_odts v.lists) + length os ≤ (limits_of v.class).odts + length (list_at v i).odts → length (all_entries v.lists) + length (joined os) ≤ (limits_of v.class).entries + length (joined (list_at v i).odts) → All IsEntry (joined os) → Grows (list_at v i).odts os → IsDaq (with_list v i (record (list_at v i) { odts = os }))
 lawful_grown v i os h below still odts entries written grows =
     lawful_with v i (record (list_at v i) { odts = os }) h below (lawful_odts (list_at v i) os (h.each i no_list below) still) odts entries written grows
 
@@ -179,7 +176,7 @@ empty_odts zero = refl
 empty_odts (suc n) = empty_odts n
 
 -- new ODTs of list i
-pub lawful_more_odts : (v : DaqValue) (i n : ℕ) → IsDaq v → i < length v.lists → (list_at v i).running ≡ false → length (all_odts v.lists) + n ≤ 64 → IsDaq (with_list v i (record (list_at v i) { odts = (list_at v i).odts ++ replicate n [] }))
+pub lawful_more_odts : (v : DaqValue) (i n : ℕ) → IsDaq v → i < length v.lists → (list_at v i).running ≡ false → length (all_odts v.lists) + n ≤ (limits_of v.class).odts → IsDaq (with_list v i (record (list_at v i) { odts = (list_at v i).odts ++ replicate n [] }))
 lawful_more_odts v i n h below still room =
     let os : List (List (Option Element)) = (list_at v i).odts in
     let new : List (List (Option Element)) = os ++ replicate n [] in
@@ -199,7 +196,7 @@ grows_at os j odt more = record {
 }
 
 -- other entries in ODT j of list i, no fewer
-pub lawful_entries : (v : DaqValue) (i j : ℕ) (odt : List (Option Element)) → IsDaq v → i < length v.lists → j < length (list_at v i).odts → (list_at v i).running ≡ false → length (odt_at v i j) ≤ length odt → length (all_entries v.lists) + length odt ≤ 256 + length (odt_at v i j) → All IsEntry odt → IsDaq (with_list v i (record (list_at v i) { odts = slice_set (list_at v i).odts j odt }))
+pub lawful_entries : (v : DaqValue) (i j : ℕ) (odt : List (Option Element)) → IsDaq v → i < length v.lists → j < length (list_at v i).odts → (list_at v i).running ≡ false → length (odt_at v i j) ≤ length odt → length (all_entries v.lists) + length odt ≤ (limits_of v.class).entries + length (odt_at v i j) → All IsEntry odt → IsDaq (with_list v i (record (list_at v i) { odts = slice_set (list_at v i).odts j odt }))
 lawful_entries v i j odt h below place still more room written =
     let os : List (List (Option Element)) = (list_at v i).odts in
     let counted = length_set (λ (x : List (Option Element)). x) os j odt [] place in
@@ -209,8 +206,8 @@ lawful_entries v i j odt h below place still more room written =
 pub written_at_odt : (v : DaqValue) (i j : ℕ) → IsDaq v → i < length v.lists → j < length (list_at v i).odts → All IsEntry (odt_at v i j)
 written_at_odt v i j h below place = all_part IsEntry (λ (x : List (Option Element)). x) (list_at v i).odts j [] place (written_at_list v i h below)
 
--- lists stay lawful with n unwritten entries more in an ODT of a stopped list, if there are then at most 256
-pub lawful_more_entries : (v : DaqValue) (i j n : ℕ) → IsDaq v → i < length v.lists → j < length (list_at v i).odts → (list_at v i).running ≡ false → length (all_entries v.lists) + n ≤ 256 → IsDaq (with_list v i (record (list_at v i) { odts = slice_set (list_at v i).odts j (odt_at v i j ++ replicate n None) }))
+-- lists stay lawful with n unwritten entries more in an ODT of a stopped list, if there are then no more than the class has
+pub lawful_more_entries : (v : DaqValue) (i j n : ℕ) → IsDaq v → i < length v.lists → j < length (list_at v i).odts → (list_at v i).running ≡ false → length (all_entries v.lists) + n ≤ (limits_of v.class).entries → IsDaq (with_list v i (record (list_at v i) { odts = slice_set (list_at v i).odts j (odt_at v i j ++ replicate n None) }))
 lawful_more_entries v i j n h below place still room =
     let odt : List (Option Element) = odt_at v i j in
     let long : length (odt ++ replicate n None) ≡ length odt + n = omega (arith, length-append odt (replicate n None), length-replicate {A = Option Element} n None) in
@@ -302,37 +299,6 @@ cleared_twice d v w i m below is first second =
 -- the pointer of a lawful value is in the tree
 pub pointer_in : (v : DaqValue) (p : Pointer) → IsDaq v → v.pointer ≡ Some p → IsPointer v p
 pointer_in v p h e = subst (IsPointerOf v) e h.pointer
-
--- nothing is refused with a pointer on a list that is stopped but for the element
-pub pointer_allowed : (v : DaqValue) (p : Pointer) (rows : List (Bool × Code)) → v.pointer ≡ Some p → (list_at v p.list).running ≡ false → first_holding rows ≡ None → first_holding ((has_no_pointer v.pointer, DaqConfig) ∷ (pointed_list_runs v.pointer v, DaqActive) ∷ rows) ≡ None
-pointer_allowed v p rows e still h =
-    ap (λ (o : Option Pointer). first_holding ((has_no_pointer o, DaqConfig) ∷ (pointed_list_runs o v, DaqActive) ∷ rows)) e
-    ∙ ap (λ b. first_holding ((b, DaqActive) ∷ rows)) still
-    ∙ h
-
-all_cons : (o : List (Option Element)) (odts : List (List (Option Element))) → odt_size o ≤ 254 → All (λ odt. odt_size odt ≤ 254) odts → All (λ odt. odt_size odt ≤ 254) (o ∷ odts)
-all_cons o odts first rest zero d below = first
-all_cons o odts first rest (suc k) d below = rest k d (omega arith)
-
-small_one : (greatest n : ℕ) → greatest ≤ 254 → nat_lt greatest n ≡ false → n ≤ 254
-small_one greatest n h e = grind (arith, nat_tests)
-
-neither : (a b : Bool) → (a || b) ≡ false → (a ≡ false) × (b ≡ false)
-neither true b h = cc
-neither false b h = (refl, h)
-
--- no ODT is large
-pub none_large : (greatest : ℕ) (odts : List (List (Option Element))) → greatest ≤ 254 → any_large greatest odts ≡ false → All (λ odt. odt_size odt ≤ 254) odts
-none_large greatest [] h none = λ k d below. absurd (omega arith)
-none_large greatest (o ∷ odts) h none =
-    let both = neither (nat_lt greatest (odt_size o)) (any_large greatest odts) none in
-    all_cons o odts (small_one greatest (odt_size o) h both.0) (none_large greatest odts h both.1)
-
--- a list that isn't large has room
-pub room_of : (greatest : ℕ) (l : DaqList) → greatest ≤ 254 → is_large greatest l ≡ false → FitsPackets l.stamp l.odts
-room_of greatest l h none =
-    let both = neither (any_large greatest l.odts) (nat_lt greatest (stamp_size l.stamp + first_size l.odts)) none in
-    record { each = none_large greatest l.odts h both.0; first = small_one greatest (stamp_size l.stamp + first_size l.odts) h both.1 }
 
 lawful_synchronised_by : (l : DaqList) → IsList l → (stop : Bool) (chosen : Bool) → l.selected ≡ chosen → (start : Bool) → (start ≡ true → l.selected ≡ true → FitsPackets l.stamp l.odts) → IsList (record (if stop then stopped l else (if not chosen then l else (if start then started l else stopped l))) { selected = false })
 lawful_synchronised_by l h true chosen e start small = record { event = h.event; prescaler_least = h.prescaler_least; prescaler_most = h.prescaler_most; priority = h.priority; since = omega (arith, h.prescaler_least); still = λ k. refl; fits = λ k. cc }

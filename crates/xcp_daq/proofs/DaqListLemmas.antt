@@ -1,14 +1,16 @@
 -- The lists that modes and ODTs are, one by one.
 use Rattle.std.proofs.Common.{◌≡◌, ℕ, zero, suc, ◌+◌, ◌<◌, Bool, true, false, List, [], ◌∷◌, ◌++◌, length, map, take, get_or, slice_set, Option, ap, sym, ◌∙◌, refl, arith, ◌||◌}
 use Rattle.std.specs.Prelude.{replicate}
+use Rattle.std.proofs.lemmas.List.{get_or_default}
 use Rattle.std.specs.List.{list_any}
 use Rattle.xcp_packet.specs.declared.Stamp.TheVariants.{Without}
+use Rattle.xcp_memory.specs.declared.Class.{Class}
 use Rattle.xcp_daq.specs.declared.element.Element.{Element}
 use Rattle.xcp_daq.specs.declared.mode.Mode.{Mode}
 use Rattle.xcp_daq.specs.declared.pointer.Pointer.{Pointer}
 use Rattle.xcp_daq.specs.declared.allocation.Allocation.{Allocation}
-use Rattle.xcp_daq.specs.DaqLists.{DaqValue, DaqList, no_list, list_at, any_running, all_odts, all_entries, first_pid}
-use Rattle.xcp_daq.specs.Pools.{joined, list_of, lists_of}
+use Rattle.xcp_daq.specs.DaqLists.{DaqValue, DaqList, no_list, list_at, all_odts, first_pid}
+use Rattle.xcp_daq.specs.Pools.{joined, list_of, lists_of, daq_of}
 use Rattle.xcp_daq.specs.private.SplicedPools.{spliced, synchronised_mode, counted_mode}
 use Rattle.std.specs.Prelude.{if◌then◌else◌, not, ◌&&◌, ◌==◌, ◌%◌}
 use Rattle.xcp_daq.specs.Starting.{stopped, started, synchronised}
@@ -18,10 +20,6 @@ use Rattle.xcp_daq.proofs.PoolPartLemmas.{spliced-end}
 -- the ODTs of a list
 abbrev Os : Type 0
 Os = List (List (Option Element))
-
--- the value of its parts
-abbrev pub daq_of : List Mode → List Os → Option Pointer → Option Allocation → DaqValue
-daq_of ms os p l = record { lists = lists_of ms os; pointer = p; last = l }
 
 -- the mode of a new list
 abbrev pub new_mode : Mode
@@ -40,13 +38,6 @@ list_of_is [] (o ∷ os) i h = absurd (omega arith)
 list_of_is (m ∷ ms) [] i h = absurd (omega arith)
 list_of_is (m ∷ ms) (o ∷ os) zero h = refl
 list_of_is (m ∷ ms) (o ∷ os) (suc i) h = list_of_is ms os i (omega arith)
-
--- another list i
-pub lists-set : (ms : List Mode) (os : List Os) (i : ℕ) (m : Mode) (o : Os) → length ms ≡ length os → i < length ms → lists_of (slice_set ms i m) (slice_set os i o) ≡ slice_set (lists_of ms os) i (list_of m o)
-lists-set [] os i m o h k = absurd (omega arith)
-lists-set (n ∷ ms) [] i m o h k = absurd (omega arith)
-lists-set (n ∷ ms) (p ∷ os) zero m o h k = refl
-lists-set (n ∷ ms) (p ∷ os) (suc i) m o h k = ap (λ ls. list_of n p ∷ ls) (lists-set ms os i m o (omega arith) (omega arith))
 
 -- where mode i changes, list i gets it and keeps its ODTs, and no other list changes
 pub lists-set_mode : (ms : List Mode) (os : List Os) (i : ℕ) (m : Mode) → length ms ≡ length os → i < length ms → lists_of (slice_set ms i m) os ≡ slice_set (lists_of ms os) i (list_of m (get_or os i []))
@@ -101,26 +92,19 @@ running-of (m ∷ ms) [] h = absurd (omega arith)
 running-of (m ∷ ms) (o ∷ os) h = ap (λ b. m.running || b) (running-of ms os (omega arith))
 
 -- what the numbers of the value are in its parts
-pub count_of : (d : DaqValue) (ms : List Mode) (os : List Os) (p : Option Pointer) (l : Option Allocation) → daq_of ms os p l ≡ d → length ms ≡ length os → length d.lists ≡ length ms
-count_of d ms os p l is h = sym (ap (λ (v : DaqValue). length v.lists) is) ∙ length-lists ms os h
+pub count_of : (d : DaqValue) (class : Class) (ms : List Mode) (os : List Os) (p : Option Pointer) (l : Option Allocation) → daq_of class ms os p l ≡ d → length ms ≡ length os → length d.lists ≡ length ms
+count_of d class ms os p l is h = sym (ap (λ (v : DaqValue). length v.lists) is) ∙ length-lists ms os h
 
 -- list i of the value is made of the mode and the ODTs at i of its parts
-pub list_at_is : (d : DaqValue) (ms : List Mode) (os : List Os) (p : Option Pointer) (l : Option Allocation) (i : ℕ) → daq_of ms os p l ≡ d → length ms ≡ length os → list_at d i ≡ list_of (get_or ms i new_mode) (get_or os i [])
-list_at_is d ms os p l i is h = sym (ap (λ (v : DaqValue). list_at v i) is) ∙ list_of_is ms os i h
+pub list_at_is : (d : DaqValue) (class : Class) (ms : List Mode) (os : List Os) (p : Option Pointer) (l : Option Allocation) (i : ℕ) → daq_of class ms os p l ≡ d → length ms ≡ length os → list_at d i ≡ list_of (get_or ms i new_mode) (get_or os i [])
+list_at_is d class ms os p l i is h = sym (ap (λ (v : DaqValue). list_at v i) is) ∙ list_of_is ms os i h
 
 -- the ODTs of list i of the value are those at i of its parts
-pub odts_at_is : (d : DaqValue) (ms : List Mode) (os : List Os) (p : Option Pointer) (l : Option Allocation) (i : ℕ) → daq_of ms os p l ≡ d → length ms ≡ length os → (list_at d i).odts ≡ get_or os i []
-odts_at_is d ms os p l i is h = ap (λ (x : DaqList). x.odts) (list_at_is d ms os p l i is h)
+pub odts_at_is : (d : DaqValue) (class : Class) (ms : List Mode) (os : List Os) (p : Option Pointer) (l : Option Allocation) (i : ℕ) → daq_of class ms os p l ≡ d → length ms ≡ length os → (list_at d i).odts ≡ get_or os i []
+odts_at_is d class ms os p l i is h = ap (λ (x : DaqList). x.odts) (list_at_is d class ms os p l i is h)
 
--- all ODTs of the value are those of its parts, one list's behind another's
-pub all_odts_are : (d : DaqValue) (ms : List Mode) (os : List Os) (p : Option Pointer) (l : Option Allocation) → daq_of ms os p l ≡ d → length ms ≡ length os → all_odts d.lists ≡ joined os
-all_odts_are d ms os p l is h = sym (ap (λ (v : DaqValue). all_odts v.lists) is) ∙ odts-of ms os h
-
--- all entries of the value are those of its parts, one ODT's behind another's
-pub all_entries_are : (d : DaqValue) (ms : List Mode) (os : List Os) (p : Option Pointer) (l : Option Allocation) → daq_of ms os p l ≡ d → length ms ≡ length os → all_entries d.lists ≡ joined (joined os)
-all_entries_are d ms os p l is h = ap joined (all_odts_are d ms os p l is h)
-
-length-takes : {A B : Type 0} (n : ℕ) (xs : List A) (ys : List B) → length xs ≡ length ys → length (take n xs) ≡ length (take n ys)
+-- the first n of two lists of one length are as many
+pub length-takes : {A B : Type 0} (n : ℕ) (xs : List A) (ys : List B) → length xs ≡ length ys → length (take n xs) ≡ length (take n ys)
 length-takes zero xs ys h = refl
 length-takes (suc n) [] [] h = refl
 length-takes (suc n) [] (y ∷ ys) h = absurd (omega arith)
@@ -128,28 +112,17 @@ length-takes (suc n) (x ∷ xs) [] h = absurd (omega arith)
 length-takes (suc n) (x ∷ xs) (y ∷ ys) h = ap suc (length-takes n xs ys (omega arith))
 
 -- the first PID of list i is the number of ODTs that the parts have before it
-pub first_pid_is : (d : DaqValue) (ms : List Mode) (os : List Os) (p : Option Pointer) (l : Option Allocation) (i : ℕ) → daq_of ms os p l ≡ d → length ms ≡ length os → first_pid i d ≡ length (joined (take i os))
-first_pid_is d ms os p l i is h =
+pub first_pid_is : (d : DaqValue) (class : Class) (ms : List Mode) (os : List Os) (p : Option Pointer) (l : Option Allocation) (i : ℕ) → daq_of class ms os p l ≡ d → length ms ≡ length os → first_pid i d ≡ length (joined (take i os))
+first_pid_is d class ms os p l i is h =
     sym (ap (λ (v : DaqValue). length (all_odts (take i v.lists))) is)
     ∙ ap (λ ls. length (all_odts ls)) (lists-take i ms os)
     ∙ ap length (odts-of (take i ms) (take i os) (length-takes i ms os h))
-
--- some list of the value runs exactly where some mode of its parts does
-pub any_running_is : (d : DaqValue) (ms : List Mode) (os : List Os) (p : Option Pointer) (l : Option Allocation) → daq_of ms os p l ≡ d → length ms ≡ length os → list_any (λ (m : Mode). m.running) ms ≡ any_running d
-any_running_is d ms os p l is h = running-of ms os h ∙ ap any_running is
 
 -- an element that is there is read the same by any default
 pub default_free : {A : Type 0} (xs : List A) (i : ℕ) (d e : A) → i < length xs → get_or xs i d ≡ get_or xs i e
 default_free [] i d e h = absurd (omega arith)
 default_free (x ∷ xs) zero d e h = refl
 default_free (x ∷ xs) (suc i) d e h = default_free xs i d e (omega arith)
-
--- the mode of list i
-pub mode_is : (d : DaqValue) (ms : List Mode) (os : List Os) (p : Option Pointer) (l : Option Allocation) (i : ℕ) (m : Mode) → daq_of ms os p l ≡ d → length ms ≡ length os → i < length d.lists → list_of (get_or ms i m) (list_at d i).odts ≡ list_at d i
-mode_is d ms os p l i m is h below =
-    ap (λ (o : Os). list_of (get_or ms i m) o) (odts_at_is d ms os p l i is h)
-    ∙ ap (λ (n : Mode). list_of n (get_or os i [])) (default_free ms i m new_mode (omega (arith, below, count_of d ms os p l is h)))
-    ∙ sym (list_at_is d ms os p l i is h)
 
 -- list i has another mode
 pub modes_set : (ms ns : List Mode) (os : List Os) (i : ℕ) (m : Mode) → length ms ≡ length os → i < length ms → ns ≡ slice_set ms i m → lists_of ns os ≡ slice_set (lists_of ms os) i (list_of m (get_or (lists_of ms os) i no_list).odts)
@@ -191,11 +164,5 @@ synchronised_of mode m o = synchronised_by m o (mode == 0) m.selected (mode == 1
 pub counted_of : (channel : ℕ) (m : Mode) (o : Os) → list_of (counted_mode channel m) o ≡ counted channel (list_of m o)
 counted_of channel m o = counted_by m o (m.running && (m.event == channel))
 
--- either of two tests
-pub or_first : (a b c : Bool) → c ≡ a → c ≡ true → c ≡ (a || b)
-or_first true b c e h = h
-or_first false b c e h = absurd (let z : false ≡ true = sym e ∙ h in cc)
-
-pub or_second : (a b c d : Bool) → c ≡ a → c ≡ false → d ≡ b → d ≡ (a || b)
-or_second true b c d e h k = absurd (let z : true ≡ false = sym e ∙ h in cc)
-or_second false b c d e h k = k
+-- what is read of modes and ODTs, of the lists that they are
+pub ruleset reads = (length-lists, list_of_is, odts-of, lists-take, length-takes, running-of, get_or_default)

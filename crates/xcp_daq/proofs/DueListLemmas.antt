@@ -7,14 +7,15 @@ use Rattle.std.proofs.lemmas.List.{take_more, take-append-drop, flat_map_more}
 use Rattle.std.proofs.lemmas.List.FromFn.{get_or-enumerate_from, length-enumerate_from}
 use Rattle.arrayvec.specs.ArrayVec.{ArrayVec}
 use Rattle.xcp_packet.specs.TimeStamps.{stamp_bytes}
+use Rattle.xcp_memory.specs.declared.Class.{Class}
 use Rattle.xcp_memory.specs.Pages.{PagesValue}
 use Rattle.xcp_daq.specs.declared.element.Element.{Element}
 use Rattle.xcp_daq.specs.declared.mode.Mode.{Mode}
 use Rattle.xcp_daq.specs.DaqLists.{DaqList, no_list, first_pid}
 use Rattle.xcp_daq.specs.DaqInvariant.{IsList, FitsPackets}
-use Rattle.xcp_daq.specs.Pools.{joined, list_of, lists_of}
+use Rattle.xcp_daq.specs.Pools.{joined, list_of, lists_of, daq_of}
 use Rattle.xcp_daq.specs.Sample.{due, stamped_packets, list_packets}
-use Rattle.xcp_daq.proofs.DaqListLemmas.{daq_of, new_mode, default_free, first_pid_is, list_of_is, length-lists}
+use Rattle.xcp_daq.proofs.DaqListLemmas.{new_mode, default_free, first_pid_is, list_of_is, length-lists}
 use Rattle.xcp_daq.proofs.DaqInvariantLemmas.{mode_lawful}
 
 -- the ODTs of a list
@@ -33,14 +34,14 @@ due_fits ms os i d channel same place lawful test =
     (mode_lawful ms os i d same lawful place).fits (first_true m.running (m.event == channel) (m.since == 0) test)
 
 -- a list that is due gives the packets of its ODTs, the first with its time stamp
-pub due_packets : (ms : List Mode) (os : List Os) (i : ℕ) (d : Mode) (channel time : ℕ) (pages : PagesValue) → length ms ≡ length os → i < length ms → (((get_or ms i d).running && ((get_or ms i d).event == channel)) && ((get_or ms i d).since == 0)) ≡ true → stamped_packets pages (length (joined (take i os))) (stamp_bytes pages.layout.order (get_or ms i d).stamp time) (get_or os i []) ≡ list_packets channel time pages (daq_of ms os None None) (i, list_of (get_or ms i new_mode) (get_or os i []))
-due_packets ms os i d channel time pages same place test =
+pub due_packets : (class : Class) (ms : List Mode) (os : List Os) (i : ℕ) (d : Mode) (channel time : ℕ) (pages : PagesValue) → length ms ≡ length os → i < length ms → (((get_or ms i d).running && ((get_or ms i d).event == channel)) && ((get_or ms i d).since == 0)) ≡ true → stamped_packets pages (length (joined (take i os))) (stamp_bytes pages.layout.order (get_or ms i d).stamp time) (get_or os i []) ≡ list_packets channel time pages (daq_of class ms os None None) (i, list_of (get_or ms i new_mode) (get_or os i []))
+due_packets class ms os i d channel time pages same place test =
     let here : Os = get_or os i [] in
-    let first : ℕ = first_pid i (daq_of ms os None None) in
+    let first : ℕ = first_pid i (daq_of class ms os None None) in
     let stamp : Mode → List ℕ = λ m. stamp_bytes pages.layout.order m.stamp time in
     let packets : List (ArrayVec ℕ) = stamped_packets pages first (stamp (get_or ms i new_mode)) here in
     let on : due channel (list_of (get_or ms i new_mode) here) ≡ true = ap (λ (m : Mode). due channel (list_of m here)) (default_free ms i new_mode d place) ∙ test in
-    ap (λ n. stamped_packets pages n (stamp (get_or ms i d)) here) (sym (first_pid_is (daq_of ms os None None) ms os None None i refl same))
+    ap (λ n. stamped_packets pages n (stamp (get_or ms i d)) here) (sym (first_pid_is (daq_of class ms os None None) class ms os None None i refl same))
     ∙ ap (λ (m : Mode). stamped_packets pages first (stamp m) here) (sym (default_free ms i new_mode d place))
     ∙ ap (λ b. if b then packets else []) (sym on)
 

@@ -1,12 +1,14 @@
 -- What changes of the pools do to the ODTs that they are.
 use Rattle.std.proofs.Common.{◌≡◌, ℕ, zero, suc, ◌+◌, ◌-◌, ◌<◌, ◌≤◌, List, [], ◌∷◌, ◌++◌, length, map, take, drop, get_or, slice_set, Option, None, ap, sym, ◌∙◌, refl, subst, arith, append_assoc, length-append, length-drop, add-one, drop-cons}
 use Rattle.std.specs.Prelude.{replicate}
+use Rattle.std.proofs.lemmas.Grind.{get_or_default_zero}
 use Rattle.std.proofs.lemmas.List.{length-set, length-replicate, length-take-le, take-append-drop, drop-drop, take-replicate, drop-replicate, length-map, take-take}
 use Rattle.xcp_daq.specs.declared.element.Element.{Element}
 use Rattle.xcp_daq.specs.Pools.{parts, joined}
 use Rattle.xcp_daq.specs.private.SplicedPools.{total, spliced, IsFit}
-use Rattle.xcp_daq.proofs.PoolPartLemmas.{length-parts, parts-cons, parts-grown, parts-set, parts-blank, get-part, joined-parts, length-part, length-spliced, spliced-end, total-spliced, total-zeros, total-set, total-append, total-take, end-le-total}
-use Rattle.std.specs.Prelude.{Bool, true, false, ◌||◌, nat_lt}
+use Rattle.xcp_daq.specs.private.ReservedPools.{OdtsValue}
+use Rattle.xcp_daq.proofs.PoolPartLemmas.{length-parts, parts-cons, parts-grown, parts-set, parts-blank, get-part, joined-parts, length-part, count-le-total, length-spliced, spliced-end, total-spliced, total-zeros, total-set, total-append, total-take, end-le-total}
+use Rattle.std.specs.Prelude.{Bool, false, ◌||◌, nat_lt}
 use Rattle.std.proofs.lemmas.Bool.Decides.{nat_tests}
 use Rattle.std.proofs.Math.Seq.{take-append-add}
 use Rattle.xcp_daq.specs.DaqLists.{odt_size, any_large}
@@ -18,6 +20,10 @@ E = Option Element
 -- the ODTs that the pools are
 abbrev pub tree : List ℕ → List ℕ → List E → List (List (List E))
 tree oc ec es = parts oc (parts ec es)
+
+-- equal values have the same ODTs
+pub lists_are : {v w : OdtsValue} → v ≡ w → v.lists ≡ w.lists
+lists_are e = ap (λ (v : OdtsValue). v.lists) e
 
 fit_odts : (oc ec : List ℕ) (es : List E) → IsFit oc ec es → total oc ≡ length (parts ec es)
 fit_odts oc ec es f = f.cut ∙ sym (length-parts ec es)
@@ -38,33 +44,9 @@ odt_count d oc ec es i is f h = sym (ap (λ (t : List (List (List E))). length (
 pub odt_in : (d : List (List (List E))) (oc ec : List ℕ) (es : List E) (i j : ℕ) → tree oc ec es ≡ d → IsFit oc ec es → i < length d → j < length (get_or d i []) → j < get_or oc i 0
 odt_in d oc ec es i j is f h k = omega (arith, odt_count d oc ec es i is f (list_in d oc ec es i is h))
 
--- the ODT of list i and number j stands at place g of its pool
-pub odt_is : (d : List (List (List E))) (oc ec : List ℕ) (es : List E) (i j g : ℕ) → tree oc ec es ≡ d → IsFit oc ec es → i < length oc → j < get_or oc i 0 → g ≡ total (take i oc) + j → get_or (get_or d i []) j [] ≡ get_or (parts ec es) g []
-odt_is d oc ec es i j g is f h hj hg = sym (ap (λ (t : List (List (List E))). get_or (get_or t i []) j []) is) ∙ get-part oc (parts ec es) i j g [] h (fit_odts oc ec es f) hj hg
-
--- ODT j of list i, at place g of its pool, has as many entries as the count at g says
-pub entry_count : (d : List (List (List E))) (oc ec : List ℕ) (es : List E) (i j g : ℕ) → tree oc ec es ≡ d → IsFit oc ec es → i < length oc → j < get_or oc i 0 → g ≡ total (take i oc) + j → g < length ec → length (get_or (get_or d i []) j []) ≡ get_or ec g 0
-entry_count d oc ec es i j g is f h hj hg lg = ap length (odt_is d oc ec es i j g is f h hj hg) ∙ length-part ec es g lg f.filled
-
--- entry k of the ODT at place g of its pool stands k places behind the entries of all ODTs before it
-pub entry_is : (d : List (List (List E))) (oc ec : List ℕ) (es : List E) (i j g k m : ℕ) → tree oc ec es ≡ d → IsFit oc ec es → i < length oc → j < get_or oc i 0 → g ≡ total (take i oc) + j → g < length ec → k < get_or ec g 0 → m ≡ total (take g ec) + k → (e : E) → get_or (get_or (get_or d i []) j []) k e ≡ get_or es m e
-entry_is d oc ec es i j g k m is f h hj hg lg hk hm e = ap (λ (odt : List E). get_or odt k e) (odt_is d oc ec es i j g is f h hj hg) ∙ get-part ec es g k m e lg f.filled hk hm
-
 -- the pools of ODTs and of entries are all ODTs and all entries
 pub all_joined : (d : List (List (List E))) (oc ec : List ℕ) (es : List E) → tree oc ec es ≡ d → IsFit oc ec es → joined d ≡ parts ec es
 all_joined d oc ec es is f = ap joined (sym is) ∙ joined-parts oc (parts ec es) (fit_odts oc ec es f)
-
--- there are as many ODTs in all as counts of entries, where the pools fit each other
-pub odts_counted : (d : List (List (List E))) (oc ec : List ℕ) (es : List E) → tree oc ec es ≡ d → IsFit oc ec es → length (joined d) ≡ length ec
-odts_counted d oc ec es is f = ap length (all_joined d oc ec es is f) ∙ length-parts ec es
-
--- all entries of all lists, in order, are the pool of entries, where the pools fit each other
-pub entries_joined : (d : List (List (List E))) (oc ec : List ℕ) (es : List E) → tree oc ec es ≡ d → IsFit oc ec es → joined (joined d) ≡ es
-entries_joined d oc ec es is f = ap joined (all_joined d oc ec es is f) ∙ joined-parts ec es f.filled
-
--- there are as many entries in all as the pool of entries has, where the pools fit each other
-pub entries_counted : (d : List (List (List E))) (oc ec : List ℕ) (es : List E) → tree oc ec es ≡ d → IsFit oc ec es → length (joined (joined d)) ≡ length es
-entries_counted d oc ec es is f = ap length (entries_joined d oc ec es is f)
 
 module _ {A : Type 0} where
   pub parts-append : (ms ns : List ℕ) (xs ys : List A) → length xs ≡ total ms → parts (ms ++ ns) (xs ++ ys) ≡ parts ms xs ++ parts ns ys
@@ -109,13 +91,6 @@ module _ {A : Type 0} where
   length-joined [] xs h = refl
   length-joined (n ∷ ns) xs h = omega (arith, length-append (take n xs) (joined (parts ns (drop n xs))), length-take-le n xs (omega arith), length-joined ns (drop n xs) (omega (arith, length-drop n xs)))
 
--- how many ODTs there are before list i
-pub first_is : (d : List (List (List E))) (oc ec : List ℕ) (es : List E) (i : ℕ) → tree oc ec es ≡ d → IsFit oc ec es → length (joined (take i d)) ≡ total (take i oc)
-first_is d oc ec es i is f =
-    ap (λ (t : List (List (List E))). length (joined (take i t))) (sym is)
-    ∙ ap (λ (t : List (List (List E))). length (joined t)) (parts-take i oc (parts ec es))
-    ∙ length-joined (take i oc) (parts ec es) (omega (arith, total-take oc i, fit_odts oc ec es f))
-
 module _ {A : Type 0} where
   -- part i gives way to another list of its length
   pub parts-replaced : (ns : List ℕ) (front part new back : List A) (i : ℕ) → i < length ns → length front ≡ total (take i ns) → length part ≡ get_or ns i 0 → length new ≡ get_or ns i 0 → parts ns (front ++ (new ++ back)) ≡ slice_set (parts ns (front ++ (part ++ back))) i new
@@ -156,16 +131,6 @@ module _ {A : Type 0} where
       ap (λ ys. ys ∷ parts ns (drop n (replicate (n + total ns) x))) (e1 ∙ sym (map_same n (take n xs) x short))
       ∙ ap (λ ys. map (λ y. x) (take n xs) ∷ parts ns ys) e2
       ∙ ap (λ ps. map (λ y. x) (take n xs) ∷ ps) (parts-blank_all ns (drop n xs) x (omega (arith, length-drop n xs)))
-
--- list i, as cut out of the pools
-pub list_is : (d : List (List (List E))) (oc ec : List ℕ) (es : List E) (i first from : ℕ) → tree oc ec es ≡ d → i < length oc → first ≡ total (take i oc) → from ≡ total (take first ec) → get_or d i [] ≡ parts (take (get_or oc i 0) (drop first ec)) (drop from es)
-list_is d oc ec es i first from is h hf hm =
-    sym (ap (λ (t : List (List (List E))). get_or t i []) is)
-    ∙ part_is oc (parts ec es) i h
-    ∙ ap (λ k. take (get_or oc i 0) (drop k (parts ec es))) (sym hf)
-    ∙ ap (λ ps. take (get_or oc i 0) ps) (parts-drop first ec es)
-    ∙ parts-take (get_or oc i 0) (drop first ec) (drop (total (take first ec)) es)
-    ∙ ap (λ k. parts (take (get_or oc i 0) (drop first ec)) (drop k es)) (sym hm)
 
 -- n counts of 0 behind the counts of ODTs add n lists without ODTs behind the others
 pub lists_added : (d : List (List (List E))) (oc oc' ec : List ℕ) (es : List E) (k n : ℕ) → tree oc ec es ≡ d → k ≡ length oc → oc' ≡ spliced oc k (replicate n 0) → tree oc' ec es ≡ d ++ replicate n []
@@ -227,10 +192,6 @@ written d oc ec es es' i j g k m x is f hi hj hg lg hk hm a =
     ∙ ap (λ (xs : List E). slice_set (parts oc odts) i (slice_set (get_or (parts oc odts) i []) j (slice_set xs k x))) e2
     ∙ ap (λ (u : List (List (List E))). slice_set u i (slice_set (get_or u i []) j (slice_set (get_or (get_or u i []) j []) k x))) is
 
--- pools that fit each other still do when an entry is written
-pub written-fit : (oc ec : List ℕ) (es es' : List E) (m : ℕ) (x : E) → IsFit oc ec es → es' ≡ slice_set es m x → IsFit oc ec es'
-written-fit oc ec es es' m x f a = record { cut = f.cut; filled = f.filled ∙ sym (length-set es m x) ∙ sym (ap length a) }
-
 module _ {A : Type 0} where
   -- what the parts from j on are
   pub parts_step : (ns : List ℕ) (xs : List A) (j at : ℕ) → j < length ns → parts (drop j ns) (drop at xs) ≡ take (get_or ns j 0) (drop at xs) ∷ parts (drop (j + 1) ns) (drop (at + get_or ns j 0) xs)
@@ -243,15 +204,8 @@ small_step greatest ns es j at h k =
     let rest : Bool = any_large greatest (parts (drop (j + 1) ns) (drop (at + get_or ns j 0) es)) in
     ap (λ (ps : List (List E)). any_large greatest ps) (parts_step ns es j at h) ∙ ap (λ b. b || rest) small
 
--- a large one
-pub large_step : (greatest : ℕ) (ns : List ℕ) (es : List E) (j at : ℕ) → j < length ns → greatest < odt_size (take (get_or ns j 0) (drop at es)) → any_large greatest (parts (drop j ns) (drop at es)) ≡ true
-large_step greatest ns es j at h k =
-    let large : nat_lt greatest (odt_size (take (get_or ns j 0) (drop at es))) ≡ true = grind (arith, nat_tests) in
-    let rest : Bool = any_large greatest (parts (drop (j + 1) ns) (drop (at + get_or ns j 0) es)) in
-    ap (λ (ps : List (List E)). any_large greatest ps) (parts_step ns es j at h) ∙ ap (λ b. b || rest) large
-
 -- counts behind others add up to no more than all
-pub cut_short : (ns : List ℕ) (first n : ℕ) → total (take first ns) + total (take n (drop first ns)) ≤ total ns
+pub cut_short : (ns : List ℕ) (first n : ℕ) → total (take n (drop first ns)) + total (take first ns) ≤ total ns
 cut_short ns first n = omega (arith, ap total (take-append-drop first ns), total-append (take first ns) (drop first ns), total-take (drop first ns) n)
 
 -- more counts have no smaller sum
@@ -293,9 +247,5 @@ unwritten d oc ec es es' i first end from to is f h hf he hm ht a =
     ∙ ap (λ (ps : List (List E)). slice_set (parts oc odts) i (g ps)) (sym part)
     ∙ ap (λ (t : List (List (List E))). slice_set t i (g (get_or t i []))) is
 
--- pools that fit each other still do when the entries from one place to another lose their elements
-pub unwritten-fit : (oc ec : List ℕ) (es es' : List E) (from to : ℕ) → IsFit oc ec es → from ≤ to → to ≤ length es → es' ≡ take from es ++ replicate (to - from) None ++ drop to es → IsFit oc ec es'
-unwritten-fit oc ec es es' from to f h k a =
-    let blank : List E = replicate (to - from) None in
-    let long : length es' ≡ length es = omega (arith, ap length a, length-append (take from es ++ blank) (drop to es), length-append (take from es) blank, length-take-le from es (omega arith), length-replicate {A = E} (to - from) None, length-drop to es) in
-    record { cut = f.cut; filled = f.filled ∙ sym long }
+-- what is read of the pools, of the ODTs that they are
+pub ruleset reads = (length-parts, length-part, get-part, joined-parts, parts-take, length-joined, get_or_default_zero, count-le-total, end-le-total)

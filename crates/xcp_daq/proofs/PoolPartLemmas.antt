@@ -109,6 +109,12 @@ pub total-take : (ns : List ℕ) (i : ℕ) → total (take i ns) ≤ total ns
 total-take ns i = omega (arith, ap total (take-append-drop i ns), total-append (take i ns) (drop i ns))
 
 -- a count is at most the total
+pub count-le-total : (ns : List ℕ) (i : ℕ) → get_or ns i 0 ≤ total ns
+count-le-total [] i = omega arith
+count-le-total (n ∷ ns) zero = omega arith
+count-le-total (n ∷ ns) (suc i) = omega (arith, count-le-total ns i)
+
+-- a count and those before it are at most the total
 pub end-le-total : (ns : List ℕ) (i : ℕ) → total (take i ns) + get_or ns i 0 ≤ total ns
 end-le-total [] zero = omega arith
 end-le-total [] (suc i) = omega arith

@@ -1,10 +1,10 @@
 -- Lists that are equal stand in equal pools.
-use Rattle.std.proofs.Common.{◌≡◌, ◌≢◌, ℕ, suc, ◌+◌, List, [], ◌∷◌, length, map, take, drop, Option, MatchBool, Bool, true, false, ap, sym, ◌∙◌, refl, arith, length-drop}
+use Rattle.std.proofs.Common.{◌≡◌, ℕ, List, [], ◌∷◌, length, map, take, drop, Option, ap, sym, ◌∙◌, refl, arith, length-drop}
 use Rattle.std.proofs.lemmas.List.{length-take-le}
 use Rattle.xcp_daq.specs.declared.element.Element.{Element}
 use Rattle.xcp_daq.specs.declared.mode.Mode.{Mode}
 use Rattle.xcp_daq.specs.DaqLists.{DaqList}
-use Rattle.xcp_daq.specs.Pools.{parts, joined, list_of, lists_of}
+use Rattle.xcp_daq.specs.Pools.{parts, joined, lists_of}
 use Rattle.xcp_daq.specs.private.SplicedPools.{total, IsFit}
 use Rattle.xcp_daq.proofs.PoolPartLemmas.{joined-parts, length-parts}
 use Rattle.xcp_daq.proofs.OdtLemmas.{tree, all_joined}

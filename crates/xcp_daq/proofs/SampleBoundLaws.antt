@@ -4,6 +4,7 @@ use Rattle.std.specs.Prelude.{◌==◌, if◌then◌else◌}
 use Rattle.std.specs.List.{flat_map, enumerate_from}
 use Rattle.std.proofs.lemmas.List.Elements.{All-append}
 use Rattle.arrayvec.specs.ArrayVec.{ArrayVec}
+use Rattle.xcp_memory.specs.ClassLimits.{limits_of}
 use Rattle.xcp_memory.specs.Pages.{PagesValue}
 use Rattle.xcp_packet.specs.declared.Stamp.{Stamp}
 use Rattle.xcp_packet.specs.TimeStamps.{stamp_size}
@@ -79,8 +80,8 @@ short_packets channel time pages v i (l ∷ lists) h =
     (all_by (due channel l) (stamped_packets pages (first_pid i v) stamp l.odts) (λ e. short_stamped pages (first_pid i v) l.stamp stamp l.odts (length_stamp pages.layout.order l.stamp time) (lawful.fits (first_true l.running (l.event == channel) (l.since == 0) e))))
     (short_packets channel time pages v (i + 1) lists (λ k d below. h (suc k) d (omega arith)))
 
--- where the lists are lawful, an event gives 64 packets at most, each of 1 to 255 bytes
-pub bounded : (channel time : ℕ) (pages : PagesValue) (v : DaqValue) → IsDaq v → (length (sampled channel time pages v) ≤ 64) × All IsPacket (sampled channel time pages v)
+-- where the lists are lawful, an event gives no more packets than the class has ODTs, each of 1 to 255 bytes
+pub bounded : (channel time : ℕ) (pages : PagesValue) (v : DaqValue) → IsDaq v → (length (sampled channel time pages v) ≤ (limits_of v.class).odts) × All IsPacket (sampled channel time pages v)
 bounded channel time pages v h = (omega (arith, h.odts, few_packets channel time pages v 0 v.lists), short_packets channel time pages v 0 v.lists h.each)
 
 same_count_by : (b : Bool) (xs ys : List (ArrayVec ℕ)) → length xs ≡ length ys → length (if b then xs else []) ≡ length (if b then ys else [])

@@ -78,15 +78,6 @@ unstamped pages p (o ∷ odts) = refl
 pub stamped_count : (pages : PagesValue) (p q : ℕ) (s : List ℕ) (odts : List (List (Option Element))) → length (packets_from pages p odts) ≡ length (stamped_packets pages q s odts)
 stamped_count pages p q s odts = ap length (sym (unstamped pages p odts)) ∙ same_stamped pages p q [] s odts
 
--- no bytes give no packet, and some give one
-pub no_stamped : (pid : ℕ) (stamp bytes : List ℕ) → length bytes ≡ 0 → stamped_packet pid stamp bytes ≡ []
-no_stamped pid stamp [] h = refl
-no_stamped pid stamp (b ∷ bytes) h = absurd (omega arith)
-
-pub some_stamped : (pid : ℕ) (stamp bytes : List ℕ) → 0 < length bytes → stamped_packet pid stamp bytes ≡ record { items = pid ∷ (stamp ++ bytes) } ∷ []
-some_stamped pid stamp [] h = absurd (omega arith)
-some_stamped pid stamp (b ∷ bytes) h = refl
-
 -- how many packets one ODT and those behind it give
 pub count_step : (pages : PagesValue) (ns : List ℕ) (es : List (Option Element)) (j at : ℕ) → j < length ns → length (packets_from pages 0 (parts (drop j ns) (drop at es))) ≡ length (packet_of 0 (odt_bytes pages (take (get_or ns j 0) (drop at es)))) + length (packets_from pages 0 (parts (drop (j + 1) ns) (drop (at + get_or ns j 0) es)))
 count_step pages ns es j at h =

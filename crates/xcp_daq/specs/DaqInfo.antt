@@ -6,6 +6,7 @@ use Rattle.xcp_packet.specs.declared.Code.{Code}
 use Rattle.xcp_packet.specs.declared.Code.TheVariants.{OutOfRange}
 use Rattle.xcp_packet.specs.TimeStamps.{stamp_size}
 use Rattle.xcp_memory.specs.declared.Clock.{Clock}
+use Rattle.xcp_memory.specs.ClassLimits.{limits_of}
 use Rattle.xcp_memory.specs.Layout.{LayoutValue, EventValue, no_event}
 use Rattle.xcp_packet.specs.Rows.{first_holding}
 use Rattle.xcp_daq.specs.declared.reports.ListMode.{ListMode}
@@ -52,10 +53,10 @@ resolution_info_reply layout = record { greatest = greatest_size layout; mode = 
 abbrev pub event_info_refusal : LayoutValue → ℕ → Option Code
 event_info_refusal layout channel = first_holding ((nat_le (length layout.events) channel, OutOfRange) ∷ [])
 
--- what is told of an event channel
-abbrev pub info_of_event : EventValue → EventInfo
-info_of_event e = record { name_length = length e.name; cycle = e.cycle; unit = e.unit; priority = e.priority }
+-- what is told of an event channel, which can have so many lists
+abbrev pub info_of_event : ℕ → EventValue → EventInfo
+info_of_event lists e = record { lists = lists; name_length = length e.name; cycle = e.cycle; unit = e.unit; priority = e.priority }
 
 -- what GET_DAQ_EVENT_INFO is told
 abbrev pub event_info_reply : LayoutValue → ℕ → EventInfo
-event_info_reply layout channel = info_of_event (get_or layout.events channel no_event)
+event_info_reply layout channel = info_of_event (limits_of layout.class).lists (get_or layout.events channel no_event)

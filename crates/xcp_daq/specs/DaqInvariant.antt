@@ -2,6 +2,7 @@
 use Rattle.std.specs.Prelude.{◌≡◌, ◌^◌, ◌+◌, ◌<◌, ◌≤◌, List, true, false, length, Option, Some, None, All}
 use Rattle.xcp_packet.specs.declared.Stamp.{Stamp}
 use Rattle.xcp_packet.specs.TimeStamps.{stamp_size}
+use Rattle.xcp_memory.specs.ClassLimits.{limits_of}
 use Rattle.xcp_daq.specs.declared.element.Element.{Element}
 use Rattle.xcp_daq.specs.declared.pointer.Pointer.{Pointer}
 use Rattle.xcp_daq.specs.DaqLists.{DaqValue, DaqList, list_at, odt_at, all_odts, all_entries, odt_size, first_size}
@@ -38,11 +39,11 @@ abbrev pub IsPointerOf : DaqValue → Option Pointer → Type 0
 IsPointerOf v None = Unit {0}
 IsPointerOf v (Some p) = IsPointer v p
 
--- the pools of 16 lists, 64 ODTs and 256 entries are kept, each list and each entry is lawful, and so is the pointer
+-- there are no more lists, ODTs and entries than the class has, each list and each entry is lawful, and so is the pointer
 pub record IsDaq (v : DaqValue) : Type 0 where
-  pub lists : length v.lists ≤ 16
-  pub odts : length (all_odts v.lists) ≤ 64
-  pub entries : length (all_entries v.lists) ≤ 256
+  pub lists : length v.lists ≤ (limits_of v.class).lists
+  pub odts : length (all_odts v.lists) ≤ (limits_of v.class).odts
+  pub entries : length (all_entries v.lists) ≤ (limits_of v.class).entries
   pub each : All IsList v.lists
   pub written : All IsEntry (all_entries v.lists)
   pub pointer : IsPointerOf v v.pointer

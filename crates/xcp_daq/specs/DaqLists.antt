@@ -5,6 +5,7 @@ use Rattle.std.specs.List.{flat_map, list_any}
 use Rattle.xcp_packet.specs.declared.Stamp.{Stamp}
 use Rattle.xcp_packet.specs.declared.Stamp.TheVariants.{Without}
 use Rattle.xcp_packet.specs.TimeStamps.{stamp_size}
+use Rattle.xcp_memory.specs.declared.Class.{Class}
 use Rattle.xcp_memory.specs.Layout.{LayoutValue}
 use Rattle.xcp_daq.specs.declared.element.Element.{Element}
 use Rattle.xcp_daq.specs.declared.pointer.Pointer.{Pointer}
@@ -24,16 +25,17 @@ pub record DaqList : Type 0 where
   pub stamp : Stamp
   pub odts : List (List (Option Element))
 
--- The lists, the DAQ pointer, and the last allocating command since the session began.
+-- The class, whose limits hold, the lists, the DAQ pointer, and the last allocating command since the session began.
 -- (Protocol layer, description of commands: SET_DAQ_PTR; dynamic DAQ configuration.)
 pub record DaqValue : Type 0 where
+  pub class : Class
   pub lists : List DaqList
   pub pointer : Option Pointer
   pub last : Option Allocation
 
 -- no lists, no pointer, nothing allocated: at the start, and after a session's end
-abbrev pub opening_daq : DaqValue
-opening_daq = record { lists = []; pointer = None; last = None }
+abbrev pub opening_daq : Class → DaqValue
+opening_daq class = record { class = class; lists = []; pointer = None; last = None }
 
 -- a new list: event channel 0, prescaler 1, priority 0, stopped, unselected, with no time stamp and no ODT
 abbrev pub no_list : DaqList

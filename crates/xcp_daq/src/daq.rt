@@ -1,5 +1,5 @@
 //! The acquisition lists.
-ghost use Rattle.std.specs.Prelude.{◌≡◌, ◌≢◌, ◌<◌, length, None, MatchBool};
+ghost use Rattle.std.specs.Prelude.{◌≡◌, ◌≢◌, MatchBool, IfOk};
 ghost use Rattle.std.specs.List.{list_any};
 ghost use Rattle.xcp_daq.specs.DaqLists.{opening_daq, any_running};
 ghost use Rattle.xcp_daq.specs.DaqInvariant.{IsDaq};
@@ -16,50 +16,48 @@ use crate::mode::Mode;
 use crate::odts::Odts;
 use crate::pools::copied;
 use crate::{Allocation, Pointer};
-use arrayvec::ArrayVec;
+use std::alloc::{AllocError, Global};
 use std::marker::Model;
+use xcp_memory::Class;
 
-/// How many lists there are at most.
-pub(crate) const MAX_LISTS: usize = 16;
-
-/// The DAQ lists of a slave, its DAQ pointer, and how far the allocation of lists has come. It takes no memory.
+/// The DAQ lists of a slave, its DAQ pointer, and how far the allocation of lists has come. There is room for all that the
+/// class has, so no command takes memory.
 #[derive(Drop)]
 pub struct Daq {
-    modes: ArrayVec<Mode, MAX_LISTS>,
+    modes: Vec<Mode>,
     odts: Odts,
     pointer: Option<Pointer>,
     last: Option<Allocation>,
 }
 
 impl Model for Daq {
-    ghost use Rattle.std.specs.Prelude.{◌≡◌, length};
     ghost use Rattle.xcp_daq.specs.DaqLists.{DaqValue};
-    ghost use Rattle.xcp_daq.specs.DaqInvariant.{IsDaq};
-    ghost use Rattle.xcp_daq.specs.Pools.{lists_of};
+    ghost use Rattle.xcp_daq.specs.Pools.{daq_of};
+    ghost use Rattle.xcp_daq.specs.private.ReservedPools.{IsModes};
 
     ghost Value = { DaqValue };
 
-    ghost view = { λ d. record { lists = lists_of d.modes.items d.odts; pointer = d.pointer; last = d.last } };
+    ghost view = { λ d. daq_of d.odts.class d.modes.items d.odts.lists d.pointer d.last };
 
-    ghost invariant = { λ d. (length d.modes.items ≡ length d.odts) × IsDaq (record { lists = lists_of d.modes.items d.odts; pointer = d.pointer; last = d.last }) };
+    ghost invariant = { λ d. IsModes d.modes d.odts d.pointer d.last };
 }
 
 impl Daq {
-    /// No lists, no pointer, and nothing allocated.
-    pub fn new() -> Daq
-        ensures { result ≡ opening_daq }
+    /// No lists, no pointer, and nothing allocated. Its pools are all the memory that it ever takes.
+    pub fn new(alloc: Global, class: Class) -> Result<Daq, AllocError>
+        ensures { IfOk result (λ d. d ≡ opening_daq class) }
     {
-        Daq {
-            modes: ArrayVec::new(),
-            odts: Odts::new(),
+        Ok(Daq {
+            modes: Vec::with_capacity(alloc, class.limits().lists)?,
+            odts: Odts::new(alloc, class)?,
             pointer: None,
             last: None,
-        }
+        })
     }
 
     /// Goes back to how it was made: what a session's end does.
     pub fn reset(&mut self)
-        ensures { self.new ≡ opening_daq }
+        ensures { self.new ≡ opening_daq self.old.class }
     {
         self.modes.clear();
         self.odts.clear();
@@ -67,23 +65,26 @@ impl Daq {
         self.last = None;
     }
 
-    /// Equal lists, with the pointer and the last allocating command.
-    pub fn copy(&self) -> Daq
-        ensures { result ≡ self.now }
+    /// Equal lists, with the pointer and the last allocating command, and with as much room.
+    pub fn copy(&self, alloc: Global) -> Result<Daq, AllocError>
+        ensures { IfOk result (λ d. d ≡ self.now) }
     {
-        Daq {
-            modes: copied(&self.modes),
-            odts: self.odts.copy(),
+        Ok(Daq {
+            modes: copied(alloc, &self.modes, self.limits().lists)?,
+            odts: self.odts.copy(alloc)?,
             pointer: self.pointer,
             last: self.last,
-        }
+        })
     }
 
-    /// Whether both have equal lists, the same pointer and the same last allocating command.
+    /// Whether both have equal lists of the same class, the same pointer and the same last allocating command.
     pub fn same(&self, other: &Daq) -> bool
         ensures { MatchBool result (self.now ≡ other.now) (self.now ≢ other.now) }
     {
-        self.pointer == other.pointer && self.last == other.last && self.same_lists(other)
+        self.odts.class() == other.odts.class()
+            && self.pointer == other.pointer
+            && self.last == other.last
+            && self.same_lists(other)
     }
 
     fn same_lists(&self, other: &Daq) -> bool
@@ -92,10 +93,11 @@ impl Daq {
         if !same_modes(&self.modes, &other.modes) {
             return false;
         }
-        self.odts.same(&other.odts)
+        self.odts.same_lists(&other.odts)
     }
 
     /// Whether a list runs.
+    #[tactic(auto, using(crate::proofs::DaqListLemmas::reads))]
     pub fn any_running(&self) -> bool
         ensures { result ≡ any_running self.now }
     {

@@ -1,70 +1,68 @@
 //! The ODTs of all lists, in flat pools.
-ghost use Rattle.std.specs.Prelude.{◌≡◌, ◌≢◌, MatchBool, ◌<◌, ◌≤◌, ◌+◌, ◌++◌, [], None, Some, length, map, replicate, slice_index_or as get_or, slice_set};
+ghost use Rattle.std.specs.Prelude.{◌≡◌, ◌≢◌, MatchBool, IfOk, ◌<◌, ◌≤◌, ◌+◌, ◌++◌, [], None, Some, length, map, replicate, slice_index_or as get_or, slice_set};
+ghost use Rattle.xcp_memory.specs.ClassLimits.{limits_of};
 ghost use Rattle.xcp_daq.specs.Pools.{joined};
 
 mod reading;
 mod sampling;
 
 use crate::Element;
-use crate::daq::MAX_LISTS;
-use crate::pools::{blank, copied, end_of, grow, place_of, put, put_in, sum_before};
-use arrayvec::ArrayVec;
+use crate::pools::{blank, copied, end_of, place_of, put_in, sum_before};
+use std::alloc::{AllocError, Global};
 use std::marker::Model;
-
-/// How many ODTs there are at most, in all lists.
-pub(crate) const MAX_ODTS: usize = 64;
-
-/// How many entries there are at most, in all ODTs.
-pub(crate) const MAX_ENTRIES: usize = 256;
+use xcp_memory::Class;
 
 /// The ODTs of all lists: how many ODTs each list has, how many entries each ODT has, list by list, and the entries, ODT
-/// by ODT. So the place of an ODT among all of them is its PID.
+/// by ODT. So the place of an ODT among all of them is its PID. There is room for all that the class has.
 #[derive(Drop)]
 pub(crate) struct Odts {
-    odt_counts: ArrayVec<u16, MAX_LISTS>,
-    entry_counts: ArrayVec<u16, MAX_ODTS>,
-    entries: ArrayVec<Option<Element>, MAX_ENTRIES>,
+    class: Class,
+    odt_counts: Vec<u16>,
+    entry_counts: Vec<u16>,
+    entries: Vec<Option<Element>>,
 }
 
 impl Model for Odts {
-    ghost use Rattle.std.specs.Prelude.{List, Option};
-    ghost use Rattle.xcp_daq.specs.declared.element.Element.{Element};
     ghost use Rattle.xcp_daq.specs.Pools.{parts};
-    ghost use Rattle.xcp_daq.specs.private.SplicedPools.{IsFit};
+    ghost use Rattle.xcp_daq.specs.private.ReservedPools.{OdtsValue, IsOdts};
 
-    ghost Value = { List (List (List (Option Element))) };
+    ghost Value = { OdtsValue };
 
-    ghost view = { λ p. parts p.odt_counts.items (parts p.entry_counts.items p.entries.items) };
+    ghost view = { λ p. record { class = p.class; lists = parts p.odt_counts.items (parts p.entry_counts.items p.entries.items) } };
 
-    ghost invariant = { λ p. IsFit p.odt_counts.items p.entry_counts.items p.entries.items };
+    ghost invariant = { λ p. IsOdts p.class p.odt_counts p.entry_counts p.entries };
 }
 
 impl Odts {
-    /// No lists.
-    pub(crate) fn new() -> Odts
-        ensures { result ≡ [] }
+    /// No lists, with room for all that the class has.
+    pub(crate) fn new(alloc: Global, class: Class) -> Result<Odts, AllocError>
+        ensures { IfOk result (λ odts. odts ≡ record { class = class; lists = [] }) }
     {
-        Odts {
-            odt_counts: ArrayVec::new(),
-            entry_counts: ArrayVec::new(),
-            entries: ArrayVec::new(),
-        }
+        let limits = class.limits();
+        Ok(Odts {
+            class,
+            odt_counts: Vec::with_capacity(alloc, limits.lists)?,
+            entry_counts: Vec::with_capacity(alloc, limits.odts)?,
+            entries: Vec::with_capacity(alloc, limits.entries)?,
+        })
     }
 
-    /// Equal lists.
-    pub(crate) fn copy(&self) -> Odts
-        ensures { result ≡ self.now }
+    /// Equal lists, with as much room.
+    pub(crate) fn copy(&self, alloc: Global) -> Result<Odts, AllocError>
+        ensures { IfOk result (λ odts. odts ≡ self.now) }
     {
-        Odts {
-            odt_counts: copied(&self.odt_counts),
-            entry_counts: copied(&self.entry_counts),
-            entries: copied(&self.entries),
-        }
+        let limits = self.class.limits();
+        Ok(Odts {
+            class: self.class,
+            odt_counts: copied(alloc, &self.odt_counts, limits.lists)?,
+            entry_counts: copied(alloc, &self.entry_counts, limits.odts)?,
+            entries: copied(alloc, &self.entries, limits.entries)?,
+        })
     }
 
     /// Whether both are equal lists.
-    pub(crate) fn same(&self, other: &Odts) -> bool
-        ensures { MatchBool result (self.now ≡ other.now) (self.now ≢ other.now) }
+    pub(crate) fn same_lists(&self, other: &Odts) -> bool
+        ensures { MatchBool result (self.now.lists ≡ other.now.lists) (self.now.lists ≢ other.now.lists) }
     {
         if !same_counts(&self.odt_counts, &other.odt_counts) {
             return false;
@@ -77,7 +75,7 @@ impl Odts {
 
     /// Takes all lists away.
     pub(crate) fn clear(&mut self)
-        ensures { self.new ≡ [] }
+        ensures { self.new ≡ record { class = self.old.class; lists = [] } }
     {
         self.odt_counts.clear();
         self.entry_counts.clear();
@@ -85,62 +83,65 @@ impl Odts {
     }
 
     /// Puts lists without ODTs behind the others.
+    #[tactic(auto, using(crate::proofs::OdtLemmas::reads))]
     pub(crate) fn add_lists(&mut self, n: usize)
-        requires { length self.old + n ≤ 16 }
-        ensures { self.new ≡ self.old ++ replicate n [] }
+        requires { length self.old.lists + n ≤ (limits_of self.old.class).lists }
+        ensures lists { self.new.lists ≡ self.old.lists ++ replicate n [] }
+        ensures class { self.new.class ≡ self.old.class }
     {
         let end = self.odt_counts.len();
         put_in(&mut self.odt_counts, end, n, 0);
     }
 
     /// Puts ODTs without entries behind the others of a list.
+    #[tactic(auto, using(crate::proofs::OdtLemmas::reads))]
     pub(crate) fn add_odts(&mut self, i: usize, n: usize)
-        requires list { i < length self.old }
-        requires room { length (joined self.old) + n ≤ 64 }
-        ensures { self.new ≡ slice_set self.old i (get_or self.old i [] ++ replicate n []) }
+        requires list { i < length self.old.lists }
+        requires room { length (joined self.old.lists) + n ≤ (limits_of self.old.class).odts }
+        ensures lists { self.new.lists ≡ slice_set self.old.lists i (get_or self.old.lists i [] ++ replicate n []) }
+        ensures class { self.new.class ≡ self.old.class }
     {
-        let _all = self.entry_counts.len();
         let end = end_of(&self.odt_counts, i);
         put_in(&mut self.entry_counts, end, n, 0);
-        grow(&mut self.odt_counts, i, n);
+        self.odt_counts[i] += n as u16;
     }
 
     /// Puts unwritten entries behind the others of an ODT.
+    #[tactic(auto, using(crate::proofs::OdtLemmas::reads))]
     pub(crate) fn add_entries(&mut self, i: usize, j: usize, n: usize)
-        requires list { i < length self.old }
-        requires odt { j < length (get_or self.old i []) }
-        requires room { length (joined (joined self.old)) + n ≤ 256 }
-        ensures { self.new ≡ slice_set self.old i (slice_set (get_or self.old i []) j (get_or (get_or self.old i []) j [] ++ replicate n None)) }
+        requires list { i < length self.old.lists }
+        requires odt { j < length (get_or self.old.lists i []) }
+        requires room { length (joined (joined self.old.lists)) + n ≤ (limits_of self.old.class).entries }
+        ensures lists { self.new.lists ≡ slice_set self.old.lists i (slice_set (get_or self.old.lists i []) j (get_or (get_or self.old.lists i []) j [] ++ replicate n None)) }
+        ensures class { self.new.class ≡ self.old.class }
     {
-        let _all = self.entries.len();
-        let _odts = self.entry_counts.len();
         let g = place_of(&self.odt_counts, i, j);
         let end = end_of(&self.entry_counts, g);
         put_in(&mut self.entries, end, n, None);
-        grow(&mut self.entry_counts, g, n);
+        self.entry_counts[g] += n as u16;
     }
 
     /// Writes an entry.
+    #[tactic(auto, using(crate::proofs::OdtLemmas::reads))]
     pub(crate) fn write(&mut self, i: usize, j: usize, k: usize, element: Element)
-        requires list { i < length self.old }
-        requires odt { j < length (get_or self.old i []) }
-        requires entry { k < length (get_or (get_or self.old i []) j []) }
-        ensures { self.new ≡ slice_set self.old i (slice_set (get_or self.old i []) j (slice_set (get_or (get_or self.old i []) j []) k (Some element))) }
+        requires list { i < length self.old.lists }
+        requires odt { j < length (get_or self.old.lists i []) }
+        requires entry { k < length (get_or (get_or self.old.lists i []) j []) }
+        ensures lists { self.new.lists ≡ slice_set self.old.lists i (slice_set (get_or self.old.lists i []) j (slice_set (get_or (get_or self.old.lists i []) j []) k (Some element))) }
+        ensures class { self.new.class ≡ self.old.class }
     {
-        let _all = self.entries.len();
-        let _odts = self.entry_counts.len();
         let g = place_of(&self.odt_counts, i, j);
         let m = place_of(&self.entry_counts, g, k);
-        put(&mut self.entries, m, Some(element));
+        self.entries[m] = Some(element);
     }
 
     /// Makes all entries of a list unwritten.
+    #[tactic(auto, using(crate::proofs::OdtLemmas::reads))]
     pub(crate) fn unwrite(&mut self, i: usize)
-        requires { i < length self.old }
-        ensures { self.new ≡ slice_set self.old i (map (map (λ entry. None)) (get_or self.old i [])) }
+        requires { i < length self.old.lists }
+        ensures lists { self.new.lists ≡ slice_set self.old.lists i (map (map (λ entry. None)) (get_or self.old.lists i [])) }
+        ensures class { self.new.class ≡ self.old.class }
     {
-        let _all = self.entries.len();
-        let _odts = self.entry_counts.len();
         let first = sum_before(&self.odt_counts, i);
         let end = end_of(&self.odt_counts, i);
         let from = sum_before(&self.entry_counts, first);

@@ -9,6 +9,6 @@ pub struct Pointer {
     pub list: u16,
     /// The number of the ODT in its list.
     pub odt: u8,
-    /// The number of the entry in its ODT.
-    pub entry: u8,
+    /// The number of the entry in its ODT. SET_DAQ_PTR can name one of the first 256; the pointer moves on to those behind.
+    pub entry: u16,
 }

@@ -1,34 +1,30 @@
 //! Flat pools, cut into parts by counts.
-ghost use Rattle.std.specs.Prelude.{◌≡◌, ◌≤◌, ◌<◌, ◌+◌, ◌-◌, ◌^◌, None, length, take, drop, ◌++◌, replicate, slice_index, slice_set};
-ghost use Rattle.arrayvec.specs.ArrayVec.{array_vec_len};
+ghost use Rattle.std.specs.Prelude.{◌≡◌, ◌≤◌, ◌<◌, ◌+◌, ◌-◌, ◌^◌, None, IfOk, length, take, drop, ◌++◌, replicate, slice_index, vec_len, vec_capacity};
 ghost use Rattle.xcp_daq.specs.private.SplicedPools.{spliced, total};
 
 use crate::Element;
-use arrayvec::ArrayVec;
+use std::alloc::{AllocError, Global};
 
 /// Puts an element in at a place, n times. What stands behind is shifted once.
-pub(crate) fn put_in<T: Copy + Drop, const N: usize>(
-    pool: &mut ArrayVec<T, N>,
-    at: usize,
-    n: usize,
-    x: T,
-)
-    requires place { at ≤ array_vec_len pool.old }
-    requires room { array_vec_len pool.old + n ≤ N }
+pub(crate) fn put_in<T: Copy + Drop>(pool: &mut Vec<T>, at: usize, n: usize, x: T)
+    requires place { at ≤ vec_len pool.old }
+    requires room { vec_len pool.old + n ≤ vec_capacity pool.old }
     ensures items { pool.new.items ≡ spliced pool.old.items at (replicate n x) }
-    ensures len { array_vec_len pool.new ≡ array_vec_len pool.old + n }
+    ensures len { vec_len pool.new ≡ vec_len pool.old + n }
+    ensures capacity { vec_capacity pool.new ≡ vec_capacity pool.old }
 {
     put_behind(pool, n, x);
     turn(pool, at, n);
 }
 
 /// Puts an element behind the others, n times.
-fn put_behind<T: Copy + Drop, const N: usize>(pool: &mut ArrayVec<T, N>, n: usize, x: T)
-    requires { array_vec_len pool.old + n ≤ N }
-    ensures { pool.new.items ≡ pool.old.items ++ replicate n x }
+fn put_behind<T: Copy + Drop>(pool: &mut Vec<T>, n: usize, x: T)
+    requires { vec_len pool.old + n ≤ vec_capacity pool.old }
+    ensures items { pool.new.items ≡ pool.old.items ++ replicate n x }
+    ensures capacity { vec_capacity pool.new ≡ vec_capacity pool.old }
 {
     for _ in 0..n {
-        pool.push(x);
+        pool.push_reserved(x);
     }
 }
 
@@ -42,11 +38,11 @@ fn turn<T: Copy + Drop>(pool: &mut [T], at: usize, n: usize)
 
 /// The sum of the first counts.
 #[tactic(auto, using(crate::proofs::PoolPartLemmas::sums))]
-pub(crate) fn sum_before<const N: usize>(counts: &ArrayVec<u16, N>, i: usize) -> usize
-    requires bound { total counts.now.items < 2 ^ 32 }
-    requires place { i ≤ array_vec_len counts.now }
-    ensures value { result ≡ total (take i counts.now.items) }
-    ensures bound { result ≤ total counts.now.items }
+pub(crate) fn sum_before(counts: &[u16], i: usize) -> usize
+    requires bound { total counts.now < 2 ^ 32 }
+    requires place { i ≤ length counts.now }
+    ensures value { result ≡ total (take i counts.now) }
+    ensures bound { result ≤ total counts.now }
 {
     let mut sum = 0;
     for k in 0..i {
@@ -57,41 +53,24 @@ pub(crate) fn sum_before<const N: usize>(counts: &ArrayVec<u16, N>, i: usize) ->
 
 /// The place behind part i.
 #[tactic(auto, using(crate::proofs::PoolPartLemmas::sums))]
-pub(crate) fn end_of<const N: usize>(counts: &ArrayVec<u16, N>, i: usize) -> usize
-    requires bound { total counts.now.items < 2 ^ 32 }
-    requires place { i < array_vec_len counts.now }
-    ensures value { result ≡ total (take i counts.now.items) + slice_index counts.now.items i }
-    ensures bound { result ≤ total counts.now.items }
-    ensures count { slice_index counts.now.items i ≤ total counts.now.items }
+pub(crate) fn end_of(counts: &[u16], i: usize) -> usize
+    requires bound { total counts.now < 2 ^ 32 }
+    requires place { i < length counts.now }
+    ensures value { result ≡ total (take i counts.now) + slice_index counts.now i }
+    ensures bound { result ≤ total counts.now }
+    ensures count { slice_index counts.now i ≤ total counts.now }
 {
     sum_before(counts, i) + counts[i] as usize
 }
 
-/// Adds to a count.
-pub(crate) fn grow<const N: usize>(counts: &mut ArrayVec<u16, N>, i: usize, n: usize)
-    requires place { i < array_vec_len counts.old }
-    requires room { slice_index counts.old.items i + n < 2 ^ 16 }
-    ensures { counts.new.items ≡ slice_set counts.old.items i (slice_index counts.old.items i + n) }
-{
-    counts[i] += n as u16;
-}
-
-/// Writes an element.
-pub(crate) fn put<T: Copy + Drop, const N: usize>(pool: &mut ArrayVec<T, N>, i: usize, x: T)
-    requires { i < array_vec_len pool.old }
-    ensures { pool.new.items ≡ slice_set pool.old.items i x }
-{
-    pool[i] = x;
-}
-
 /// The place of element j of part i.
 #[tactic(auto, using(crate::proofs::PoolPartLemmas::sums))]
-pub(crate) fn place_of<const N: usize>(counts: &ArrayVec<u16, N>, i: usize, j: usize) -> usize
-    requires bound { total counts.now.items < 2 ^ 32 }
-    requires part { i < array_vec_len counts.now }
-    requires place { j < slice_index counts.now.items i }
-    ensures value { result ≡ total (take i counts.now.items) + j }
-    ensures inside { result < total counts.now.items }
+pub(crate) fn place_of(counts: &[u16], i: usize, j: usize) -> usize
+    requires bound { total counts.now < 2 ^ 32 }
+    requires part { i < length counts.now }
+    requires place { j < slice_index counts.now i }
+    ensures value { result ≡ total (take i counts.now) + j }
+    ensures inside { result < total counts.now }
 {
     let _count = counts[i];
     sum_before(counts, i) + j
@@ -122,13 +101,16 @@ pub(crate) fn rest<T: Copy>(xs: &[T], at: usize) -> &[T]
     &xs[at..]
 }
 
-/// Equal elements, in place.
-pub(crate) fn copied<T: Copy + Default + Drop, const N: usize>(
-    pool: &ArrayVec<T, N>,
-) -> ArrayVec<T, N>
-    ensures { result ≡ pool.now }
+/// Equal elements, in a pool with room for so many.
+pub(crate) fn copied<T: Copy + Drop>(
+    alloc: Global,
+    pool: &[T],
+    room: usize,
+) -> Result<Vec<T>, AllocError>
+    ensures items { IfOk result (λ copy. copy.items ≡ pool.now) }
+    ensures room { IfOk result (λ copy. room ≤ vec_capacity copy) }
 {
-    let mut copy = ArrayVec::new();
-    let _ = copy.try_extend_from_slice(pool.as_slice());
-    copy
+    let mut copy = Vec::with_capacity(alloc, room)?;
+    copy.extend_from_slice(pool)?;
+    Ok(copy)
 }

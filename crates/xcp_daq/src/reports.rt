@@ -23,9 +23,9 @@ pub struct ProcessorInfo {
     /// DAQ_PROPERTIES: 03, with bit 4 where lists may have time stamps, and with bit 7 where an event packet tells of a lost
     /// sample.
     pub properties: u8,
-    /// How many DAQ lists there are: up to 16.
+    /// How many DAQ lists there are: no more than the class has.
     pub lists: u16,
-    /// How many event channels there are: 1 to 8.
+    /// How many event channels there are: at least one.
     pub events: u16,
 }
 
@@ -47,6 +47,8 @@ pub struct ResolutionInfo {
 /// ASAM MCD-1 XCP, protocol layer, description of commands: GET_DAQ_EVENT_INFO.
 #[derive(Clone, Copy, Debug, PartialEq, Eq)]
 pub struct EventInfo {
+    /// MAX_DAQ_LIST: how many lists it can have, which is as many as the class has.
+    pub lists: u8,
     /// How many bytes the name has: 1 to 32.
     pub name_length: u8,
     /// The time cycle.

@@ -101,9 +101,9 @@ type_in d = option_and_then (named value_types) (option_and_then as_str (get (co
 abbrev pub type_of : Data → ValueType
 type_of d = unwrap_or (type_in d) ubyte
 
--- a number of values, 1 to 2040, if it is given
+-- a number of values, 1 to 65535 as an A2L file has them, if it is given
 abbrev pub is_size : List ℕ → Data → Bool
-is_size key d = none_or (λ v. some_and (is_within 1 2040) (as_integer v)) (get key d)
+is_size key d = none_or (λ v. some_and (is_within 1 0xFFFF) (as_integer v)) (get key d)
 
 abbrev pub size_in : List ℕ → Data → Option ℕ
 size_in key d = option_map (λ v. number (integer_of (Some v))) (get key d)
@@ -113,10 +113,10 @@ abbrev pub is_count : Data → Bool
 is_count d = is_size (codes "count") d
 
 -- The values may stand in rows instead: so many in a row, and so many rows. There are no rows without columns, no count beside them,
--- and at most 2040 values.
+-- and at most as many values as a layout may have bytes.
 abbrev pub are_rows : Option ℕ → Option ℕ → Option ℕ → Bool
 are_rows count None rows = not (is_some rows)
-are_rows count (Some n) rows = not (is_some count) && nat_le (n * unwrap_or rows 1) 2040
+are_rows count (Some n) rows = not (is_some count) && nat_le (n * unwrap_or rows 1) 1048576
 
 abbrev pub is_shape : Data → Bool
 is_shape d =

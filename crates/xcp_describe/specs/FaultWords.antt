@@ -103,7 +103,7 @@ range_of_key (Priority n) = codes ", 0 to 255"
 -- how much there is at most of what a key says, in either class
 abbrev pub most_of_key : Key → List ℕ
 most_of_key Segment = codes "4 segments, or 16 in the class large"
-most_of_key Event = codes "8 event channels"
+most_of_key Event = codes "8 event channels, or 64 in the class large"
 most_of_key _ = codes "2040 bytes in all segments, or 1048576 in the class large"
 
 abbrev pub area_text : Area → List ℕ

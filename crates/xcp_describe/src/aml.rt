@@ -5,39 +5,48 @@ ghost use Rattle.xcp_describe.specs.private.TransportText.{KnowsTransport};
 use crate::transport::Transport;
 use std::alloc::AllocError;
 
+/// Which of the blocks and keys the IF_DATA blocks have that only some descriptions need.
+#[derive(Clone, Copy)]
+pub(crate) struct Needed {
+    /// Commands that only later versions of the standard have.
+    pub(crate) later_commands: bool,
+    /// How many bytes one sum has at most.
+    pub(crate) sum_sizes: bool,
+    pub(crate) time_stamps: bool,
+    /// The event channels of measurements.
+    pub(crate) events: bool,
+}
+
 /// Appends the block A2ML, by which a tool reads the IF_DATA blocks of this description: of the standard's grammar what these have.
 /// ASAM MCD-1 XCP, interface specification.
 pub(crate) fn put_grammar(
-    has_later_commands: bool,
-    has_time_stamps: bool,
-    has_events: bool,
+    needed: Needed,
     transport: Transport,
     text: &mut String,
 ) -> Result<(), AllocError>
     ensures { OnOk result (KnowsTransport transport (string_bytes text.new)) }
 {
-    put_common(has_later_commands, has_time_stamps, has_events, text)?;
+    put_common(needed, text)?;
     transport.put_known(text)?;
     text.push_str(BACK)
 }
 
 /// Appends the grammar up to the transport layer.
-fn put_common(
-    has_later_commands: bool,
-    has_time_stamps: bool,
-    has_events: bool,
-    text: &mut String,
-) -> Result<(), AllocError> {
+fn put_common(needed: Needed, text: &mut String) -> Result<(), AllocError> {
     text.push_str(FRONT)?;
-    if has_later_commands {
+    if needed.later_commands {
         text.push_str(LATER_COMMANDS)?;
     }
     text.push_str(MIDDLE)?;
-    if has_time_stamps {
+    if needed.sum_sizes {
+        text.push_str(SUM_SIZES)?;
+    }
+    text.push_str(PAGES)?;
+    if needed.time_stamps {
         text.push_str(TIME_STAMPS)?;
     }
     text.push_str(CHANNELS)?;
-    if has_events {
+    if needed.events {
         text.push_str(EVENTS)?;
     }
     text.push_str(MODULE)
@@ -153,7 +162,16 @@ const MIDDLE: &str = r#"
                 "XCP_ADD_24" = 5,
                 "XCP_ADD_44" = 6
               };
-            };
+"#;
+
+/// How many bytes one sum has at most.
+const SUM_SIZES: &str = r#"              taggedstruct {
+                "MAX_BLOCK_SIZE" ulong;
+              };
+"#;
+
+/// Behind the types of checksums, up to the time stamps.
+const PAGES: &str = r#"            };
             (block "PAGE" struct {
               uchar;  /* number */
               enum {

@@ -16,7 +16,7 @@ ghost use Rattle.xcp_describe.specs.Transports.{TellsTransport};
 ghost use Rattle.xcp_describe.specs.private.Refusals.{IsEntryOrMemory};
 ghost use Rattle.xcp_describe.specs.private.TransportText.{HasInterface, KnowsTransport};
 
-use crate::aml::put_grammar;
+use crate::aml::{Needed, put_grammar};
 use crate::asking::Asked;
 use crate::clock::Clock;
 use crate::commands::has_later_commands;
@@ -24,7 +24,7 @@ use crate::daq::Daq;
 use crate::epk::epk_line;
 use crate::groups::put_groups;
 use crate::host::is_host;
-use crate::memory::Paging;
+use crate::memory::{Paging, greatest_sum};
 use crate::naming::{has_events, put_tables};
 use crate::protocol::Protocol;
 use crate::reached::Reached;
@@ -209,14 +209,13 @@ fn put_front(
     put_quoted(text, id.as_slice(), id.len())?;
     text.push_str("\n  /begin MODULE slave ")?;
     put_quoted(text, id.as_slice(), id.len())?;
-    let has_later_commands = has_later_commands(asked);
-    put_grammar(
-        has_later_commands,
-        Clock::ask(asked).has_time_stamps(),
-        has_events,
-        transport,
-        text,
-    )?;
+    let needed = Needed {
+        later_commands: has_later_commands(asked),
+        sum_sizes: greatest_sum(asked).is_some(),
+        time_stamps: Clock::ask(asked).has_time_stamps(),
+        events: has_events,
+    };
+    put_grammar(needed, transport, text)?;
     let common = common_of(alloc, protocol)?;
     text.push_str(common.as_str())
 }

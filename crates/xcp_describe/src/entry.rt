@@ -87,7 +87,7 @@ impl<'a> Entry<'a> {
     fn length(&self) -> usize
         ensures { result ≡ (type_named self.now.kind).size * unwrap_or self.now.shape.count 1 }
     {
-        usize::from(self.kind.size()) * usize::from(self.shape.count.unwrap_or(1))
+        usize::from(self.kind.size()) * self.shape.count.unwrap_or(1) as usize
     }
 
     /// Whether all its bytes lie in one segment.
@@ -109,7 +109,7 @@ impl<'a> Entry<'a> {
         ensures { result ≡ is_axis count name.now (form_read self.now) }
     {
         name == self.name
-            && self.shape.count.unwrap_or(1) == count
+            && self.shape.count.unwrap_or(1) == u32::from(count)
             && self.shape.columns.is_none()
             && self.meaning.bits.is_none()
             && self.x_axis.is_none()

@@ -1,4 +1,5 @@
 //! The memory: segments with their pages, and the signals.
+ghost use Rattle.std.specs.Prelude.{◌<◌, IfSome};
 ghost use Rattle.xcp_packet.specs.PlainSpelling.{OnePacket};
 
 use crate::asking::Asked;
@@ -56,6 +57,8 @@ struct Segment {
     encryption: u8,
     /// The type of the checksum over all of it, 0 where there is none.
     checksum: u8,
+    /// How many bytes one sum has at most, if there is such a limit.
+    greatest_sum: Option<u32>,
 }
 
 impl Segment {
@@ -72,6 +75,7 @@ impl Segment {
             compression: standard.byte(4),
             encryption: standard.byte(5),
             checksum: checksum_type(asked, address, length),
+            greatest_sum: greatest_sum(asked),
         }
     }
 
@@ -92,7 +96,7 @@ impl Segment {
             "            {number} {} {} {} {} /* number, pages, address extension, compression, encryption */",
             self.pages, self.extension, self.compression, self.encryption
         )?;
-        put_checksum(self.checksum, text)?;
+        put_checksum(self.checksum, self.greatest_sum, text)?;
         for page in 0..self.pages {
             put_page(asked, number, page, text)?;
         }
@@ -128,19 +132,35 @@ fn info_of(mode: u8, segment: u8, info: u8) -> Command
     }
 }
 
-/// The type of the checksum over these bytes: 0 where BUILD_CHECKSUM refuses them, since its type adds words or double words and
-/// they are no multiple of these.
+/// How many bytes BUILD_CHECKSUM sums up at most in one call, if the slave tells a limit: its error packet has it.
+pub(crate) fn greatest_sum(asked: &mut Asked) -> Option<u32>
+    ensures { IfSome result (λ size. 0 < size) }
+{
+    let refused = asked.ask(&Command::BuildChecksum { size: u32::MAX });
+    match refused.double(4) {
+        0 => None,
+        size => Some(size),
+    }
+}
+
+/// The type of the checksum over these bytes, or over the last part of them where one sum has fewer: 0 where BUILD_CHECKSUM
+/// refuses it, since its type adds words or double words and they are no multiple of these.
 fn checksum_type(asked: &mut Asked, address: u32, length: u32) -> u8 {
+    let size = match greatest_sum(asked) {
+        Some(greatest) if length > greatest && length % greatest != 0 => length % greatest,
+        Some(greatest) => length.min(greatest),
+        None => length,
+    };
     asked.ask(&Command::SetMta {
         extension: 0,
         address,
     });
-    let sum = asked.ask(&Command::BuildChecksum { size: length });
+    let sum = asked.ask(&Command::BuildChecksum { size });
     if sum.is_positive() { sum.byte(1) } else { 0 }
 }
 
 /// Appends the block CHECKSUM, if there is a type.
-fn put_checksum(number: u8, text: &mut String) -> Result<(), AllocError> {
+fn put_checksum(number: u8, greatest: Option<u32>, text: &mut String) -> Result<(), AllocError> {
     let name = match number {
         1 => "XCP_ADD_11",
         2 => "XCP_ADD_12",
@@ -150,7 +170,13 @@ fn put_checksum(number: u8, text: &mut String) -> Result<(), AllocError> {
         6 => "XCP_ADD_44",
         _ => return Ok(()),
     };
-    writeln!(text, "            /begin CHECKSUM {name} /end CHECKSUM")
+    match greatest {
+        None => writeln!(text, "            /begin CHECKSUM {name} /end CHECKSUM"),
+        Some(size) => writeln!(
+            text,
+            "            /begin CHECKSUM {name} MAX_BLOCK_SIZE 0x{size:X} /end CHECKSUM"
+        ),
+    }
 }
 
 /// Appends the block PAGE, as GET_PAGE_INFO tells it.

@@ -8,6 +8,9 @@ use crate::text::put_text;
 use std::alloc::AllocError;
 use toml::Value;
 
+/// The most values that NUMBER tells: it has two bytes.
+const MOST_NUMBER: u32 = 65_535;
+
 /// Appends a block for each parameter and each measurement, and what these blocks name.
 pub(crate) fn put_tables(tables: &Tables<'_>, text: &mut String) -> Result<(), AllocError> {
     let parameters = tables.parameters.as_slice();
@@ -187,10 +190,11 @@ fn kind_of(entry: &Entry<'_>) -> &'static str {
     }
 }
 
-/// Appends how many values a block has, and in what rows they stand, if they do.
+/// Appends how many values a block has, if an A2L file's NUMBER tells as many, and in what rows they stand, if they do.
 fn put_sizes(shape: Shape, text: &mut String) -> Result<(), AllocError> {
-    if let Some(count) = shape.count {
-        writeln!(text, "      NUMBER {count}")?;
+    match shape.count {
+        Some(count) if count <= MOST_NUMBER => writeln!(text, "      NUMBER {count}")?,
+        _ => {}
     }
     if let Some(columns) = shape.columns {
         let rows = shape.rows.unwrap_or(1);

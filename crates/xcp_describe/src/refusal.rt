@@ -93,9 +93,9 @@ impl fmt::Display for Why {
             Why::Address => "address has to be an integer, 0 to 0xFFFFFFFF",
             Why::Kind =>
                 "type has to be UBYTE, SBYTE, UWORD, SWORD, ULONG, SLONG, FLOAT32_IEEE or FLOAT64_IEEE",
-            Why::Count => "count has to be an integer, 1 to 2040",
+            Why::Count => "count has to be an integer, 1 to 65535",
             Why::Shape =>
-                "columns and rows have to be integers, 1 to 2040, with at most 2040 values in all, without count, and rows only beside columns",
+                "columns and rows have to be integers, 1 to 65535, with at most 1048576 values in all, without count, and rows only beside columns",
             Why::Number =>
                 "low, high, factor and offset have to be finite numbers, integers of 32 bits at most",
             Why::Factor => "factor can't be 0",

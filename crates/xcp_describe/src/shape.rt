@@ -8,14 +8,14 @@ ghost use Rattle.xcp_describe.specs.EntryValues.{are_rows, count_of, is_size, si
 use crate::refusal::Why;
 use toml::Value;
 
-/// The most values that an entry may have.
-const MOST_VALUES: u16 = 2_040;
+/// The most values that an entry may have: as many as the bytes that a layout may have.
+const MOST_VALUES: u32 = 1_048_576;
 
 /// How many values an entry has, and how they stand.
 #[derive(Clone, Copy)]
 pub(crate) struct Shape {
     /// All its values, which stand one behind the other; none is said of a single one.
-    pub(crate) count: Option<u16>,
+    pub(crate) count: Option<u32>,
     /// How many stand in a row, where they stand in rows.
     pub(crate) columns: Option<u16>,
     /// How many rows there are, if it is said.
@@ -42,7 +42,7 @@ impl Shape {
     }
 }
 
-/// A number of values, 1 to 2,040, if it is given, and it may be.
+/// A number of values, 1 to 65,535 as an A2L file has them, if it is given, and it may be.
 fn size_in(table: &Value, key: &str, why: Why) -> Result<Option<u16>, Why>
     ensures passes { IfOk result (λ _. is_size key.now (view table.now) ≡ true) }
     ensures value { IfOk result (λ n. n ≡ size_in key.now (view table.now)) }
@@ -53,7 +53,7 @@ fn size_in(table: &Value, key: &str, why: Why) -> Result<Option<u16>, Why>
         None => return Ok(None),
     };
     match u16::try_from(number) {
-        Ok(size) if 1 <= size && size <= MOST_VALUES => Ok(Some(size)),
+        Ok(size) if 1 <= size => Ok(Some(size)),
         _ => Err(why),
     }
 }
@@ -63,17 +63,20 @@ fn values_in(
     count: Option<u16>,
     columns: Option<u16>,
     rows: Option<u16>,
-) -> Result<Option<u16>, Why>
+) -> Result<Option<u32>, Why>
     ensures passes { IfOk result (λ _. are_rows count columns rows ≡ true) }
     ensures value { IfOk result (λ n. unwrap_or n 1 ≡ values_of count columns rows) }
     ensures refused { IfErr result (λ e. (e ≡ Why.Shape) × (are_rows count columns rows ≡ false)) }
 {
     match (count, columns, rows) {
-        (_, None, None) => Ok(count),
-        (None, Some(columns), _) => match columns.checked_mul(rows.unwrap_or(1)) {
-            Some(values) if values <= MOST_VALUES => Ok(Some(values)),
-            _ => Err(Why::Shape),
-        },
+        (_, None, None) => Ok(count.map(u32::from)),
+        (None, Some(columns), _) => {
+            let rows = u32::from(rows.unwrap_or(1));
+            match u32::from(columns).checked_mul(rows) {
+                Some(values) if values <= MOST_VALUES => Ok(Some(values)),
+                _ => Err(Why::Shape),
+            }
+        }
         _ => Err(Why::Shape),
     }
 }

@@ -164,7 +164,7 @@ fn most_of(key: Key) -> &'static str
 {
     match key {
         Key::Segment => "4 segments, or 16 in the class large",
-        Key::Event => "8 event channels",
+        Key::Event => "8 event channels, or 64 in the class large",
         _ => "2040 bytes in all segments, or 1048576 in the class large",
     }
 }

@@ -82,7 +82,7 @@ told_stored false v w n k h = h.1
 
 was_stored : (b : Bool) (v w : SlaveValue) (n : ℕ) → v.store ≡ b
     → MatchBool b (Stores v (answers.Stored n) w) ((◌≡◌ {A = Answer} (answers.Stored n) answers.NoStore) × (w ≡ v)) → WasStored v w
-was_stored true v w n asked h = record { asked = asked; is = told_stored (v.connected && nat_le outbox_size (length v.outbox)) v w n _ h }
+was_stored true v w n asked h = record { asked = asked; is = told_stored (v.connected && nat_le (outbox_size v) (length v.outbox)) v w n _ h }
 was_stored false v w n asked h = let e = h.0 in cc
 
 pub store_leaves : (v w : SlaveValue) (n : ℕ) → IsLayout (layout_of v) → IsPages v.transfer.pages

@@ -102,7 +102,7 @@ impl Station for Desk {
     }
 
     /// How many packets wait in the slave's outbox.
-    fn pending(&mut self) -> u8
+    fn pending(&mut self) -> u16
         ensures count { result ≡ length self.old.slave.outbox }
         ensures kept { self.new ≡ self.old }
     {

@@ -67,7 +67,7 @@ pub trait Station {
 
     /// How many packets wait for a `Drain`, where the station can tell. It is no exchange, and
     /// promises nothing of the next one.
-    fn pending(&mut self) -> u8
+    fn pending(&mut self) -> u16
         ensures same { exchanges self.new ≡ exchanges self.old }
         ensures stays { same self.old self.new };
 

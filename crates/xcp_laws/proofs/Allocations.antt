@@ -6,6 +6,7 @@ use Rattle.std.proofs.lemmas.List.{get_or_append_left, get_or-append_right, get_
 use Rattle.xcp_packet.specs.declared.Code.TheVariants.{DaqActive, MemoryOverflow, OutOfRange, Sequence}
 use Rattle.xcp_packet.specs.declared.Command.TheVariants as commands
 use Rattle.xcp_packet.specs.declared.Stamp.TheVariants.{Without}
+use Rattle.xcp_memory.specs.ClassLimits.{limits_of}
 use Rattle.xcp_daq.specs.AllocationSequence.{may_follow}
 use Rattle.xcp_daq.specs.DaqLists.{DaqList, all_entries, all_odts, any_running, lacks_list, lacks_odt, list_at, no_list}
 use Rattle.xcp_daq.specs.declared.Allocation.{Allocation}
@@ -32,7 +33,7 @@ same-by false n k x e =
 added-new : {X : Type 0} (xs : List X) (n i : ℕ) (x : X) → length xs ≤ i → get_or (xs ++ replicate n x) i x ≡ x
 added-new xs n i x past = get_or-append_right xs (replicate n x) (length xs) i x refl past ∙ same-by (nat_lt (i - length xs) n) n (i - length xs) x refl
 
-pub lists-freed : (v w : SlaveValue) (bytes : List ℕ) → Accepts v commands.FreeDaq bytes w → w ≡ record (noblock v) { daq = record { lists = []; pointer = None; last = Some FreeDaq } }
+pub lists-freed : (v w : SlaveValue) (bytes : List ℕ) → Accepts v commands.FreeDaq bytes w → w ≡ record (noblock v) { daq = record { class = v.daq.class; lists = []; pointer = None; last = Some FreeDaq } }
 lists-freed v w bytes h = (accepted commands.FreeDaq v bytes w h).after
 
 -- nothing changes but the lists and the last allocation
@@ -65,7 +66,7 @@ lists-rest v w count bytes h = lists-alone v w _ (Some AllocDaq) (accepted (comm
 odt-below : (v w : SlaveValue) (i count : ℕ) (bytes : List ℕ) → Accepts v (commands.AllocOdt i count) bytes w → i < length v.daq.lists
 odt-below v w i count bytes h =
     let k = accepted (commands.AllocOdt i count) v bytes w h in
-    let a = none-holds ((not (may_follow v.daq.last AllocOdt), Sequence) ∷ (lacks_list v.daq i, OutOfRange) ∷ (any_running v.daq, DaqActive) ∷ (count == 0, OutOfRange) ∷ (nat_lt 64 (length (all_odts v.daq.lists) + count), MemoryOverflow) ∷ []) (none-refused _ k.allowed) in
+    let a = none-holds ((not (may_follow v.daq.last AllocOdt), Sequence) ∷ (lacks_list v.daq i, OutOfRange) ∷ (any_running v.daq, DaqActive) ∷ (count == 0, OutOfRange) ∷ (nat_lt (limits_of v.daq.class).odts (length (all_odts v.daq.lists) + count), MemoryOverflow) ∷ []) (none-refused _ k.allowed) in
     is_below _ _ a.1.0
 
 -- a list with more ODTs
@@ -116,7 +117,7 @@ odt-rest v w i count bytes h = lists-alone v w _ (Some AllocOdt) (accepted (comm
 entry-below : (v w : SlaveValue) (i j count : ℕ) (bytes : List ℕ) → Accepts v (commands.AllocOdtEntry i j count) bytes w → (i < length v.daq.lists) × (j < length (list_at v.daq i).odts)
 entry-below v w i j count bytes h =
     let k = accepted (commands.AllocOdtEntry i j count) v bytes w h in
-    let a = none-holds ((not (may_follow v.daq.last AllocOdtEntry), Sequence) ∷ (lacks_list v.daq i, OutOfRange) ∷ (lacks_odt v.daq i j, OutOfRange) ∷ ((list_at v.daq i).running, DaqActive) ∷ (count == 0, OutOfRange) ∷ (nat_lt 256 (length (all_entries v.daq.lists) + count), MemoryOverflow) ∷ []) (none-refused _ k.allowed) in
+    let a = none-holds ((not (may_follow v.daq.last AllocOdtEntry), Sequence) ∷ (lacks_list v.daq i, OutOfRange) ∷ (lacks_odt v.daq i j, OutOfRange) ∷ ((list_at v.daq i).running, DaqActive) ∷ (count == 0, OutOfRange) ∷ (nat_lt (limits_of v.daq.class).entries (length (all_entries v.daq.lists) + count), MemoryOverflow) ∷ []) (none-refused _ k.allowed) in
     (is_below _ _ a.1.0, is_below _ _ a.1.1.0)
 
 -- a list with more entries in an ODT

@@ -44,7 +44,7 @@ pub event-taken : (v w : SlaveValue) (channel : ℕ) (signals : ArrayVec ℕ) (a
 event-taken v w channel signals a p q h =
     let here = first_case (nat_lt channel (length (layout_of v).events)) _ _ (grind (arith, nat_tests, p)) h in
     let sized = first_case (length signals.items == (layout_of v).signals_length) _ _ ((is-it _ _).1 q) here in
-    either (nat_le (length v.outbox + length (with_overload v.overloaded (event_packets v channel signals.items))) outbox_size) _ _ _ sized
+    either (nat_le (length v.outbox + length (with_overload (outbox_size v) v.overloaded (event_packets v channel signals.items))) (outbox_size v)) _ _ _ sized
     (λ m. (inr (_, m.0), ap (λ (x : SlaveValue). x.transfer.pages.signals) m.1))
     (λ m. (inl m.0, ap (λ (x : SlaveValue). x.transfer.pages.signals) m.1))
 

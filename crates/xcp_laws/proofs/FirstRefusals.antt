@@ -12,6 +12,7 @@ use Rattle.xcp_packet.specs.declared.Command.TheVariants as commands
 use Rattle.xcp_packet.specs.declared.Refuse.{Refuse}
 use Rattle.xcp_packet.specs.declared.Reply.{Reply}
 use Rattle.xcp_packet.specs.declared.Reply.TheVariants as replies
+use Rattle.xcp_memory.specs.ClassLimits.{limits_of}
 use Rattle.xcp_daq.specs.AllocationSequence.{may_follow}
 use Rattle.xcp_daq.specs.DaqLists.{all_entries, all_odts, any_running, lacks_list, lacks_odt, list_at}
 use Rattle.xcp_daq.specs.declared.Allocation.{Allocation}
@@ -83,12 +84,12 @@ no-entries (Some AllocOdtEntry) h k = absurd (k refl)
 
 pub daq-in-sequence : (v w : SlaveValue) (count : ℕ) (packet : ArrayVec ℕ) (a : Answer) → v.connected ≡ true → v.daq.last ≢ Some FreeDaq → v.daq.last ≢ Some AllocDaq → spells (layout_of v).order (commands.AllocDaq count) packet.items → Answers v (requests.Command packet) a w → a ≡ answers.Packets ((0xFE ∷ 0x29 ∷ []) ∷ [])
 daq-in-sequence v w count packet a on p q spelt h =
-    out-of-sequence (commands.AllocDaq count) v w a (sequence-first (may_follow v.daq.last AllocDaq) ((any_running v.daq, DaqActive) ∷ (count == 0, OutOfRange) ∷ (nat_lt 16 (length v.daq.lists + count), MemoryOverflow) ∷ []) (no-lists v.daq.last p q)) (executes (commands.AllocDaq count) v w packet a on spelt h)
+    out-of-sequence (commands.AllocDaq count) v w a (sequence-first (may_follow v.daq.last AllocDaq) ((any_running v.daq, DaqActive) ∷ (count == 0, OutOfRange) ∷ (nat_lt (limits_of v.daq.class).lists (length v.daq.lists + count), MemoryOverflow) ∷ []) (no-lists v.daq.last p q)) (executes (commands.AllocDaq count) v w packet a on spelt h)
 
 pub odt-in-sequence : (v w : SlaveValue) (list count : ℕ) (packet : ArrayVec ℕ) (a : Answer) → v.connected ≡ true → v.daq.last ≢ Some AllocDaq → v.daq.last ≢ Some AllocOdt → spells (layout_of v).order (commands.AllocOdt list count) packet.items → Answers v (requests.Command packet) a w → a ≡ answers.Packets ((0xFE ∷ 0x29 ∷ []) ∷ [])
 odt-in-sequence v w list count packet a on p q spelt h =
-    out-of-sequence (commands.AllocOdt list count) v w a (sequence-first (may_follow v.daq.last AllocOdt) ((lacks_list v.daq list, OutOfRange) ∷ (any_running v.daq, DaqActive) ∷ (count == 0, OutOfRange) ∷ (nat_lt 64 (length (all_odts v.daq.lists) + count), MemoryOverflow) ∷ []) (no-odts v.daq.last p q)) (executes (commands.AllocOdt list count) v w packet a on spelt h)
+    out-of-sequence (commands.AllocOdt list count) v w a (sequence-first (may_follow v.daq.last AllocOdt) ((lacks_list v.daq list, OutOfRange) ∷ (any_running v.daq, DaqActive) ∷ (count == 0, OutOfRange) ∷ (nat_lt (limits_of v.daq.class).odts (length (all_odts v.daq.lists) + count), MemoryOverflow) ∷ []) (no-odts v.daq.last p q)) (executes (commands.AllocOdt list count) v w packet a on spelt h)
 
 pub entry-in-sequence : (v w : SlaveValue) (list odt count : ℕ) (packet : ArrayVec ℕ) (a : Answer) → v.connected ≡ true → v.daq.last ≢ Some AllocOdt → v.daq.last ≢ Some AllocOdtEntry → spells (layout_of v).order (commands.AllocOdtEntry list odt count) packet.items → Answers v (requests.Command packet) a w → a ≡ answers.Packets ((0xFE ∷ 0x29 ∷ []) ∷ [])
 entry-in-sequence v w list odt count packet a on p q spelt h =
-    out-of-sequence (commands.AllocOdtEntry list odt count) v w a (sequence-first (may_follow v.daq.last AllocOdtEntry) ((lacks_list v.daq list, OutOfRange) ∷ (lacks_odt v.daq list odt, OutOfRange) ∷ ((list_at v.daq list).running, DaqActive) ∷ (count == 0, OutOfRange) ∷ (nat_lt 256 (length (all_entries v.daq.lists) + count), MemoryOverflow) ∷ []) (no-entries v.daq.last p q)) (executes (commands.AllocOdtEntry list odt count) v w packet a on spelt h)
+    out-of-sequence (commands.AllocOdtEntry list odt count) v w a (sequence-first (may_follow v.daq.last AllocOdtEntry) ((lacks_list v.daq list, OutOfRange) ∷ (lacks_odt v.daq list odt, OutOfRange) ∷ ((list_at v.daq list).running, DaqActive) ∷ (count == 0, OutOfRange) ∷ (nat_lt (limits_of v.daq.class).entries (length (all_entries v.daq.lists) + count), MemoryOverflow) ∷ []) (no-entries v.daq.last p q)) (executes (commands.AllocOdtEntry list odt count) v w packet a on spelt h)

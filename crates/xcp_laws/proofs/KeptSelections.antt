@@ -35,7 +35,7 @@ fired v channel signals a w i k =
     let once : is_selected (after_event channel v.daq) i ≡ is_selected v.daq i = counts-selected channel v.daq.lists i in
     either (nat_lt channel (length (layout_of v).events)) _ _ _ k
     (λ m. either (length signals.items == (layout_of v).signals_length) _ _ _ m
-    (λ n. either (nat_le (length v.outbox + length (with_overload v.overloaded (event_packets v channel signals.items))) outbox_size) _ _ _ n
+    (λ n. either (nat_le (length v.outbox + length (with_overload (outbox_size v) v.overloaded (event_packets v channel signals.items))) (outbox_size v)) _ _ _ n
     (λ o. same-selected w.daq (after_event channel v.daq) i (ap (λ (x : SlaveValue). x.daq) o.1) ∙ once)
     (λ o. same-selected w.daq (after_event channel v.daq) i (ap (λ (x : SlaveValue). x.daq) o.1) ∙ once))
     (λ n. same-selected w.daq v.daq i (ap (λ (x : SlaveValue). x.daq) n.1)))

@@ -1,5 +1,5 @@
 -- The ranges of the commands on DAQ lists.
-use Rattle.std.proofs.Common.{◌≡◌, ◌≢◌, ℕ, ◌+◌, ◌-◌, ◌<◌, ◌≤◌, Bool, true, false, List, [], ◌∷◌, length, get_or, All, Option, Some, None, refl, sym, ap, ◌∙◌, nat_lt, nat_le, arith, inl, inr}
+use Rattle.std.proofs.Common.{◌≡◌, ◌≢◌, ℕ, ◌+◌, ◌-◌, ◌<◌, ◌≤◌, Bool, true, false, List, [], ◌∷◌, length, get_or, All, Option, Some, None, refl, sym, subst, ap, ◌∙◌, nat_lt, nat_le, arith, inl, inr}
 use Rattle.std.specs.Prelude.{◌↔◌, ◌==◌, ◌&&◌, ◌||◌, ◌⊎◌, not}
 use Rattle.std.specs.List.{list_any}
 use Rattle.std.proofs.lemmas.Bool.Decides.{nat_tests}
@@ -10,6 +10,9 @@ use Rattle.xcp_packet.specs.declared.Reply.TheVariants as replies
 use Rattle.xcp_packet.specs.declared.Stamp.{Stamp}
 use Rattle.xcp_packet.specs.declared.Stamp.TheVariants.{Without, Byte, Word, Double}
 use Rattle.xcp_packet.specs.TimeStamps.{stamp_size}
+use Rattle.xcp_memory.specs.declared.Class.{Class}
+use Rattle.xcp_memory.specs.declared.Class.TheVariants.{Papers}
+use Rattle.xcp_memory.specs.ClassLimits.{limits_of}
 use Rattle.xcp_memory.specs.ComputedAccess.{lies_inside}
 use Rattle.xcp_memory.specs.Layout.{LayoutValue}
 use Rattle.xcp_memory.specs.Memory.{LiesInside}
@@ -212,20 +215,24 @@ get-daq-event-info v w channel a h =
     chained (positive (commands.GetDaqEventInfo channel) v w a _ refl refl h)
     (chained (codes-allow ((nat_le (length (layout_of v).events) channel, OutOfRange) ∷ [])) (lastly (below channel (length (layout_of v).events))))
 
-pub alloc-daq : (v w : SlaveValue) (count : ℕ) (a : Answer) → IsAsked v (commands.AllocDaq count) a w → IsPositive a ↔ (((v.daq.last ≡ Some FreeDaq) ⊎ (v.daq.last ≡ Some AllocDaq)) × ((i : ℕ) → i < length v.daq.lists → (list_at v.daq i).running ≡ false) × (0 < count) × (length v.daq.lists + count ≤ 16))
+pub alloc-daq : (v w : SlaveValue) (count : ℕ) (a : Answer) → IsAsked v (commands.AllocDaq count) a w → IsPositive a ↔ (((v.daq.last ≡ Some FreeDaq) ⊎ (v.daq.last ≡ Some AllocDaq)) × ((i : ℕ) → i < length v.daq.lists → (list_at v.daq i).running ≡ false) × (0 < count) × (length v.daq.lists + count ≤ (limits_of v.daq.class).lists))
 alloc-daq v w count a h =
     chained (positive (commands.AllocDaq count) v w a replies.Done refl refl h)
-    (chained (codes-allow ((not (may_follow v.daq.last AllocDaq), Sequence) ∷ (any_running v.daq, DaqActive) ∷ (count == 0, OutOfRange) ∷ (nat_lt 16 (length v.daq.lists + count), MemoryOverflow) ∷ []))
-    (chained (also (lists-after v.daq.last, comes-after AllocDaq FreeDaq AllocDaq v.daq.last refl refl) (also (none-runs v.daq) (also (some count) (lastly (within _ 16))))) four))
+    (chained (codes-allow ((not (may_follow v.daq.last AllocDaq), Sequence) ∷ (any_running v.daq, DaqActive) ∷ (count == 0, OutOfRange) ∷ (nat_lt (limits_of v.daq.class).lists (length v.daq.lists + count), MemoryOverflow) ∷ []))
+    (chained (also (lists-after v.daq.last, comes-after AllocDaq FreeDaq AllocDaq v.daq.last refl refl) (also (none-runs v.daq) (also (some count) (lastly (within _ (limits_of v.daq.class).lists))))) four))
 
-pub alloc-odt : (v w : SlaveValue) (i count : ℕ) (a : Answer) → IsAsked v (commands.AllocOdt i count) a w → IsPositive a ↔ (((v.daq.last ≡ Some AllocDaq) ⊎ (v.daq.last ≡ Some AllocOdt)) × (i < length v.daq.lists) × ((k : ℕ) → k < length v.daq.lists → (list_at v.daq k).running ≡ false) × (0 < count) × (length (all_odts v.daq.lists) + count ≤ 64))
+pub alloc-odt : (v w : SlaveValue) (i count : ℕ) (a : Answer) → IsAsked v (commands.AllocOdt i count) a w → IsPositive a ↔ (((v.daq.last ≡ Some AllocDaq) ⊎ (v.daq.last ≡ Some AllocOdt)) × (i < length v.daq.lists) × ((k : ℕ) → k < length v.daq.lists → (list_at v.daq k).running ≡ false) × (0 < count) × (length (all_odts v.daq.lists) + count ≤ (limits_of v.daq.class).odts))
 alloc-odt v w i count a h =
     chained (positive (commands.AllocOdt i count) v w a replies.Done refl refl h)
-    (chained (codes-allow ((not (may_follow v.daq.last AllocOdt), Sequence) ∷ (lacks_list v.daq i, OutOfRange) ∷ (any_running v.daq, DaqActive) ∷ (count == 0, OutOfRange) ∷ (nat_lt 64 (length (all_odts v.daq.lists) + count), MemoryOverflow) ∷ []))
-    (chained (also (odts-after v.daq.last, comes-after AllocOdt AllocDaq AllocOdt v.daq.last refl refl) (also (below i (length v.daq.lists)) (also (none-runs v.daq) (also (some count) (lastly (within _ 64)))))) five))
+    (chained (codes-allow ((not (may_follow v.daq.last AllocOdt), Sequence) ∷ (lacks_list v.daq i, OutOfRange) ∷ (any_running v.daq, DaqActive) ∷ (count == 0, OutOfRange) ∷ (nat_lt (limits_of v.daq.class).odts (length (all_odts v.daq.lists) + count), MemoryOverflow) ∷ []))
+    (chained (also (odts-after v.daq.last, comes-after AllocOdt AllocDaq AllocOdt v.daq.last refl refl) (also (below i (length v.daq.lists)) (also (none-runs v.daq) (also (some count) (lastly (within _ (limits_of v.daq.class).odts)))))) five))
 
-pub alloc-odt-entry : (v w : SlaveValue) (i j count : ℕ) (a : Answer) → IsAsked v (commands.AllocOdtEntry i j count) a w → IsPositive a ↔ (((v.daq.last ≡ Some AllocOdt) ⊎ (v.daq.last ≡ Some AllocOdtEntry)) × (i < length v.daq.lists) × (j < length (list_at v.daq i).odts) × ((list_at v.daq i).running ≡ false) × (0 < count) × (length (all_entries v.daq.lists) + count ≤ 256))
+pub alloc-odt-entry : (v w : SlaveValue) (i j count : ℕ) (a : Answer) → IsAsked v (commands.AllocOdtEntry i j count) a w → IsPositive a ↔ (((v.daq.last ≡ Some AllocOdt) ⊎ (v.daq.last ≡ Some AllocOdtEntry)) × (i < length v.daq.lists) × (j < length (list_at v.daq i).odts) × ((list_at v.daq i).running ≡ false) × (0 < count) × (length (all_entries v.daq.lists) + count ≤ (limits_of v.daq.class).entries))
 alloc-odt-entry v w i j count a h =
     chained (positive (commands.AllocOdtEntry i j count) v w a replies.Done refl refl h)
-    (chained (codes-allow ((not (may_follow v.daq.last AllocOdtEntry), Sequence) ∷ (lacks_list v.daq i, OutOfRange) ∷ (lacks_odt v.daq i j, OutOfRange) ∷ ((list_at v.daq i).running, DaqActive) ∷ (count == 0, OutOfRange) ∷ (nat_lt 256 (length (all_entries v.daq.lists) + count), MemoryOverflow) ∷ []))
-    (chained (also (entries-after v.daq.last, comes-after AllocOdtEntry AllocOdt AllocOdtEntry v.daq.last refl refl) (also (below i (length v.daq.lists)) (also (below j (length (list_at v.daq i).odts)) (also itself (also (some count) (lastly (within _ 256))))))) six))
+    (chained (codes-allow ((not (may_follow v.daq.last AllocOdtEntry), Sequence) ∷ (lacks_list v.daq i, OutOfRange) ∷ (lacks_odt v.daq i j, OutOfRange) ∷ ((list_at v.daq i).running, DaqActive) ∷ (count == 0, OutOfRange) ∷ (nat_lt (limits_of v.daq.class).entries (length (all_entries v.daq.lists) + count), MemoryOverflow) ∷ []))
+    (chained (also (entries-after v.daq.last, comes-after AllocOdtEntry AllocOdt AllocOdtEntry v.daq.last refl refl) (also (below i (length v.daq.lists)) (also (below j (length (list_at v.daq i).odts)) (also itself (also (some count) (lastly (within _ (limits_of v.daq.class).entries))))))) six))
+
+-- the limits of the class of 2,040 bytes
+pub papers-limits : (class : Class) → class ≡ Papers → ((limits_of class).lists ≡ 16) × ((limits_of class).odts ≡ 64) × ((limits_of class).entries ≡ 256)
+papers-limits class e = subst (λ (c : Class). ((limits_of c).lists ≡ 16) × ((limits_of c).odts ≡ 64) × ((limits_of c).entries ≡ 256)) (sym e) (refl, refl, refl)

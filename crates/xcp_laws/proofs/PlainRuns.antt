@@ -28,6 +28,7 @@ use Rattle.xcp_slave.specs.declared.Exchange.{Exchange}
 use Rattle.xcp_slave.specs.declared.Outcome.TheVariants as answers
 use Rattle.xcp_slave.specs.declared.Request.{Request}
 use Rattle.xcp_slave.specs.declared.Request.TheVariants as requests
+use Rattle.xcp_slave.proofs.ClassLimitLemmas.{few-odts}
 use Rattle.xcp_slave.proofs.LayoutKeptLemmas.{answers-layout}
 use Rattle.xcp_slave.proofs.OverloadLaws.{waiting-unasked}
 use Rattle.xcp_slave.proofs.RefusalLaws.{packets_told}
@@ -122,7 +123,7 @@ id-plain v w packet a plain two e other h =
 
 no-loss : (l : LayoutValue) (p : ArrayVec ℕ) → (p ≡ store_event) ⊎ IsDataPacket l p → p.items ≢ 0xFD ∷ 0x06 ∷ []
 no-loss l p (inl e) = λ h. (let both : 0xFD ∷ 0x03 ∷ [] ≡ 0xFD ∷ 0x06 ∷ [] = sym (ap (λ (x : ArrayVec ℕ). x.items) e) ∙ h in cc)
-no-loss l p (inr d) = λ h. (let first : slice_index p.items 0 ≡ 0xFD = ap (λ (xs : List ℕ). slice_index xs 0) h in let below = d.pid in omega (arith, first, below))
+no-loss l p (inr d) = λ h. (let first : slice_index p.items 0 ≡ 0xFD = ap (λ (xs : List ℕ). slice_index xs 0) h in let below = d.pid in omega (arith, first, below, few-odts l.class))
 
 drains-plain : (l : LayoutValue) (o : List (ArrayVec ℕ)) (v : SlaveValue) (a : Answer) (w : SlaveValue) → All (λ (p : ArrayVec ℕ). (p ≡ store_event) ⊎ IsDataPacket l p) o → Drains o v a w → a ≢ answers.Packets ((0xFD ∷ 0x06 ∷ []) ∷ [])
 drains-plain l [] v a w all k = λ e. (let both : ◌≡◌ {A = Answer} answers.Nothing (answers.Packets ((0xFD ∷ 0x06 ∷ []) ∷ [])) = sym k.0 ∙ e in cc)

@@ -135,11 +135,13 @@ codes-allow rows = chained (code-allows (first_holding rows)) (tests-allow rows)
 abbrev pub is_response : Reply → Bool
 is_response (replies.Error code) = false
 is_response (replies.ErrorCount code count) = false
+is_response (replies.ErrorBlockSize code size) = false
 is_response _ = true
 
 response-begins : (order : Order) (width : ℕ) (reply : Reply) → is_response reply ≡ true → (first : List ℕ) × (more : List (List ℕ)) × (packets_of order width reply ≡ (0xFF ∷ first) ∷ more)
 response-begins order width (replies.Error code) h = cc
 response-begins order width (replies.ErrorCount code count) h = cc
+response-begins order width (replies.ErrorBlockSize code size) h = cc
 response-begins order width (replies.Bytes bytes) h = block_begins width bytes.items
 response-begins order width _ h = (_, _, refl)
 

@@ -22,30 +22,30 @@ pub none-finished : (v w : SlaveValue) (a : Answer) → v.store ≡ false → An
 none-finished v w a e h = other_case v.store _ _ e h
 
 -- there is no room for what tells of a store
-full : (a : Bool) (n : ℕ) → a ≡ true → 64 ≤ n → (a && nat_le 64 n) ≡ true
-full true n e h = grind (arith, nat_tests, h)
-full false n e h = cc
+full : (a : Bool) (size n : ℕ) → a ≡ true → size ≤ n → (a && nat_le size n) ≡ true
+full true size n e h = grind (arith, nat_tests, h)
+full false size n e h = cc
 
 -- there is, or nobody has to be told
-has-room : (a : Bool) (n : ℕ) → (a ≡ false) ⊎ (n < 64) → (a && nat_le 64 n) ≡ false
-has-room true n (inl e) = cc
-has-room true n (inr h) = grind (arith, nat_tests, h)
-has-room false n h = refl
+has-room : (a : Bool) (size n : ℕ) → (a ≡ false) ⊎ (n < size) → (a && nat_le size n) ≡ false
+has-room true size n (inl e) = cc
+has-room true size n (inr h) = grind (arith, nat_tests, h)
+has-room false size n h = refl
 
-pub store-later : (v w : SlaveValue) (a : Answer) → v.store ≡ true → v.connected ≡ true → 64 ≤ length v.outbox → Answers v requests.FinishStore a w → (a ≡ answers.Later) × (w ≡ v)
+pub store-later : (v w : SlaveValue) (a : Answer) → v.store ≡ true → v.connected ≡ true → outbox_size v ≤ length v.outbox → Answers v requests.FinishStore a w → (a ≡ answers.Later) × (w ≡ v)
 store-later v w a e on many h =
-    first_case (v.connected && nat_le outbox_size (length v.outbox)) _ _ (full v.connected (length v.outbox) on many) (first_case v.store _ _ e h)
+    first_case (v.connected && nat_le (outbox_size v) (length v.outbox)) _ _ (full v.connected (outbox_size v) (length v.outbox) on many) (first_case v.store _ _ e h)
 
-pub store-finished : (v w : SlaveValue) (a : Answer) → v.store ≡ true → (v.connected ≡ false) ⊎ (length v.outbox < 64) → Answers v requests.FinishStore a w → (a ≡ answers.Stored (count_by (λ s. s.freeze) v.transfer.pages.segments)) × (w.store ≡ false)
+pub store-finished : (v w : SlaveValue) (a : Answer) → v.store ≡ true → (v.connected ≡ false) ⊎ (length v.outbox < outbox_size v) → Answers v requests.FinishStore a w → (a ≡ answers.Stored (count_by (λ s. s.freeze) v.transfer.pages.segments)) × (w.store ≡ false)
 store-finished v w a e room h =
-    let done = other_case (v.connected && nat_le outbox_size (length v.outbox)) _ _ (has-room v.connected (length v.outbox) room) (first_case v.store _ _ e h) in
+    let done = other_case (v.connected && nat_le (outbox_size v) (length v.outbox)) _ _ (has-room v.connected (outbox_size v) (length v.outbox) room) (first_case v.store _ _ e h) in
     (done.0, ap (λ (x : SlaveValue). x.store) done.1)
 
 -- what waits once a store is finished
 waits-then : (v w : SlaveValue) (n : ℕ) → Answers v requests.FinishStore (answers.Stored n) w → w.outbox ≡ (if v.connected then v.outbox ++ store_event ∷ [] else v.outbox)
 waits-then v w n h =
     either v.store _ _ _ h
-    (λ m. either (v.connected && nat_le outbox_size (length v.outbox)) _ _ _ m
+    (λ m. either (v.connected && nat_le (outbox_size v) (length v.outbox)) _ _ _ m
     (λ l. absurd (let z : ◌≡◌ {A = Answer} (answers.Stored n) answers.Later = l.0 in cc))
     (λ s. ap (λ (x : SlaveValue). x.outbox) s.1))
     (λ o. absurd (let z : ◌≡◌ {A = Answer} (answers.Stored n) answers.NoStore = o.0 in cc))

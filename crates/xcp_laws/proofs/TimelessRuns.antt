@@ -98,7 +98,7 @@ lists-sampled channel time other pages d i (l ∷ lists) h =
 
 samples-timed : (channel : ℕ) (packets : List (ArrayVec ℕ)) (v : SlaveValue) (n : ℕ) (a : Answer) (w : SlaveValue) → Samples channel packets v a w → Samples channel packets (timed v n) a (timed w n)
 samples-timed channel packets v n a w k =
-    each-case (nat_le (length v.outbox + length (with_overload v.overloaded packets)) outbox_size) _ _ _ _ (λ m. (m.0, same-timed _ w n m.1)) (λ m. (m.0, same-timed _ w n m.1)) k
+    each-case (nat_le (length v.outbox + length (with_overload (outbox_size v) v.overloaded packets)) (outbox_size v)) _ _ _ _ (λ m. (m.0, same-timed _ w n m.1)) (λ m. (m.0, same-timed _ w n m.1)) k
 
 fires-timed : (channel : ℕ) (signals : List ℕ) (v : SlaveValue) (n : ℕ) (a : Answer) (w : SlaveValue) → All IsPlain v.daq.lists → Fires channel signals v a w → Fires channel signals (timed v n) a (timed w n)
 fires-timed channel signals v n a w h k =
@@ -116,7 +116,7 @@ drains-timed [] v n a w k = (k.0, same-timed _ w n k.1)
 drains-timed (packet ∷ rest) v n a w k = (k.0, same-timed _ w n k.1)
 
 stores-timed : (v : SlaveValue) (n : ℕ) (a : Answer) (w : SlaveValue) → Stores v a w → Stores (timed v n) a (timed w n)
-stores-timed v n a w k = each-case (v.connected && nat_le outbox_size (length v.outbox)) _ _ _ _ (λ m. (m.0, same-timed _ w n m.1)) (λ m. (m.0, same-timed _ w n m.1)) k
+stores-timed v n a w k = each-case (v.connected && nat_le (outbox_size v) (length v.outbox)) _ _ _ _ (λ m. (m.0, same-timed _ w n m.1)) (λ m. (m.0, same-timed _ w n m.1)) k
 
 -- the layout has no clock, and no list has time stamps
 record IsClockless (v : SlaveValue) : Type 0 where
@@ -240,7 +240,7 @@ fires-plain channel signals v a w h k =
     let after : All IsPlain (with_event channel v).daq.lists = event-plain channel v.daq.lists h in
     either (nat_lt channel (length (layout_of v).events)) _ _ _ k
     (λ m. either (length signals == (layout_of v).signals_length) _ _ _ m
-    (λ n. either (nat_le (length v.outbox + length (with_overload v.overloaded _)) outbox_size) _ _ _ n (λ o. led-plain (with_event channel v).daq _ w o.1 refl after) (λ o. led-plain (with_event channel v).daq _ w o.1 refl after))
+    (λ n. either (nat_le (length v.outbox + length (with_overload (outbox_size v) v.overloaded _)) (outbox_size v)) _ _ _ n (λ o. led-plain (with_event channel v).daq _ w o.1 refl after) (λ o. led-plain (with_event channel v).daq _ w o.1 refl after))
     (λ n. led-plain v.daq _ w n.1 refl h))
     (λ m. led-plain v.daq _ w m.1 refl h)
 
@@ -250,7 +250,7 @@ answers-plain v (requests.Event channel signals) a w h k = fires-plain channel s
 answers-plain v requests.Drain a w h k = drains-plain v.outbox v a w h.plain k
 answers-plain v requests.FinishStore a w h k =
     either v.store _ _ _ k
-    (λ m. either (v.connected && nat_le outbox_size (length v.outbox)) _ _ _ m (λ o. led-plain v.daq _ w o.1 refl h.plain) (λ o. led-plain v.daq _ w o.1 refl h.plain))
+    (λ m. either (v.connected && nat_le (outbox_size v) (length v.outbox)) _ _ _ m (λ o. led-plain v.daq _ w o.1 refl h.plain) (λ o. led-plain v.daq _ w o.1 refl h.plain))
     (λ m. led-plain v.daq _ w m.1 refl h.plain)
 answers-plain v requests.Hangup a w h k = led-plain _ _ w k.1 refl no-lists
 answers-plain v (requests.Time time) a w h k = led-plain v.daq _ w k.1 refl h.plain

@@ -10,6 +10,7 @@ use Rattle.xcp_packet.specs.declared.Command.{Command}
 use Rattle.xcp_packet.specs.declared.Command.TheVariants as commands
 use Rattle.xcp_packet.specs.declared.Code.TheVariants.{OutOfRange}
 use Rattle.xcp_packet.specs.declared.Reply.{Reply}
+use Rattle.xcp_memory.specs.ClassLimits.{limits_of}
 use Rattle.xcp_memory.specs.Layout.{no_event}
 use Rattle.xcp_memory.specs.Pages.{no_segment, segment_at}
 use Rattle.xcp_daq.specs.DaqInfo.{mode_bits}
@@ -183,7 +184,7 @@ mode-there v w i bytes h =
 
 -- an event channel
 
-pub event-told : (v w : SlaveValue) (channel : ℕ) (bytes : List ℕ) → Accepts v (commands.GetDaqEventInfo channel) bytes w → bytes ≡ 0x04 ∷ 16 ∷ length (get_or (layout_of v).events channel no_event).name ∷ (get_or (layout_of v).events channel no_event).cycle ∷ (get_or (layout_of v).events channel no_event).unit ∷ (get_or (layout_of v).events channel no_event).priority ∷ []
+pub event-told : (v w : SlaveValue) (channel : ℕ) (bytes : List ℕ) → Accepts v (commands.GetDaqEventInfo channel) bytes w → bytes ≡ 0x04 ∷ (limits_of (layout_of v).class).lists ∷ length (get_or (layout_of v).events channel no_event).name ∷ (get_or (layout_of v).events channel no_event).cycle ∷ (get_or (layout_of v).events channel no_event).unit ∷ (get_or (layout_of v).events channel no_event).priority ∷ []
 event-told v w channel bytes h = bytes-told (commands.GetDaqEventInfo channel) v bytes w h
 
 pub event-there : (v w : SlaveValue) (channel : ℕ) (bytes : List ℕ) → Accepts v (commands.GetDaqEventInfo channel) bytes w → channel < length (layout_of v).events

@@ -2,6 +2,7 @@
 use Rattle.std.proofs.Common.{◌≡◌, ◌≢◌, ℕ, ◌+◌, ◌-◌, ◌<◌, ◌≤◌, Bool, true, false, List, [], ◌∷◌, length, Option, Some, None, refl, sym, ap, subst, ◌∙◌, nat_lt, nat_le, arith}
 use Rattle.std.specs.Prelude.{◌↔◌, ◌==◌, ◌||◌, ◌%◌, not, if◌then◌else◌}
 use Rattle.std.proofs.lemmas.Bool.Decides.{nat_tests}
+use Rattle.xcp_packet.specs.ByteOrder.{double_bytes}
 use Rattle.xcp_packet.specs.Rows.{first_holding, refused}
 use Rattle.xcp_packet.specs.declared.Code.{Code}
 use Rattle.xcp_packet.specs.declared.Code.TheVariants.{AccessDenied, OutOfRange, WriteProtected}
@@ -11,23 +12,28 @@ use Rattle.xcp_memory.specs.Checksum.{sum_refusal, unit}
 use Rattle.xcp_memory.specs.ComputedAccess.{is_inside, lies_inside, segment_of, write_refusal, write_refusal_by}
 use Rattle.xcp_memory.proofs.AreaLaws.{inside_computes, inside_lies}
 use Rattle.xcp_memory.proofs.WriteRefusalLaws.{outside_is_denied, protected_is_refused}
-use Rattle.xcp_memory.specs.Layout.{IsLayout, signals_extent}
+use Rattle.xcp_memory.specs.ClassLimits.{limits_of}
+use Rattle.xcp_memory.specs.Layout.{IsLayout, LayoutValue, signals_extent}
 use Rattle.xcp_memory.specs.Memory.{LiesInside, LiesProtected}
 use Rattle.xcp_memory.specs.Pages.{PagesValue, segment_at}
 use Rattle.xcp_memory.specs.declared.ChecksumKind.{ChecksumKind}
+use Rattle.xcp_memory.specs.declared.Class.{Class}
+use Rattle.xcp_memory.specs.declared.Class.TheVariants.{Large, Papers}
 use Rattle.xcp_memory.specs.declared.ChecksumKind.TheVariants.{Add11, Add12, Add14, Add22, Add24, Add44}
 use Rattle.xcp_transfer.specs.MtaAccess.{is_readable, sum_refusal_at, write_refusal_at}
 use Rattle.xcp_transfer.specs.TransferValue.{text_of}
+use Rattle.xcp_transfer.specs.Uploads.{greatest_sum}
 use Rattle.xcp_transfer.specs.declared.Mta.{Mta}
 use Rattle.xcp_transfer.specs.declared.Mta.TheVariants.{Memory, Nowhere, Text}
 use Rattle.xcp_transfer.specs.declared.TextId.{TextId}
 use Rattle.xcp_slave.specs.Outcomes.{Answer}
+use Rattle.xcp_slave.specs.declared.outcome.Outcome.TheVariants as answers
 use Rattle.xcp_slave.specs.SlaveInvariant.{IsSlave}
 use Rattle.xcp_slave.specs.SlaveValue.{SlaveValue, layout_of}
 use Rattle.xcp_slave.proofs.ListInvariantLemmas.{NoneHolds}
 use Rattle.xcp_slave.proofs.TransferInvariantLemmas.{none-behind}
 use Rattle.xcp_laws.proofs.ListRanges.{inside}
-use Rattle.xcp_laws.proofs.PositiveAnswers.{also, chained, code-allows, is, lastly, positive, some, tests-allow, three, within}
+use Rattle.xcp_laws.proofs.PositiveAnswers.{also, chained, first-refused, four, holds-first-reply, is, lastly, positive, some, tests-allow, three, within}
 use Rattle.xcp_laws.specs.AskedCommands.{IsAsked, IsPositive}
 
 pub set-mta : (v w : SlaveValue) (extension address : ℕ) (a : Answer) → IsAsked v (commands.SetMta extension address) a w → IsPositive a ↔ (extension ≡ 0)
@@ -72,30 +78,53 @@ short-upload v w n extension address a h =
 
 -- sums
 
+none-after : (o : Option Code) → o ≡ None → NoneHolds (refused o)
+none-after None h = tt
+none-after (Some code) h = cc
+
+pub behind : (o : Option Code) → NoneHolds (refused o) ↔ (o ≡ None)
+behind o = (none-behind o, none-after o)
+
 pub units : (unit Add11 ≡ 1) × (unit Add12 ≡ 1) × (unit Add14 ≡ 1) × (unit Add22 ≡ 2) × (unit Add24 ≡ 2) × (unit Add44 ≡ 4)
 units = (refl, refl, refl, refl, refl, refl)
 
 -- the checksum at an MTA, where the bytes lie in one area exactly if P holds
-sums : (v w : SlaveValue) (size : ℕ) (a : Answer) (m : Mta) (lies : Bool) (P : Type 0) → v.transfer.mta ≡ m → sum_refusal_at v.transfer.pages m size ≡ sum_refusal (layout_of v).checksum lies size → ((not lies ≡ false) ↔ P) → IsAsked v (commands.BuildChecksum size) a w → IsPositive a ↔ ((0 < size) × (size % unit (layout_of v).checksum ≡ 0) × P)
+sums : (v w : SlaveValue) (size : ℕ) (a : Answer) (m : Mta) (lies : Bool) (P : Type 0) → v.transfer.mta ≡ m → sum_refusal_at v.transfer.pages m size ≡ sum_refusal (layout_of v).checksum lies size → ((not lies ≡ false) ↔ P) → IsAsked v (commands.BuildChecksum size) a w → IsPositive a ↔ ((size ≤ greatest_sum (layout_of v)) × (0 < size) × (size % unit (layout_of v).checksum ≡ 0) × P)
 sums v w size a m lies P e same f h =
     let kind : ChecksumKind = (layout_of v).checksum in
+    let most : ℕ = greatest_sum (layout_of v) in
     let rows : List (Bool × Code) = (size == 0, OutOfRange) ∷ (not (size % unit kind == 0), OutOfRange) ∷ (not lies, AccessDenied) ∷ [] in
     let at : sum_refusal_at v.transfer.pages v.transfer.mta size ≡ first_holding rows = ap (λ (x : Mta). sum_refusal_at v.transfer.pages x size) e ∙ same in
     chained (positive (commands.BuildChecksum size) v w a _ refl refl h)
-    (chained (code-allows (sum_refusal_at v.transfer.pages v.transfer.mta size))
+    (chained (tests-allow ((nat_lt most size, replies.ErrorBlockSize OutOfRange most) ∷ refused (sum_refusal_at v.transfer.pages v.transfer.mta size)))
+    (chained (also (within size most)
+    (chained (behind (sum_refusal_at v.transfer.pages v.transfer.mta size))
     (chained (λ k. sym at ∙ k, λ k. at ∙ k)
-    (chained (tests-allow rows) (chained (also (some size) (also (is (size % unit kind) 0) (lastly f))) three))))
+    (chained (tests-allow rows) (also (some size) (also (is (size % unit kind) 0) (lastly f))))))) four))
 
-pub build-checksum : (v w : SlaveValue) (size address : ℕ) (a : Answer) → v.transfer.mta ≡ Memory address → IsAsked v (commands.BuildChecksum size) a w → IsPositive a ↔ ((0 < size) × (size % unit (layout_of v).checksum ≡ 0) × LiesInside (layout_of v) address size)
+pub build-checksum : (v w : SlaveValue) (size address : ℕ) (a : Answer) → v.transfer.mta ≡ Memory address → IsAsked v (commands.BuildChecksum size) a w → IsPositive a ↔ ((size ≤ greatest_sum (layout_of v)) × (0 < size) × (size % unit (layout_of v).checksum ≡ 0) × LiesInside (layout_of v) address size)
 build-checksum v w size address a e h = sums v w size a (Memory address) (lies_inside (layout_of v) address size) _ e refl (inside (layout_of v) address size) h
 
 no-sum : (m : Mta) (v w : SlaveValue) (size : ℕ) (a : Answer) → v.transfer.mta ≡ m → ((address : ℕ) → m ≢ Memory address) → IsAsked v (commands.BuildChecksum size) a w → IsPositive a → ⊥
-no-sum Nowhere v w size a e f h p = ((sums v w size a Nowhere false ⊥ e refl no-read h).0 p).2
+no-sum Nowhere v w size a e f h p = ((sums v w size a Nowhere false ⊥ e refl no-read h).0 p).3
 no-sum (Memory address) v w size a e f h p = f address refl
-no-sum (Text id place) v w size a e f h p = ((sums v w size a (Text id place) false ⊥ e refl no-read h).0 p).2
+no-sum (Text id place) v w size a e f h p = ((sums v w size a (Text id place) false ⊥ e refl no-read h).0 p).3
 
 pub build-no-checksum : (v w : SlaveValue) (size : ℕ) (a : Answer) → ((address : ℕ) → v.transfer.mta ≢ Memory address) → IsAsked v (commands.BuildChecksum size) a w → IsPositive a → ⊥
 build-no-checksum v w size a f h p = no-sum v.transfer.mta v w size a refl f h p
+
+-- a sum of too many bytes is refused with how many they may be
+pub long-sum : (v w : SlaveValue) (size : ℕ) (a : Answer) → greatest_sum (layout_of v) < size → IsAsked v (commands.BuildChecksum size) a w → a ≡ answers.Packets ((0xFE ∷ 0x22 ∷ 0 ∷ 0 ∷ double_bytes (layout_of v).order (greatest_sum (layout_of v))) ∷ [])
+long-sum v w size a long h =
+    let most : ℕ = greatest_sum (layout_of v) in
+    first-refused (commands.BuildChecksum size) v w a (replies.ErrorBlockSize OutOfRange most)
+    (holds-first-reply (nat_lt most size) (replies.ErrorBlockSize OutOfRange most) (refused (sum_refusal_at v.transfer.pages v.transfer.mta size)) (grind (arith, nat_tests, long))) h
+
+pub sum-large : (l : LayoutValue) → l.class ≡ Large → greatest_sum l ≡ 0x1_0000
+sum-large l e = ap (λ (c : Class). (limits_of c).checksum) e
+
+pub sum-papers : (l : LayoutValue) → l.class ≡ Papers → greatest_sum l ≡ 0xFFFF_FFFF
+sum-papers l e = ap (λ (c : Class). (limits_of c).checksum) e
 
 -- writes
 
@@ -124,13 +153,6 @@ writable v a n l some = (
   λ h. (lies-by (lies_inside v.layout a n) v a n refl h, λ p. (let z : ◌≡◌ {A = Option Code} None (Some WriteProtected) = sym h ∙ (protected_is_refused v a n l some).1 p in cc)),
   λ p. one-of-three (segment_of v.layout a n) v a n _ (λ h. h) (λ h. absurd ((outside_is_denied v a n).0 h p.0)) (λ h. absurd (p.1 ((protected_is_refused v a n l some).0 h))),
 )
-
-none-after : (o : Option Code) → o ≡ None → NoneHolds (refused o)
-none-after None h = tt
-none-after (Some code) h = cc
-
-pub behind : (o : Option Code) → NoneHolds (refused o) ↔ (o ≡ None)
-behind o = (none-behind o, none-after o)
 
 pub modify-bits : (v w : SlaveValue) (s ma mx address : ℕ) (a : Answer) → IsSlave v → v.transfer.mta ≡ Memory address → IsAsked v (commands.ModifyBits s ma mx) a w → IsPositive a ↔ ((s ≤ 31) × LiesInside (layout_of v) address 4 × (LiesProtected v.transfer.pages address 4 → ⊥))
 modify-bits v w s ma mx address a good e h =

@@ -10,7 +10,7 @@ ghost use Rattle.xcp_slave.specs.SlaveValue.{SlaveValue, noblock};
 /// FREE_DAQ leaves no list and no DAQ pointer.
 /// ASAM MCD-1 XCP, protocol layer, description of commands: FREE_DAQ.
 pub fn all_lists_are_freed()
-    ensures { (v w : SlaveValue) (bytes : List ℕ) → Accepts v Command.FreeDaq bytes w → w ≡ record (noblock v) { daq = record { lists = []; pointer = None; last = Some Allocation.FreeDaq } } }
+    ensures { (v w : SlaveValue) (bytes : List ℕ) → Accepts v Command.FreeDaq bytes w → w ≡ record (noblock v) { daq = record { class = v.daq.class; lists = []; pointer = None; last = Some Allocation.FreeDaq } } }
 {}
 
 /// ALLOC_DAQ adds so many lists behind those that there are, which stay as they are. A new one has event channel 0,

@@ -1,5 +1,6 @@
 //! What the commands that only ask are told, each by the thing that it asks for.
 ghost use Rattle.std.specs.Prelude.{◌≡◌, ◌++◌, ◌↔◌, ◌<◌, ℕ, List, [], ◌∷◌, bit_and, false, get_or, length, slice_index, true};
+ghost use Rattle.xcp_memory.specs.ClassLimits.{limits_of};
 ghost use Rattle.xcp_memory.specs.Layout.{no_event};
 ghost use Rattle.xcp_memory.specs.Pages.{no_segment, segment_at};
 ghost use Rattle.xcp_packet.specs.ByteOrder.{double_bytes, word_bytes};
@@ -29,11 +30,11 @@ pub fn a_list_mode_is_of_its_list()
     ensures there { (v w : SlaveValue) (i : ℕ) (bytes : List ℕ) → Accepts v (Command.GetDaqListMode i) bytes w → i < length v.daq.lists }
 {}
 
-/// GET_DAQ_EVENT_INFO tells of the event channel that it names: it is for DAQ, has room for 16 lists, and
+/// GET_DAQ_EVENT_INFO tells of the event channel that it names: it is for DAQ, can have as many lists as the class has, and
 /// has this length of a name, cycle, unit and priority.
 /// ASAM MCD-1 XCP, protocol layer, description of commands: GET_DAQ_EVENT_INFO.
 pub fn an_event_is_told_as_it_is()
-    ensures told { (v w : SlaveValue) (channel : ℕ) (bytes : List ℕ) → Accepts v (Command.GetDaqEventInfo channel) bytes w → bytes ≡ 0x04 ∷ 16 ∷ length (get_or (layout_of v).events channel no_event).name ∷ (get_or (layout_of v).events channel no_event).cycle ∷ (get_or (layout_of v).events channel no_event).unit ∷ (get_or (layout_of v).events channel no_event).priority ∷ [] }
+    ensures told { (v w : SlaveValue) (channel : ℕ) (bytes : List ℕ) → Accepts v (Command.GetDaqEventInfo channel) bytes w → bytes ≡ 0x04 ∷ (limits_of (layout_of v).class).lists ∷ length (get_or (layout_of v).events channel no_event).name ∷ (get_or (layout_of v).events channel no_event).cycle ∷ (get_or (layout_of v).events channel no_event).unit ∷ (get_or (layout_of v).events channel no_event).priority ∷ [] }
     ensures there { (v w : SlaveValue) (channel : ℕ) (bytes : List ℕ) → Accepts v (Command.GetDaqEventInfo channel) bytes w → channel < length (layout_of v).events }
 {}
 

@@ -4,7 +4,9 @@ ghost use Rattle.arrayvec.specs.ArrayVec.{ArrayVec};
 ghost use Rattle.xcp_packet.specs.declared.Command.{Command};
 ghost use Rattle.xcp_packet.specs.declared.Stamp.{Stamp};
 ghost use Rattle.xcp_packet.specs.TimeStamps.{stamp_size};
+ghost use Rattle.xcp_memory.specs.ClassLimits.{limits_of};
 ghost use Rattle.xcp_memory.specs.Checksum.{unit};
+ghost use Rattle.xcp_memory.specs.declared.Class.{Class};
 ghost use Rattle.xcp_memory.specs.Memory.{LiesInside, LiesProtected};
 ghost use Rattle.xcp_memory.specs.Pages.{segment_at};
 ghost use Rattle.xcp_daq.specs.DaqLists.{all_entries, all_odts, first_size, list_at, odt_size};
@@ -12,6 +14,7 @@ ghost use Rattle.xcp_daq.specs.declared.Allocation.{Allocation};
 ghost use Rattle.xcp_daq.specs.declared.Pointer.{Pointer};
 ghost use Rattle.xcp_memory.specs.declared.ChecksumKind.{ChecksumKind};
 ghost use Rattle.xcp_transfer.specs.TransferValue.{BlockValue, text_of};
+ghost use Rattle.xcp_transfer.specs.Uploads.{greatest_sum};
 ghost use Rattle.xcp_transfer.specs.declared.Mta.{Mta};
 ghost use Rattle.xcp_transfer.specs.declared.TextId.{TextId};
 ghost use Rattle.xcp_slave.specs.AcceptedCommands.{Concerns};
@@ -23,7 +26,8 @@ ghost use Rattle.xcp_laws.specs.AskedCommands.{IsAsked, IsPositive, IsSwitchMode
 
 /// The transfers are accepted exactly if they name as many bytes as they may, address extension 0, and bytes that lie
 /// in one area, or in what is left of a text. Nothing is read at an MTA that is nowhere, and no sum is built of a text.
-/// A sum wants whole words (ADD_22, ADD_24) or double words (ADD_44). MODIFY_BITS shifts by 31 at most.
+/// A sum wants whole words (ADD_22, ADD_24) or double words (ADD_44), and no more bytes than the layout's class sums up in one call.
+/// MODIFY_BITS shifts by 31 at most.
 /// ASAM MCD-1 XCP, protocol layer, description of commands: SET_MTA, UPLOAD, SHORT_UPLOAD, BUILD_CHECKSUM,
 /// MODIFY_BITS.
 pub fn transfers_are_accepted_in_range()
@@ -32,7 +36,7 @@ pub fn transfers_are_accepted_in_range()
     ensures upload_text { (v w : SlaveValue) (n place : ℕ) (id : TextId) (a : Answer) → v.transfer.mta ≡ Mta.Text id place → IsAsked v (Command.Upload n) a w → IsPositive a ↔ ((0 < n) × (place + n ≤ length (text_of (layout_of v) id))) }
     ensures upload_nowhere { (v w : SlaveValue) (n : ℕ) (a : Answer) → v.transfer.mta ≡ Mta.Nowhere → IsAsked v (Command.Upload n) a w → IsPositive a → ⊥ }
     ensures short_upload { (v w : SlaveValue) (n extension address : ℕ) (a : Answer) → IsAsked v (Command.ShortUpload n extension address) a w → IsPositive a ↔ (((0 < n) × (n ≤ (layout_of v).max_cto - 1)) × (extension ≡ 0) × LiesInside (layout_of v) address n) }
-    ensures build_checksum { (v w : SlaveValue) (size address : ℕ) (a : Answer) → v.transfer.mta ≡ Mta.Memory address → IsAsked v (Command.BuildChecksum size) a w → IsPositive a ↔ ((0 < size) × (size % unit (layout_of v).checksum ≡ 0) × LiesInside (layout_of v) address size) }
+    ensures build_checksum { (v w : SlaveValue) (size address : ℕ) (a : Answer) → v.transfer.mta ≡ Mta.Memory address → IsAsked v (Command.BuildChecksum size) a w → IsPositive a ↔ ((size ≤ greatest_sum (layout_of v)) × (0 < size) × (size % unit (layout_of v).checksum ≡ 0) × LiesInside (layout_of v) address size) }
     ensures units { (unit ChecksumKind.Add11 ≡ 1) × (unit ChecksumKind.Add12 ≡ 1) × (unit ChecksumKind.Add14 ≡ 1) × (unit ChecksumKind.Add22 ≡ 2) × (unit ChecksumKind.Add24 ≡ 2) × (unit ChecksumKind.Add44 ≡ 4) }
     ensures build_no_checksum { (v w : SlaveValue) (size : ℕ) (a : Answer) → ((address : ℕ) → v.transfer.mta ≢ Mta.Memory address) → IsAsked v (Command.BuildChecksum size) a w → IsPositive a → ⊥ }
     ensures modify_bits { (v w : SlaveValue) (s ma mx address : ℕ) (a : Answer) → IsSlave v → v.transfer.mta ≡ Mta.Memory address → IsAsked v (Command.ModifyBits s ma mx) a w → IsPositive a ↔ ((s ≤ 31) × LiesInside (layout_of v) address 4 × (LiesProtected v.transfer.pages address 4 → ⊥)) }
@@ -79,8 +83,8 @@ pub fn page_commands_are_accepted_in_range()
 /// their mode is one that they have, and all else that they name is in its range. A list that runs isn't written
 /// to, and while a list runs none is allocated and no ODT; a list that is started or selected has no ODT of more
 /// than MAX_DTO - 1 bytes, and no more in the first one with the time stamp. A list has time stamps (mode 10) only of a
-/// slave with a clock, and GET_DAQ_CLOCK is one of its commands alone. There are at most 16 lists, 64 ODTs and 256
-/// entries.
+/// slave with a clock, and GET_DAQ_CLOCK is one of its commands alone. There are at most as many lists, ODTs
+/// and entries as the class has that the lists are of, which is the layout's: 16, 64 and 256 in the class of 2,040 bytes.
 /// ASAM MCD-1 XCP, protocol layer, description of commands: CLEAR_DAQ_LIST, SET_DAQ_PTR, WRITE_DAQ,
 /// SET_DAQ_LIST_MODE, GET_DAQ_LIST_MODE, START_STOP_DAQ_LIST, START_STOP_SYNCH, GET_DAQ_CLOCK, READ_DAQ, GET_DAQ_EVENT_INFO,
 /// ALLOC_DAQ, ALLOC_ODT, ALLOC_ODT_ENTRY.
@@ -96,9 +100,11 @@ pub fn list_commands_are_accepted_in_range()
     ensures get_daq_clock { (v w : SlaveValue) (a : Answer) → IsAsked v Command.GetDaqClock a w → IsPositive a ↔ ((layout_of v).clock.stamp ≢ Stamp.Without) }
     ensures read_daq { (v w : SlaveValue) (a : Answer) → IsAsked v Command.ReadDaq a w → IsPositive a ↔ (v.daq.pointer ≢ None) }
     ensures get_daq_event_info { (v w : SlaveValue) (channel : ℕ) (a : Answer) → IsAsked v (Command.GetDaqEventInfo channel) a w → IsPositive a ↔ (channel < length (layout_of v).events) }
-    ensures alloc_daq { (v w : SlaveValue) (count : ℕ) (a : Answer) → IsAsked v (Command.AllocDaq count) a w → IsPositive a ↔ (((v.daq.last ≡ Some Allocation.FreeDaq) ⊎ (v.daq.last ≡ Some Allocation.AllocDaq)) × ((i : ℕ) → i < length v.daq.lists → (list_at v.daq i).running ≡ false) × (0 < count) × (length v.daq.lists + count ≤ 16)) }
-    ensures alloc_odt { (v w : SlaveValue) (i count : ℕ) (a : Answer) → IsAsked v (Command.AllocOdt i count) a w → IsPositive a ↔ (((v.daq.last ≡ Some Allocation.AllocDaq) ⊎ (v.daq.last ≡ Some Allocation.AllocOdt)) × (i < length v.daq.lists) × ((k : ℕ) → k < length v.daq.lists → (list_at v.daq k).running ≡ false) × (0 < count) × (length (all_odts v.daq.lists) + count ≤ 64)) }
-    ensures alloc_odt_entry { (v w : SlaveValue) (i j count : ℕ) (a : Answer) → IsAsked v (Command.AllocOdtEntry i j count) a w → IsPositive a ↔ (((v.daq.last ≡ Some Allocation.AllocOdt) ⊎ (v.daq.last ≡ Some Allocation.AllocOdtEntry)) × (i < length v.daq.lists) × (j < length (list_at v.daq i).odts) × ((list_at v.daq i).running ≡ false) × (0 < count) × (length (all_entries v.daq.lists) + count ≤ 256)) }
+    ensures alloc_daq { (v w : SlaveValue) (count : ℕ) (a : Answer) → IsAsked v (Command.AllocDaq count) a w → IsPositive a ↔ (((v.daq.last ≡ Some Allocation.FreeDaq) ⊎ (v.daq.last ≡ Some Allocation.AllocDaq)) × ((i : ℕ) → i < length v.daq.lists → (list_at v.daq i).running ≡ false) × (0 < count) × (length v.daq.lists + count ≤ (limits_of v.daq.class).lists)) }
+    ensures alloc_odt { (v w : SlaveValue) (i count : ℕ) (a : Answer) → IsAsked v (Command.AllocOdt i count) a w → IsPositive a ↔ (((v.daq.last ≡ Some Allocation.AllocDaq) ⊎ (v.daq.last ≡ Some Allocation.AllocOdt)) × (i < length v.daq.lists) × ((k : ℕ) → k < length v.daq.lists → (list_at v.daq k).running ≡ false) × (0 < count) × (length (all_odts v.daq.lists) + count ≤ (limits_of v.daq.class).odts)) }
+    ensures alloc_odt_entry { (v w : SlaveValue) (i j count : ℕ) (a : Answer) → IsAsked v (Command.AllocOdtEntry i j count) a w → IsPositive a ↔ (((v.daq.last ≡ Some Allocation.AllocOdt) ⊎ (v.daq.last ≡ Some Allocation.AllocOdtEntry)) × (i < length v.daq.lists) × (j < length (list_at v.daq i).odts) × ((list_at v.daq i).running ≡ false) × (0 < count) × (length (all_entries v.daq.lists) + count ≤ (limits_of v.daq.class).entries)) }
+    ensures class { (v : SlaveValue) → IsSlave v → v.daq.class ≡ (layout_of v).class }
+    ensures papers { (v : SlaveValue) → IsSlave v → (layout_of v).class ≡ Class.Papers → ((limits_of v.daq.class).lists ≡ 16) × ((limits_of v.daq.class).odts ≡ 64) × ((limits_of v.daq.class).entries ≡ 256) }
 {}
 
 /// GET_VERSION and WRITE_DAQ_MULTIPLE are commands of a slave whose layout asks for them. GET_VERSION is accepted exactly

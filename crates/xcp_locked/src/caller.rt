@@ -26,7 +26,7 @@ impl<N: Name> Model for Caller<N> {
 
     ghost view = { λ c. record { number = c.number; events = c.events; signals = c.signals; receipts = c.receipts.list; accepted = c.accepted } };
 
-    ghost invariant = { λ c. (c.share.parts ≡ 1) × (c.share.amount ≡ c.accepted) × (1 ≤ c.events) × (c.events ≤ 8) × (c.signals ≤ 64) };
+    ghost invariant = { λ c. (c.share.parts ≡ 1) × (c.share.amount ≡ c.accepted) × (1 ≤ c.events) × (c.events ≤ 64) × (c.signals ≤ 64) };
 }
 
 impl<N: Name> Caller<N> {

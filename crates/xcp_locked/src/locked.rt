@@ -220,7 +220,7 @@ impl<N: Name> Locked<N> {
     }
 
     /// How many packets wait in the slave's outbox, for `Drain`.
-    pub fn pending(&self) -> u8
+    pub fn pending(&self) -> u16
         ensures { result ≡ length self.now.slave.outbox }
     {
         self.slave.pending()
@@ -270,7 +270,7 @@ impl<N: Name> Locked<N> {
 }
 
 /// Tells those who wait for packets, where more wait than before.
-fn tell_waiting(waits: &Condvar, before: u8, after: u8) {
+fn tell_waiting(waits: &Condvar, before: u16, after: u16) {
     if before < after {
         waits.notify_all();
     }

@@ -80,7 +80,7 @@ impl<'a, N: Name, R: Wait> Station for Tool<'a, N, R> {
     }
 
     /// How many packets wait in the shared slave's outbox. Others may empty it at once.
-    fn pending(&mut self) -> u8
+    fn pending(&mut self) -> u16
         ensures kept { self.new ≡ self.old }
         ensures stays { Same self.old.caller self.new.caller }
     {

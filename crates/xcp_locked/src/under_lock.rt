@@ -38,7 +38,7 @@ impl<'a, N: Name> Station for UnderLock<'a, N> {
     }
 
     /// How many packets wait in the slave's outbox.
-    fn pending(&mut self) -> u8 {
+    fn pending(&mut self) -> u16 {
         self.locked.pending()
     }
 }

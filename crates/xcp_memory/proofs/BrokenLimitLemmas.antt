@@ -90,8 +90,8 @@ pub event_kept : (xs : List EventPart) (x : EventPart) (i : ℕ) → i ≡ lengt
 event_kept xs x i p h k = one_more_kept event_limits xs x h (rw (← p) k)
 
 -- one more event channel breaks one
-pub event_broken : (all xs : List EventPart) (x : EventPart) (i : ℕ) (e : LayoutFault) → IsNext all xs x → i ≡ length xs → first_holding (flat_map event_limits (enumerate_from 0 xs)) ≡ None → first_holding (event_limits (i, x)) ≡ Some e → 1 ≤ length all → length all ≤ 8 → first_holding (events_limits all) ≡ Some e
-event_broken all xs x i e n p h k least most =
+pub event_broken : (class : Class) (all xs : List EventPart) (x : EventPart) (i : ℕ) (e : LayoutFault) → IsNext all xs x → i ≡ length xs → first_holding (flat_map event_limits (enumerate_from 0 xs)) ≡ None → first_holding (event_limits (i, x)) ≡ Some e → 1 ≤ length all → length all ≤ (limits_of class).events → first_holding (events_limits class all) ≡ Some e
+event_broken class all xs x i e n p h k least most =
     let broken = one_more_broken event_limits xs x (drop (length xs + 1) all) e h (rw (← p) k) in
     let whole = ap (λ ys. first_holding (flat_map event_limits (enumerate_from 0 ys))) (split_at all xs x n.front (n.below, n.next)) ∙ broken in
-    within_counts (length all) 8 least most _ _ _ whole
+    within_counts (length all) (limits_of class).events least most _ _ _ whole

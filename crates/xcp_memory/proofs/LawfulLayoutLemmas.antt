@@ -159,14 +159,14 @@ pub record NoneBroken (p : Parts) : Type 0 where
   pub own : first_holding (own_limits p) ≡ None
   pub segments : first_holding (segments_limits p.class p.segments.items) ≡ None
   pub signals : first_holding (signals_limits p.signals_address p.signals_length) ≡ None
-  pub events : first_holding (events_limits p.events.items) ≡ None
+  pub events : first_holding (events_limits p.class p.events.items) ≡ None
   pub apart : first_holding (apart_limits (areas (layout_of p))) ≡ None
 
 -- parts that break no limit break none in any group of them
 pub none_broken : (p : Parts) → first_fault p ≡ None → NoneBroken p
 none_broken p h =
-    let a = none_both (own_limits p ++ segments_limits p.class p.segments.items ++ signals_limits p.signals_address p.signals_length ++ events_limits p.events.items) (apart_limits (areas (layout_of p))) h in
-    let b = none_both (own_limits p ++ segments_limits p.class p.segments.items ++ signals_limits p.signals_address p.signals_length) (events_limits p.events.items) a.0 in
+    let a = none_both (own_limits p ++ segments_limits p.class p.segments.items ++ signals_limits p.signals_address p.signals_length ++ events_limits p.class p.events.items) (apart_limits (areas (layout_of p))) h in
+    let b = none_both (own_limits p ++ segments_limits p.class p.segments.items ++ signals_limits p.signals_address p.signals_length) (events_limits p.class p.events.items) a.0 in
     let c = none_both (own_limits p ++ segments_limits p.class p.segments.items) (signals_limits p.signals_address p.signals_length) b.0 in
     let d = none_both (own_limits p) (segments_limits p.class p.segments.items) c.0 in
     record { own = d.0; segments = d.1; signals = c.1; events = b.1; apart = a.1 }
@@ -215,17 +215,17 @@ counted a b rest h =
 abbrev pub segments_counted : Class → List SegmentPart → Type 0
 segments_counted class ss = IsCounted (must (nat_le 1 (length ss)) (Range key.Segment)) (must (nat_le (length ss) (limits_of class).segments) (TooMany key.Segment)) (flat_map (limits_in class ss) (enumerate_from 0 ss))
 
--- there are 1 to 8 event channels, and none of them breaks a limit
-abbrev pub events_counted : List EventPart → Type 0
-events_counted es = IsCounted (must (nat_le 1 (length es)) (Range key.Event)) (must (nat_le (length es) 8) (TooMany key.Event)) (flat_map event_limits (enumerate_from 0 es))
+-- there are event channels, no more than the class has, and none of them breaks a limit
+abbrev pub events_counted : Class → List EventPart → Type 0
+events_counted class es = IsCounted (must (nat_le 1 (length es)) (Range key.Event)) (must (nat_le (length es) (limits_of class).events) (TooMany key.Event)) (flat_map event_limits (enumerate_from 0 es))
 
 -- each segment is good, and so is each event channel
 pub good_segments : (class : Class) (ss : List SegmentPart) → segments_counted class ss → All IsGoodSegment ss
 good_segments class ss c = each_kept (limits_in class ss) IsGoodSegment (λ i s h. (good_segment class ss i s h).1) 0 ss c.behind
 
 -- event channels that break no limit have names of 1 to 32 printable characters
-pub good_events : (es : List EventPart) → events_counted es → All IsGoodEvent es
-good_events es c = each_kept event_limits IsGoodEvent good_event 0 es c.behind
+pub good_events : (class : Class) (es : List EventPart) → events_counted class es → All IsGoodEvent es
+good_events class es c = each_kept event_limits IsGoodEvent good_event 0 es c.behind
 
 -- parts that break no limit make a lawful layout
 pub lawful : (p : Parts) → first_fault p ≡ None → IsLayout (layout_of p)
@@ -245,9 +245,9 @@ lawful p h =
     let signals_number = within_number 1 64 p.signals_length (kept _ signals.1.0) in
     let signals_end : nat_le (number p.signals_address + number p.signals_length) 0xFFFF_FFFF ≡ true = kept _ signals.1.1.0 in
     let segments : segments_counted p.class ss = counted _ _ _ g.segments in
-    let events : events_counted es = counted _ _ _ g.events in
+    let events : events_counted p.class es = counted _ _ _ g.events in
     let good = good_segments p.class ss segments in
-    let named = good_events es events in
+    let named = good_events p.class es events in
     let Ends : Extent → Type 0 = λ e. e.address + e.size ≤ 0xFFFF_FFFF in
     let last_segments : All Ends (map segment_extent l.segments) =
     All-map Ends segment_extent l.segments (All-map (λ s. Ends (segment_extent s)) segment_of_part ss (λ k d b. (good k d b).ends)) in
@@ -272,7 +272,7 @@ lawful p h =
       signals_least = signals_number.0;
       signals_most = signals_number.1;
       events_least = rw length-map (at_most 1 (length es) (kept _ events.least));
-      events_most = rw length-map (at_most (length es) 8 (kept _ events.most));
+      events_most = rw length-map (at_most (length es) (limits_of p.class).events (kept _ events.most));
       names = All-map (λ e. (1 ≤ length e.name) × (length e.name ≤ 32)) event_of_part es (λ k d b. ((named k d b).least, (named k d b).most));
       name_texts = All-map (λ e. All IsPrintable e.name) event_of_part es (λ k d b. (named k d b).printable_all);
       last = All-append Ends (map segment_extent l.segments) (signals_extent l ∷ []) last_segments last_signals;

@@ -145,17 +145,17 @@ segments_keep p h n =
     let each : All Keeps ss = λ k d b. record { good = record { filled = filled k d b; ends = ends k d b; paged = paged k d b }; address = (n.segments k d b).0; pages = (n.segments k d b).1 } in
     none_left (segment_counts p.class (length ss)) (flat_map (limits_in p.class ss) (enumerate_from 0 ss)) counts ∙ each_keeps (limits_in p.class ss) Keeps (segment_keeps p.class ss total) 0 ss each
 
-events_keep : (p : Parts) → IsLayout (layout_of p) → AreNumbers p → first_holding (events_limits p.events.items) ≡ None
+events_keep : (p : Parts) → IsLayout (layout_of p) → AreNumbers p → first_holding (events_limits p.class p.events.items) ≡ None
 events_keep p h n =
     let es = p.events.items in
     let long = length-map es event_of_part in
     let least = h.events_least in
     let most = h.events_most in
-    let counts = keeps (event_counts (length es)) (ap not (at_most 1 (length es) (omega arith)), (ap not (at_most (length es) 8 (omega arith)), tt)) in
+    let counts = keeps (event_counts p.class (length es)) (ap not (at_most 1 (length es) (omega arith)), (ap not (at_most (length es) (limits_of p.class).events (omega arith)), tt)) in
     let names = of_each (λ e. (1 ≤ length e.name) × (length e.name ≤ 32)) event_of_part es h.names in
     let texts = of_each (λ e. All IsPrintable e.name) event_of_part es h.name_texts in
     let each : All KeepsEvent es = λ k d b. record { lengths = names k d b; printable_all = texts k d b; numbers = n.events k d b } in
-    none_left (event_counts (length es)) (flat_map event_limits (enumerate_from 0 es)) counts ∙ each_keeps event_limits KeepsEvent event_keeps 0 es each
+    none_left (event_counts p.class (length es)) (flat_map event_limits (enumerate_from 0 es)) counts ∙ each_keeps event_limits KeepsEvent event_keeps 0 es each
 
 signals_keep : (p : Parts) → IsLayout (layout_of p) → AreNumbers p → first_holding (signals_limits p.signals_address p.signals_length) ≡ None
 signals_keep p h n =
@@ -187,7 +187,7 @@ own_keep p h n =
 
 keep : (p : Parts) → IsLayout (layout_of p) → AreNumbers p → first_fault p ≡ None
 keep p h n =
-    behind_4 (own_limits p) (segments_limits p.class p.segments.items) (signals_limits p.signals_address p.signals_length) (events_limits p.events.items) (apart_limits (areas (layout_of p))) (own_keep p h n) (segments_keep p h n) (signals_keep p h n) (events_keep p h n)
+    behind_4 (own_limits p) (segments_limits p.class p.segments.items) (signals_limits p.signals_address p.signals_length) (events_limits p.class p.events.items) (apart_limits (areas (layout_of p))) (own_keep p h n) (segments_keep p h n) (signals_keep p h n) (events_keep p h n)
     ∙ areas_apart (layout_of p) h
 
 -- parts that break no limit have such numbers
@@ -212,7 +212,7 @@ numbers p h =
     let ss = p.segments.items in
     let es = p.events.items in
     let segments : segments_counted p.class ss = counted _ _ _ g.segments in
-    let events : events_counted es = counted _ _ _ g.events in
+    let events : events_counted p.class es = counted _ _ _ g.events in
     record {
       cto = natural 8 255 p.max_cto (kept _ own.1.0);
       dto = natural 8 255 p.max_dto (kept _ own.1.1.0);

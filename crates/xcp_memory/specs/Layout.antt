@@ -141,7 +141,7 @@ pub record IsLayout (l : LayoutValue) : Type 0 where
   pub signals_least : 1 ≤ l.signals_length
   pub signals_most : l.signals_length ≤ 64
   pub events_least : 1 ≤ length l.events
-  pub events_most : length l.events ≤ 8
+  pub events_most : length l.events ≤ (limits_of l.class).events
   pub names : All (λ e. (1 ≤ length e.name) × (length e.name ≤ 32)) l.events
   pub name_texts : All (λ e. All IsPrintable e.name) l.events
   pub last : All (λ e. e.address + e.size ≤ 0xFFFF_FFFF) (extents l)

@@ -147,9 +147,9 @@ signals_limits address n =
     ∷ end_limit key.SignalsAddress address (number n)
     ∷ []
 
--- how many event channels there are; of event channel i the name and the three numbers
-abbrev pub event_counts : ℕ → List Limit
-event_counts = count_limits 8 key.Event
+-- how many event channels there are, by the layout's class; of event channel i the name and the three numbers
+abbrev pub event_counts : Class → ℕ → List Limit
+event_counts class = count_limits (limits_of class).events key.Event
 
 abbrev pub name_limit : ℕ → List ℕ → Limit
 name_limit i = text_limit 32 (key.Name i)
@@ -172,8 +172,8 @@ event_limits (i, e) =
     ∷ priority_limit i e.priority
     ∷ []
 
-abbrev pub events_limits : List EventPart → List Limit
-events_limits es = event_counts (length es) ++ flat_map event_limits (enumerate_from 0 es)
+abbrev pub events_limits : Class → List EventPart → List Limit
+events_limits class es = event_counts class (length es) ++ flat_map event_limits (enumerate_from 0 es)
 
 -- two areas share no address
 abbrev pub apart_limit : Placed → Placed → Limit
@@ -192,7 +192,7 @@ limits p =
     own_limits p
     ++ segments_limits p.class p.segments.items
     ++ signals_limits p.signals_address p.signals_length
-    ++ events_limits p.events.items
+    ++ events_limits p.class p.events.items
     ++ apart_limits (areas (layout_of p))
 
 -- the fault of the first limit that these parts break

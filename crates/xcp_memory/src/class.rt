@@ -2,7 +2,7 @@
 ghost use Rattle.std.specs.Prelude.{◌≡◌, ◌≤◌};
 ghost use Rattle.xcp_memory.specs.ClassLimits.{limits_of};
 
-use crate::limits::{IMAGE_SIZE, MAX_BYTES, MAX_SEGMENTS};
+use crate::limits::{IMAGE_SIZE, MAX_BYTES, MAX_EVENTS, MAX_SEGMENTS};
 
 /// Which limits a layout is held to.
 #[derive(Clone, Copy, Debug, PartialEq, Eq)]
@@ -21,18 +21,42 @@ pub struct ClassLimits {
     pub bytes: usize,
     /// How many segments there are at most.
     pub segments: usize,
+    /// How many event channels there are at most.
+    pub events: usize,
+    /// How many DAQ lists a tool allocates at most.
+    pub lists: usize,
+    /// How many ODTs it allocates at most, in all lists: the number of one is its PID.
+    pub odts: usize,
+    /// How many ODT entries it allocates at most, in all ODTs.
+    pub entries: usize,
+    /// How many packets wait for the tool at most.
+    pub packets: usize,
+    /// How many bytes BUILD_CHECKSUM sums up at most in one call.
+    pub checksum: u32,
 }
 
 /// The limits of the class `Papers`.
 const PAPERS: ClassLimits = ClassLimits {
     bytes: IMAGE_SIZE,
     segments: 4,
+    events: 8,
+    lists: 16,
+    odts: 64,
+    entries: 256,
+    packets: 64,
+    checksum: u32::MAX,
 };
 
 /// The limits of the class `Large`.
 const LARGE: ClassLimits = ClassLimits {
     bytes: MAX_BYTES,
     segments: MAX_SEGMENTS,
+    events: MAX_EVENTS,
+    lists: 64,
+    odts: 252,
+    entries: 4096,
+    packets: 512,
+    checksum: 0x1_0000,
 };
 
 impl Class {
@@ -41,6 +65,12 @@ impl Class {
         ensures value { result ≡ limits_of self }
         ensures bytes { (2040 ≤ result.bytes) × (result.bytes ≤ 1048576) }
         ensures segments { (4 ≤ result.segments) × (result.segments ≤ 16) }
+        ensures events { (8 ≤ result.events) × (result.events ≤ 64) }
+        ensures lists { (16 ≤ result.lists) × (result.lists ≤ 64) }
+        ensures odts { (64 ≤ result.odts) × (result.odts ≤ 252) }
+        ensures entries { (256 ≤ result.entries) × (result.entries ≤ 4096) }
+        ensures packets { (64 ≤ result.packets) × (result.packets ≤ 512) }
+        ensures sample { result.odts ≤ result.packets }
     {
         match self {
             Class::Papers => PAPERS,

@@ -5,7 +5,7 @@ ghost use Rattle.xcp_packet.specs.Rows.{first_holding};
 ghost use Rattle.xcp_memory.specs.Limits.{event_limits, events_limits};
 
 use crate::limits::{MAX_EVENTS, MAX_NAME};
-use crate::{EventPart, Key, LayoutFault, checks};
+use crate::{Class, EventPart, Key, LayoutFault, checks};
 use arrayvec::ArrayVec;
 use std::alloc::{AllocError, Global};
 use std::default::MadeWith;
@@ -113,15 +113,16 @@ fn read_event(part: EventPart, number: u8) -> Result<EventChannel, LayoutFault>
 
 /// The event channels that these parts make.
 pub(crate) fn read_events(
+    class: Class,
     parts: Vec<EventPart>,
 ) -> Result<ArrayVec<EventChannel, MAX_EVENTS, Global>, LayoutFault>
-    ensures ok { IfOk result (λ s. (first_holding (events_limits parts.items) ≡ None) × (s.items ≡ map event_of_part parts.items)) }
-    ensures refused { IfErr result (λ e. first_holding (events_limits parts.items) ≡ Some e) }
+    ensures ok { IfOk result (λ s. (first_holding (events_limits class parts.items) ≡ None) × (s.items ≡ map event_of_part parts.items)) }
+    ensures refused { IfErr result (λ e. first_holding (events_limits class parts.items) ≡ Some e) }
 {
     if parts.is_empty() {
         return Err(LayoutFault::Range(Key::Event));
     }
-    if parts.len() > MAX_EVENTS {
+    if parts.len() > class.limits().events {
         return Err(LayoutFault::TooMany(Key::Event));
     }
     let mut events = ArrayVec::new_in(*parts.allocator());
@@ -137,7 +138,7 @@ pub(crate) fn copy_events(
     alloc: Global,
     events: &[EventChannel],
 ) -> Result<ArrayVec<EventChannel, MAX_EVENTS, Global>, AllocError>
-    requires { length events.now ≤ 8 }
+    requires { length events.now ≤ 64 }
     ensures { IfOk result (λ s. s.items ≡ events.now) }
 {
     let mut copies = ArrayVec::new_in(alloc);

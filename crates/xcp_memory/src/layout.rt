@@ -111,7 +111,7 @@ impl Layout {
         } = parts;
         let segments = read_segments(class, segments)?;
         let signals = read_signals(signals_address, signals_length)?;
-        let events = read_events(events)?;
+        let events = read_events(class, events)?;
         check_apart(&areas_of(&segments, signals))?;
         Ok(Layout {
             class,
@@ -350,7 +350,8 @@ impl Layout {
     pub fn event_count(&self) -> usize
         ensures value { result ≡ length self.now.events }
         ensures least { 1 ≤ result }
-        ensures most { result ≤ 8 }
+        ensures most { result ≤ (limits_of self.now.class).events }
+        ensures bound { result ≤ 64 }
     {
         self.events.len()
     }

@@ -15,8 +15,8 @@ pub const MIN_PAGES: u8 = 2;
 /// How many pages a segment has at most.
 pub const MAX_PAGES: u8 = 4;
 
-/// How many event channels there are at most.
-pub const MAX_EVENTS: usize = 8;
+/// How many event channels there are at most, in the class that has the most.
+pub const MAX_EVENTS: usize = 64;
 
 /// How many areas there are at most: the segments and the signals.
 pub const MAX_AREAS: usize = 17;

@@ -2,11 +2,11 @@
 use Rattle.std.specs.Prelude.{ℕ, List, [], ◌∷◌, Option, Some, None}
 use Rattle.xcp_packet.specs.declared.order.Order.{Order}
 use Rattle.xcp_packet.specs.declared.reply.Reply.{Reply}
-use Rattle.xcp_packet.specs.declared.reply.Reply.TheVariants.{Bytes, Error, ErrorCount}
+use Rattle.xcp_packet.specs.declared.reply.Reply.TheVariants.{Bytes, Error, ErrorCount, ErrorBlockSize}
 use Rattle.xcp_packet.specs.declared.lent.Sent.{Sent}
 use Rattle.xcp_packet.specs.declared.lent.Sent.TheVariants.{Lent, Block, Nothing}
 use Rattle.xcp_packet.specs.declared.lent.Fault.{Fault}
-use Rattle.xcp_packet.specs.declared.lent.Fault.TheVariants.{Code, Count}
+use Rattle.xcp_packet.specs.declared.lent.Fault.TheVariants.{Code, Count, BlockSize}
 use Rattle.xcp_packet.specs.ReplyPacket.{layout}
 use Rattle.xcp_packet.specs.PacketTrains.{block_packets}
 
@@ -14,6 +14,7 @@ use Rattle.xcp_packet.specs.PacketTrains.{block_packets}
 abbrev pub fault_reply : Fault → Reply
 fault_reply (Code code) = Error code
 fault_reply (Count code count) = ErrorCount code count
+fault_reply (BlockSize code size) = ErrorBlockSize code size
 
 -- the packets that are sent, where the one that was lent has these bytes
 abbrev pub sent_packets : Sent → List ℕ → Option (List (List ℕ))

@@ -6,7 +6,7 @@ use Rattle.xcp_packet.specs.declared.order.Order.{Order}
 use Rattle.xcp_packet.specs.declared.code.Code.{Code}
 use Rattle.xcp_packet.specs.declared.code.Code.TheVariants.{CmdSynch, CmdBusy, DaqActive, PgmActive, CmdUnknown, CmdSyntax, OutOfRange, WriteProtected, AccessDenied, AccessLocked, PageNotValid, ModeNotValid, SegmentNotValid, Sequence, DaqConfig, MemoryOverflow, Generic, Verify}
 use Rattle.xcp_packet.specs.declared.reply.Reply.{Reply}
-use Rattle.xcp_packet.specs.declared.reply.Reply.TheVariants.{Done, Connect, Status, CommMode, Id, Bytes, Checksum, CalPage, PagInfo, SegmentWord, SegmentStandard, PageInfo, SegmentMode, DaqEntry, DaqListMode, FirstPid, DaqClock, DaqInfo, DaqResolution, EventInfo, Version, Error, ErrorCount}
+use Rattle.xcp_packet.specs.declared.reply.Reply.TheVariants.{Done, Connect, Status, CommMode, Id, Bytes, Checksum, CalPage, PagInfo, SegmentWord, SegmentStandard, PageInfo, SegmentMode, DaqEntry, DaqListMode, FirstPid, DaqClock, DaqInfo, DaqResolution, EventInfo, Version, Error, ErrorCount, ErrorBlockSize}
 
 -- the number of an error code
 abbrev pub number_of : Code → ℕ
@@ -73,13 +73,15 @@ layout order (DaqInfo properties lists events) = 0xFF ∷ properties ∷ (word_b
 -- TIMESTAMP_TICKS
 layout order (DaqResolution greatest mode ticks) = 0xFF ∷ 0x01 ∷ greatest ∷ 0x01 ∷ 0 ∷ mode ∷ word_bytes order ticks
 -- GET_DAQ_EVENT_INFO: DAQ_EVENT_PROPERTIES (DAQ), MAX_DAQ_LIST, length of the name, cycle, unit, priority
-layout order (EventInfo name cycle unit priority) = 0xFF ∷ 0x04 ∷ 0x10 ∷ name ∷ cycle ∷ unit ∷ priority ∷ []
+layout order (EventInfo lists name cycle unit priority) = 0xFF ∷ 0x04 ∷ lists ∷ name ∷ cycle ∷ unit ∷ priority ∷ []
 -- GET_VERSION: reserved, the protocol layer's major and minor version, the transport layer's
 layout order Version = 0xFF ∷ 0 ∷ 1 ∷ 4 ∷ 1 ∷ 4 ∷ []
 -- an error packet
 layout order (Error code) = 0xFE ∷ number_of code ∷ []
 -- the error packet of DOWNLOAD_NEXT out of sequence, with the expected number of data elements
 layout order (ErrorCount code count) = 0xFE ∷ number_of code ∷ count ∷ []
+-- the error packet of BUILD_CHECKSUM over too many bytes: reserved word, the greatest number of bytes
+layout order (ErrorBlockSize code size) = 0xFE ∷ number_of code ∷ 0 ∷ 0 ∷ double_bytes order size
 
 -- how many data bytes a reply has: those that were read, in a reply to UPLOAD or SHORT_UPLOAD
 abbrev pub data_length : Reply → ℕ

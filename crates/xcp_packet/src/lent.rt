@@ -4,7 +4,7 @@ ghost use Rattle.std.specs.Prelude.{◌≡◌};
 ghost use Rattle.xcp_packet.specs.ReplyPacket.{layout};
 ghost use Rattle.xcp_packet.specs.ReplyInBytes.{fault_reply};
 
-use crate::replying::{write_error, write_error_count};
+use crate::replying::{write_error, write_error_block_size, write_error_count};
 use crate::{Code, Order, Packet, Width};
 
 /// What is sent of a command that was not refused.
@@ -25,6 +25,8 @@ pub enum Fault {
     Code(Code),
     /// An error code, and the number of data elements that DOWNLOAD_NEXT was expected to tell.
     Count(Code, u8),
+    /// An error code, and the greatest number of bytes that BUILD_CHECKSUM sums up in one call.
+    BlockSize(Code, u32),
 }
 
 impl From<Code> for Fault {
@@ -44,5 +46,6 @@ pub fn write_fault(packet: &mut Packet, fault: Fault, order: Order)
     match fault {
         Fault::Code(code) => write_error(packet, code),
         Fault::Count(code, count) => write_error_count(packet, code, count),
+        Fault::BlockSize(code, size) => write_error_block_size(packet, code, size, order),
     }
 }

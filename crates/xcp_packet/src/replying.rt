@@ -146,6 +146,13 @@ pub(crate) fn write_error_count(packet: &mut Packet, code: Code, count: u8)
     write(packet, &[ERR, code.number(), count]);
 }
 
+/// An error packet with a block size, a double word behind a reserved word.
+pub(crate) fn write_error_block_size(packet: &mut Packet, code: Code, size: u32, order: Order)
+    ensures { packet.new.items ≡ 0xFE ∷ number_of code ∷ 0 ∷ 0 ∷ double_bytes order size }
+{
+    write_with_double(packet, &[ERR, code.number(), 0, 0], size, order);
+}
+
 /// The bytes of a reply: at least 1 and at most 255, words and double words in this byte order.
 ///
 /// ASAM MCD-1 XCP, protocol layer, description of commands: the positive responses, and the error
@@ -211,13 +218,18 @@ pub fn write_reply(packet: &mut Packet, reply: &Reply, order: Order)
             ticks,
         } => write_resolution(packet, *greatest, *mode, *ticks, order),
         Reply::EventInfo {
+            lists,
             name,
             cycle,
             unit,
             priority,
-        } => write(packet, &[RES, 0x04, 0x10, *name, *cycle, *unit, *priority]),
+        } => write(
+            packet,
+            &[RES, 0x04, *lists, *name, *cycle, *unit, *priority],
+        ),
         Reply::Version => write(packet, &[RES, 0, 1, 4, 1, 4]),
         Reply::Error(code) => write_error(packet, *code),
         Reply::ErrorCount(code, count) => write_error_count(packet, *code, *count),
+        Reply::ErrorBlockSize(code, size) => write_error_block_size(packet, *code, *size, order),
     }
 }

@@ -19,6 +19,7 @@ use Rattle.xcp_memory.specs.Checksum.{checksum_number}
 use Rattle.xcp_memory.specs.ClassLimits.{limits_of}
 use Rattle.xcp_memory.specs.LayoutParts.{kind_numbered, stamp_sized}
 use Rattle.xcp_memory.specs.Layout.{EventValue, Extent, ExtrasValue, IsExtras, IsLayout, LayoutValue, SegmentValue, description, epk, segment_extent, signals_extent, no_extent}
+use Rattle.xcp_slave.proofs.ClassLimitLemmas.{few-events}
 use Rattle.xcp_program.specs.Decided.{all_decided, answers_decided, bytes_decided, class_decided, event_decided, extras_decided, flag, own_decided, segment_decided, signals_decided}
 use Rattle.xcp_program.specs.DecidingLaws.{uploading}
 
@@ -61,7 +62,7 @@ same_each f P each (x ∷ xs) (y ∷ ys) r s n p q h =
 
 -- and behind how many they are
 same_all : {A : Type 0} (f : A → List ℕ) (P : A → Type 0) → ((x y : A) (r s : List ℕ) → P x → P y → f x ++ r ≡ f y ++ s → (x ≡ y) × (r ≡ s))
-    → (xs ys : List A) (r s : List ℕ) → length xs ≤ 16 → length ys ≤ 16 → All P xs → All P ys → all_decided f xs ++ r ≡ all_decided f ys ++ s → (xs ≡ ys) × (r ≡ s)
+    → (xs ys : List A) (r s : List ℕ) → length xs ≤ 64 → length ys ≤ 64 → All P xs → All P ys → all_decided f xs ++ r ≡ all_decided f ys ++ s → (xs ≡ ys) × (r ≡ s)
 unfolding all_decided
 same_all f P each xs ys r s low small p q h =
     let count = same_four (length xs) (length ys) (flat_map f xs ++ r) (flat_map f ys ++ s) (omega (arith, low)) (omega (arith, small))
@@ -260,7 +261,7 @@ one_layout l m p q h =
     let own = same_own l m _ _ p q (sym (whole_parts l) ∙ h ∙ whole_parts m) in
     let segments = same_all segment_decided Fits same_segment l.segments m.segments _ _ (omega (arith, a, c)) (omega (arith, b, d)) (each_fits l.segments (signals_extent l ∷ []) p.last) (each_fits m.segments (signals_extent m ∷ []) q.last) own.1 in
     let signals = same_signals l m _ _ (last_ends l.segments (signals_extent l) p.last) (last_ends m.segments (signals_extent m) q.last) segments.1 in
-    let events = same_all event_decided IsNamed same_event l.events m.events _ _ (omega (arith, p.events_most)) (omega (arith, q.events_most)) p.names q.names signals.2 in
+    let events = same_all event_decided IsNamed same_event l.events m.events _ _ (omega (arith, p.events_most, few-events l.class)) (omega (arith, q.events_most, few-events m.class)) p.names q.names signals.2 in
     let extras = same_extras l.extras m.extras _ _ p.extras q.extras events.1 in
     let class = same_class l.class m.class extras.1 in
     (λ i. record {

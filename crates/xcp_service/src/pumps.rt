@@ -29,7 +29,7 @@ impl Pumps {
     }
 
     /// Who waits for packets looks again, where more of them wait than before.
-    pub(crate) fn tell_packets(&self, before: u8, after: u8) {
+    pub(crate) fn tell_packets(&self, before: u16, after: u16) {
         if before < after {
             self.packets.notify_all();
         }

@@ -114,7 +114,7 @@ impl<N: Name, M: Route> Resident<N, M> {
     }
 
     /// How many packets wait for this seat: all that wait, if the session is its own, and else none.
-    pub fn pending_for(&self, seat: u8) -> u8
+    pub fn pending_for(&self, seat: u8) -> u16
         ensures { result ≡ pending_for seat self.now }
     {
         if self.sessions.has(seat) {

@@ -143,7 +143,7 @@ impl<'a, N: Name, M: Route, R: Wait + Clock> Station for Seated<'a, N, M, R> {
     }
 
     /// How many packets wait for this seat: none, where the session isn't its own. It may be another's at once.
-    fn pending(&mut self) -> u8
+    fn pending(&mut self) -> u16
         ensures kept { self.new ≡ self.old }
         ensures stays { Same self.old.member self.new.member }
     {

@@ -96,7 +96,7 @@ impl<'a, N: Name, M: Route, R: Wait + Clock> Hold<'a, N, M, R> {
     }
 
     /// How many packets wait for the seat: none, where the session isn't its own.
-    fn pending(&self) -> u8 {
+    fn pending(&self) -> u16 {
         self.resident.pending_for(self.seat)
     }
 }
@@ -128,7 +128,7 @@ impl<'a, 'h, N: Name, M: Route, R: Wait + Clock> Station for UnderLock<'a, 'h, N
         self.hold.submit_into(self.member, asked, packet)
     }
 
-    fn pending(&mut self) -> u8 {
+    fn pending(&mut self) -> u16 {
         self.hold.pending()
     }
 }

@@ -24,7 +24,8 @@ use Rattle.xcp_transfer.specs.declared.mta.TextId.TheVariants.{Id, Name}
 use Rattle.xcp_transfer.specs.TransferValue.{text_of}
 use Rattle.std.proofs.lemmas.Bool.Decides.{nat_tests}
 use Rattle.xcp_transfer.specs.MtaAccess.{is_readable, sum_refusal_at, sum_at, moved, bytes_at}
-use Rattle.xcp_packet.specs.Rows.{Meets, first_holding}
+use Rattle.xcp_transfer.specs.Uploads.{greatest_sum}
+use Rattle.xcp_packet.specs.Rows.{Meets, first_holding, refused}
 use Rattle.xcp_slave.specs.declared.request.Request.TheVariants as requests
 use Rattle.xcp_slave.specs.Outcomes.{Answer}
 use Rattle.xcp_slave.specs.declared.outcome.Outcome.TheVariants as answers
@@ -43,7 +44,7 @@ use Rattle.xcp_packet.proofs.ReplyPacketLaws.{error_packet, first_of, packets_da
 use Rattle.xcp_transfer.specs.TransferValue.{response_room}
 use Rattle.std.specs.List.{flat_map}
 use Rattle.xcp_slave.proofs.ListInvariantLemmas.{none-holds, is_true}
-use Rattle.xcp_slave.proofs.TransferInvariantLemmas.{none-refused}
+use Rattle.xcp_slave.proofs.TransferInvariantLemmas.{none-behind}
 
 packets-same : (xs ys : List (List ℕ)) → answers.Packets xs ≡ answers.Packets ys → xs ≡ ys
 packets-same xs ys e = ap packets_told e
@@ -179,7 +180,8 @@ summed-inside k lies n r = let t = none-holds ((n == 0, OutOfRange) ∷ (not (n 
 pub checksum-sums : (v w : SlaveValue) (n a : ℕ) (bytes : List ℕ) → IsSlave v → v.transfer.mta ≡ Memory a → Accepts v (commands.BuildChecksum n) bytes w → (read : List ℕ) × Reads Tool v.transfer.pages a n read × (bytes ≡ checksum_number (layout_of v).checksum ∷ 0 ∷ 0 ∷ double_bytes (layout_of v).order (summed (layout_of v).checksum (layout_of v).order read))
 checksum-sums v w n a bytes s e h =
     let k = accepted (commands.BuildChecksum n) v bytes w h in
-    let allowed : checksum_refusal v.transfer.pages a n ≡ None = ap (λ (m : Mta). sum_refusal_at v.transfer.pages m n) (sym e) ∙ none-refused (sum_refusal_at v.transfer.pages v.transfer.mta n) k.allowed in
+    let t = none-holds ((nat_lt (greatest_sum (layout_of v)) n, replies.ErrorBlockSize OutOfRange (greatest_sum (layout_of v))) ∷ refused (sum_refusal_at v.transfer.pages v.transfer.mta n)) k.allowed in
+    let allowed : checksum_refusal v.transfer.pages a n ≡ None = ap (λ (m : Mta). sum_refusal_at v.transfer.pages m n) (sym e) ∙ none-behind (sum_refusal_at v.transfer.pages v.transfer.mta n) t.1 in
     let inside : lies_inside (layout_of v) a n ≡ true = summed-inside (layout_of v).checksum (lies_inside (layout_of v) a n) n allowed in
     let same : k.reply ≡ replies.Checksum (checksum_number (layout_of v).checksum) (sum_at v.transfer.pages v.transfer.mta n) = (let r = k.replied in cc) in
     let told : bytes ≡ checksum_number (layout_of v).checksum ∷ 0 ∷ 0 ∷ double_bytes (layout_of v).order (sum_at v.transfer.pages v.transfer.mta n) = (k.sent ∙ ap (data_in v) same) in

@@ -43,6 +43,7 @@ said_sent l sents.Nothing bytes None h = refl
 pub said_fault : (l : LayoutValue) (fault : Fault) (bytes : List ℕ) → answer_said l.order (Err fault) bytes ≡ answer_of l (Some (fault_reply fault))
 said_fault l (faults.Code code) bytes = refl
 said_fault l (faults.Count code count) bytes = refl
+said_fault l (faults.BlockSize code size) bytes = refl
 
 -- a command is executed where its row is met at the slave that it finds and the row's outcome is answered
 pub obeyed : (c : Command) (v u w : SlaveValue) (a : Answer) (r : Result Sent Fault) (bytes : List ℕ) → u ≡ found_by c v → TellsRow c u r bytes w → a ≡ answer_said (layout_of v).order r bytes → Executes c v a w

@@ -46,8 +46,8 @@ unfolding Counted
 event-counts v channel signals a w k =
     either (nat_lt channel (length (layout_of v).events)) _ _ _ k
     (λ m. either (length signals.items == (layout_of v).signals_length) _ _ _ m
-    (λ n. either (nat_le (length v.outbox + length (with_overload v.overloaded (event_packets v channel signals.items))) outbox_size) _ _ _ n
-    (λ o. inl (daq-of _ w o.1, λ c. counted-with c channel signals (answers.Sampled (length (with_overload v.overloaded (event_packets v channel signals.items)))) a o.0))
+    (λ n. either (nat_le (length v.outbox + length (with_overload (outbox_size v) v.overloaded (event_packets v channel signals.items))) (outbox_size v)) _ _ _ n
+    (λ o. inl (daq-of _ w o.1, λ c. counted-with c channel signals (answers.Sampled (length (with_overload (outbox_size v) v.overloaded (event_packets v channel signals.items)))) a o.0))
     (λ o. inl (daq-of _ w o.1, λ c. counted-with c channel signals answers.Overrun a o.0)))
     (λ n. inr (daq-of _ w n.1, λ c. counted-with c channel signals answers.BadSignals a n.0)))
     (λ m. inr (daq-of _ w m.1, λ c. counted-with c channel signals answers.NoChannel a m.0))

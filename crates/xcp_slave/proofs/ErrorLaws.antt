@@ -4,6 +4,7 @@ use Rattle.std.specs.Prelude.{◌==◌, ◌&&◌, ◌||◌, ◌⊎◌}
 use Rattle.std.proofs.lemmas.Bool.Decides.{nat_tests}
 use Rattle.arrayvec.specs.ArrayVec.{ArrayVec}
 use Rattle.xcp_packet.specs.ReplyPacket.{layout, number_of}
+use Rattle.xcp_packet.specs.ByteOrder.{double_bytes}
 use Rattle.xcp_packet.specs.CommandForms.{code}
 use Rattle.xcp_packet.specs.CommandSpelling.{spells}
 use Rattle.xcp_packet.specs.Decoding.{Decodes}
@@ -32,6 +33,7 @@ use Rattle.xcp_slave.specs.RefusingAnswers.{IsErrorPacket, IsRefusing, is_refusa
 use Rattle.xcp_slave.specs.Rows.{row}
 use Rattle.xcp_slave.specs.Step.{Answers, Heeds, Executes, Drains, Samples, outbox_size, with_overload, with_signals, found_by, answer_of, sent_reply, is_connect}
 use Rattle.xcp_slave.specs.SlaveInvariant.{IsSlave, IsWaiting}
+use Rattle.xcp_slave.proofs.ClassLimitLemmas.{few-odts}
 use Rattle.xcp_slave.proofs.StepLaws.{either}
 use Rattle.xcp_slave.proofs.RefusalLaws.{packets_told, error-leaves, row-synch}
 use Rattle.xcp_slave.proofs.RefusalCodeLemmas.{both-true, is_error, is_error_of, refusal-error, refusal-of}
@@ -44,7 +46,7 @@ no-response l p (inl e) =
 no-response l p (inr (inl e)) =
     let first : slice_index p.items 0 ≡ 0xFD = ap (λ (x : ArrayVec ℕ). slice_index x.items 0) e.1 in
     (λ k. omega arith, λ k. omega arith)
-no-response l p (inr (inr d)) = let b = d.pid in (λ k. omega arith, λ k. omega arith)
+no-response l p (inr (inr d)) = let b = d.pid in (λ k. omega (arith, few-odts l.class), λ k. omega (arith, few-odts l.class))
 
 -- no packet that waits begins with FF or FE, as responses do
 pub waiting-responds : (v : SlaveValue) → IsSlave v → All (λ (p : ArrayVec ℕ). (slice_index p.items 0 ≢ 0xFF) × (slice_index p.items 0 ≢ 0xFE)) v.outbox
@@ -67,7 +69,7 @@ other-error : (x a : Answer) (R : Type 0) → is_packet x ≡ false → a ≡ x 
 other-error x a R n e r = let z : is_packet x ≡ true = ap (λ (y : Answer). is_packet y) (sym e ∙ r.packet) in let t : true ≡ false = sym z ∙ n in cc
 
 samples-error : (channel : ℕ) (packets : List (ArrayVec ℕ)) (v : SlaveValue) (a : Answer) (w : SlaveValue) (R : Type 0) → IsErrorPacket a → Samples channel packets v a w → R
-samples-error channel packets v a w R r k = either (nat_le (length v.outbox + length (with_overload v.overloaded packets)) outbox_size) _ _ _ k (λ o. other-error (answers.Sampled (length (with_overload v.overloaded packets))) a _ refl o.0 r) (λ o. other-error answers.Overrun a _ refl o.0 r)
+samples-error channel packets v a w R r k = either (nat_le (length v.outbox + length (with_overload (outbox_size v) v.overloaded packets)) (outbox_size v)) _ _ _ k (λ o. other-error (answers.Sampled (length (with_overload (outbox_size v) v.overloaded packets))) a _ refl o.0 r) (λ o. other-error answers.Overrun a _ refl o.0 r)
 
 -- an error packet other than FE 00 leaves the slave as it was but without a block, whatever the request
 pub every-error : (v : SlaveValue) (q : Request) (a : Answer) (w : SlaveValue) → IsSlave v → Answers v q a w → IsErrorPacket a → w ≡ noblock v
@@ -77,7 +79,7 @@ every-error v (requests.Event channel signals) a w h k r =
     (λ m. either (length signals.items == (layout_of v).signals_length) _ _ _ m (λ n. samples-error channel _ (with_signals signals.items v) a w _ r n) (λ n. other-error answers.BadSignals a _ refl n.0 r))
     (λ m. other-error answers.NoChannel a _ refl m.0 r)
 every-error v requests.Drain a w h k r = drains-error v.outbox v a w _ h.waiting k r
-every-error v requests.FinishStore a w h k r = either v.store _ _ _ k (λ m. either (v.connected && nat_le outbox_size (length v.outbox)) _ _ _ m (λ n. other-error answers.Later a _ refl n.0 r) (λ n. other-error (answers.Stored (frozen_count v.transfer.pages)) a _ refl n.0 r)) (λ m. other-error answers.NoStore a _ refl m.0 r)
+every-error v requests.FinishStore a w h k r = either v.store _ _ _ k (λ m. either (v.connected && nat_le (outbox_size v) (length v.outbox)) _ _ _ m (λ n. other-error answers.Later a _ refl n.0 r) (λ n. other-error (answers.Stored (frozen_count v.transfer.pages)) a _ refl n.0 r)) (λ m. other-error answers.NoStore a _ refl m.0 r)
 every-error v requests.Hangup a w h k r = other-error answers.Silent a _ refl k.0 r
 every-error v (requests.Time time) a w h k r = other-error answers.Silent a _ refl k.0 r
 
@@ -94,7 +96,11 @@ refusing order (replies.Error code) h = record { code = number_of code; known = 
 refusing order (replies.ErrorCount code count) h =
     let last : (number_of code == 0x29) ≡ true = (both-true (is_refusal_code (number_of code)) (number_of code == 0x29) h).1 in
     let same : number_of code ≡ 0x29 = grind (arith, nat_tests, last) in
-    record { code = number_of code; known = ap is_refusal_code same; shape = inr (count, same, ap (λ (n : ℕ). 0xFE ∷ n ∷ count ∷ []) same) }
+    record { code = number_of code; known = ap is_refusal_code same; shape = inr (inl (count, same, ap (λ (n : ℕ). 0xFE ∷ n ∷ count ∷ []) same)) }
+refusing order (replies.ErrorBlockSize code size) h =
+    let last : (number_of code == 0x22) ≡ true = (both-true (is_refusal_code (number_of code)) (number_of code == 0x22) h).1 in
+    let same : number_of code ≡ 0x22 = grind (arith, nat_tests, last) in
+    record { code = number_of code; known = ap is_refusal_code same; shape = inr (inr (order, size, same, ap (λ (n : ℕ). 0xFE ∷ n ∷ 0 ∷ 0 ∷ double_bytes order size) same)) }
 refusing order _ h = cc
 
 -- the answer to SYNCH, or to a command that is refused
@@ -152,6 +158,7 @@ error-codes v q p w rest h e = heeds-codes v q.items h.0 p w rest h.1 h.2 e
 told-code : (known : ℕ → Bool) (order : Order) (reply : Reply) (code : ℕ) (rest : List ℕ) → is_error_of known reply ≡ true → layout order reply ≡ 0xFE ∷ code ∷ rest → known code ≡ true
 told-code known order (replies.Error k) code rest h e = subst (λ (n : ℕ). known n ≡ true) (ap (λ (xs : List ℕ). slice_index xs 1) e) h
 told-code known order (replies.ErrorCount k count) code rest h e = subst (λ (n : ℕ). known n ≡ true) (ap (λ (xs : List ℕ). slice_index xs 1) e) (both-true (known (number_of k)) (number_of k == 0x29) h).0
+told-code known order (replies.ErrorBlockSize k size) code rest h e = subst (λ (n : ℕ). known n ≡ true) (ap (λ (xs : List ℕ). slice_index xs 1) e) (both-true (known (number_of k)) (number_of k == 0x22) h).0
 told-code known order _ code rest h e = cc
 
 meets-code : (c : Command) (v : SlaveValue) (x : Result (Option Reply) Reply) (w : SlaveValue) (reply : Reply) (code : ℕ) (rest : List ℕ) → Meets (row c (found_by c v)) (noblock v) x w → sent_reply x ≡ Some reply → layout (layout_of v).order reply ≡ 0xFE ∷ code ∷ rest → code ≢ 0x00 → is_code_of c code ≡ true

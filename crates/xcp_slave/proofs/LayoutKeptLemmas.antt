@@ -78,11 +78,11 @@ drains-layout [] v a w h = same-layout v w h.1
 drains-layout (packet ∷ rest) v a w h = led-layout v (record v { outbox = rest }) w refl h.1
 
 stores-layout : (v : SlaveValue) (a : Answer) (w : SlaveValue) → Stores v a w → layout_of w ≡ layout_of v
-stores-layout v a w h = either (v.connected && nat_le outbox_size (length v.outbox)) _ _ _ h (λ k. same-layout v w k.1) (λ k. led-layout v (stored v) w refl k.1)
+stores-layout v a w h = either (v.connected && nat_le (outbox_size v) (length v.outbox)) _ _ _ h (λ k. same-layout v w k.1) (λ k. led-layout v (stored v) w refl k.1)
 
 samples-layout : (channel : ℕ) (packets : List (ArrayVec ℕ)) (v : SlaveValue) (a : Answer) (w : SlaveValue) → Samples channel packets v a w → layout_of w ≡ layout_of v
 samples-layout channel packets v a w h =
-    either (nat_le (length v.outbox + length (with_overload v.overloaded packets)) outbox_size) _ _ _ h
+    either (nat_le (length v.outbox + length (with_overload (outbox_size v) v.overloaded packets)) (outbox_size v)) _ _ _ h
     (λ k. led-layout v (with_sample channel packets v) w refl k.1)
     (λ k. led-layout v (with_loss channel v) w refl k.1)
 

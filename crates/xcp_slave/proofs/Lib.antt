@@ -8,6 +8,7 @@ pub mod PacketLengthLaws
 pub mod CommandExecutionLemmas
 pub mod PacketExecutionLemmas
 pub mod EventChannelLemmas
+pub mod ClassLimitLemmas
 pub mod ListInvariantLemmas
 pub mod TransferInvariantLemmas
 pub mod OutboxInvariantLemmas

@@ -11,6 +11,8 @@ use Rattle.xcp_packet.specs.declared.Code.{Code}
 use Rattle.xcp_packet.specs.declared.Code.TheVariants.{Sequence, OutOfRange, DaqActive, MemoryOverflow, DaqConfig, ModeNotValid}
 use Rattle.xcp_packet.specs.declared.Stamp.TheVariants.{Without}
 use Rattle.xcp_packet.specs.TimeStamps.{stamp_size}
+use Rattle.xcp_memory.specs.declared.Class.{Class}
+use Rattle.xcp_memory.specs.ClassLimits.{limits_of}
 use Rattle.xcp_memory.specs.Layout.{LayoutValue, IsLayout}
 use Rattle.xcp_memory.specs.ComputedAccess.{lies_inside}
 use Rattle.xcp_memory.proofs.AreaLaws.{inside_lies}
@@ -23,15 +25,16 @@ use Rattle.xcp_daq.specs.declared.mode.Mode.{Mode}
 use Rattle.xcp_daq.specs.declared.allocation.Allocation.{Allocation}
 use Rattle.xcp_daq.specs.declared.allocation.Allocation.TheVariants.{AllocDaq, AllocOdt, AllocOdtEntry}
 use Rattle.xcp_daq.specs.DaqLists.{DaqValue, DaqList, no_list, list_at, odt_at, all_odts, all_entries, any_running, lacks_list, lacks_odt, lacks_entry, with_list, odt_size, first_size, any_large, is_large, has_large_odt, greatest_size}
-use Rattle.xcp_daq.specs.DaqInvariant.{IsList, IsPointer, IsPointerOf, IsDaq}
+use Rattle.xcp_daq.specs.DaqInvariant.{FitsPackets, IsList, IsPointer, IsPointerOf, IsDaq}
 use Rattle.xcp_daq.specs.Pools.{joined, list_of}
 use Rattle.xcp_daq.specs.AllocationSequence.{may_follow}
 use Rattle.xcp_daq.specs.Allocating.{alloc_daq_refusal, alloc_daq_after, alloc_odt_refusal, alloc_odt_after, alloc_odt_entry_refusal, alloc_odt_entry_after}
 use Rattle.xcp_daq.specs.Configuring.{clear_daq_list_refusal, clear_daq_list_after, cleared, set_daq_ptr_refusal, set_daq_ptr_after, write_daq_refusal, write_daq_after, written_at, moved_on, moved_by, has_no_pointer, pointed_list_runs, element_rows, unless, write_daqs, multiple, all_or_none, write_daq_multiple_after, is_mode, stamp_asked, read_daq_after, set_daq_list_mode_refusal, set_daq_list_mode_after}
 use Rattle.xcp_daq.specs.Starting.{stopped, started, selected, switched, synchronised, start_stop_daq_list_refusal, start_stop_daq_list_after, start_stop_synch_refusal, start_stop_synch_after}
 use Rattle.xcp_daq.specs.Sample.{counts, counted, after_event}
-use Rattle.xcp_daq.proofs.DaqInvariantLemmas.{all_set, all_part, entries_by_list, lawful_last, lawful_pointer, lawful_added, lawful_map, lawful_more_odts, lawful_more_entries, lawful_entry, lawful_mode, lawful_bare, lawful_bound, lawful_stopped, lawful_started, lawful_selected, cleared_twice, stands_still, moved_in, grows_entry, room_of, lawful_synchronised, synchronised_odts, lawful_counted, counted_odts}
+use Rattle.xcp_daq.proofs.DaqInvariantLemmas.{all_set, all_part, entries_by_list, lawful_last, lawful_pointer, lawful_added, lawful_map, lawful_more_odts, lawful_more_entries, lawful_entry, lawful_mode, lawful_bare, lawful_bound, lawful_stopped, lawful_started, lawful_selected, cleared_twice, stands_still, moved_in, grows_entry, lawful_synchronised, synchronised_odts, lawful_counted, counted_odts}
 use Rattle.xcp_slave.specs.SlaveInvariant.{LiesWritten, HasRoom, IsLists, IsStampOf}
+use Rattle.xcp_slave.proofs.ClassLimitLemmas.{few-events}
 
 -- none of the tests holds
 abbrev pub NoneHolds : {A : Type 0} → List (Bool × A) → Type 0
@@ -71,6 +74,7 @@ is_true false h = cc
 -- list i gives way to another
 with-list : (l : LayoutValue) (v : DaqValue) (i : ℕ) (x : DaqList) → IsLists l v → IsDaq (with_list v i x) → All (LiesWritten l) (joined x.odts) → HasRoom l x → IsLists l (with_list v i x)
 with-list l v i x h d written room = record {
+  class = h.class;
   daq = d;
   inside = subst (All (LiesWritten l)) (sym (entries_by_list (slice_set v.lists i x))) (all_set (LiesWritten l) (λ (y : DaqList). joined y.odts) v.lists i x (subst (All (LiesWritten l)) (entries_by_list v.lists) h.inside) written);
   room = All-set (HasRoom l) v.lists i x room h.room;
@@ -87,18 +91,19 @@ room-at : (l : LayoutValue) (v : DaqValue) (i : ℕ) → IsLists l v → i < len
 room-at l v i h below = h.room i no_list below
 
 with-last : (l : LayoutValue) (v : DaqValue) (a : Option Allocation) → IsLists l v → IsLists l (record v { last = a })
-with-last l v a h = record { daq = lawful_last v a h.daq; inside = h.inside; room = h.room }
+with-last l v a h = record { class = h.class; daq = lawful_last v a h.daq; inside = h.inside; room = h.room }
 
 with-pointer : (l : LayoutValue) (v : DaqValue) (p : Option Pointer) → IsLists l v → IsPointerOf v p → IsLists l (record v { pointer = p })
-with-pointer l v p h k = record { daq = lawful_pointer v p h.daq k; inside = h.inside; room = h.room }
+with-pointer l v p h k = record { class = h.class; daq = lawful_pointer v p h.daq k; inside = h.inside; room = h.room }
 
 -- a list that is stopped has room
 idle-room : (l : LayoutValue) (x : DaqList) → IsStampOf l x.stamp → x.running ≡ false → HasRoom l x
 idle-room l x s e = record { stamp = s; fits = λ k. cc; first = λ k. cc }
 
 -- no lists
-pub no-lists : (l : LayoutValue) (a : Option Allocation) → IsLists l (record { lists = []; pointer = None; last = a })
-no-lists l a = record {
+pub no-lists : (l : LayoutValue) (class : Class) (a : Option Allocation) → class ≡ l.class → IsLists l (record { class = class; lists = []; pointer = None; last = a })
+no-lists l class a h = record {
+  class = h;
   daq = record { lists = omega arith; odts = omega arith; entries = omega arith; each = λ k d below. absurd (omega arith); written = λ k d below. absurd (omega arith); pointer = tt };
   inside = λ k d below. absurd (omega arith);
   room = λ k d below. absurd (omega arith);
@@ -111,13 +116,14 @@ no_odts (suc n) = no_odts n
 -- an ALLOC_DAQ that isn't refused keeps the DAQ lists lawful
 pub alloc-daq : (l : LayoutValue) (count : ℕ) (v : DaqValue) → IsLists l v → alloc_daq_refusal count v ≡ None → IsLists l (alloc_daq_after count v)
 alloc-daq l count v h r =
-    let a = none-holds ((not (may_follow v.last AllocDaq), Sequence) ∷ (any_running v, DaqActive) ∷ (count == 0, OutOfRange) ∷ (nat_lt 16 (length v.lists + count), MemoryOverflow) ∷ []) r in
+    let a = none-holds ((not (may_follow v.last AllocDaq), Sequence) ∷ (any_running v, DaqActive) ∷ (count == 0, OutOfRange) ∷ (nat_lt (limits_of v.class).lists (length v.lists + count), MemoryOverflow) ∷ []) r in
     let b = a.1 in
     let c = b.1 in
     let d = c.1 in
     let w : DaqValue = record v { lists = v.lists ++ replicate count no_list } in
     let odts : all_odts w.lists ≡ all_odts v.lists = flat_map-append (λ (x : DaqList). x.odts) v.lists (replicate count no_list) ∙ ap (λ xs. all_odts v.lists ++ xs) (no_odts count) ∙ append-nil (all_odts v.lists) in
     let lists : IsLists l w = record {
+      class = h.class;
       daq = lawful_added v count h.daq (at_most _ _ d.0);
       inside = subst (λ (xs : List (List (Option Element))). All (LiesWritten l) (joined xs)) (sym odts) h.inside;
       room = All-append (HasRoom l) v.lists (replicate count no_list) h.room (All-replicate (HasRoom l) count no_list (idle-room l no_list (inl refl) refl));
@@ -131,7 +137,7 @@ empty_odts (suc n) = empty_odts n
 -- the same for ALLOC_ODT
 pub alloc-odt : (l : LayoutValue) (list count : ℕ) (v : DaqValue) → IsLists l v → alloc_odt_refusal list count v ≡ None → IsLists l (alloc_odt_after list count v)
 alloc-odt l list count v h r =
-    let a = none-holds ((not (may_follow v.last AllocOdt), Sequence) ∷ (lacks_list v list, OutOfRange) ∷ (any_running v, DaqActive) ∷ (count == 0, OutOfRange) ∷ (nat_lt 64 (length (all_odts v.lists) + count), MemoryOverflow) ∷ []) r in
+    let a = none-holds ((not (may_follow v.last AllocOdt), Sequence) ∷ (lacks_list v list, OutOfRange) ∷ (any_running v, DaqActive) ∷ (count == 0, OutOfRange) ∷ (nat_lt (limits_of v.class).odts (length (all_odts v.lists) + count), MemoryOverflow) ∷ []) r in
     let b = a.1 in
     let c = b.1 in
     let d = c.1 in
@@ -148,7 +154,7 @@ alloc-odt l list count v h r =
 -- the same for ALLOC_ODT_ENTRY
 pub alloc-entry : (l : LayoutValue) (list odt count : ℕ) (v : DaqValue) → IsLists l v → alloc_odt_entry_refusal list odt count v ≡ None → IsLists l (alloc_odt_entry_after list odt count v)
 alloc-entry l list odt count v h r =
-    let a = none-holds ((not (may_follow v.last AllocOdtEntry), Sequence) ∷ (lacks_list v list, OutOfRange) ∷ (lacks_odt v list odt, OutOfRange) ∷ ((list_at v list).running, DaqActive) ∷ (count == 0, OutOfRange) ∷ (nat_lt 256 (length (all_entries v.lists) + count), MemoryOverflow) ∷ []) r in
+    let a = none-holds ((not (may_follow v.last AllocOdtEntry), Sequence) ∷ (lacks_list v list, OutOfRange) ∷ (lacks_odt v list odt, OutOfRange) ∷ ((list_at v list).running, DaqActive) ∷ (count == 0, OutOfRange) ∷ (nat_lt (limits_of v.class).entries (length (all_entries v.lists) + count), MemoryOverflow) ∷ []) r in
     let b = a.1 in
     let c = b.1 in
     let d = c.1 in
@@ -281,7 +287,7 @@ set-mode l mode list event prescaler priority v layout h p q r =
     let few : event < length l.events = is_below _ _ d.0 in
     let x : DaqList = list_at v list in
     let y : DaqList = record x { event = event; prescaler = prescaler; priority = priority; stamp = stamp_asked l mode } in
-    let lawful : IsList y = lawful_bound x (mode_of x) event prescaler priority (stamp_asked l mode) refl (h.daq.each list no_list below) c.0 (omega (arith, layout.events_most)) (is_some prescaler e.0) p q in
+    let lawful : IsList y = lawful_bound x (mode_of x) event prescaler priority (stamp_asked l mode) refl (h.daq.each list no_list below) c.0 (omega (arith, layout.events_most, few-events l.class)) (is_some prescaler e.0) p q in
     with-list l v list y h (lawful_mode v list y h.daq below lawful refl) (entries-at l v list h below) (idle-room l y (asked-by l (mode == 0)) c.0)
 
 none-at : {A : Type 0} (p : A → Bool) (xs : List A) (i : ℕ) (x : A) → list_any p xs ≡ false → i < length xs → (b : Bool) → p (get_or xs i x) ≡ b → b ≡ false
@@ -305,6 +311,15 @@ first-of l x layout none =
     let small = at_most (stamp_size x.stamp + first_size x.odts) (greatest_size l) both.1 in
     omega (arith, layout.dto_least)
 
+-- the data packets of a list that isn't large have room for its ODTs
+fits-of : (l : LayoutValue) (x : DaqList) → IsLayout l → is_large (greatest_size l) x ≡ false → FitsPackets x.stamp x.odts
+fits-of l x layout none =
+    let small = room-of l x.odts layout (neither-of (any_large (greatest_size l) x.odts) (nat_lt (greatest_size l) (stamp_size x.stamp + first_size x.odts)) none).0 in
+    record {
+      each = λ k d below. (let one = small k d below in omega (arith, layout.dto_most));
+      first = (let one = first-of l x layout none in omega (arith, layout.dto_most));
+    }
+
 -- a list that isn't large has room, running or not
 list-room : (l : LayoutValue) (x : DaqList) → IsLayout l → IsStampOf l x.stamp → is_large (greatest_size l) x ≡ false → (running selected : Bool) (since : ℕ) → HasRoom l (record x { running = running; selected = selected; since = since })
 list-room l x layout s none running selected since = record {
@@ -315,7 +330,7 @@ list-room l x layout s none running selected since = record {
 
 switch-by : (l : LayoutValue) (x : DaqList) → IsLayout l → IsList x → HasRoom l x → (stop start : Bool) → (stop ≡ false → is_large (greatest_size l) x ≡ false) → IsList (if stop then stopped x else (if start then started x else selected x)) × HasRoom l (if stop then stopped x else (if start then started x else selected x))
 switch-by l x layout h room true start small = (lawful_stopped x (mode_of x) x.selected refl h, idle-room l (stopped x) room.stamp refl)
-switch-by l x layout h room false true small = (lawful_started x (mode_of x) x.selected refl h (room_of (greatest_size l) x (omega (arith, layout.dto_most)) (small refl)), list-room l x layout room.stamp (small refl) true x.selected 0)
+switch-by l x layout h room false true small = (lawful_started x (mode_of x) x.selected refl h (fits-of l x layout (small refl)), list-room l x layout room.stamp (small refl) true x.selected 0)
 switch-by l x layout h room false false small = (lawful_selected x (mode_of x) true refl h, record { stamp = room.stamp; fits = room.fits; first = room.first })
 
 switched_odts_by : (x : DaqList) (stop start : Bool) → (if stop then stopped x else (if start then started x else selected x)).odts ≡ x.odts
@@ -346,6 +361,7 @@ same_odts g same (x ∷ lists) = ap (λ odts. odts ++ all_odts (map g lists)) (s
 -- each list changes, but for its ODTs
 mapped : (l : LayoutValue) (g : DaqList → DaqList) (v : DaqValue) → ((x : DaqList) → (g x).odts ≡ x.odts) → ((i : ℕ) → i < length v.lists → IsList (g (list_at v i)) × HasRoom l (g (list_at v i))) → IsLists l v → IsLists l (record v { lists = map g v.lists })
 mapped l g v same each h = record {
+  class = h.class;
   daq = lawful_map g v same (λ i below. (each i below).0) h.daq;
   inside = subst (λ (xs : List (List (Option Element))). All (LiesWritten l) (joined xs)) (sym (same_odts g same v.lists)) h.inside;
   room = λ k d below.
@@ -373,7 +389,7 @@ synch l mode v layout h r =
     λ e i below s. not_both (list_at v i).selected (has_large_odt l (list_at v i)) (none-at p v.lists i no_list (not_both (mode == 1) (list_any p v.lists) b.0 e) below (p (list_at v i)) refl) s in
     mapped l (λ x. record (synchronised mode x) { selected = false }) v (synchronised_odts mode)
     (λ i below. (
-      lawful_synchronised mode (list_at v i) (h.daq.each i no_list below) (λ e s. room_of (greatest_size l) (list_at v i) (omega (arith, layout.dto_most)) (small (grind (arith, nat_tests, e)) i below s)),
+      lawful_synchronised mode (list_at v i) (h.daq.each i no_list below) (λ e s. fits-of l (list_at v i) layout (small (grind (arith, nat_tests, e)) i below s)),
       synchronised-room l (list_at v i) layout (room-at l v i h below) (mode == 0) (list_at v i).selected (mode == 1) (λ e s. small e i below s),
     ))
     h
@@ -388,3 +404,21 @@ event l channel v h =
     mapped l (counted channel) v (counted_odts channel)
     (λ i below. (lawful_counted channel (list_at v i) (h.daq.each i no_list below), counted-room l (list_at v i) _ (room-at l v i h below) (counts channel (list_at v i))))
     h
+
+written-class : (size address : ℕ) (v : DaqValue) (o : Option Pointer) → (written_at o (record { size = size; address = address }) v).class ≡ v.class
+written-class size address v None = refl
+written-class size address v (Some p) = refl
+
+turns-class : (l : LayoutValue) (es : List DaqElement) (v w : DaqValue) → write_daqs l es v ≡ Ok w → w.class ≡ v.class
+turns-class l [] v w r = let same : v ≡ w = cc in ap (λ (x : DaqValue). x.class) (sym same)
+turns-class l (e ∷ es) v w r =
+    let k = unless-ok _ _ w r in
+    turns-class l es (write_daq_after e.size e.address v) w k.1 ∙ written-class e.size e.address v v.pointer
+
+all-class : (v : DaqValue) (r : Result DaqValue Code) → ((w : DaqValue) → r ≡ Ok w → w.class ≡ v.class) → (all_or_none v r).class ≡ v.class
+all-class v (Ok w) k = k w refl
+all-class v (Err code) k = refl
+
+-- WRITE_DAQ_MULTIPLE leaves the class
+pub multiple-class : (l : LayoutValue) (bytes : List ℕ) (v : DaqValue) → (write_daq_multiple_after l bytes v).class ≡ v.class
+multiple-class l bytes v = all-class v (multiple l bytes v) (λ w r. turns-class l _ v w r)

@@ -56,25 +56,25 @@ stores-queue : (v : SlaveValue) (a : Answer) (w : SlaveValue) → Answers v requ
 unfolding Queues
 stores-queue v a w k =
     either v.store _ _ _ k
-    (λ m. either (v.connected && nat_le outbox_size (length v.outbox)) _ _ _ m
+    (λ m. either (v.connected && nat_le (outbox_size v) (length v.outbox)) _ _ _ m
     (λ n. as-these v requests.FinishStore answers.Later a v w n.0 n.1 (nothing-put v))
     (λ n. as-these v requests.FinishStore (answers.Stored (frozen_count v.transfer.pages)) a (stored v) w n.0 n.1 (told-of v.connected v.outbox)))
     (λ m. as-these v requests.FinishStore answers.NoStore a v w m.0 m.1 (nothing-put v))
 
 -- what an event puts
 abbrev event_put : SlaveValue → ℕ → List ℕ → List (ArrayVec ℕ)
-event_put v channel signals = with_overload v.overloaded (event_packets v channel signals)
+event_put v channel signals = with_overload (outbox_size v) v.overloaded (event_packets v channel signals)
 
 -- what an event does: the four ways in which it ends
 pub record Fired (v : SlaveValue) (channel : ℕ) (signals : List ℕ) (a : Answer) (w : SlaveValue) : Type 0 where
-  pub ways : ((a ≡ answers.Sampled (length (event_put v channel signals))) × (w.outbox ≡ v.outbox ++ event_put v channel signals) × (length v.outbox + length (event_put v channel signals) ≤ 64))
-      ⊎ ((w.outbox ≡ v.outbox) × ((a ≡ answers.Overrun) × (64 < length v.outbox + length (event_put v channel signals)) ⊎ ((a ≡ answers.BadSignals) ⊎ (a ≡ answers.NoChannel))))
+  pub ways : ((a ≡ answers.Sampled (length (event_put v channel signals))) × (w.outbox ≡ v.outbox ++ event_put v channel signals) × (length v.outbox + length (event_put v channel signals) ≤ outbox_size v))
+      ⊎ ((w.outbox ≡ v.outbox) × ((a ≡ answers.Overrun) × (outbox_size v < length v.outbox + length (event_put v channel signals)) ⊎ ((a ≡ answers.BadSignals) ⊎ (a ≡ answers.NoChannel))))
 
-is-room : (n : ℕ) → nat_le n outbox_size ≡ true → n ≤ 64
-is-room n h = grind (arith, nat_tests, h)
+is-room : (n size : ℕ) → nat_le n size ≡ true → n ≤ size
+is-room n size h = grind (arith, nat_tests, h)
 
-no-room : (n : ℕ) → nat_le n outbox_size ≡ false → 64 < n
-no-room n h = grind (arith, nat_tests, h)
+no-room : (n size : ℕ) → nat_le n size ≡ false → size < n
+no-room n size h = grind (arith, nat_tests, h)
 
 outbox-of : (y w : SlaveValue) → w ≡ y → w.outbox ≡ y.outbox
 outbox-of y w e = ap (λ (x : SlaveValue). x.outbox) e
@@ -84,9 +84,9 @@ pub fired : (v : SlaveValue) (channel : ℕ) (signals : List ℕ) (a : Answer) (
 fired v channel signals a w k =
     either (nat_lt channel (length (layout_of v).events)) _ _ _ k
     (λ m. either (length signals == (layout_of v).signals_length) _ _ _ m
-    (λ n. either-test (nat_le (length v.outbox + length (event_put v channel signals)) outbox_size) _ _ _
-    (λ r o. record { ways = inl (o.0, outbox-of (with_sample channel (event_packets v channel signals) (with_signals signals v)) w o.1, is-room _ r) })
-    (λ r o. record { ways = inr (outbox-of (with_loss channel (with_signals signals v)) w o.1, inl (o.0, no-room _ r)) }) n)
+    (λ n. either-test (nat_le (length v.outbox + length (event_put v channel signals)) (outbox_size v)) _ _ _
+    (λ r o. record { ways = inl (o.0, outbox-of (with_sample channel (event_packets v channel signals) (with_signals signals v)) w o.1, is-room _ _ r) })
+    (λ r o. record { ways = inr (outbox-of (with_loss channel (with_signals signals v)) w o.1, inl (o.0, no-room _ _ r)) }) n)
     (λ n. record { ways = inr (outbox-of v w n.1, inr (inl n.0)) }))
     (λ m. record { ways = inr (outbox-of v w m.1, inr (inr m.0)) })
 
@@ -169,7 +169,7 @@ not-sampled : (n : ℕ) (x : Answer) (R : Type 0) → answers.Sampled n ≡ x �
 not-sampled n x R e h = let t : true ≡ false = ap (λ (y : Answer). is_sampled y) e ∙ h in cc
 
 -- a sampled event
-pub event-waits : (v : SlaveValue) (channel n : ℕ) (signals : ArrayVec ℕ) (w : SlaveValue) → Answers v (requests.Event channel signals) (answers.Sampled n) w → (n ≡ length (event_put v channel signals.items)) × (w.outbox ≡ v.outbox ++ event_put v channel signals.items) × (length w.outbox ≤ 64)
+pub event-waits : (v : SlaveValue) (channel n : ℕ) (signals : ArrayVec ℕ) (w : SlaveValue) → Answers v (requests.Event channel signals) (answers.Sampled n) w → (n ≡ length (event_put v channel signals.items)) × (w.outbox ≡ v.outbox ++ event_put v channel signals.items) × (length w.outbox ≤ outbox_size v)
 event-waits v channel n signals w k =
     elim (fired v channel signals.items (answers.Sampled n) w k).ways [
       | inl s ↦ (ap (λ (b : Answer). said b) s.0, s.1, (let e = ap (λ (o : List (ArrayVec ℕ)). length o) s.1 in let l = length-append v.outbox (event_put v channel signals.items) in let r = s.2 in omega arith))
@@ -186,8 +186,8 @@ event-waits v channel n signals w k =
 pub event-whole : (v : SlaveValue) (channel n : ℕ) (signals : ArrayVec ℕ) (w : SlaveValue) → Answers v (requests.Event channel signals) (answers.Sampled n) w → (n ≡ length (event_put v channel signals.items)) × (w.outbox ≡ v.outbox ++ event_put v channel signals.items)
 event-whole v channel n signals w k = let r = event-waits v channel n signals w k in (r.0, r.1)
 
--- after a sampled event at most 64 packets wait
-pub event-room : (v : SlaveValue) (channel n : ℕ) (signals : ArrayVec ℕ) (w : SlaveValue) → Answers v (requests.Event channel signals) (answers.Sampled n) w → length w.outbox ≤ 64
+-- after a sampled event no more packets wait than have room
+pub event-room : (v : SlaveValue) (channel n : ℕ) (signals : ArrayVec ℕ) (w : SlaveValue) → Answers v (requests.Event channel signals) (answers.Sampled n) w → length w.outbox ≤ outbox_size v
 event-room v channel n signals w k = (event-waits v channel n signals w k).2
 
 -- an event that isn't sampled leaves the packets that wait as they were
@@ -198,8 +198,8 @@ event-none v channel signals a w k =
       | inr s ↦ inr s.0
     ]
 
--- an event overruns only where its packets and those that wait are more than 64
-pub event-overrun : (v : SlaveValue) (channel : ℕ) (signals : ArrayVec ℕ) (w : SlaveValue) → Answers v (requests.Event channel signals) answers.Overrun w → 64 < length v.outbox + length (event_put v channel signals.items)
+-- an event overruns only where its packets and those that wait are more than have room
+pub event-overrun : (v : SlaveValue) (channel : ℕ) (signals : ArrayVec ℕ) (w : SlaveValue) → Answers v (requests.Event channel signals) answers.Overrun w → outbox_size v < length v.outbox + length (event_put v channel signals.items)
 event-overrun v channel signals w k =
     elim (fired v channel signals.items answers.Overrun w k).ways [
       | inl s ↦ not-sampled (length (event_put v channel signals.items)) answers.Overrun _ (sym s.0) refl

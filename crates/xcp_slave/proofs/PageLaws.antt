@@ -149,7 +149,7 @@ frozen-at (x ∷ xs) (suc i) = frozen-at xs i
 store-led : (v w : SlaveValue) (n i : ℕ) → Answers v requests.FinishStore (answers.Stored n) w → segment_at w.transfer.pages i ≡ segment_frozen (segment_at v.transfer.pages i)
 store-led v w n i h =
     either v.store _ _ _ h
-    (λ k. either (v.connected && nat_le outbox_size (length v.outbox)) _ _ _ k
+    (λ k. either (v.connected && nat_le (outbox_size v) (length v.outbox)) _ _ _ k
     (λ m. let e = m.0 in cc)
     (λ m. ap (λ (x : SlaveValue). segment_at x.transfer.pages i) m.1 ∙ frozen-at v.transfer.pages.segments i))
     (λ k. let e = k.0 in cc)
@@ -236,7 +236,7 @@ drains-store [] v a w h k = same-store v w h k.1
 drains-store (p ∷ rest) v a w h k = ap (λ (x : SlaveValue). x.store) k.1 ∙ h
 
 samples-store : (channel : ℕ) (packets : List (ArrayVec ℕ)) (v : SlaveValue) (a : Answer) (w : SlaveValue) → v.store ≡ true → Samples channel packets v a w → w.store ≡ true
-samples-store channel packets v a w h k = either (nat_le (length v.outbox + length (with_overload v.overloaded packets)) outbox_size) _ _ _ k (λ o. ap (λ (x : SlaveValue). x.store) o.1 ∙ h) (λ o. ap (λ (x : SlaveValue). x.store) o.1 ∙ h)
+samples-store channel packets v a w h k = either (nat_le (length v.outbox + length (with_overload (outbox_size v) v.overloaded packets)) (outbox_size v)) _ _ _ k (λ o. ap (λ (x : SlaveValue). x.store) o.1 ∙ h) (λ o. ap (λ (x : SlaveValue). x.store) o.1 ∙ h)
 
 fires-store : (channel : ℕ) (signals : List ℕ) (v : SlaveValue) (a : Answer) (w : SlaveValue) → v.store ≡ true → Fires channel signals v a w → w.store ≡ true
 fires-store channel signals v a w h k =
@@ -252,7 +252,7 @@ unfolding StoreDone
 step-store v (requests.Command p) a w h k = inl (heeds-store v k.0 a w h k.2)
 step-store v (requests.Event channel signals) a w h k = inl (fires-store channel signals.items v a w h k)
 step-store v requests.Drain a w h k = inl (drains-store v.outbox v a w h k)
-step-store v requests.FinishStore a w h k = either v.store _ _ _ k (λ m. either (v.connected && nat_le outbox_size (length v.outbox)) _ _ _ m (λ n. inl (same-store v w h n.1)) (λ n. inr n.0)) (λ m. inl (same-store v w h m.1))
+step-store v requests.FinishStore a w h k = either v.store _ _ _ k (λ m. either (v.connected && nat_le (outbox_size v) (length v.outbox)) _ _ _ m (λ n. inl (same-store v w h n.1)) (λ n. inr n.0)) (λ m. inl (same-store v w h m.1))
 step-store v requests.Hangup a w h k = inl (ap (λ (x : SlaveValue). x.store) k.1 ∙ h)
 step-store v (requests.Time time) a w h k = inl (ap (λ (x : SlaveValue). x.store) k.1 ∙ h)
 

@@ -15,6 +15,7 @@ use Rattle.xcp_packet.specs.declared.Code.TheVariants.{CmdUnknown, CmdSyntax, Ou
 use Rattle.xcp_packet.specs.Rows.{first_holding, refused}
 use Rattle.xcp_memory.specs.declared.ChecksumKind.{ChecksumKind}
 use Rattle.xcp_memory.specs.Checksum.{unit, sum_refusal}
+use Rattle.xcp_memory.specs.ClassLimits.{limits_of}
 use Rattle.xcp_memory.specs.Layout.{LayoutValue, signals_extent}
 use Rattle.xcp_memory.specs.Pages.{PagesValue, segment_at}
 use Rattle.xcp_memory.specs.ComputedAccess.{segment_of, is_inside, write_refusal_by, lies_inside}
@@ -37,10 +38,11 @@ use Rattle.xcp_slave.specs.RefusalCodes.{codes_of, is_code_of}
 use Rattle.xcp_slave.specs.RefusingAnswers.{is_refusal_code}
 use Rattle.xcp_slave.specs.Rows.{row}
 
--- an error packet with one of the known codes; only out of sequence (29) it has a count
+-- an error packet with one of the known codes; only out of sequence (29) it has a count, and only out of range (22) a block size
 abbrev pub is_error_of : (ℕ → Bool) → Reply → Bool
 is_error_of known (replies.Error code) = known (number_of code)
 is_error_of known (replies.ErrorCount code count) = known (number_of code) && (number_of code == 0x29)
+is_error_of known (replies.ErrorBlockSize code size) = known (number_of code) && (number_of code == 0x22)
 is_error_of known _ = false
 
 abbrev are_errors : (ℕ → Bool) → List (Bool × Reply) → Bool
@@ -145,11 +147,11 @@ row-errors commands.GetDaqClock v = refl
 row-errors commands.ReadDaq v = first (is_code_of commands.ReadDaq) ((has_no_pointer v.daq.pointer, DaqConfig) ∷ []) refl
 row-errors (commands.GetDaqEventInfo channel) v = first (is_code_of (commands.GetDaqEventInfo channel)) ((nat_le (length (layout_of v).events) channel, OutOfRange) ∷ []) refl
 row-errors (commands.AllocDaq count) v =
-    first (is_code_of (commands.AllocDaq count)) ((not (may_follow v.daq.last AllocDaq), Sequence) ∷ (any_running v.daq, DaqActive) ∷ (count == 0, OutOfRange) ∷ (nat_lt 16 (length v.daq.lists + count), MemoryOverflow) ∷ []) refl
+    first (is_code_of (commands.AllocDaq count)) ((not (may_follow v.daq.last AllocDaq), Sequence) ∷ (any_running v.daq, DaqActive) ∷ (count == 0, OutOfRange) ∷ (nat_lt (limits_of v.daq.class).lists (length v.daq.lists + count), MemoryOverflow) ∷ []) refl
 row-errors (commands.AllocOdt list count) v =
-    first (is_code_of (commands.AllocOdt list count)) ((not (may_follow v.daq.last AllocOdt), Sequence) ∷ (lacks_list v.daq list, OutOfRange) ∷ (any_running v.daq, DaqActive) ∷ (count == 0, OutOfRange) ∷ (nat_lt 64 (length (all_odts v.daq.lists) + count), MemoryOverflow) ∷ []) refl
+    first (is_code_of (commands.AllocOdt list count)) ((not (may_follow v.daq.last AllocOdt), Sequence) ∷ (lacks_list v.daq list, OutOfRange) ∷ (any_running v.daq, DaqActive) ∷ (count == 0, OutOfRange) ∷ (nat_lt (limits_of v.daq.class).odts (length (all_odts v.daq.lists) + count), MemoryOverflow) ∷ []) refl
 row-errors (commands.AllocOdtEntry list odt count) v =
-    first (is_code_of (commands.AllocOdtEntry list odt count)) ((not (may_follow v.daq.last AllocOdtEntry), Sequence) ∷ (lacks_list v.daq list, OutOfRange) ∷ (lacks_odt v.daq list odt, OutOfRange) ∷ ((list_at v.daq list).running, DaqActive) ∷ (count == 0, OutOfRange) ∷ (nat_lt 256 (length (all_entries v.daq.lists) + count), MemoryOverflow) ∷ []) refl
+    first (is_code_of (commands.AllocOdtEntry list odt count)) ((not (may_follow v.daq.last AllocOdtEntry), Sequence) ∷ (lacks_list v.daq list, OutOfRange) ∷ (lacks_odt v.daq list odt, OutOfRange) ∷ ((list_at v.daq list).running, DaqActive) ∷ (count == 0, OutOfRange) ∷ (nat_lt (limits_of v.daq.class).entries (length (all_entries v.daq.lists) + count), MemoryOverflow) ∷ []) refl
 row-errors _ v = refl
 
 first-of : (known : ℕ → Bool) (b : Bool) (x : Reply) (rest : Option Reply) (e : Reply) → is_error_of known x ≡ true → (rest ≡ Some e → is_error_of known e ≡ true) → (if b then Some x else rest) ≡ Some e → is_error_of known e ≡ true
@@ -229,6 +231,9 @@ error-known c (replies.Error code) h = known-code c (number_of code) h
 error-known c (replies.ErrorCount code count) h =
     let b = both-true (is_code_of c (number_of code)) (number_of code == 0x29) h in
     ap (λ (k : Bool). k && (number_of code == 0x29)) (known-code c (number_of code) b.0) ∙ b.1
+error-known c (replies.ErrorBlockSize code size) h =
+    let b = both-true (is_code_of c (number_of code)) (number_of code == 0x22) h in
+    ap (λ (k : Bool). k && (number_of code == 0x22)) (known-code c (number_of code) b.0) ∙ b.1
 error-known c _ h = cc
 
 -- a command is refused with a refusal's code
@@ -242,6 +247,7 @@ BeginsWithError bytes = (rest : List ℕ) × (bytes ≡ 0xFE ∷ rest)
 error-begins : (order : Order) (reply : Reply) → is_error reply ≡ true → BeginsWithError (layout order reply)
 error-begins order (replies.Error code) h = (_, refl)
 error-begins order (replies.ErrorCount code count) h = (_, refl)
+error-begins order (replies.ErrorBlockSize code size) h = (_, refl)
 error-begins order _ h = cc
 
 -- and sent as an error packet

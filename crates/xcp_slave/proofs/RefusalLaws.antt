@@ -114,10 +114,10 @@ drains-refusal [] v a w h r = h.1
 drains-refusal (packet ∷ rest) v a w h r = absurd (subst IsRefusal h.0 r)
 
 stores-refusal : (v : SlaveValue) (a : Answer) (w : SlaveValue) → Stores v a w → IsRefusal a → w ≡ v
-stores-refusal v a w h r = either (v.connected && nat_le outbox_size (length v.outbox)) _ _ _ h (λ k. k.1) (λ k. absurd (subst IsRefusal k.0 r))
+stores-refusal v a w h r = either (v.connected && nat_le (outbox_size v) (length v.outbox)) _ _ _ h (λ k. k.1) (λ k. absurd (subst IsRefusal k.0 r))
 
 samples-refusal : (channel : ℕ) (packets : List (ArrayVec ℕ)) (v u : SlaveValue) (a : Answer) (w : SlaveValue) → Samples channel packets u a w → IsRefusal a → w ≡ v
-samples-refusal channel packets v u a w h r = either (nat_le (length u.outbox + length (with_overload u.overloaded packets)) outbox_size) _ _ _ h (λ k. absurd (subst IsRefusal k.0 r)) (λ k. absurd (subst IsRefusal k.0 r))
+samples-refusal channel packets v u a w h r = either (nat_le (length u.outbox + length (with_overload (outbox_size u) u.overloaded packets)) (outbox_size u)) _ _ _ h (λ k. absurd (subst IsRefusal k.0 r)) (λ k. absurd (subst IsRefusal k.0 r))
 
 fires-refusal : (channel : ℕ) (signals : List ℕ) (v : SlaveValue) (a : Answer) (w : SlaveValue) → Fires channel signals v a w → IsRefusal a → w ≡ v
 fires-refusal channel signals v a w h r =
@@ -127,7 +127,7 @@ fires-refusal channel signals v a w h r =
 
 -- what an overrun leaves
 samples-overrun : (channel : ℕ) (packets : List (ArrayVec ℕ)) (v w : SlaveValue) → Samples channel packets v answers.Overrun w → w ≡ with_loss channel v
-samples-overrun channel packets v w h = either (nat_le (length v.outbox + length (with_overload v.overloaded packets)) outbox_size) _ _ _ h (λ k. let e = k.0 in cc) (λ k. k.1)
+samples-overrun channel packets v w h = either (nat_le (length v.outbox + length (with_overload (outbox_size v) v.overloaded packets)) (outbox_size v)) _ _ _ h (λ k. let e = k.0 in cc) (λ k. k.1)
 
 -- an event that overruns changes the signals, the lists' counts of events and whether the tool has to be told, and nothing else
 pub overrun-leaves : (v : SlaveValue) (channel : ℕ) (signals : ArrayVec ℕ) (w : SlaveValue) → Answers v (requests.Event channel signals) answers.Overrun w → w ≡ record (with_event channel (with_signals signals.items v)) { overloaded = (layout_of v).extras.tells_overload }

@@ -83,7 +83,7 @@ drains-segments [] v a w k = ap (λ (y : SlaveValue). y.transfer.pages.segments)
 drains-segments (p ∷ rest) v a w k = ap (λ (y : SlaveValue). y.transfer.pages.segments) k.1
 
 samples-segments : (channel : ℕ) (packets : List (ArrayVec ℕ)) (v : SlaveValue) (a : Answer) (w : SlaveValue) → Samples channel packets v a w → w.transfer.pages.segments ≡ v.transfer.pages.segments
-samples-segments channel packets v a w k = either (nat_le (length v.outbox + length (with_overload v.overloaded packets)) outbox_size) _ _ _ k (λ o. ap (λ (y : SlaveValue). y.transfer.pages.segments) o.1) (λ o. ap (λ (y : SlaveValue). y.transfer.pages.segments) o.1)
+samples-segments channel packets v a w k = either (nat_le (length v.outbox + length (with_overload (outbox_size v) v.overloaded packets)) (outbox_size v)) _ _ _ k (λ o. ap (λ (y : SlaveValue). y.transfer.pages.segments) o.1) (λ o. ap (λ (y : SlaveValue). y.transfer.pages.segments) o.1)
 
 fires-segments : (channel : ℕ) (signals : List ℕ) (v : SlaveValue) (a : Answer) (w : SlaveValue) → Fires channel signals v a w → w.transfer.pages.segments ≡ v.transfer.pages.segments
 fires-segments channel signals v a w k =

@@ -23,7 +23,7 @@ use Rattle.xcp_slave.specs.PacketQueue.{event_packets}
 use Rattle.xcp_slave.specs.SampledBytes.{ReadsOdt, OdtPackets, ListPackets, DuePackets}
 use Rattle.xcp_slave.specs.SlaveInvariant.{LiesWritten, IsSlave}
 use Rattle.xcp_slave.specs.SlaveValue.{SlaveValue, layout_of}
-use Rattle.xcp_slave.specs.Step.{Answers, Fires, with_overload, with_signals}
+use Rattle.xcp_slave.specs.Step.{Answers, Fires, outbox_size, with_overload, with_signals}
 use Rattle.xcp_slave.proofs.PacketQueueLaws.{event-whole}
 use Rattle.xcp_slave.proofs.SlaveInvariantLaws.{either-test}
 use Rattle.xcp_slave.proofs.StepLaws.{either}
@@ -75,7 +75,7 @@ signals-long v channel n signals w k =
     (λ m. absurd (let e = m.0 in cc))
 
 -- an event that is sampled puts the packets of the lists that are due, with the bytes that the controller reads
-pub event-reads : (v : SlaveValue) (channel n : ℕ) (signals : ArrayVec ℕ) (w : SlaveValue) → IsSlave v → Answers v (requests.Event channel signals) (answers.Sampled n) w → (packets : List (ArrayVec ℕ)) × DuePackets channel v.time (with_signals signals.items v).transfer.pages v.daq 0 v.daq.lists packets × (w.outbox ≡ v.outbox ++ with_overload v.overloaded packets)
+pub event-reads : (v : SlaveValue) (channel n : ℕ) (signals : ArrayVec ℕ) (w : SlaveValue) → IsSlave v → Answers v (requests.Event channel signals) (answers.Sampled n) w → (packets : List (ArrayVec ℕ)) × DuePackets channel v.time (with_signals signals.items v).transfer.pages v.daq 0 v.daq.lists packets × (w.outbox ≡ v.outbox ++ with_overload (outbox_size v) v.overloaded packets)
 event-reads v channel n signals w h k =
     let lawful : IsLawful (with_signals signals.items v).transfer = transfers.signals-kept v.transfer signals.items h.transfer (signals-long v channel n signals w k) in (
       event_packets v channel signals.items,

@@ -15,6 +15,7 @@ use Rattle.xcp_packet.specs.declared.Refuse.{Refuse}
 use Rattle.xcp_packet.specs.declared.Refuse.TheVariants as refuses
 use Rattle.xcp_packet.specs.declared.Reply.{Reply}
 use Rattle.xcp_packet.specs.declared.Code.TheVariants.{OutOfRange}
+use Rattle.xcp_memory.specs.ClassLimits.{limits_of}
 use Rattle.xcp_memory.specs.Layout.{LayoutValue, IsLayout}
 use Rattle.xcp_memory.specs.PageSwitch.{switch_refusal}
 use Rattle.xcp_memory.specs.PageCopy.{copy_refusal}
@@ -82,7 +83,7 @@ row-transfer (commands.GetDaqEventInfo channel) v h r =
 row-transfer _ v h r = transfers.without v.transfer h
 
 row-lists : (c : Command) (v : SlaveValue) → HasBytes c → IsLayout (layout_of v) → IsLists (layout_of v) v.daq → first_holding (row c v).refusals ≡ None → IsLists (layout_of v) (row c v).after.daq
-row-lists commands.Disconnect v b l h r = lists.no-lists (layout_of v) None
+row-lists commands.Disconnect v b l h r = lists.no-lists (layout_of v) v.daq.class None h.class
 row-lists (commands.ClearDaqList list) v b l h r = lists.clear-list (layout_of v) list v.daq h (none-refused (clear_daq_list_refusal list v.daq) r)
 row-lists (commands.SetDaqPtr list odt entry) v b l h r = lists.set-pointer (layout_of v) list odt entry v.daq h (none-refused (set_daq_ptr_refusal list odt entry v.daq) r)
 row-lists (commands.WriteDaq offset size extension address) v b l h r = lists.write-daq (layout_of v) offset size extension address v.daq l h (none-refused (write_daq_refusal (layout_of v) offset size extension address v.daq) r)
@@ -91,15 +92,15 @@ row-lists (commands.SetDaqListMode mode list event prescaler priority) v b l h r
 row-lists (commands.StartStopDaqList mode list) v b l h r = lists.start-stop (layout_of v) mode list v.daq l h (none-refused (start_stop_daq_list_refusal (layout_of v) mode list v.daq) r)
 row-lists (commands.StartStopSynch mode) v b l h r = lists.synch (layout_of v) mode v.daq l h (none-refused (start_stop_synch_refusal (layout_of v) mode v.daq) r)
 row-lists commands.ReadDaq v b l h r = lists.read-daq (layout_of v) v.daq h
-row-lists commands.FreeDaq v b l h r = lists.no-lists (layout_of v) _
+row-lists commands.FreeDaq v b l h r = lists.no-lists (layout_of v) v.daq.class _ h.class
 row-lists (commands.AllocDaq count) v b l h r = lists.alloc-daq (layout_of v) count v.daq h (none-refused (alloc_daq_refusal count v.daq) r)
 row-lists (commands.AllocOdt list count) v b l h r = lists.alloc-odt (layout_of v) list count v.daq h (none-refused (alloc_odt_refusal list count v.daq) r)
 row-lists (commands.AllocOdtEntry list odt count) v b l h r = lists.alloc-entry (layout_of v) list odt count v.daq h (none-refused (alloc_odt_entry_refusal list odt count v.daq) r)
 row-lists _ v b l h r = h
 
--- at most 64 packets wait, and each may
+-- no more packets wait than have room, and each may
 record Waits (l : LayoutValue) (o : List (ArrayVec ℕ)) : Type 0 where
-  few : length o ≤ 64
+  few : length o ≤ (limits_of l.class).packets
   waiting : All (IsWaiting l) o
 
 row-outbox : (c : Command) (v : SlaveValue) → Waits (layout_of v) v.outbox → Waits (layout_of v) (row c v).after.outbox
@@ -139,7 +140,7 @@ row-kept c v b h on r =
     record {
       transfer = row-transfer c v h.transfer r;
       lists = subst (λ (l : LayoutValue). IsLists l (row c v).after.daq) (sym same) (row-lists c v b h.transfer.layout h.lists r);
-      few = waits.few;
+      few = subst (λ (l : LayoutValue). length (row c v).after.outbox ≤ (limits_of l.class).packets) (sym same) waits.few;
       waiting = subst (λ (l : LayoutValue). All (IsWaiting l) (row c v).after.outbox) (sym same) waits.waiting;
       asked = λ e. ap (λ (l : LayoutValue). l.extras.tells_overload) same ∙ h.asked (row-asked c v e);
       idle = row-idle c v on;
@@ -171,7 +172,7 @@ drains-kept : (o : List (ArrayVec ℕ)) (v : SlaveValue) (a : Answer) (w : Slave
 drains-kept [] v a w e h k = same-kept v w h k.1
 drains-kept (packet ∷ rest) v a w e h k =
     let all : All (IsWaiting (layout_of v)) (packet ∷ rest) = subst (All (IsWaiting (layout_of v))) e h.waiting in
-    let few : length (packet ∷ rest) ≤ 64 = subst (λ (ps : List (ArrayVec ℕ)). length ps ≤ 64) e h.few in
+    let few : length (packet ∷ rest) ≤ outbox_size v = subst (λ (ps : List (ArrayVec ℕ)). length ps ≤ outbox_size v) e h.few in
     same-kept _ w (record {
       transfer = h.transfer;
       lists = h.lists;
@@ -181,9 +182,9 @@ drains-kept (packet ∷ rest) v a w e h k =
       idle = λ off. (let none : v.outbox ≡ [] = ap (λ (x : SlaveValue). x.outbox) (h.idle off) in let both : [] ≡ packet ∷ rest = sym none ∙ e in cc);
     }) k.1
 
-stored-few : (on : Bool) (o : List (ArrayVec ℕ)) → length o ≤ 64 → (on && nat_le outbox_size (length o)) ≡ false → length (if on then o ++ store_event ∷ [] else o) ≤ 64
-stored-few true o h t = let short : length o < 64 = is_below (length o) 64 t in omega (arith, length-append o (store_event ∷ []))
-stored-few false o h t = h
+stored-few : (size : ℕ) (on : Bool) (o : List (ArrayVec ℕ)) → length o ≤ size → (on && nat_le size (length o)) ≡ false → length (if on then o ++ store_event ∷ [] else o) ≤ size
+stored-few size true o h t = let short : length o < size = is_below (length o) size t in omega (arith, length-append o (store_event ∷ []))
+stored-few size false o h t = h
 
 stored-waits : (l : LayoutValue) (on : Bool) (o : List (ArrayVec ℕ)) → All (IsWaiting l) o → All (IsWaiting l) (if on then o ++ store_event ∷ [] else o)
 stored-waits l true o h = event-waits l o h
@@ -191,12 +192,12 @@ stored-waits l false o h = h
 
 stores-kept : (v : SlaveValue) (a : Answer) (w : SlaveValue) → IsSlave v → Stores v a w → IsSlave w
 stores-kept v a w h k =
-    either-test (v.connected && nat_le outbox_size (length v.outbox)) _ _ _
+    either-test (v.connected && nat_le (outbox_size v) (length v.outbox)) _ _ _
     (λ full m. same-kept v w h m.1)
     (λ room m. same-kept (stored v) w (record {
       transfer = transfers.frozen-kept v.transfer h.transfer;
       lists = h.lists;
-      few = stored-few v.connected v.outbox h.few room;
+      few = stored-few (outbox_size v) v.connected v.outbox h.few room;
       waiting = stored-waits (layout_of v) v.connected v.outbox h.waiting;
       asked = h.asked;
       idle = λ off. moved-idle stored v (λ x. refl) (h.idle off);
@@ -216,28 +217,34 @@ sampled-idle channel v e = moved-idle (sampled-by channel) v (λ x. refl) e
 
 -- what an event puts has room
 abbrev has_room : ℕ → SlaveValue → Bool
-has_room channel v = nat_le (length v.outbox + length (with_overload v.overloaded (sampled channel v.time v.transfer.pages v.daq))) outbox_size
+has_room channel v = nat_le (length v.outbox + length (with_overload (outbox_size v) v.overloaded (sampled channel v.time v.transfer.pages v.daq))) (outbox_size v)
+
+no-more : (n : ℕ) → nat_le 0 n ≡ true
+no-more n = grind (arith, nat_tests)
 
 -- so it has while nobody is connected: it is nothing
 idle-room : (channel : ℕ) (v : SlaveValue) → v ≡ ended v → has_room channel v ≡ false → ⊥
-idle-room channel v e full = let t : true ≡ false = sym (ap (has_room channel) e) ∙ full in cc
+idle-room channel v e full =
+    let none : has_room channel (ended v) ≡ true = no-more (outbox_size (ended v)) in
+    let t : true ≡ false = sym (ap (has_room channel) e ∙ none) ∙ full in
+    cc
 
-was-overloaded : (overloaded : Bool) (ps : List (ArrayVec ℕ)) → still_overloaded overloaded ps ≡ true → overloaded ≡ true
-was-overloaded true ps e = refl
-was-overloaded false ps e = cc
+was-overloaded : (size : ℕ) (overloaded : Bool) (ps : List (ArrayVec ℕ)) → still_overloaded size overloaded ps ≡ true → overloaded ≡ true
+was-overloaded size true ps e = refl
+was-overloaded size false ps e = cc
 
 samples-kept : (channel : ℕ) (v : SlaveValue) (a : Answer) (w : SlaveValue) → IsSlave v → Samples channel (sampled channel v.time v.transfer.pages v.daq) v a w → IsSlave w
 unfolding sampled-by
 samples-kept channel v a w h k =
     let new : List (ArrayVec ℕ) = sampled channel v.time v.transfer.pages v.daq in
-    let all : List (ArrayVec ℕ) = with_overload v.overloaded new in
+    let all : List (ArrayVec ℕ) = with_overload (outbox_size v) v.overloaded new in
     either-test (has_room channel v) _ _ _
     (λ room m. same-kept (sampled-by channel v) w (record {
       transfer = h.transfer;
       lists = lists.event (layout_of v) channel v.daq h.lists;
-      few = (let long = length-append v.outbox all in let fits : length v.outbox + length all ≤ 64 = grind (arith, nat_tests, room) in omega arith);
+      few = (let long = length-append v.outbox all in let fits : length v.outbox + length all ≤ outbox_size v = grind (arith, nat_tests, room) in omega arith);
       waiting = sample-waits (layout_of v) v.overloaded v.outbox new h.asked h.waiting (sample (layout_of v) channel v.time v.transfer.pages v.daq h.lists);
-      asked = λ e. h.asked (was-overloaded v.overloaded new e);
+      asked = λ e. h.asked (was-overloaded (outbox_size v) v.overloaded new e);
       idle = λ off. sampled-idle channel v (h.idle off);
     }) m.1)
     (λ full m. same-kept (with_loss channel v) w (record {
@@ -263,7 +270,7 @@ time-kept : (time : ℕ) (v : SlaveValue) → IsSlave v → IsSlave (at_time tim
 time-kept time v h = record { transfer = h.transfer; lists = h.lists; few = h.few; waiting = h.waiting; asked = h.asked; idle = λ off. moved-idle (at_time time) v (λ x. refl) (h.idle off) }
 
 ended-kept : (v : SlaveValue) → IsSlave v → IsSlave (ended v)
-ended-kept v h = record { transfer = transfers.nowhere v.transfer h.transfer; lists = lists.no-lists (layout_of v) None; few = omega arith; waiting = λ k d below. absurd (omega arith); asked = λ e. cc; idle = λ off. refl }
+ended-kept v h = record { transfer = transfers.nowhere v.transfer h.transfer; lists = lists.no-lists (layout_of v) v.daq.class None h.lists.class; few = omega arith; waiting = λ k d below. absurd (omega arith); asked = λ e. cc; idle = λ off. refl }
 
 spelt : (order : Order) (p : List ℕ) (d : Result Command Refuse) → All (λ byte. byte < 256) p → Decodes order p d → (c : Command) → d ≡ Ok c → HasBytes c
 spelt order p d b k c e = has-bytes order c p b (subst (Decodes order p) e k)
@@ -281,7 +288,7 @@ answers-kept v (requests.Time time) a w b h k = same-kept (at_time time v) w (ti
 pub opening-slave : (l : LayoutValue) → IsLayout l → IsSlave (opening l)
 opening-slave l h = record {
   transfer = record { layout = h; pages = is_pages-opening l (replicate l.signals_length 0) h (length-replicate l.signals_length 0); transfer = record { mta = tt; block = tt } };
-  lists = lists.no-lists l None;
+  lists = lists.no-lists l l.class None refl;
   few = omega arith;
   waiting = λ k d below. absurd (omega arith);
   asked = λ e. cc;

@@ -99,22 +99,22 @@ drains-some [] v = (answers.Nothing, v, (refl, refl))
 drains-some (packet ∷ rest) v = (answers.Packets (packet.items ∷ []), record v { outbox = rest }, (refl, refl))
 
 stores-single : (v : SlaveValue) (a b : Answer) (w u : SlaveValue) → Stores v a w → Stores v b u → (a ≡ b) × (w ≡ u)
-stores-single v a b w u h k = both (v.connected && nat_le outbox_size (length v.outbox)) _ _ _ _ _ h k (settled answers.Later v a b w u) (settled (answers.Stored (frozen_count v.transfer.pages)) (stored v) a b w u)
+stores-single v a b w u h k = both (v.connected && nat_le (outbox_size v) (length v.outbox)) _ _ _ _ _ h k (settled answers.Later v a b w u) (settled (answers.Stored (frozen_count v.transfer.pages)) (stored v) a b w u)
 
 stores-some : (v : SlaveValue) → (a : Answer) × (w : SlaveValue) × Stores v a w
 stores-some v =
-    one_of (v.connected && nat_le outbox_size (length v.outbox)) (λ a w. (a ≡ answers.Later) × (w ≡ v)) (λ a w. (a ≡ answers.Stored (frozen_count v.transfer.pages)) × (w ≡ stored v))
+    one_of (v.connected && nat_le (outbox_size v) (length v.outbox)) (λ a w. (a ≡ answers.Later) × (w ≡ v)) (λ a w. (a ≡ answers.Stored (frozen_count v.transfer.pages)) × (w ≡ stored v))
     (answers.Later, v, (refl, refl))
     (answers.Stored (frozen_count v.transfer.pages), stored v, (refl, refl))
 
 samples-single : (channel : ℕ) (packets : List (ArrayVec ℕ)) (v : SlaveValue) (a b : Answer) (w u : SlaveValue) → Samples channel packets v a w → Samples channel packets v b u → (a ≡ b) × (w ≡ u)
 samples-single channel packets v a b w u h k =
-    both (nat_le (length v.outbox + length (with_overload v.overloaded packets)) outbox_size) _ _ _ _ _ h k (settled (answers.Sampled (length (with_overload v.overloaded packets))) (with_sample channel packets v) a b w u) (settled answers.Overrun (with_loss channel v) a b w u)
+    both (nat_le (length v.outbox + length (with_overload (outbox_size v) v.overloaded packets)) (outbox_size v)) _ _ _ _ _ h k (settled (answers.Sampled (length (with_overload (outbox_size v) v.overloaded packets))) (with_sample channel packets v) a b w u) (settled answers.Overrun (with_loss channel v) a b w u)
 
 samples-some : (channel : ℕ) (packets : List (ArrayVec ℕ)) (v : SlaveValue) → (a : Answer) × (w : SlaveValue) × Samples channel packets v a w
 samples-some channel packets v =
-    one_of (nat_le (length v.outbox + length (with_overload v.overloaded packets)) outbox_size) (λ a w. (a ≡ answers.Sampled (length (with_overload v.overloaded packets))) × (w ≡ with_sample channel packets v)) (λ a w. (a ≡ answers.Overrun) × (w ≡ with_loss channel v))
-    (answers.Sampled (length (with_overload v.overloaded packets)), with_sample channel packets v, (refl, refl))
+    one_of (nat_le (length v.outbox + length (with_overload (outbox_size v) v.overloaded packets)) (outbox_size v)) (λ a w. (a ≡ answers.Sampled (length (with_overload (outbox_size v) v.overloaded packets))) × (w ≡ with_sample channel packets v)) (λ a w. (a ≡ answers.Overrun) × (w ≡ with_loss channel v))
+    (answers.Sampled (length (with_overload (outbox_size v) v.overloaded packets)), with_sample channel packets v, (refl, refl))
     (answers.Overrun, with_loss channel v, (refl, refl))
 
 -- the sample of an event with its signals in place

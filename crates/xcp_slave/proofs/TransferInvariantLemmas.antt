@@ -7,7 +7,7 @@ use Rattle.std.proofs.lemmas.List.{length-set, length-take-le}
 use Rattle.std.proofs.lemmas.List.Elements.{All-set}
 use Rattle.xcp_packet.specs.declared.Code.{Code}
 use Rattle.xcp_packet.specs.declared.Code.TheVariants.{OutOfRange, CmdSyntax, Sequence, AccessDenied, WriteProtected, ModeNotValid, SegmentNotValid, PageNotValid}
-use Rattle.xcp_packet.specs.declared.Reply.TheVariants.{Error, ErrorCount}
+use Rattle.xcp_packet.specs.declared.Reply.TheVariants.{Error, ErrorCount, ErrorBlockSize}
 use Rattle.xcp_memory.specs.Layout.{LayoutValue, SegmentValue, IsLayout}
 use Rattle.xcp_memory.specs.Pages.{PagesValue, SegmentPages, IsPages, IsSegment, segment_at, xcp_page, no_segment}
 use Rattle.xcp_memory.specs.ComputedAccess.{segment_of, place_in, written_by, segment_written, overwritten, write_refusal, write_refusal_by}
@@ -28,7 +28,7 @@ use Rattle.xcp_transfer.specs.declared.mta.TextId.TheVariants.{Id, Name, A2lName
 use Rattle.xcp_transfer.specs.TransferValue.{TransferValue, BlockValue, text_of, IsText, IsMta, IsBlock, IsUnderWay}
 use Rattle.xcp_transfer.specs.MtaAccess.{is_readable, sum_refusal_at, write_refusal_at, written_at, moved}
 use Rattle.xcp_packet.specs.Rows.{first_holding, refused}
-use Rattle.xcp_transfer.specs.Uploads.{upload_row, short_upload_row, build_checksum_row, get_id_row, text_of_kind, text_start, with_bytes}
+use Rattle.xcp_transfer.specs.Uploads.{upload_row, short_upload_row, build_checksum_row, greatest_sum, get_id_row, text_of_kind, text_start, with_bytes}
 use Rattle.xcp_transfer.specs.Downloads.{download_row, download_next_row, next_row, download_max_row, short_download_row, modify_bits_row, packet_room, greatest_download, max_bs, block_begun, block_with, downloaded}
 use Rattle.xcp_transfer.specs.Laws.{IsLawful}
 use Rattle.xcp_slave.proofs.ListInvariantLemmas.{NoneHolds, none-holds, is_below, is_true}
@@ -209,7 +209,8 @@ moved-summed p (Text id place) n r = absurd (none-unlying p.layout.checksum n r)
 -- a BUILD_CHECKSUM that isn't refused leaves transfers lawful
 pub build-checksum : (size : ℕ) (t : TransferValue) → IsLawful t → first_holding (build_checksum_row size t).refusals ≡ None → IsLawful (build_checksum_row size t).after
 build-checksum size t h r =
-    lawful-of t.pages (moved t.mta size) (with-mta t.pages t.mta (moved t.mta size) (good t h) (moved-summed t.pages t.mta size (none-refused (sum_refusal_at t.pages t.mta size) r)))
+    let a = none-holds ((nat_lt (greatest_sum t.pages.layout) size, ErrorBlockSize OutOfRange (greatest_sum t.pages.layout)) ∷ refused (sum_refusal_at t.pages t.mta size)) r in
+    lawful-of t.pages (moved t.mta size) (with-mta t.pages t.mta (moved t.mta size) (good t h) (moved-summed t.pages t.mta size (none-behind (sum_refusal_at t.pages t.mta size) a.1)))
 
 abbrev has-text : LayoutValue → Option TextId → Type 0
 has-text l None = Unit {0}

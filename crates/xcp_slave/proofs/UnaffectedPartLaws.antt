@@ -62,13 +62,13 @@ pub fires-part : {A : Type 0} (f : SlaveValue → A) (channel : ℕ) (signals : 
 fires-part f channel signals v a w h k =
     either (nat_lt channel (length (layout_of v).events)) _ _ _ k
     (λ m. either (length signals == (layout_of v).signals_length) _ _ _ m
-    (λ n. either (nat_le (length v.outbox + length (with_overload v.overloaded _)) outbox_size) _ _ _ n (λ o. ap f o.1 ∙ h _ _) (λ o. ap f o.1 ∙ h v.outbox _))
+    (λ n. either (nat_le (length v.outbox + length (with_overload (outbox_size v) v.overloaded _)) (outbox_size v)) _ _ _ n (λ o. ap f o.1 ∙ h _ _) (λ o. ap f o.1 ∙ h v.outbox _))
     (λ n. ap f n.1))
     (λ m. ap f m.1)
 
 -- FinishStore leaves each part that a finished store doesn't change
 pub stores-part : {A : Type 0} (f : SlaveValue → A) (v : SlaveValue) (a : Answer) (w : SlaveValue) → f (stored v) ≡ f v → Answers v requests.FinishStore a w → f w ≡ f v
-stores-part f v a w h k = either v.store _ _ _ k (λ m. either (v.connected && nat_le outbox_size (length v.outbox)) _ _ _ m (λ n. ap f n.1) (λ n. ap f n.1 ∙ h)) (λ m. ap f m.1)
+stores-part f v a w h k = either v.store _ _ _ k (λ m. either (v.connected && nat_le (outbox_size v) (length v.outbox)) _ _ _ m (λ n. ap f n.1) (λ n. ap f n.1 ∙ h)) (λ m. ap f m.1)
 
 -- the MTA
 
@@ -219,9 +219,9 @@ pub connect-alone : (v w : SlaveValue) (mode : ℕ) (bytes : List ℕ) → Accep
 connect-alone v w mode bytes h = (accepted (commands.Connect mode) v bytes w h).after
 
 -- an accepted DISCONNECT ends the session with its MTA, block, DAQ lists and outbox, and changes nothing else
-pub disconnect-alone : (v w : SlaveValue) (bytes : List ℕ) → Accepts v commands.Disconnect bytes w → w ≡ record v { connected = false; transfer = record v.transfer { mta = Nowhere; block = None }; daq = record { lists = []; pointer = None; last = None }; outbox = []; overloaded = false }
+pub disconnect-alone : (v w : SlaveValue) (bytes : List ℕ) → Accepts v commands.Disconnect bytes w → w ≡ record v { connected = false; transfer = record v.transfer { mta = Nowhere; block = None }; daq = record { class = v.daq.class; lists = []; pointer = None; last = None }; outbox = []; overloaded = false }
 disconnect-alone v w bytes h = (accepted commands.Disconnect v bytes w h).after
 
 -- the same for a hangup
-pub hangup-alone : (v w : SlaveValue) (a : Answer) → Answers v requests.Hangup a w → w ≡ record v { connected = false; transfer = record v.transfer { mta = Nowhere; block = None }; daq = record { lists = []; pointer = None; last = None }; outbox = []; overloaded = false }
+pub hangup-alone : (v w : SlaveValue) (a : Answer) → Answers v requests.Hangup a w → w ≡ record v { connected = false; transfer = record v.transfer { mta = Nowhere; block = None }; daq = record { class = v.daq.class; lists = []; pointer = None; last = None }; outbox = []; overloaded = false }
 hangup-alone v w a h = h.1

@@ -49,7 +49,7 @@ resolution_reply i = replies.DaqResolution i.greatest i.mode i.ticks
 
 -- (ASAM MCD-1 XCP, protocol layer, description of commands: GET_DAQ_EVENT_INFO.)
 abbrev pub event_reply : EventInfo → Reply
-event_reply e = replies.EventInfo e.name_length e.cycle e.unit e.priority
+event_reply e = replies.EventInfo e.lists e.name_length e.cycle e.unit e.priority
 
 -- WRITE_DAQ_MULTIPLE is a command of a slave whose layout asks for it; no other knows it.
 -- (ASAM MCD-1 XCP, protocol layer, description of commands: WRITE_DAQ_MULTIPLE.)

@@ -9,7 +9,7 @@ use Rattle.xcp_slave.specs.declared.exchange.Exchange.{Exchange}
 use Rattle.xcp_slave.specs.declared.request.Request.{Request}
 use Rattle.xcp_slave.specs.declared.request.Request.TheVariants as requests
 use Rattle.xcp_slave.specs.SlaveValue.{SlaveValue}
-use Rattle.xcp_slave.specs.Step.{Answers, store_event, with_overload, with_signals}
+use Rattle.xcp_slave.specs.Step.{Answers, outbox_size, store_event, with_overload, with_signals}
 
 -- the data packets of an event of this channel with these signals: its sample, once the signals are in their place
 abbrev pub event_packets : SlaveValue → ℕ → List ℕ → List (ArrayVec ℕ)
@@ -20,7 +20,7 @@ event_packets v channel signals = sampled channel v.time (with_signals signals v
 -- connected; any other step none.
 -- (ASAM MCD-1 XCP, protocol layer: data packets, event packets.)
 abbrev pub put_in : SlaveValue → Request → Answer → List (ArrayVec ℕ)
-put_in v (requests.Event channel signals) (answers.Sampled n) = with_overload v.overloaded (event_packets v channel signals.items)
+put_in v (requests.Event channel signals) (answers.Sampled n) = with_overload (outbox_size v) v.overloaded (event_packets v channel signals.items)
 put_in v requests.FinishStore (answers.Stored n) = if v.connected then store_event ∷ [] else []
 put_in v _ _ = []
 

@@ -27,7 +27,7 @@ layout_of v = v.transfer.pages.layout
 -- The opening: a slave that has just been made. Nobody is connected, the pages are as laid out, there is no DAQ list, no packet
 -- waits, no store is requested, the time is 0, and no sample was lost.
 abbrev pub opening : LayoutValue → SlaveValue
-opening l = record { connected = false; transfer = opening_transfer (opening_pages l); daq = opening_daq; outbox = []; store = false; time = 0; overloaded = false }
+opening l = record { connected = false; transfer = opening_transfer (opening_pages l); daq = opening_daq l.class; outbox = []; store = false; time = 0; overloaded = false }
 
 -- The slave without the block that is under way. A refusal leaves this.
 abbrev pub noblock : SlaveValue → SlaveValue
@@ -41,4 +41,4 @@ with_pages v pages = record v { transfer = record v.transfer { pages = pages; bl
 -- lists and the packets that wait, and nobody has to be told of a lost sample. Pages, their numbers and modes, the signals, a
 -- store request and the time stay.
 abbrev pub ended : SlaveValue → SlaveValue
-ended v = record v { connected = false; transfer = record v.transfer { mta = Nowhere; block = None }; daq = opening_daq; outbox = []; overloaded = false }
+ended v = record v { connected = false; transfer = record v.transfer { mta = Nowhere; block = None }; daq = opening_daq v.daq.class; outbox = []; overloaded = false }

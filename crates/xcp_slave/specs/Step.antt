@@ -12,6 +12,7 @@ use Rattle.xcp_packet.specs.declared.Reply.TheVariants as replies
 use Rattle.xcp_packet.specs.declared.Code.{Code}
 use Rattle.xcp_packet.specs.declared.Code.TheVariants.{CmdUnknown, CmdSyntax}
 use Rattle.xcp_memory.specs.Freeze.{pages_frozen, frozen_count}
+use Rattle.xcp_memory.specs.ClassLimits.{limits_of}
 use Rattle.xcp_memory.specs.Layout.{LayoutValue}
 use Rattle.xcp_transfer.specs.TransferValue.{response_room}
 use Rattle.xcp_packet.specs.Rows.{Meets}
@@ -75,8 +76,8 @@ Drains [] v a w = (a ≡ answers.Nothing) × (w ≡ v)
 Drains (packet ∷ rest) v a w = (a ≡ answers.Packets (packet.items ∷ [])) × (w ≡ record v { outbox = rest })
 
 -- how many packets can wait
-abbrev pub outbox_size : ℕ
-outbox_size = 64
+abbrev pub outbox_size : SlaveValue → ℕ
+outbox_size v = (limits_of (layout_of v).class).packets
 
 -- EV_STORE_CAL: the pages have been stored
 -- (ASAM MCD-1 XCP, protocol layer, event packets: EV_STORE_CAL.)
@@ -96,7 +97,7 @@ stored v = record v {
 -- is done yet.
 abbrev pub Stores : SlaveValue → Answer → SlaveValue → Type 0
 Stores v a w =
-    MatchBool (v.connected && nat_le outbox_size (length v.outbox))
+    MatchBool (v.connected && nat_le (outbox_size v) (length v.outbox))
     ((a ≡ answers.Later) × (w ≡ v))
     ((a ≡ answers.Stored (frozen_count v.transfer.pages)) × (w ≡ stored v))
 
@@ -113,25 +114,25 @@ with_event channel v = record v { daq = after_event channel v.daq }
 abbrev pub overload_event : ArrayVec ℕ
 overload_event = record { items = 0xFD ∷ 0x06 ∷ [] }
 
--- The packets that an event puts, where these are its sample: where the tool has to be told of a lost sample, the event packet
+-- The packets that an event puts, where these are its sample and so many can wait: where the tool has to be told of a lost sample, the event packet
 -- stands before them. An event that samples nothing puts nothing; and a sample that takes all the room there is, or there would
 -- never be room for it, is put by itself.
-abbrev pub with_overload : Bool → List (ArrayVec ℕ) → List (ArrayVec ℕ)
-with_overload false packets = packets
-with_overload true [] = []
-with_overload true (packet ∷ rest) = if nat_lt (length (packet ∷ rest)) outbox_size then overload_event ∷ packet ∷ rest else packet ∷ rest
+abbrev pub with_overload : ℕ → Bool → List (ArrayVec ℕ) → List (ArrayVec ℕ)
+with_overload size false packets = packets
+with_overload size true [] = []
+with_overload size true (packet ∷ rest) = if nat_lt (length (packet ∷ rest)) size then overload_event ∷ packet ∷ rest else packet ∷ rest
 
--- whether the tool has to be told of a lost sample still, once they are put
-abbrev pub still_overloaded : Bool → List (ArrayVec ℕ) → Bool
-still_overloaded false packets = false
-still_overloaded true [] = true
-still_overloaded true (packet ∷ rest) = not (nat_lt (length (packet ∷ rest)) outbox_size)
+-- whether the tool has to be told of a lost sample still, once they are put, where so many can wait
+abbrev pub still_overloaded : ℕ → Bool → List (ArrayVec ℕ) → Bool
+still_overloaded size false packets = false
+still_overloaded size true [] = true
+still_overloaded size true (packet ∷ rest) = not (nat_lt (length (packet ∷ rest)) size)
 
 -- the slave once an event's packets wait
 abbrev pub with_sample : ℕ → List (ArrayVec ℕ) → SlaveValue → SlaveValue
 with_sample channel packets v = record (with_event channel v) {
-  outbox = v.outbox ++ with_overload v.overloaded packets;
-  overloaded = still_overloaded v.overloaded packets;
+  outbox = v.outbox ++ with_overload (outbox_size v) v.overloaded packets;
+  overloaded = still_overloaded (outbox_size v) v.overloaded packets;
 }
 
 -- the slave once an event's sample is lost: where the layout asks for it, the tool has to be told
@@ -144,8 +145,8 @@ with_loss channel v = record (with_event channel v) { overloaded = (layout_of v)
 -- (ASAM MCD-1 XCP, protocol layer: DAQ, event channels, data packets; event packets: EV_DAQ_OVERLOAD.)
 abbrev pub Samples : ℕ → List (ArrayVec ℕ) → SlaveValue → Answer → SlaveValue → Type 0
 Samples channel packets v a w =
-    MatchBool (nat_le (length v.outbox + length (with_overload v.overloaded packets)) outbox_size)
-    ((a ≡ answers.Sampled (length (with_overload v.overloaded packets))) × (w ≡ with_sample channel packets v))
+    MatchBool (nat_le (length v.outbox + length (with_overload (outbox_size v) v.overloaded packets)) (outbox_size v))
+    ((a ≡ answers.Sampled (length (with_overload (outbox_size v) v.overloaded packets))) × (w ≡ with_sample channel packets v))
     ((a ≡ answers.Overrun) × (w ≡ with_loss channel v))
 
 -- An event: its channel has to be one of the layout's, and its signals as many bytes as the layout says; they become the

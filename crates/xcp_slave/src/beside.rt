@@ -52,6 +52,6 @@ pub fn numbers_modes_and_signals_change_by_their_own()
 /// numbers, modes, signals and a store request.
 pub fn sessions_begin_and_end()
     ensures connect { (v w : SlaveValue) (mode : ℕ) (bytes : List ℕ) → Accepts v (Command.Connect mode) bytes w → w ≡ record v { connected = true; transfer = record v.transfer { mta = Mta.Nowhere; block = None } } }
-    ensures disconnect { (v w : SlaveValue) (bytes : List ℕ) → Accepts v Command.Disconnect bytes w → w ≡ record v { connected = false; transfer = record v.transfer { mta = Mta.Nowhere; block = None }; daq = record { lists = []; pointer = None; last = None }; outbox = []; overloaded = false } }
-    ensures hangup { (v w : SlaveValue) (a : Answer) → Answers v Request.Hangup a w → w ≡ record v { connected = false; transfer = record v.transfer { mta = Mta.Nowhere; block = None }; daq = record { lists = []; pointer = None; last = None }; outbox = []; overloaded = false } }
+    ensures disconnect { (v w : SlaveValue) (bytes : List ℕ) → Accepts v Command.Disconnect bytes w → w ≡ record v { connected = false; transfer = record v.transfer { mta = Mta.Nowhere; block = None }; daq = record { class = v.daq.class; lists = []; pointer = None; last = None }; outbox = []; overloaded = false } }
+    ensures hangup { (v w : SlaveValue) (a : Answer) → Answers v Request.Hangup a w → w ≡ record v { connected = false; transfer = record v.transfer { mta = Mta.Nowhere; block = None }; daq = record { class = v.daq.class; lists = []; pointer = None; last = None }; outbox = []; overloaded = false } }
 {}

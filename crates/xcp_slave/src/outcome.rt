@@ -12,7 +12,7 @@ pub enum Outcome<P> {
     Silent,
     /// Packets for the tool.
     Packets(P),
-    /// An event was sampled, and this many packets wait since, 0 to 64: those of its sample, and before them the event packet
+    /// An event was sampled, and this many packets wait since, 0 to 253: those of its sample, and before them the event packet
     /// that tells of a lost one, where the tool had to be told.
     Sampled(u8),
     /// An event's packets found no room: none of them is kept.
@@ -23,7 +23,7 @@ pub enum Outcome<P> {
     BadSignals,
     /// No packet is ready.
     Nothing,
-    /// The working pages of this many segments were stored, 0 to 4.
+    /// The working pages of this many segments were stored, 0 to 16.
     Stored(u8),
     /// No store was asked for.
     NoStore,

@@ -10,7 +10,7 @@ ghost use Rattle.xcp_slave.specs.PacketQueue.{IsWithin, PutsIn, all_taken, event
 ghost use Rattle.xcp_slave.specs.Run.{Run};
 ghost use Rattle.xcp_slave.specs.SampledBytes.{DuePackets};
 ghost use Rattle.xcp_slave.specs.SlaveInvariant.{IsSlave};
-ghost use Rattle.xcp_slave.specs.Step.{Answers, with_overload, with_signals};
+ghost use Rattle.xcp_slave.specs.Step.{Answers, outbox_size, with_overload, with_signals};
 ghost use Rattle.xcp_slave.specs.SlaveValue.{SlaveValue};
 ghost use Rattle.xcp_slave.specs.Outcomes.{Answer};
 ghost use Rattle.xcp_slave.specs.declared.outcome.Outcome.{Outcome};
@@ -31,17 +31,17 @@ pub fn what_waits_is_a_queue()
 /// how many they are; or none of them. They are its sample, behind the event packet that tells of a
 /// lost one, where the tool has to be told. An event overruns only where they have no room.
 pub fn an_event_waits_whole()
-    ensures all { (v : SlaveValue) (channel n : ℕ) (signals : ArrayVec ℕ) (w : SlaveValue) → Answers v (Request.Event channel signals) (Outcome.Sampled n) w → (n ≡ length (with_overload v.overloaded (event_packets v channel signals.items))) × (w.outbox ≡ v.outbox ++ with_overload v.overloaded (event_packets v channel signals.items)) }
+    ensures all { (v : SlaveValue) (channel n : ℕ) (signals : ArrayVec ℕ) (w : SlaveValue) → Answers v (Request.Event channel signals) (Outcome.Sampled n) w → (n ≡ length (with_overload (outbox_size v) v.overloaded (event_packets v channel signals.items))) × (w.outbox ≡ v.outbox ++ with_overload (outbox_size v) v.overloaded (event_packets v channel signals.items)) }
     ensures none { (v : SlaveValue) (channel : ℕ) (signals : ArrayVec ℕ) (a : Answer) (w : SlaveValue) → Answers v (Request.Event channel signals) a w → ((n : ℕ) × (a ≡ Outcome.Sampled n)) ⊎ (w.outbox ≡ v.outbox) }
-    ensures room { (v : SlaveValue) (channel n : ℕ) (signals : ArrayVec ℕ) (w : SlaveValue) → Answers v (Request.Event channel signals) (Outcome.Sampled n) w → length w.outbox ≤ 64 }
-    ensures overrun { (v : SlaveValue) (channel : ℕ) (signals : ArrayVec ℕ) (w : SlaveValue) → Answers v (Request.Event channel signals) Outcome.Overrun w → 64 < length v.outbox + length (with_overload v.overloaded (event_packets v channel signals.items)) }
+    ensures room { (v : SlaveValue) (channel n : ℕ) (signals : ArrayVec ℕ) (w : SlaveValue) → Answers v (Request.Event channel signals) (Outcome.Sampled n) w → length w.outbox ≤ outbox_size v }
+    ensures overrun { (v : SlaveValue) (channel : ℕ) (signals : ArrayVec ℕ) (w : SlaveValue) → Answers v (Request.Event channel signals) Outcome.Overrun w → outbox_size v < length v.outbox + length (with_overload (outbox_size v) v.overloaded (event_packets v channel signals.items)) }
 {}
 
 /// An event that is sampled puts the packets of the lists that are due, in order: for each ODT its PID,
 /// with the first ODT of a list the time stamp that the list's mode asks for, and behind it, entry by entry, the bytes that the controller reads there once the event's signals
 /// are in their place. The event packet of a lost sample stands before them, where the tool has to be told.
 pub fn a_sample_has_the_controllers_bytes()
-    ensures { (v : SlaveValue) (channel n : ℕ) (signals : ArrayVec ℕ) (w : SlaveValue) → IsSlave v → Answers v (Request.Event channel signals) (Outcome.Sampled n) w → (packets : List (ArrayVec ℕ)) × DuePackets channel v.time (with_signals signals.items v).transfer.pages v.daq 0 v.daq.lists packets × (w.outbox ≡ v.outbox ++ with_overload v.overloaded packets) }
+    ensures { (v : SlaveValue) (channel n : ℕ) (signals : ArrayVec ℕ) (w : SlaveValue) → IsSlave v → Answers v (Request.Event channel signals) (Outcome.Sampled n) w → (packets : List (ArrayVec ℕ)) × DuePackets channel v.time (with_signals signals.items v).transfer.pages v.daq 0 v.daq.lists packets × (w.outbox ≡ v.outbox ++ with_overload (outbox_size v) v.overloaded packets) }
 {}
 
 /// A list that was started is due at the first event of its channel behind the start, and then at each

@@ -8,7 +8,7 @@ ghost use Rattle.xcp_packet.specs.ReplyInBytes.{IsPlain, reply_packets, sent_pac
 ghost use Rattle.xcp_packet.specs.ByteOrder.{byte_at};
 ghost use Rattle.xcp_packet.specs.private.DecodeByCode.{coded, readings};
 ghost use Rattle.xcp_slave.specs.private.ExecuteByCode.{TellsCoded, found_at, heeded};
-ghost use Rattle.xcp_slave.specs.Step.{Answers, AnswersPacket, at_time};
+ghost use Rattle.xcp_slave.specs.Step.{Answers, AnswersPacket, at_time, outbox_size};
 ghost use Rattle.xcp_slave.specs.AnswerInBytes.{answer_in};
 ghost use Rattle.xcp_slave.specs.AskedRequest.{IsShort, request_asked};
 ghost use Rattle.xcp_slave.specs.SlaveValue.{ended, layout_of, noblock, opening};
@@ -58,11 +58,14 @@ pub struct Slave {
 }
 
 impl Model for Slave {
+    ghost use Rattle.std.specs.Prelude.{◌≡◌};
     ghost use Rattle.xcp_slave.specs.SlaveValue.{SlaveValue};
 
     ghost Value = { SlaveValue };
 
-    ghost view = { λ s. record { connected = s.connected; transfer = s.transfer; daq = s.daq; outbox = s.outbox; store = s.store; time = s.time; overloaded = s.overloaded } };
+    ghost view = { λ s. record { connected = s.connected; transfer = s.transfer; daq = s.daq; outbox = s.outbox.packets; store = s.store; time = s.time; overloaded = s.overloaded } };
+
+    ghost invariant = { λ s. (s.daq.class ≡ s.transfer.pages.layout.class) × (s.outbox.class ≡ s.transfer.pages.layout.class) };
 }
 
 /// The bytes from a place on.
@@ -92,17 +95,19 @@ macro_rules! dispatch {
 }
 
 impl Slave {
-    /// A slave with this layout, at its opening. Its pages, and room for the packets that wait, are all the memory that it ever
-    /// takes.
+    /// A slave with this layout, at its opening. Its pages, the pools of its DAQ lists, and room for the packets that wait, are all the
+    /// memory that it ever takes.
     pub fn new(alloc: Global, layout: Layout) -> Result<Slave, AllocError>
         ensures { IfOk result (λ s. s ≡ opening layout) }
     {
+        let class = layout.class();
         let pages = Pages::new(alloc, layout)?;
-        let outbox = Outbox::new(alloc)?;
+        let daq = Daq::new(alloc, class)?;
+        let outbox = Outbox::new(alloc, class)?;
         Ok(Slave {
             connected: false,
             transfer: Transfer::new(pages),
-            daq: Daq::new(),
+            daq,
             outbox,
             store: false,
             time: 0,
@@ -115,11 +120,12 @@ impl Slave {
         ensures { IfOk result (λ s. s ≡ self.now) }
     {
         let transfer = self.transfer.copy_all(alloc)?;
+        let daq = self.daq.copy(alloc)?;
         let outbox = self.outbox.copy(alloc)?;
         Ok(Slave {
             connected: self.connected,
             transfer,
-            daq: self.daq.copy(),
+            daq,
             outbox,
             store: self.store,
             time: self.time,
@@ -149,7 +155,7 @@ impl Slave {
     }
 
     /// How many packets wait in the outbox, for `Drain`.
-    pub fn pending(&self) -> u8
+    pub fn pending(&self) -> u16
         ensures { result ≡ length self.now.outbox }
     {
         self.outbox.count()
@@ -176,11 +182,12 @@ impl Slave {
     }
 
     /// Tells a caller's proof what is true of all slaves: transfers and lists are within their
-    /// limits, and at most 64 packets wait. It does nothing.
+    /// limits, the lists those of the layout's class, and no more packets wait than have room. It does nothing.
     pub fn audit(&self)
         ensures transfer { IsLawful self.now.transfer }
         ensures daq { IsDaq self.now.daq }
-        ensures outbox { length self.now.outbox ≤ 64 }
+        ensures class { self.now.daq.class ≡ (layout_of self.now).class }
+        ensures outbox { length self.now.outbox ≤ outbox_size self.now }
     {
         self.transfer.audit();
         self.daq.audit();

@@ -1,10 +1,11 @@
 -- The rows of the commands by which a tool reads.
 use Rattle.std.specs.Prelude.{ℕ, ◌-◌, not, ◌||◌, [], ◌∷◌, length, Option, Some, None, nat_lt, ◌==◌, if◌then◌else◌}
-use Rattle.xcp_packet.specs.declared.Reply.TheVariants.{Bytes, Checksum, Error}
+use Rattle.xcp_packet.specs.declared.Reply.TheVariants.{Bytes, Checksum, Error, ErrorBlockSize}
 use Rattle.xcp_packet.specs.declared.Reply.TheVariants as replies
 use Rattle.xcp_packet.specs.declared.Code.TheVariants.{OutOfRange, AccessDenied}
 use Rattle.xcp_memory.specs.Layout.{LayoutValue}
 use Rattle.xcp_memory.specs.Checksum.{checksum_number}
+use Rattle.xcp_memory.specs.ClassLimits.{limits_of}
 use Rattle.xcp_transfer.specs.declared.mta.Mta.{Mta}
 use Rattle.xcp_transfer.specs.declared.mta.Mta.TheVariants.{Memory, Text}
 use Rattle.xcp_transfer.specs.declared.mta.TextId.{TextId}
@@ -36,11 +37,17 @@ short_upload_row n extension address v = record {
   after = record v { mta = moved (Memory address) n; block = None };
 }
 
--- BUILD_CHECKSUM of `size` bytes at an address moves the MTA on by as many.
+-- how many bytes BUILD_CHECKSUM sums up at most in one call
+abbrev pub greatest_sum : LayoutValue → ℕ
+greatest_sum l = (limits_of l.class).checksum
+
+-- BUILD_CHECKSUM of `size` bytes at an address moves the MTA on by as many. Where they are more than it sums up in one call, the
+-- error packet tells how many it does.
 -- (ASAM MCD-1 XCP, protocol layer, description of commands: BUILD_CHECKSUM.)
 abbrev pub build_checksum_row : ℕ → TransferValue → Row TransferValue
 build_checksum_row size v = record {
-  refusals = refused (sum_refusal_at v.pages v.mta size);
+  refusals = (nat_lt (greatest_sum v.pages.layout) size, ErrorBlockSize OutOfRange (greatest_sum v.pages.layout))
+      ∷ refused (sum_refusal_at v.pages v.mta size);
   reply = Some (Checksum (checksum_number v.pages.layout.checksum) (sum_at v.pages v.mta size));
   after = record v { mta = moved v.mta size; block = None };
 }

@@ -1,1 +1,2 @@
 mod CrossingLemmas
+mod NamedFileLemmas

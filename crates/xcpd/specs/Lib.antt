@@ -1,4 +1,5 @@
 pub mod Counted
 pub mod Distance
 pub mod Faults
+pub mod NamedFiles
 pub mod Planned

@@ -1,14 +1,14 @@
 //! The commands that allocate lists, ODTs and entries.
 ghost use Rattle.std.specs.Prelude.{◌≡◌, ◌<◌, ◌≤◌, ◌+◌, length, None, Some, OnOk, IfErr, false};
+ghost use Rattle.xcp_memory.specs.ClassLimits.{limits_of};
 ghost use Rattle.xcp_memory.specs.FirstRefusal.{Checks};
 ghost use Rattle.xcp_daq.specs.DaqLists.{list_at, any_running, all_odts, all_entries};
 ghost use Rattle.xcp_daq.specs.Allocating.{free_daq_after, alloc_daq_refusal, alloc_daq_after, alloc_odt_refusal, alloc_odt_after, alloc_odt_entry_refusal, alloc_odt_entry_after};
 
-use super::{Daq, MAX_LISTS};
+use super::Daq;
 use crate::Allocation;
 use crate::allocation::may_follow;
 use crate::mode::NEW_LIST;
-use crate::odts::{MAX_ENTRIES, MAX_ODTS};
 use crate::pools::put_in;
 use xcp_packet::Code;
 
@@ -17,15 +17,15 @@ impl Daq {
     ///
     /// ASAM MCD-1 XCP, protocol layer, description of commands: FREE_DAQ.
     pub fn free_daq(&mut self)
-        ensures { self.new ≡ free_daq_after }
+        ensures { self.new ≡ free_daq_after self.old }
     {
         self.reset();
         self.last = Some(Allocation::FreeDaq);
     }
 
     /// Allocates lists behind those that stand. `Sequence` where ALLOC_DAQ may not follow the last allocating command;
-    /// `DaqActive` while a list runs; `OutOfRange` at a count of 0; `MemoryOverflow` at more than 16 lists in all. A
-    /// refusal changes nothing.
+    /// `DaqActive` while a list runs; `OutOfRange` at a count of 0; `MemoryOverflow` at more lists in all than the
+    /// class has. A refusal changes nothing.
     ///
     /// ASAM MCD-1 XCP, protocol layer, description of commands: ALLOC_DAQ.
     pub fn alloc_daq(&mut self, count: u16) -> Result<(), Code>
@@ -39,7 +39,7 @@ impl Daq {
 
     /// Allocates ODTs of a list, behind those that it has. `Sequence` where ALLOC_ODT may not follow the last allocating
     /// command; `OutOfRange` where there is no such list; `DaqActive` while any list runs; `OutOfRange` at a count of 0;
-    /// `MemoryOverflow` at more than 64 ODTs in all. A refusal changes nothing.
+    /// `MemoryOverflow` at more ODTs in all than the class has. A refusal changes nothing.
     ///
     /// ASAM MCD-1 XCP, protocol layer, description of commands: ALLOC_ODT.
     pub fn alloc_odt(&mut self, list: u16, count: u8) -> Result<(), Code>
@@ -53,7 +53,8 @@ impl Daq {
 
     /// Allocates entries of an ODT, behind those that it has, unwritten. `Sequence` where ALLOC_ODT_ENTRY may not follow
     /// the last allocating command; `OutOfRange` where there is no such list, and then no such ODT; `DaqActive` while that
-    /// list runs; `OutOfRange` at a count of 0; `MemoryOverflow` at more than 256 entries in all. A refusal changes nothing.
+    /// list runs; `OutOfRange` at a count of 0; `MemoryOverflow` at more entries in all than the class
+    /// has. A refusal changes nothing.
     ///
     /// ASAM MCD-1 XCP, protocol layer, description of commands: ALLOC_ODT_ENTRY.
     pub fn alloc_odt_entry(&mut self, list: u16, odt: u8, count: u8) -> Result<(), Code>
@@ -77,7 +78,7 @@ impl Daq {
         if count == 0 {
             return Err(Code::OutOfRange);
         }
-        if self.list_count() + count as usize > MAX_LISTS {
+        if self.list_count() + count as usize > self.limits().lists {
             return Err(Code::MemoryOverflow);
         }
         Ok(())
@@ -98,7 +99,7 @@ impl Daq {
         if count == 0 {
             return Err(Code::OutOfRange);
         }
-        if self.odt_count() + count as usize > MAX_ODTS {
+        if self.odt_count() + count as usize > self.limits().odts {
             return Err(Code::MemoryOverflow);
         }
         Ok(())
@@ -123,14 +124,15 @@ impl Daq {
         if count == 0 {
             return Err(Code::OutOfRange);
         }
-        if self.entry_count() + count as usize > MAX_ENTRIES {
+        if self.entry_count() + count as usize > self.limits().entries {
             return Err(Code::MemoryOverflow);
         }
         Ok(())
     }
 
+    #[tactic(auto, using(crate::proofs::DaqListLemmas::reads))]
     fn add_lists(&mut self, n: usize)
-        requires { length self.old.lists + n ≤ 16 }
+        requires { length self.old.lists + n ≤ (limits_of self.old.class).lists }
         ensures { self.new ≡ alloc_daq_after n self.old }
     {
         let end = self.modes.len();
@@ -139,21 +141,23 @@ impl Daq {
         self.last = Some(Allocation::AllocDaq);
     }
 
+    #[tactic(auto, using(crate::proofs::DaqListLemmas::reads))]
     fn add_odts(&mut self, i: usize, n: usize)
         requires list { i < length self.old.lists }
         requires still { any_running self.old ≡ false }
-        requires room { length (all_odts self.old.lists) + n ≤ 64 }
+        requires room { length (all_odts self.old.lists) + n ≤ (limits_of self.old.class).odts }
         ensures { self.new ≡ alloc_odt_after i n self.old }
     {
         self.odts.add_odts(i, n);
         self.last = Some(Allocation::AllocOdt);
     }
 
+    #[tactic(auto, using(crate::proofs::DaqListLemmas::reads))]
     fn add_entries(&mut self, i: usize, j: usize, n: usize)
         requires list { i < length self.old.lists }
         requires odt { j < length (list_at self.old i).odts }
         requires still { (list_at self.old i).running ≡ false }
-        requires room { length (all_entries self.old.lists) + n ≤ 256 }
+        requires room { length (all_entries self.old.lists) + n ≤ (limits_of self.old.class).entries }
         ensures { self.new ≡ alloc_odt_entry_after i j n self.old }
     {
         self.odts.add_entries(i, j, n);

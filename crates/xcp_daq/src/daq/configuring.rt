@@ -46,7 +46,11 @@ impl Daq {
         ensures refused { IfErr result (λ code. (set_daq_ptr_refusal list odt entry self.old ≡ Some code) × (self.new ≡ self.old)) }
     {
         self.check_set_daq_ptr(list, odt, entry)?;
-        self.pointer = Some(Pointer { list, odt, entry });
+        self.pointer = Some(Pointer {
+            list,
+            odt,
+            entry: u16::from(entry),
+        });
         Ok(())
     }
 
@@ -221,6 +225,7 @@ impl Daq {
     }
 
     /// Makes the entries of a list unwritten.
+    #[tactic(auto, using(crate::proofs::DaqListLemmas::reads))]
     fn unwrite(&mut self, i: usize)
         requires list { i < length self.old.lists }
         requires still { (list_at self.old i).running ≡ false }
@@ -267,7 +272,7 @@ impl Daq {
         let next = pointer.entry as usize + 1;
         if next < self.entries_of(pointer.list as usize, pointer.odt as usize) {
             return Some(Pointer {
-                entry: next as u8,
+                entry: next as u16,
                 ..pointer
             });
         }

@@ -63,6 +63,7 @@ impl Daq {
             return Err(Code::OutOfRange);
         }
         Ok(EventInfo {
+            lists: layout.class().limits().lists as u8,
             name_length: layout.event_name(event).len() as u8,
             cycle: layout.event_cycle(event),
             unit: layout.event_unit(event),

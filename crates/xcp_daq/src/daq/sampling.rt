@@ -1,8 +1,9 @@
 //! The sample of an event.
 ghost use Rattle.std.specs.Prelude.{◌≡◌, ℕ, ◌≤◌, ◌<◌, All, ◌+◌, ◌++◌, [], length, map, take, None, slice_index_or as get_or, vec_len, vec_capacity};
+ghost use Rattle.xcp_memory.specs.ClassLimits.{limits_of};
 ghost use Rattle.xcp_daq.specs.DaqInvariant.{IsEntry, IsList};
 ghost use Rattle.xcp_daq.specs.Sample.{sampled, list_packets, after_event};
-ghost use Rattle.xcp_daq.specs.Pools.{joined, list_of, lists_of};
+ghost use Rattle.xcp_daq.specs.Pools.{joined, list_of, lists_of, daq_of};
 ghost use Rattle.xcp_daq.specs.private.SplicedPools.{counted_mode};
 
 use super::Daq;
@@ -12,19 +13,21 @@ use xcp_memory::Pages;
 use xcp_packet::Packet;
 
 impl Daq {
-    /// How many data packets `sample` would give at an event of a channel, at most 64. No byte of the memory is read.
+    /// How many data packets `sample` would give at an event of a channel, no more than the class has ODTs. No byte of the
+    /// memory is read.
     pub fn sample_len(&self, channel: u16, pages: &Pages) -> usize
         ensures value { (time : ℕ) → result ≡ length (sampled channel time pages.now self.now) }
-        ensures bound { result ≤ 64 }
+        ensures bound { result ≤ (limits_of self.now.class).odts }
     {
         count_due(&self.modes, &self.odts, channel, pages)
     }
 
     /// Counts an event of a channel at a time, and gives the data packets of the lists that are due: for each ODT with bytes its
-    /// PID, of the list's first ODT the time stamp that its mode asks for, and then what the controller has at its elements. They are put behind the packets of `out`, which needs room for 64
-    /// more, however few `sample_len` says: no memory is taken.
+    /// PID, of the list's first ODT the time stamp that its mode asks for, and then what the controller has at its elements.
+    /// They are put behind the packets of `out`, which needs room for as many more as the class has ODTs, however few
+    /// `sample_len` says: no memory is taken.
     pub fn sample(&mut self, channel: u16, time: u64, pages: &Pages, out: &mut Vec<Packet>)
-        requires { vec_len out.old + 64 ≤ vec_capacity out.old }
+        requires { vec_len out.old + (limits_of self.old.class).odts ≤ vec_capacity out.old }
         ensures packets { out.new.items ≡ out.old.items ++ sampled channel time pages.now self.old }
         ensures capacity { vec_capacity out.new ≡ vec_capacity out.old }
         ensures value { self.new ≡ after_event channel self.old }
@@ -44,10 +47,10 @@ impl Daq {
 
 /// How many packets the lists that are due give.
 fn count_due(modes: &[Mode], odts: &Odts, channel: u16, pages: &Pages) -> usize
-    requires same { length modes.now ≡ length odts.now }
-    requires written { All IsEntry (joined (joined odts.now)) }
-    requires few { length (sampled channel 0 pages.now (record { lists = lists_of modes.now odts.now; pointer = None; last = None })) ≤ 64 }
-    ensures { result ≡ length (sampled channel 0 pages.now (record { lists = lists_of modes.now odts.now; pointer = None; last = None })) }
+    requires same { length modes.now ≡ length odts.now.lists }
+    requires written { All IsEntry (joined (joined odts.now.lists)) }
+    requires few { length (sampled channel 0 pages.now (daq_of odts.now.class modes.now odts.now.lists None None)) ≤ 252 }
+    ensures { result ≡ length (sampled channel 0 pages.now (daq_of odts.now.class modes.now odts.now.lists None None)) }
 {
     let mut n = 0;
     for i in 0..modes.len() {
@@ -59,9 +62,9 @@ fn count_due(modes: &[Mode], odts: &Odts, channel: u16, pages: &Pages) -> usize
 /// How many packets a list gives: none, if it isn't due.
 fn count_list(modes: &[Mode], odts: &Odts, i: usize, channel: u16, pages: &Pages) -> usize
     requires place { i < length modes.now }
-    requires same { length modes.now ≡ length odts.now }
-    requires written { All IsEntry (joined (joined odts.now)) }
-    ensures { result ≡ length (list_packets channel 0 pages.now (record { lists = lists_of modes.now odts.now; pointer = None; last = None }) (i, list_of (get_or modes.now i NEW_LIST) (get_or odts.now i []))) }
+    requires same { length modes.now ≡ length odts.now.lists }
+    requires written { All IsEntry (joined (joined odts.now.lists)) }
+    ensures { result ≡ length (list_packets channel 0 pages.now (daq_of odts.now.class modes.now odts.now.lists None None) (i, list_of (get_or modes.now i NEW_LIST) (get_or odts.now.lists i []))) }
 {
     if modes[i].is_due(channel) {
         odts.sample_len(i, pages)
@@ -79,12 +82,12 @@ fn sample_due(
     pages: &Pages,
     out: &mut Vec<Packet>,
 )
-    requires same { length modes.now ≡ length odts.now }
-    requires lists { All IsList (lists_of modes.now odts.now) }
-    requires written { All IsEntry (joined (joined odts.now)) }
-    requires room { vec_len out.old + 64 ≤ vec_capacity out.old }
+    requires same { length modes.now ≡ length odts.now.lists }
+    requires lists { All IsList (lists_of modes.now odts.now.lists) }
+    requires written { All IsEntry (joined (joined odts.now.lists)) }
+    requires room { vec_len out.old + (limits_of odts.now.class).odts ≤ vec_capacity out.old }
     ensures capacity { vec_capacity out.new ≡ vec_capacity out.old }
-    ensures items { out.new.items ≡ out.old.items ++ sampled channel time pages.now (record { lists = lists_of modes.now odts.now; pointer = None; last = None }) }
+    ensures items { out.new.items ≡ out.old.items ++ sampled channel time pages.now (daq_of odts.now.class modes.now odts.now.lists None None) }
 {
     for i in 0..modes.len() {
         sample_list(modes, odts, i, channel, time, pages, out);
@@ -102,12 +105,12 @@ fn sample_list(
     out: &mut Vec<Packet>,
 )
     requires place { i < length modes.now }
-    requires same { length modes.now ≡ length odts.now }
-    requires lists { All IsList (lists_of modes.now odts.now) }
-    requires written { All IsEntry (joined (joined odts.now)) }
-    requires room { vec_len out.old + 64 ≤ vec_capacity out.old + length (joined (take i odts.now)) }
-    ensures items { out.new.items ≡ out.old.items ++ list_packets channel time pages.now (record { lists = lists_of modes.now odts.now; pointer = None; last = None }) (i, list_of (get_or modes.now i NEW_LIST) (get_or odts.now i [])) }
-    ensures room { vec_len out.new + 64 ≤ vec_capacity out.new + length (joined (take (i + 1) odts.now)) }
+    requires same { length modes.now ≡ length odts.now.lists }
+    requires lists { All IsList (lists_of modes.now odts.now.lists) }
+    requires written { All IsEntry (joined (joined odts.now.lists)) }
+    requires room { vec_len out.old + (limits_of odts.now.class).odts ≤ vec_capacity out.old + length (joined (take i odts.now.lists)) }
+    ensures items { out.new.items ≡ out.old.items ++ list_packets channel time pages.now (daq_of odts.now.class modes.now odts.now.lists None None) (i, list_of (get_or modes.now i NEW_LIST) (get_or odts.now.lists i [])) }
+    ensures room { vec_len out.new + (limits_of odts.now.class).odts ≤ vec_capacity out.new + length (joined (take (i + 1) odts.now.lists)) }
     ensures capacity { vec_capacity out.new ≡ vec_capacity out.old }
 {
     if modes[i].is_due(channel) {

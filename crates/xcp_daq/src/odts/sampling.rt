@@ -1,5 +1,6 @@
 //! The data packets of a list.
 ghost use Rattle.std.specs.Prelude.{◌≡◌, ◌<◌, ◌≤◌, ◌+◌, ◌++◌, ◌∷◌, [], ◌^◌, All, length, take, slice_index_or as get_or, vec_len, vec_capacity, OnOk, OnErr, true, false, nat_lt};
+ghost use Rattle.xcp_memory.specs.ClassLimits.{limits_of};
 ghost use Rattle.xcp_memory.specs.ComputedAccess.{lies_inside, controller_bytes};
 ghost use Rattle.arrayvec.specs.ArrayVec.{array_vec_len};
 ghost use Rattle.xcp_daq.specs.DaqLists.{entry_size, first_size, odt_size};
@@ -20,9 +21,9 @@ const ZEROS: [u8; 254] = [0; 254];
 impl Odts {
     /// How many packets a list gives, whatever its first PID.
     pub(crate) fn sample_len(&self, i: usize, pages: &Pages) -> usize
-        requires list { i < length self.now }
-        requires written { All IsEntry (joined (joined self.now)) }
-        ensures { result ≡ length (packets_from pages.now 0 (get_or self.now i [])) }
+        requires list { i < length self.now.lists }
+        requires written { All IsEntry (joined (joined self.now.lists)) }
+        ensures { result ≡ length (packets_from pages.now 0 (get_or self.now.lists i [])) }
     {
         let (counts, entries) = self.list(i);
         count_packets(counts, entries, pages)
@@ -30,13 +31,13 @@ impl Odts {
 
     /// Appends the packets of a list, the first ODT's with a time stamp.
     pub(crate) fn sample(&self, i: usize, stamp: &[u8], pages: &Pages, out: &mut Vec<Packet>)
-        requires list { i < length self.now }
-        requires fits { All (λ odt. odt_size odt ≤ 254) (get_or self.now i []) }
-        requires first { length stamp.now + first_size (get_or self.now i []) ≤ 254 }
-        requires written { All IsEntry (joined (joined self.now)) }
-        requires room { vec_len out.old + 64 ≤ vec_capacity out.old + length (joined (take i self.now)) }
-        ensures items { out.new.items ≡ out.old.items ++ stamped_packets pages.now (length (joined (take i self.now))) stamp.now (get_or self.now i []) }
-        ensures room { vec_len out.new + 64 ≤ vec_capacity out.new + length (joined (take (i + 1) self.now)) }
+        requires list { i < length self.now.lists }
+        requires fits { All (λ odt. odt_size odt ≤ 254) (get_or self.now.lists i []) }
+        requires first { length stamp.now + first_size (get_or self.now.lists i []) ≤ 254 }
+        requires written { All IsEntry (joined (joined self.now.lists)) }
+        requires room { vec_len out.old + (limits_of self.now.class).odts ≤ vec_capacity out.old + length (joined (take i self.now.lists)) }
+        ensures items { out.new.items ≡ out.old.items ++ stamped_packets pages.now (length (joined (take i self.now.lists))) stamp.now (get_or self.now.lists i []) }
+        ensures room { vec_len out.new + (limits_of self.now.class).odts ≤ vec_capacity out.new + length (joined (take (i + 1) self.now.lists)) }
         ensures capacity { vec_capacity out.new ≡ vec_capacity out.old }
     {
         let _odts = self.odt_count();
@@ -49,7 +50,7 @@ impl Odts {
 /// How many packets ODTs with so many entries each give.
 fn count_packets(counts: &[u16], entries: &[Option<Element>], pages: &Pages) -> usize
     requires cut { total counts.now ≤ length entries.now }
-    requires few { length entries.now ≤ 256 }
+    requires few { length entries.now ≤ 4096 }
     requires written { All IsEntry entries.now }
     ensures { result ≡ length (packets_from pages.now 0 (parts counts.now entries.now)) }
 {
@@ -107,9 +108,9 @@ fn sample_stamped(
     out: &mut Vec<Packet>,
 )
     requires cut { total counts.now ≤ length entries.now }
-    requires few { length entries.now ≤ 256 }
+    requires few { length entries.now ≤ 4096 }
     requires room { vec_len out.old + length counts.now ≤ vec_capacity out.old }
-    requires pids { first + length counts.now ≤ 64 }
+    requires pids { first + length counts.now ≤ 252 }
     requires written { All IsEntry entries.now }
     requires fits { All (λ odt. odt_size odt ≤ 254) (parts counts.now entries.now) }
     requires first { length stamp.now + first_size (parts counts.now entries.now) ≤ 254 }
@@ -136,9 +137,9 @@ fn sample_odts(
     out: &mut Vec<Packet>,
 )
     requires cut { total counts.now ≤ length entries.now }
-    requires few { length entries.now ≤ 256 }
+    requires few { length entries.now ≤ 4096 }
     requires room { vec_len out.old + length counts.now ≤ vec_capacity out.old }
-    requires pids { first + length counts.now ≤ 64 }
+    requires pids { first + length counts.now ≤ 252 }
     requires written { All IsEntry entries.now }
     requires fits { All (λ odt. odt_size odt ≤ 254) (parts counts.now entries.now) }
     ensures items { out.new.items ≡ out.old.items ++ packets_from pages.now first (parts counts.now entries.now) }

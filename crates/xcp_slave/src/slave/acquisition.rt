@@ -182,6 +182,7 @@ impl Slave {
         self.transfer
             .set_mta(Mta::Text(TextId::Name(channel as u8), 0));
         let reply = Reply::EventInfo {
+            lists: told.lists,
             name: told.name_length,
             cycle: told.cycle,
             unit: told.unit,

@@ -6,7 +6,6 @@ ghost use Rattle.xcp_slave.specs.AnswerInBytes.{answer_in};
 ghost use Rattle.xcp_daq.specs.Sample.{sampled};
 
 use super::Slave;
-use crate::outbox::CAPACITY;
 use crate::{Cut, Outcome, Told};
 use xcp_packet::Packet;
 
@@ -40,7 +39,8 @@ impl Slave {
     {
         let pages = self.transfer.pages();
         let own = self.daq.sample_len(channel, pages);
-        let tells = self.overloaded && own > 0 && own < CAPACITY;
+        let capacity = pages.layout().class().limits().packets;
+        let tells = self.overloaded && own > 0 && own < capacity;
         let count = own + usize::from(tells);
         if count > self.outbox.room() {
             self.daq.count_event(channel);

@@ -85,14 +85,18 @@ impl Transfer {
 
     /// BUILD_CHECKSUM: sums up `size` bytes from the MTA on, and moves it on by as many.
     ///
-    /// `OutOfRange` at size 0, then where the size is no multiple of the words or double words that
-    /// are summed; then `AccessDenied` where the bytes don't lie in one area, also nowhere and at a
-    /// text.
+    /// `OutOfRange` with the greatest size, where the layout's class sums up fewer bytes in one call; then at size 0, and
+    /// where the size is no multiple of the words or double words that are summed; then `AccessDenied` where the bytes don't lie in one
+    /// area, also nowhere and at a text.
     /// ASAM MCD-1 XCP, protocol layer, description of commands: BUILD_CHECKSUM.
     pub fn build_checksum(&mut self, size: u32, packet: &mut Packet) -> Result<Sent, Fault>
         ensures { Tells self.old.pages.layout.order (response_room self.old.pages.layout) (build_checksum_row size self.old) (without_block self.old) result packet.new.items self.new }
     {
         self.give_up_block();
+        let greatest = self.pages.layout().class().limits().checksum;
+        if size > greatest {
+            return Err(Fault::BlockSize(Code::OutOfRange, greatest));
+        }
         let (sum, next) = checksum(&self.pages, self.mta, size)?;
         self.mta = next;
         let kind = self.pages.layout().checksum().number();

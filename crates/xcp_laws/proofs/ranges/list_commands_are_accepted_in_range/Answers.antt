@@ -1,4 +1,5 @@
-use Rattle.xcp_laws.proofs.ListRanges.{clear-daq-list, set-daq-ptr, write-daq, write-nowhere, set-daq-list-mode, get-daq-list-mode, start-stop-daq-list, start-stop-synch, get-daq-clock, read-daq, get-daq-event-info, alloc-daq, alloc-odt, alloc-odt-entry}
+use Rattle.std.proofs.Common.{◌∙◌}
+use Rattle.xcp_laws.proofs.ListRanges.{clear-daq-list, set-daq-ptr, write-daq, write-nowhere, set-daq-list-mode, get-daq-list-mode, start-stop-daq-list, start-stop-synch, get-daq-clock, read-daq, get-daq-event-info, alloc-daq, alloc-odt, alloc-odt-entry, papers-limits}
 use Rattle.xcp_laws.proofs.ranges.list_commands_are_accepted_in_range.Goals as goal
 
 pub returns-clause-clear_daq_list : goal.returns-clause-clear_daq_list
@@ -42,3 +43,9 @@ returns-clause-alloc_odt c = alloc-odt
 
 pub returns-clause-alloc_odt_entry : goal.returns-clause-alloc_odt_entry
 returns-clause-alloc_odt_entry c = alloc-odt-entry
+
+pub returns-clause-class : goal.returns-clause-class
+returns-clause-class c = λ v h. h.lists.class
+
+pub returns-clause-papers : goal.returns-clause-papers
+returns-clause-papers c = λ v h e. papers-limits v.daq.class (h.lists.class ∙ e)

@@ -1,3 +1,6 @@
+use Rattle.std.proofs.Common.{ap}
+use Rattle.xcp_memory.specs.declared.Class.{Class}
+use Rattle.xcp_memory.specs.ClassLimits.{limits_of}
 use Rattle.xcp_laws.proofs.Stores.{none-finished, store-later, store-finished, store-told, store-untold}
 use Rattle.xcp_laws.proofs.storing.a_store_is_finished_if_requested.Goals as goal
 
@@ -15,3 +18,6 @@ returns-clause-told c = store-told
 
 pub returns-clause-untold : goal.returns-clause-untold
 returns-clause-untold c = store-untold
+
+pub returns-clause-papers : goal.returns-clause-papers
+returns-clause-papers c = λ v e. ap (λ (class : Class). (limits_of class).packets) e

@@ -17,7 +17,7 @@ returns-in_err-event-clause-refused c =
     let turn = YieldsList-turn road xs _ c.loop-part.yielded_by _ c.next.new.self x c.in-Some.is c.next.ensures.steps in
     let next : IsNext all xs x = record { front = YieldsList-so_far road xs _ c.loop-part.yielded_by; below = turn.0; next = turn.1 } in
     let number : c.len-in-loop-part.result ≡ length xs = c.len-in-loop-part.ensures.value ∙ ap length c.loop-part.invariant.items ∙ length-map xs event_of_part in
-    let broken = event_broken all xs x _ _ next number c.loop-part.invariant.kept c.in_err-event.ensures.refused (omega arith) (omega arith) in
+    let broken = event_broken c.args.class all xs x _ _ next number c.loop-part.invariant.kept c.in_err-event.ensures.refused (omega arith) (omega (arith, ap (λ l. l.events) c.limits.ensures.value)) in
     let p = err_from_is_err_and c.from_residual.result c.from_residual.ensures.1 in
     rw (p.1, p.2) broken
 

@@ -5,4 +5,4 @@ use Rattle.xcp_daq.proofs.DaqListLemmas.{odts-of}
 use Rattle.xcp_daq.proofs.daq.Daq.sample.Goals as goal
 
 pub sample_due-requires-clause-written : goal.sample_due-requires-clause-written
-sample_due-requires-clause-written c = subst (All IsEntry) (ap joined (odts-of c.self.inside.modes.items c.self.inside.odts c.self.invariant.0)) c.self.invariant.1.written
+sample_due-requires-clause-written c = subst (All IsEntry) (ap joined (odts-of c.self.inside.modes.items c.self.inside.odts.lists c.self.invariant.same)) c.self.invariant.lawful.written

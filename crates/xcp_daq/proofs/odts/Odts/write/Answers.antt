@@ -1,30 +1,15 @@
-use Rattle.std.proofs.Common.{◌<◌, length, arith, get_or}
-use Rattle.xcp_daq.proofs.OdtLemmas.{written, written-fit, entry_count, odt_in, list_in}
+use Rattle.std.proofs.Common.{◌<◌, arith, get_or, length, refl}
+use Rattle.xcp_daq.proofs.OdtLemmas.{reads, lists_are, list_in, odt_in, written}
 use Rattle.xcp_daq.proofs.odts.Odts.write.Goals as goal
 
-pub place_of-g-requires : goal.place_of-g-requires
-place_of-g-requires c =
-    let a = list_in _ _ _ _ c.args.i c.self.view_is c.requires.list in
-    let b = odt_in _ _ _ _ c.args.i c.args.j c.self.view_is c.self.invariant c.requires.list c.requires.odt in
-    (omega arith, (omega (arith, c.self.invariant.cut, c.len-odts.ensures.fits), (a, b)))
-
-pub place_of-m-requires : goal.place_of-m-requires
-place_of-m-requires c =
+pub returns-clause-lists : goal.returns-clause-lists
+returns-clause-lists c =
     let s = c.self.inside in
-    let a = list_in _ _ _ _ c.args.i c.self.view_is c.requires.list in
-    let b = odt_in _ _ _ _ c.args.i c.args.j c.self.view_is c.self.invariant c.requires.list c.requires.odt in
-    let g : c.place_of-g.result < length s.entry_counts.items = omega (arith, c.place_of-g.ensures.inside, c.self.invariant.cut) in
-    let k : c.args.k < get_or s.entry_counts.items c.place_of-g.result 0 = omega (arith, c.requires.entry, entry_count _ _ _ _ c.args.i c.args.j c.place_of-g.result c.self.view_is c.self.invariant a b c.place_of-g.ensures.value g) in
-    (omega arith, (omega (arith, c.self.invariant.filled, c.len-all.ensures.fits), (g, k)))
-
-pub returns : goal.returns
-returns c =
-    let s = c.self.inside in
-    let a = list_in _ _ _ _ c.args.i c.self.view_is c.requires.list in
-    let b = odt_in _ _ _ _ c.args.i c.args.j c.self.view_is c.self.invariant c.requires.list c.requires.odt in
-    let g : c.place_of-g.result < length s.entry_counts.items = omega (arith, c.place_of-g.ensures.inside, c.self.invariant.cut) in
-    let k : c.args.k < get_or s.entry_counts.items c.place_of-g.result 0 = omega (arith, c.requires.entry, entry_count _ _ _ _ c.args.i c.args.j c.place_of-g.result c.self.view_is c.self.invariant a b c.place_of-g.ensures.value g) in
-    written _ _ _ _ _ c.args.i c.args.j c.place_of-g.result c.args.k c.place_of-m.result _ c.self.view_is c.self.invariant a b c.place_of-g.ensures.value g k c.place_of-m.ensures.value c.put.ensures
-
-pub invariant_of-self : goal.invariant_of-self
-invariant_of-self c = written-fit _ _ _ _ c.place_of-m.result _ c.self.invariant c.put.ensures
+    let is = lists_are c.self.view_is in
+    let a = list_in _ _ _ _ c.args.i is c.requires.list in
+    let b = odt_in _ _ _ _ c.args.i c.args.j is c.self.invariant.fit c.requires.list c.requires.odt in
+    let odt = rw c.deref.ensures.value at c.place_of-g.ensures.value in
+    let entry = rw c.deref-2.ensures.value at c.place_of-m.ensures.value in
+    let g : c.place_of-g.result < length s.entry_counts.items = grind (arith, reads) in
+    let k : c.args.k < get_or s.entry_counts.items c.place_of-g.result 0 = grind (arith, reads) in
+    written _ _ _ _ _ c.args.i c.args.j c.place_of-g.result c.args.k c.place_of-m.result _ is c.self.invariant.fit a b odt g k entry refl
