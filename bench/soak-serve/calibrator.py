@@ -14,6 +14,7 @@ from xcp_client import ECU, XCP, Fault
 
 STEP_PAUSE = 0.002  # seconds
 REJOIN, SET_UP = 20, 5  # seconds from one connection to the next, from one setting of the lists to the next
+BACK = 4  # settings whose packets may wait in the slave still, where a visitor that reads nothing had the session
 ALL = 4  # of so many settings of a large layout's lists one is of all lists, ODTs and entries that there may be
 DONE, NOT_IN_ONE_AREA, PROTECTED, FULL = b"\xff", b"\xfe\x24", b"\xfe\x23", b"\xfe\x30"
 # Of each checksum its type, and how many bytes are added into how many.
@@ -95,11 +96,12 @@ class Calibrator:
         self.running, self.tool = False, None
         self.delays = Counter()  # how many round trips took so many milliseconds
         self.early = 0  # stores that were told before the file of stored pages had them
+        self.first_pages = self.stored_pages()  # no file is made before a store changes them
         self.settings, self.full_settings = 0, 0  # of lists; those of all lists, ODTs and entries that there may be
         self.pids = set()  # ODTs whose packets came
         self.wanted, self.taken = threading.Event(), threading.Event()  # that it connects once more, and that it did
         self.stamps, self.clocks, self.last_stamp, self.last_clock = 0, 0, None, None
-        self.since = time.monotonic()  # when the lists were set up before the last time
+        self.since = time.monotonic()  # when the oldest lists were set up whose packets may come still
         # How often each step is taken, and whether it uses the MTA.
         self.steps = [
             (20, False, self.ask_status), (30, False, self.short_upload), (30, False, self.short_download), (10, False, self.switch),
@@ -293,7 +295,8 @@ class Calibrator:
             if time.monotonic() > until:
                 raise Fault("no task finishes a store")
             time.sleep(0.001)
-        self.early += self.soak.stored() not in (None, self.stored_pages())
+        found = self.soak.stored()
+        self.early += (self.first_pages if found == b"" else found) not in (None, self.stored_pages())
         self.tool.expect(bytes([0xE5, 0, number]), bytes([0xFF, 0, segment.frozen]))
 
     # Steps that use the MTA
@@ -394,7 +397,7 @@ class Calibrator:
         lists = self.some_lists()
         self.allocate(lists)
         if self.soak.settings:
-            self.since = self.soak.settings[-1][0]
+            self.since = self.soak.settings[-min(BACK, len(self.soak.settings))][0]
         stamped = [self.random.random() < 0.5 and self.layout.stamp > 0 for _ in lists]
         shapes = [(sum(sizes), has and not odt) for has, odts in zip(stamped, lists) for odt, sizes in enumerate(odts)]
         self.soak.settings.append((time.monotonic(), shapes))
