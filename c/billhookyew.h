@@ -114,7 +114,7 @@ enum {
     XCP_SAMPLED = 2,     /* an event: `count` packets wait for xcp_drain */
     XCP_OVERRUN = 3,     /* an event: no room for its packets, none is kept */
     XCP_NO_CHANNEL = 4,  /* an event: the layout has no such channel */
-    XCP_BAD_SIGNALS = 5, /* an event: the signals aren't as many bytes as the layout's */
+    XCP_BAD_SIGNALS = 5, /* an event: the signals aren't as many bytes as the layout takes; xcp_signals: they lie elsewhere */
     XCP_NOTHING = 6,     /* a drain: no packet waits */
     XCP_STORED = 7,      /* a store: the working pages of `count` segments were stored */
     XCP_NO_STORE = 8,    /* a store: none was asked for */
@@ -196,6 +196,12 @@ bool xcp_event(xcp_slave *slave, uint16_t channel, const uint8_t *signals, size_
 bool xcp_drain(xcp_slave *slave, xcp_answer *answer);        /* takes the first packet that waits to be sent */
 bool xcp_finish_store(xcp_slave *slave, xcp_answer *answer); /* the controller has stored what was asked for */
 bool xcp_hangup(xcp_slave *slave, xcp_answer *answer);       /* the tool's connection is gone */
+
+/* Hands signals over by themselves: `length` bytes, which stand in the signals area from `place` on. What isn't handed over stays, and
+ * nothing is sampled: call it before the event that samples them, under the same hold of your lock. An event hands over the first
+ * bytes; of class = "large" it may be any number of them up to 64, and else it is all of them. XCP_BAD_SIGNALS is told where the
+ * bytes don't all lie in the signals area, and else XCP_SILENT. False: the handle is closed, or they are more than 255. */
+bool xcp_signals(xcp_slave *slave, uint16_t place, const uint8_t *bytes, size_t length, xcp_answer *answer);
 
 /* Tells the time: the clock stands at so many ticks, as the layout file's [clock] has them. Call it before an event, and
  * before a packet that begins with DC (GET_DAQ_CLOCK): a sample's time stamp and that command's answer have the latest time

@@ -1,5 +1,5 @@
 /* A controller with more parameters than a text has room for: two of its segments have files of their own, and the program hands over their
- * bytes. A tool writes one of these, and it is stored. And each thing that may be wrong with such files. */
+ * bytes. A tool writes one of these, and it is stored. Signals are handed over in parts. And each thing that may be wrong with such files. */
 #include "common.h"
 
 enum { MAP = 70000, OWN = 3, CURVE = 2000, IMAGE = 72008 /* all of them, in words of eight bytes */, MOST = 1048576, STORED = 1048710 };
@@ -40,10 +40,23 @@ static void is_image(xcp_reader *reader, uint8_t last) {
     show("the last byte", image + LAST, 1);
 }
 
+/* The controller hands signals over by themselves, and others by an event: each is where it belongs, and the others are as they were. */
+static void hand_over(void) {
+    static const uint8_t first[] = {1, 2, 3}, more[] = {0x0B, 0x0C}, many[256] = {0};
+    static xcp_answer answer;
+    xcp_slave closed = XCP_CLOSED;
+    want(xcp_signals(&slave, 6, more, sizeof more, &answer) && answer.told == XCP_SILENT, "signals at the end");
+    want(xcp_signals(&slave, 7, more, sizeof more, &answer) && answer.told == XCP_BAD_SIGNALS, "signals behind the end");
+    want(xcp_event(&slave, 0, first, sizeof first, &answer) && answer.told == XCP_SAMPLED, "an event of the first signals");
+    want(!xcp_signals(&slave, 0, many, sizeof many, &answer) && !xcp_signals(&closed, 0, more, 1, &answer), "256 bytes, and a handle that is closed");
+    ASK("SHORT_UPLOAD", 0xF4, 8, 0, 0, 0x00, 0x90, 0x00, 0x00);
+}
+
 /* A tool writes the curve's last byte on the working page, gives it to the controller, and asks for a store. */
 static void calibrate(xcp_reader *reader) {
     static xcp_answer answer;
     ASK("CONNECT", 0xFF, 0x00);
+    hand_over();
     ASK("SET_CAL_PAGE", 0xEB, 0x83, 0x00, 0x01);
     ASK("SET_MTA", 0xF6, 0, 0, 0, 0xCF, 0x07, 0x04, 0x00);
     ASK("DOWNLOAD", 0xF0, 1, 0x5C);

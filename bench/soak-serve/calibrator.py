@@ -235,6 +235,7 @@ class Calibrator:
         segment, at, count = self.some_range(self.layout.max_cto - 1)
         wanted = DONE + segment.content(XCP)[at : at + count]
         if self.random.random() < 0.05:
+            count = max(2, count)  # a part of the segment, and more: behind it another one may begin
             at, wanted = segment.size - count + 1, NOT_IN_ONE_AREA
         self.tool.expect(struct.pack("<BBHI", 0xF4, count, 0, segment.address + at), wanted)
 

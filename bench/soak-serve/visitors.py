@@ -39,7 +39,7 @@ class Visitor:
         tool = tool or Tool(self)
         with self.soak.mta:
             tool.expect(b"\xff\x00", self.layout.connected)
-            at, count = self.layout.signals, min(self.layout.signal_bytes, self.layout.max_cto - 1)
+            at, count = self.layout.signals, min(self.layout.signal_bytes, 64, self.layout.max_cto - 1)  # those of an event
             answer = tool.ask_for(struct.pack("<BBHI", 0xF4, count, 0, at))
             if not answer or answer != b"\xff" + answer[1:2] * count:
                 raise Fault(f"the signals are {answer}, and not those of one event")

@@ -15,6 +15,7 @@ words_asked requests.Drain = codes "drain"
 words_asked requests.FinishStore = codes "store"
 words_asked requests.Hangup = codes "hangup"
 words_asked (requests.Time time) = codes "time " ++ decimal time
+words_asked (requests.Signals place bytes) = codes "signals " ++ decimal place ++ codes " " ++ encode_upper bytes.items
 
 -- The name of the caller of this number, from 0, where so many of a kind come first: the kind's word, and that number; the others are named
 -- by their number behind them.

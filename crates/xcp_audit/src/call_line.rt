@@ -73,6 +73,7 @@ fn push_request(text: &mut Vec<u8>, request: &Request) -> Result<(), AllocError>
         Request::FinishStore => text.extend_from_slice(b"store"),
         Request::Hangup => text.extend_from_slice(b"hangup"),
         Request::Time(time) => push_time(text, *time),
+        Request::Signals(place, bytes) => push_signals(text, *place, bytes.as_slice()),
     }
 }
 
@@ -85,6 +86,17 @@ fn push_event(text: &mut Vec<u8>, channel: u16, signals: &[u8]) -> Result<(), Al
     let digits = hex::encode_upper(alloc, signals)?;
     let event = format!(in alloc; "event {channel} {digits}")?;
     text.extend_from_slice(event.as_bytes())
+}
+
+/// Appends the words of signals that are handed over by themselves.
+fn push_signals(text: &mut Vec<u8>, place: u16, bytes: &[u8]) -> Result<(), AllocError>
+    ensures { OnOk result (text.new.items
+        ≡ text.old.items ++ codes "signals " ++ decimal place ++ codes " " ++ encode_upper bytes.now) }
+{
+    let alloc = *text.allocator();
+    let digits = hex::encode_upper(alloc, bytes)?;
+    let words = format!(in alloc; "signals {place} {digits}")?;
+    text.extend_from_slice(words.as_bytes())
 }
 
 /// Appends the words of a time.

@@ -33,6 +33,10 @@ Commanded bytes old told new = (packet : ArrayVec ℕ) × (packet.items ≡ byte
 abbrev pub Fired : ℕ → List ℕ → Option OpenValue → XcpAnswer → Option OpenValue → Type 0
 Fired channel bytes old told new = (signals : ArrayVec ℕ) × (signals.items ≡ bytes) × Submitted (requests.Event channel signals) old told new
 
+-- the same of signals that are handed over by themselves, these bytes from this place on
+abbrev pub Handed : ℕ → List ℕ → Option OpenValue → XcpAnswer → Option OpenValue → Type 0
+Handed place bytes old told new = (signals : ArrayVec ℕ) × (signals.items ≡ bytes) × Submitted (requests.Signals place signals) old told new
+
 -- So many buffers of the bank beside the current one are held; nothing else changes but the history of the writer's looks.
 pub record Counted (n : ℕ) (old new : Option OpenValue) : Type 0 where
   pub before : OpenValue

@@ -2,7 +2,7 @@
 ghost use Rattle.std.specs.Prelude.{◌≡◌, ◌<◌, ◌⊎◌, IsTrue, None, false, length};
 ghost use Rattle.xcp_slave.specs.AskedRequest.{IsShort, request_asked};
 ghost use Rattle.xcp_slave.specs.declared.Request.TheVariants as requests;
-ghost use Rattle.xcp_c.specs.Requests.{Commanded, Fired, Submitted};
+ghost use Rattle.xcp_c.specs.Requests.{Commanded, Fired, Handed, Submitted};
 
 use crate::answer::XcpAnswer;
 use crate::slave_handle::SlaveHandle;
@@ -13,8 +13,11 @@ use xcp_slave::Asked;
 /// The most bytes of a command packet.
 const PACKET_BYTES: usize = 255;
 
-/// The most bytes of signals.
+/// The most bytes of signals that an event hands over.
 const SIGNAL_BYTES: usize = 64;
+
+/// The most bytes of signals that are handed over by themselves.
+const PART_BYTES: usize = 255;
 
 /// Executes a request with the slave behind a handle. False where the handle owns none: then nothing
 /// happens.
@@ -70,6 +73,26 @@ pub extern "C" fn xcp_event(
         return false;
     }
     submit(alloc, slave, Asked::Event(channel, bytes), answer)
+}
+
+/// Signals are handed over by themselves, these bytes from this place on. False where the handle owns no slave, or where they
+/// are more than 255 bytes: then nothing happens.
+#[unsafe(no_mangle)]
+pub extern "C" fn xcp_signals(
+    alloc: Global,
+    slave: &mut SlaveHandle,
+    place: u16,
+    bytes: &[u8],
+    answer: &mut XcpAnswer,
+) -> bool
+    ensures done { IsTrue result → Handed place bytes.now slave.old.value answer.new slave.new.value }
+    ensures refused { result ≡ false → ((slave.old.value ≡ None) ⊎ (255 < length bytes.now))
+        × (slave.new ≡ slave.old) }
+{
+    if bytes.len() > PART_BYTES {
+        return false;
+    }
+    submit(alloc, slave, Asked::Signals(place, bytes), answer)
 }
 
 /// Takes the first packet that waits to be sent. False where the handle owns no slave.

@@ -7,6 +7,7 @@ use Rattle.std.proofs.lemmas.Simd.{map-map}
 use Rattle.std.specs.Option.{option_and_then, option_map}
 use Rattle.toml.specs.Data.{Data, get, as_str, as_integer}
 use Rattle.xcp_memory.specs.declared.Class.{Class}
+use Rattle.xcp_memory.specs.declared.Class.TheVariants.{Papers, Large}
 use Rattle.xcp_memory.specs.declared.Key.{Key}
 use Rattle.xcp_memory.specs.declared.Key.TheVariants as key
 use Rattle.xcp_memory.specs.declared.Parts.{Parts}
@@ -234,21 +235,28 @@ segments_kept p files t r h =
     ap (λ (k : Class). first_holding (segments_limits k ss)) r.class
     ∙ counted_kept (nat_le 1 (length ss)) (nat_le (length ss) most) _ _ _ (ap (nat_le 1) n ∙ counts.0) (ap (λ k. nat_le k most) n ∙ counts.1) each
 
-signals_kept : (p : Parts) (files : List File) (t : Data) → Reads p files t → first_holding (signals_checks t) ≡ None → first_holding (signals_limits p.signals_address p.signals_length) ≡ None
+-- a number of bytes of signals within the limit of a class is within that of the large one
+pub few_signals : (class : Class) (n : ℤ) → is_within 1 (limits_of class).signals n ≡ true → is_within 1 16384 n ≡ true
+few_signals Papers (pos n) h = grind (arith, nat_tests, h)
+few_signals Papers (negsuc n) h = h
+few_signals Large n h = h
+
+signals_kept : (p : Parts) (files : List File) (t : Data) → Reads p files t → first_holding (signals_checks t) ≡ None → first_holding (signals_limits p.class p.signals_address p.signals_length) ≡ None
 unfolding signals_checks place_checks
 signals_kept p files t r h =
     let s = signals_of t in
     let a = integer_checks key.SignalsAddress signals_address_limit (get (codes "address") s) in
-    let b = integer_checks key.SignalsLength signals_length_limit (get (codes "length") s) in
+    let most = (limits_of (class_in t)).signals in
+    let b = integer_checks key.SignalsLength (signals_length_limit (class_in t)) (get (codes "length") s) in
     let c = end_checks (address_of s) (length_of s) in
-    let both = none_both (table_checks key.Signals (get (codes "signals") t)) (place_checks s) h in
+    let both = none_both (table_checks key.Signals (get (codes "signals") t)) (place_checks (class_in t) s) h in
     let two = none_both (a ++ b) c both.1 in
     let one = none_both a b two.0 in
     let last = one_passes (ends_in_time (address_of s) (number (length_of s))) (error.Range key.SignalsAddress) two.1 in
     let first = ap is_address r.signals_address ∙ integer_good key.SignalsAddress 0 0xFFFF_FFFE (get (codes "address") s) one.0 in
-    let second = ap (is_within 1 64) r.signals_length ∙ integer_good key.SignalsLength 1 64 (get (codes "length") s) one.1 in
+    let second = ap (is_within 1 most) r.signals_length ∙ integer_good key.SignalsLength 1 most (get (codes "length") s) one.1 in
     let third : ends_in_time p.signals_address (number p.signals_length) ≡ true = rw (r.signals_address, r.signals_length) last in
-    three_kept _ _ _ _ _ _ first second third
+    ap (λ (k : Class). first_holding (signals_limits k p.signals_address p.signals_length)) r.class ∙ three_kept _ _ _ _ _ _ first second third
 
 -- one event channel
 event_kept : (i : ℕ) (e : EventPart) (d : Data) → event_read e ≡ event_written d → first_holding (event_checks (i, d)) ≡ None → first_holding (event_limits (i, e)) ≡ None
@@ -314,7 +322,7 @@ areas_decide p files t r h =
     let some = none_both (own_checks t) (segments_checks files t) most.0 in
     let a = own_limits p in
     let b = segments_limits p.class p.segments.items in
-    let c = signals_limits p.signals_address p.signals_length in
+    let c = signals_limits p.class p.signals_address p.signals_length in
     let d = events_limits p.class p.events.items in
     let e = apart_limits (areas (layout_of p)) in
     let one = own_kept p files t r some.0 in

@@ -172,17 +172,17 @@ segments_checks files t =
 abbrev pub end_checks : ℤ → ℤ → List Check
 end_checks address n = limit_check (end_limit key.SignalsAddress address (number n)) ∷ []
 
--- the keys of the table `signals`
-unfoldable pub place_checks : Data → List Check
-place_checks s =
+-- the keys of the table `signals`, by the class of the layout
+unfoldable pub place_checks : Class → Data → List Check
+place_checks class s =
     integer_checks key.SignalsAddress signals_address_limit (get (codes "address") s)
-    ++ integer_checks key.SignalsLength signals_length_limit (get (codes "length") s)
+    ++ integer_checks key.SignalsLength (signals_length_limit class) (get (codes "length") s)
     ++ end_checks (address_of s) (length_of s)
 
 unfoldable pub signals_checks : Data → List Check
 signals_checks t =
     table_checks key.Signals (get (codes "signals") t)
-    ++ place_checks (signals_of t)
+    ++ place_checks (class_in t) (signals_of t)
 
 -- event channel i
 unfoldable pub event_checks : ℕ × Data → List Check

@@ -56,7 +56,7 @@ fn read_parts(alloc: Global, table: &Value, files: &[DataFile]) -> Result<Parts,
 {
     let own = Own::read(alloc, table)?;
     let segments = read_segments(alloc, table, own.class, files)?;
-    let signals = read_signals(table)?;
+    let signals = read_signals(table, own.class)?;
     let events = read_events(alloc, table, own.class)?;
     Ok(Parts {
         class: own.class,

@@ -26,6 +26,7 @@ use Rattle.xcp_slave.specs.MemoryEffects.{SameMemory}
 use Rattle.xcp_slave.specs.SlaveValue.{SlaveValue, layout_of}
 use Rattle.xcp_slave.specs.Step.{Answers, AnswersPacket}
 use Rattle.xcp_slave.proofs.LayoutKeptLemmas.{answers-layout}
+use Rattle.xcp_slave.proofs.StepLaws.{hands-part}
 use Rattle.xcp_slave.proofs.UnaffectedPartLaws.{drains-part, fires-part}
 use Rattle.xcp_controller.specs.ControllerValue.{image_of}
 use Rattle.xcp_controller.specs.ImageRanges.{SameOutside}
@@ -125,13 +126,15 @@ beside-keeps v requests.Drain a w none step = drains-part image_of v.outbox v a 
 beside-keeps v requests.FinishStore a w none step = absurd none
 beside-keeps v requests.Hangup a w none step = ap image_of step.1
 beside-keeps v (requests.Time time) a w none step = ap image_of step.1
+beside-keeps v (requests.Signals place bytes) a w none step = hands-part image_of place bytes.items v a w refl step
 
 -- what is asked beside both
-pub asked-beside : (asked : Asked) → ((channel : ℕ) × (signals : Bor (List ℕ)) × (asked ≡ asks.Event channel signals)) ⊎ ((asked ≡ asks.Drain) ⊎ ((asked ≡ asks.Hangup) ⊎ ((time : ℕ) × (asked ≡ asks.Time time)))) → IsBesideBoth (request_asked asked)
+pub asked-beside : (asked : Asked) → ((channel : ℕ) × (signals : Bor (List ℕ)) × (asked ≡ asks.Event channel signals)) ⊎ ((asked ≡ asks.Drain) ⊎ ((asked ≡ asks.Hangup) ⊎ (((time : ℕ) × (asked ≡ asks.Time time)) ⊎ ((place : ℕ) × (bytes : Bor (List ℕ)) × (asked ≡ asks.Signals place bytes))))) → IsBesideBoth (request_asked asked)
 asked-beside asked (inl e) = subst (λ (a : Asked). IsBesideBoth (request_asked a)) (sym e.2) tt
 asked-beside asked (inr (inl e)) = subst (λ (a : Asked). IsBesideBoth (request_asked a)) (sym e) tt
 asked-beside asked (inr (inr (inl e))) = subst (λ (a : Asked). IsBesideBoth (request_asked a)) (sym e) tt
-asked-beside asked (inr (inr (inr e))) = subst (λ (a : Asked). IsBesideBoth (request_asked a)) (sym e.1) tt
+asked-beside asked (inr (inr (inr (inl e)))) = subst (λ (a : Asked). IsBesideBoth (request_asked a)) (sym e.1) tt
+asked-beside asked (inr (inr (inr (inr e)))) = subst (λ (a : Asked). IsBesideBoth (request_asked a)) (sym e.2) tt
 
 -- the image has as many bytes as the layout says
 pub image-long : (v : SlaveValue) → IsLawful v.transfer → length (image_of v) ≡ image_size (layout_of v)

@@ -44,7 +44,8 @@ pub fn changed_within(asked: Asked<'_>, told: &Told, slave: &Slave) -> (usize, u
             Outcome::Stored(_) => whole(slave),
             _ => (0, 0),
         },
-        Asked::Event(_, _) | Asked::Drain | Asked::Hangup | Asked::Time(_) => (0, 0),
+        Asked::Event(_, _) | Asked::Drain | Asked::Hangup | Asked::Time(_) | Asked::Signals(_, _) =>
+            (0, 0),
     }
 }
 

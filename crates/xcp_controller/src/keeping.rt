@@ -22,7 +22,8 @@ pub fn keeps_image(asked: Asked<'_>) -> bool
 {
     match asked {
         Asked::Command(packet) => is_reading(packet),
-        Asked::Event(_, _) | Asked::Drain | Asked::Hangup | Asked::Time(_) => true,
+        Asked::Event(_, _) | Asked::Drain | Asked::Hangup | Asked::Time(_) | Asked::Signals(_, _) =>
+            true,
         Asked::FinishStore => false,
     }
 }

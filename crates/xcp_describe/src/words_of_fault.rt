@@ -151,7 +151,7 @@ fn range_of(key: Key) -> &'static str
         Key::Address(_) | Key::SignalsAddress => ", 0 to 0xFFFFFFFE, and so has its last address",
         Key::Data(_) => " of hex digits, two for a byte, and one byte at least",
         Key::Pages(_) => ", 2 to 4",
-        Key::SignalsLength => ", 1 to 64",
+        Key::SignalsLength => ", 1 to 64, or to 16384 in the class large",
         Key::Name(_) => " of 1 to 32 printable ASCII characters",
         Key::Cycle(_) | Key::Unit(_) | Key::Priority(_) => ", 0 to 255",
         Key::Signals | Key::Clock | Key::UploadA2l => "",

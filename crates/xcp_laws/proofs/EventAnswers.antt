@@ -1,12 +1,16 @@
 -- What an event is refused for, and which texts are uploaded.
-use Rattle.std.proofs.Common.{◌≡◌, ◌≢◌, ℕ, ◌+◌, ◌<◌, ◌≤◌, Bool, true, false, List, ◌∷◌, drop, get_or, length, take, Option, Some, None, refl, ap, sym, ◌∙◌, nat_le, nat_lt, arith, inl, inr}
+use Rattle.std.proofs.Common.{◌≡◌, ◌≢◌, ℕ, ◌+◌, ◌<◌, ◌≤◌, Bool, true, false, List, ◌∷◌, drop, get_or, length, take, Option, Some, None, refl, ap, sym, ◌∙◌, nat_le, nat_lt, arith, inl, inr, ◌++◌, length-append, append_assoc}
 use Rattle.std.specs.Prelude.{◌⊎◌, ◌==◌, MatchBool, if◌then◌else◌}
 use Rattle.std.proofs.lemmas.Bool.Decides.{nat_tests}
-use Rattle.std.proofs.lemmas.List.{take_all}
+use Rattle.std.proofs.Math.Seq.{take-append_seam, drop-append_seam}
+use Rattle.std.proofs.lemmas.List.{append-nil, drop_all, length-take-le, take_all}
 use Rattle.arrayvec.specs.ArrayVec.{ArrayVec}
 use Rattle.xcp_packet.specs.ByteOrder.{double_bytes}
 use Rattle.xcp_packet.specs.declared.Command.TheVariants as commands
 use Rattle.xcp_memory.specs.Layout.{LayoutValue, IsPlain, no_event, epk, description}
+use Rattle.xcp_memory.specs.Signals.{may_take, takes_signals}
+use Rattle.xcp_memory.specs.declared.Class.{Class}
+use Rattle.xcp_memory.specs.declared.Class.TheVariants.{Large, Papers}
 use Rattle.xcp_transfer.specs.declared.Mta.{Mta}
 use Rattle.xcp_transfer.specs.declared.Mta.TheVariants.{Text}
 use Rattle.xcp_transfer.specs.declared.TextId.{TextId}
@@ -16,7 +20,8 @@ use Rattle.xcp_transfer.specs.Uploads.{text_length, text_of_kind, text_start, wi
 use Rattle.xcp_slave.specs.AcceptedCommands.{Accepts}
 use Rattle.xcp_slave.specs.Outcomes.{Answer}
 use Rattle.xcp_slave.specs.SlaveValue.{SlaveValue, layout_of}
-use Rattle.xcp_slave.specs.Step.{Answers, outbox_size, with_overload}
+use Rattle.xcp_slave.specs.SlaveInvariant.{IsSlave}
+use Rattle.xcp_slave.specs.Step.{Answers, outbox_size, with_overload, with_part}
 use Rattle.xcp_slave.specs.PacketQueue.{event_packets}
 use Rattle.xcp_slave.specs.declared.Outcome.TheVariants as answers
 use Rattle.xcp_slave.specs.declared.Request.TheVariants as requests
@@ -35,18 +40,93 @@ other_case false P Q e h = h
 pub event-nowhere : (v w : SlaveValue) (channel : ℕ) (signals : ArrayVec ℕ) (a : Answer) → length (layout_of v).events ≤ channel → Answers v (requests.Event channel signals) a w → (a ≡ answers.NoChannel) × (w ≡ v)
 event-nowhere v w channel signals a p h = other_case (nat_lt channel (length (layout_of v).events)) _ _ (grind (arith, nat_tests, p)) h
 
-pub event-unsized : (v w : SlaveValue) (channel : ℕ) (signals : ArrayVec ℕ) (a : Answer) → channel < length (layout_of v).events → length signals.items ≢ (layout_of v).signals_length → Answers v (requests.Event channel signals) a w → (a ≡ answers.BadSignals) × (w ≡ v)
-event-unsized v w channel signals a p q h =
-    let here = first_case (nat_lt channel (length (layout_of v).events)) _ _ (grind (arith, nat_tests, p)) h in
-    other_case (length signals.items == (layout_of v).signals_length) _ _ ((isnt _ _).1 q) here
+-- three lists one behind another, and each of them again
+part-front : (xs ys zs : List ℕ) (n : ℕ) → length xs ≡ n → take n ((xs ++ ys) ++ zs) ≡ xs
+part-front xs ys zs n e = rw (sym e) (ap (λ (ws : List ℕ). take (length xs) ws) (append_assoc xs ys zs) ∙ take-append_seam xs (ys ++ zs))
 
-pub event-taken : (v w : SlaveValue) (channel : ℕ) (signals : ArrayVec ℕ) (a : Answer) → channel < length (layout_of v).events → length signals.items ≡ (layout_of v).signals_length → Answers v (requests.Event channel signals) a w → ((a ≡ answers.Overrun) ⊎ ((n : ℕ) × (a ≡ answers.Sampled n))) × (w.transfer.pages.signals ≡ signals.items)
-event-taken v w channel signals a p q h =
+part-middle : (xs ys zs : List ℕ) (n : ℕ) → length xs ≡ n → take (length ys) (drop n ((xs ++ ys) ++ zs)) ≡ ys
+part-middle xs ys zs n e = rw (sym e) (ap (λ (ws : List ℕ). take (length ys) (drop (length xs) ws)) (append_assoc xs ys zs) ∙ ap (λ (ws : List ℕ). take (length ys) ws) (drop-append_seam xs (ys ++ zs)) ∙ take-append_seam ys zs)
+
+part-back : (xs zs : List ℕ) (n : ℕ) → length xs ≡ n → drop n (xs ++ zs) ≡ zs
+part-back xs zs n e = rw (sym e) (drop-append_seam xs zs)
+
+-- how many bytes an event takes, by the layout's class
+taken-papers : (c : Class) (n size : ℕ) → c ≡ Papers → n ≢ size → may_take c n size ≡ false
+taken-papers Papers n size e q = (isnt n size).1 q
+taken-papers Large n size e q = cc
+
+taken-large : (c : Class) (n size : ℕ) → c ≡ Large → size < n → may_take c n size ≡ false
+taken-large Papers n size e q = cc
+taken-large Large n size e q = grind (arith, nat_tests, q)
+
+taken-part : (c : Class) (n size : ℕ) → c ≡ Large → n ≤ size → may_take c n size ≡ true
+taken-part Papers n size e q = cc
+taken-part Large n size e q = grind (arith, nat_tests, q)
+
+taken-whole : (c : Class) (n size : ℕ) → n ≡ size → may_take c n size ≡ true
+taken-whole Papers n size q = (is-it n size).1 q
+taken-whole Large n size q = grind (arith, nat_tests, q)
+
+untaken : (v w : SlaveValue) (channel : ℕ) (signals : ArrayVec ℕ) (a : Answer) → channel < length (layout_of v).events → takes_signals (layout_of v) (length signals.items) ≡ false → Answers v (requests.Event channel signals) a w → (a ≡ answers.BadSignals) × (w ≡ v)
+untaken v w channel signals a p q h =
     let here = first_case (nat_lt channel (length (layout_of v).events)) _ _ (grind (arith, nat_tests, p)) h in
-    let sized = first_case (length signals.items == (layout_of v).signals_length) _ _ ((is-it _ _).1 q) here in
+    other_case (takes_signals (layout_of v) (length signals.items)) _ _ q here
+
+pub event-unsized : (v w : SlaveValue) (channel : ℕ) (signals : ArrayVec ℕ) (a : Answer) → channel < length (layout_of v).events → (layout_of v).class ≡ Papers → length signals.items ≢ (layout_of v).signals_length → Answers v (requests.Event channel signals) a w → (a ≡ answers.BadSignals) × (w ≡ v)
+event-unsized v w channel signals a p e q h = untaken v w channel signals a p (taken-papers (layout_of v).class (length signals.items) (layout_of v).signals_length e q) h
+
+pub event-long : (v w : SlaveValue) (channel : ℕ) (signals : ArrayVec ℕ) (a : Answer) → channel < length (layout_of v).events → (layout_of v).class ≡ Large → (layout_of v).signals_length < length signals.items → Answers v (requests.Event channel signals) a w → (a ≡ answers.BadSignals) × (w ≡ v)
+event-long v w channel signals a p e q h = untaken v w channel signals a p (taken-large (layout_of v).class (length signals.items) (layout_of v).signals_length e q) h
+
+-- an event that is taken has its bytes first in the signals area, and leaves the others
+IsTaken : SlaveValue → ArrayVec ℕ → Answer → SlaveValue → Type 0
+IsTaken v signals a w = ((a ≡ answers.Overrun) ⊎ ((n : ℕ) × (a ≡ answers.Sampled n))) × (w.transfer.pages.signals ≡ signals.items ++ drop (length signals.items) v.transfer.pages.signals)
+
+event-sized : (v w : SlaveValue) (channel : ℕ) (signals : ArrayVec ℕ) (a : Answer) → channel < length (layout_of v).events → takes_signals (layout_of v) (length signals.items) ≡ true → Answers v (requests.Event channel signals) a w → IsTaken v signals a w
+unfolding IsTaken
+event-sized v w channel signals a p q h =
+    let here = first_case (nat_lt channel (length (layout_of v).events)) _ _ (grind (arith, nat_tests, p)) h in
+    let sized = first_case (takes_signals (layout_of v) (length signals.items)) _ _ q here in
+    let none : 0 + length signals.items ≡ length signals.items = omega arith in
+    let behind = ap (λ (n : ℕ). signals.items ++ drop n v.transfer.pages.signals) none in
     either (nat_le (length v.outbox + length (with_overload (outbox_size v) v.overloaded (event_packets v channel signals.items))) (outbox_size v)) _ _ _ sized
-    (λ m. (inr (_, m.0), ap (λ (x : SlaveValue). x.transfer.pages.signals) m.1))
-    (λ m. (inl m.0, ap (λ (x : SlaveValue). x.transfer.pages.signals) m.1))
+    (λ m. (inr (_, m.0), ap (λ (x : SlaveValue). x.transfer.pages.signals) m.1 ∙ behind))
+    (λ m. (inl m.0, ap (λ (x : SlaveValue). x.transfer.pages.signals) m.1 ∙ behind))
+
+pub event-part : (v w : SlaveValue) (channel : ℕ) (signals : ArrayVec ℕ) (a : Answer) → channel < length (layout_of v).events → (layout_of v).class ≡ Large → length signals.items ≤ (layout_of v).signals_length → Answers v (requests.Event channel signals) a w → ((a ≡ answers.Overrun) ⊎ ((n : ℕ) × (a ≡ answers.Sampled n))) × (w.transfer.pages.signals ≡ signals.items ++ drop (length signals.items) v.transfer.pages.signals)
+unfolding IsTaken
+event-part v w channel signals a p e q h = event-sized v w channel signals a p (taken-part (layout_of v).class (length signals.items) (layout_of v).signals_length e q) h
+
+whole-drop : (xs ys : List ℕ) → length ys ≡ length xs → xs ++ drop (length xs) ys ≡ xs
+whole-drop xs ys e = ap (λ (zs : List ℕ). xs ++ zs) (drop_all (length xs) ys (omega (arith, e))) ∙ append-nil xs
+
+pub event-taken : (v w : SlaveValue) (channel : ℕ) (signals : ArrayVec ℕ) (a : Answer) → IsSlave v → channel < length (layout_of v).events → length signals.items ≡ (layout_of v).signals_length → Answers v (requests.Event channel signals) a w → ((a ≡ answers.Overrun) ⊎ ((n : ℕ) × (a ≡ answers.Sampled n))) × (w.transfer.pages.signals ≡ signals.items)
+unfolding IsTaken
+event-taken v w channel signals a s p q h =
+    let t = event-sized v w channel signals a p (taken-whole (layout_of v).class (length signals.items) (layout_of v).signals_length q) h in
+    (t.0, t.1 ∙ whole-drop signals.items v.transfer.pages.signals (s.transfer.pages.signals ∙ sym q))
+
+-- signals that are handed over by themselves
+
+pub part-taken : (v w : SlaveValue) (place : ℕ) (bytes : ArrayVec ℕ) (a : Answer) → place + length bytes.items ≤ (layout_of v).signals_length → Answers v (requests.Signals place bytes) a w → (a ≡ answers.Silent) × (w ≡ with_part place bytes.items v)
+part-taken v w place bytes a p h = first_case (nat_le (place + length bytes.items) (layout_of v).signals_length) _ _ (grind (arith, nat_tests, p)) h
+
+pub part-outside : (v w : SlaveValue) (place : ℕ) (bytes : ArrayVec ℕ) (a : Answer) → (layout_of v).signals_length < place + length bytes.items → Answers v (requests.Signals place bytes) a w → (a ≡ answers.BadSignals) × (w ≡ v)
+part-outside v w place bytes a p h = other_case (nat_le (place + length bytes.items) (layout_of v).signals_length) _ _ (grind (arith, nat_tests, p)) h
+
+pub part-kept : (v : SlaveValue) (place : ℕ) (bytes : List ℕ) → IsSlave v → place + length bytes ≤ (layout_of v).signals_length
+    → (take (length bytes) (drop place (with_part place bytes v).transfer.pages.signals) ≡ bytes)
+    × (take place (with_part place bytes v).transfer.pages.signals ≡ take place v.transfer.pages.signals)
+    × (drop (place + length bytes) (with_part place bytes v).transfer.pages.signals ≡ drop (place + length bytes) v.transfer.pages.signals)
+part-kept v place bytes s fits =
+    let old : List ℕ = v.transfer.pages.signals in
+    let long : place + length bytes ≤ length old = (let e = s.transfer.pages.signals in omega (arith, fits, e)) in
+    let front : length (take place old) ≡ place = length-take-le place old (omega (arith, long)) in
+    let both : length (take place old ++ bytes) ≡ place + length bytes = length-append (take place old) bytes ∙ ap (λ (n : ℕ). n + length bytes) front in (
+      part-middle (take place old) bytes (drop (place + length bytes) old) place front,
+      part-front (take place old) bytes (drop (place + length bytes) old) place front,
+      part-back (take place old ++ bytes) (drop (place + length bytes) old) (place + length bytes) both,
+    )
 
 -- texts
 

@@ -1,5 +1,6 @@
 -- Requests that keep the selection of lists.
 use Rattle.std.proofs.Common.{◌≡◌, ℕ, zero, suc, ◌+◌, Bool, true, false, List, [], ◌∷◌, get_or, length, map, refl, ap, ◌∙◌, nat_lt, nat_le}
+use Rattle.xcp_memory.specs.Signals.{takes_signals}
 use Rattle.std.specs.Prelude.{◌==◌, ◌&&◌, ◌%◌, if◌then◌else◌}
 use Rattle.arrayvec.specs.ArrayVec.{ArrayVec}
 use Rattle.xcp_daq.specs.DaqLists.{DaqList, DaqValue, list_at, no_list}
@@ -34,7 +35,7 @@ fired : (v : SlaveValue) (channel : ℕ) (signals : ArrayVec ℕ) (a : Answer) (
 fired v channel signals a w i k =
     let once : is_selected (after_event channel v.daq) i ≡ is_selected v.daq i = counts-selected channel v.daq.lists i in
     either (nat_lt channel (length (layout_of v).events)) _ _ _ k
-    (λ m. either (length signals.items == (layout_of v).signals_length) _ _ _ m
+    (λ m. either (takes_signals (layout_of v) (length signals.items)) _ _ _ m
     (λ n. either (nat_le (length v.outbox + length (with_overload (outbox_size v) v.overloaded (event_packets v channel signals.items))) (outbox_size v)) _ _ _ n
     (λ o. same-selected w.daq (after_event channel v.daq) i (ap (λ (x : SlaveValue). x.daq) o.1) ∙ once)
     (λ o. same-selected w.daq (after_event channel v.daq) i (ap (λ (x : SlaveValue). x.daq) o.1) ∙ once))
@@ -46,5 +47,6 @@ selection-kept v (requests.Command p) a w i b k = same-selected w.daq v.daq i (l
 selection-kept v (requests.Event channel signals) a w i b k = fired v channel signals a w i k
 selection-kept v requests.Drain a w i b k = same-selected w.daq v.daq i (lists-kept v requests.Drain a w tt tt (λ e. cc) k)
 selection-kept v (requests.Time time) a w i b k = same-selected w.daq v.daq i (lists-kept v (requests.Time time) a w tt tt (λ e. cc) k)
+selection-kept v (requests.Signals place bytes) a w i b k = same-selected w.daq v.daq i (lists-kept v (requests.Signals place bytes) a w tt tt (λ e. cc) k)
 selection-kept v requests.FinishStore a w i b k = same-selected w.daq v.daq i (lists-kept v requests.FinishStore a w tt tt (λ e. cc) k)
 selection-kept v requests.Hangup a w i b k = absurd b

@@ -148,6 +148,7 @@ step-plain v requests.Drain a w s plain h = drains-plain (layout_of v) v.outbox 
 step-plain v requests.FinishStore a w s plain h = tt
 step-plain v requests.Hangup a w s plain h = tt
 step-plain v (requests.Time time) a w s plain h = tt
+step-plain v (requests.Signals place bytes) a w s plain h = tt
 
 -- an exchange of a slave with this layout
 abbrev IsOld : LayoutValue → Exchange → Type 0

@@ -18,6 +18,7 @@ use Rattle.xcp_packet.specs.declared.Code.TheVariants.{CmdUnknown}
 use Rattle.xcp_packet.specs.Rows.{Meets, first_holding}
 use Rattle.xcp_memory.specs.Layout.{LayoutValue}
 use Rattle.xcp_memory.specs.Pages.{PagesValue}
+use Rattle.xcp_memory.specs.Signals.{takes_signals}
 use Rattle.xcp_daq.specs.declared.DaqElement.{DaqElement}
 use Rattle.xcp_daq.specs.declared.Element.{Element}
 use Rattle.xcp_daq.specs.declared.Pointer.{Pointer}
@@ -105,7 +106,7 @@ fires-timed channel signals v n a w h k =
     let pages : PagesValue = (with_signals signals v).transfer.pages in
     let same : sampled channel v.time pages v.daq ≡ sampled channel n pages v.daq = lists-sampled channel v.time n pages v.daq 0 v.daq.lists h in
     each-case (nat_lt channel (length (layout_of v).events)) _ _ _ _
-    (λ m. each-case (length signals == (layout_of v).signals_length) _ _ _ _
+    (λ m. each-case (takes_signals (layout_of v) (length signals)) _ _ _ _
     (λ o. subst (λ (ps : List (ArrayVec ℕ)). Samples channel ps (with_signals signals (timed v n)) a (timed w n)) same (samples-timed channel (sampled channel v.time pages v.daq) (with_signals signals v) n a w o))
     (λ o. (o.0, same-timed _ w n o.1)) m)
     (λ m. (m.0, same-timed _ w n m.1))
@@ -130,6 +131,7 @@ answers-timed v requests.Drain a w n h t k = drains-timed v.outbox v n a w k
 answers-timed v requests.FinishStore a w n h t k = each-case v.store _ _ _ _ (stores-timed v n a w) (λ m. (m.0, same-timed _ w n m.1)) k
 answers-timed v requests.Hangup a w n h t k = (k.0, same-timed _ w n k.1)
 answers-timed v (requests.Time time) a w n h t k = absurd t
+answers-timed v (requests.Signals place bytes) a w n h t k = each-case (nat_le (place + length bytes.items) (layout_of v).signals_length) _ _ _ _ (λ m. (m.0, same-timed _ w n m.1)) (λ m. (m.0, same-timed _ w n m.1)) k
 
 -- a slave's lists have no time stamps but those of its clock
 plain-by : (l : LayoutValue) (s : Stamp) → l.clock.stamp ≡ Without → IsStampOf l s → s ≡ Without
@@ -239,7 +241,7 @@ fires-plain : (channel : ℕ) (signals : List ℕ) (v : SlaveValue) (a : Answer)
 fires-plain channel signals v a w h k =
     let after : All IsPlain (with_event channel v).daq.lists = event-plain channel v.daq.lists h in
     either (nat_lt channel (length (layout_of v).events)) _ _ _ k
-    (λ m. either (length signals == (layout_of v).signals_length) _ _ _ m
+    (λ m. either (takes_signals (layout_of v) (length signals)) _ _ _ m
     (λ n. either (nat_le (length v.outbox + length (with_overload (outbox_size v) v.overloaded _)) (outbox_size v)) _ _ _ n (λ o. led-plain (with_event channel v).daq _ w o.1 refl after) (λ o. led-plain (with_event channel v).daq _ w o.1 refl after))
     (λ n. led-plain v.daq _ w n.1 refl h))
     (λ m. led-plain v.daq _ w m.1 refl h)
@@ -254,6 +256,8 @@ answers-plain v requests.FinishStore a w h k =
     (λ m. led-plain v.daq _ w m.1 refl h.plain)
 answers-plain v requests.Hangup a w h k = led-plain _ _ w k.1 refl no-lists
 answers-plain v (requests.Time time) a w h k = led-plain v.daq _ w k.1 refl h.plain
+answers-plain v (requests.Signals place bytes) a w h k =
+    either (nat_le (place + length bytes.items) (layout_of v).signals_length) _ _ _ k (λ m. led-plain v.daq _ w m.1 refl h.plain) (λ m. led-plain v.daq _ w m.1 refl h.plain)
 
 clockless-kept : (v : SlaveValue) (q : Request) (a : Answer) (w : SlaveValue) → IsClockless v → Answers v q a w → IsClockless w
 clockless-kept v q a w h k = record { clock = ap (λ (l : LayoutValue). l.clock.stamp) (answers-layout v q a w k) ∙ h.clock; plain = answers-plain v q a w h k }
@@ -270,6 +274,7 @@ one-left v requests.Drain a xs m w n h k r = (timed m n, answers-timed v request
 one-left v requests.FinishStore a xs m w n h k r = (timed m n, answers-timed v requests.FinishStore a m n h tt k, r)
 one-left v requests.Hangup a xs m w n h k r = (timed m n, answers-timed v requests.Hangup a m n h tt k, r)
 one-left v (requests.Time time) a xs m w n h k r = subst (λ (x : SlaveValue). Run x (timeless xs) (timed w n)) (same-timed _ m n k.1) r
+one-left v (requests.Signals place bytes) a xs m w n h k r = (timed m n, answers-timed v (requests.Signals place bytes) a m n h tt k, r)
 
 run-left : (v : SlaveValue) (xs : List Exchange) (w : SlaveValue) (n : ℕ) → IsClockless v → Run v xs w → Run (timed v n) (timeless xs) (timed w n)
 run-left v [] w n h r = same-timed v w n r
@@ -302,6 +307,7 @@ one-back v requests.Drain a xs w n h s more r = one-kept v requests.Drain a xs w
 one-back v requests.FinishStore a xs w n h s more r = one-kept v requests.FinishStore a xs w n h tt refl more r
 one-back v requests.Hangup a xs w n h s more r = one-kept v requests.Hangup a xs w n h tt refl more r
 one-back v (requests.Time time) a xs w n h s more r = (at_time time v, (s refl, refl), more (at_time time v) (record { clock = h.clock; plain = h.plain }) r)
+one-back v (requests.Signals place bytes) a xs w n h s more r = one-kept v (requests.Signals place bytes) a xs w n h tt refl more r
 
 runs-back : (v : SlaveValue) (xs : List Exchange) (w : SlaveValue) (n : ℕ) → IsClockless v → All IsQuiet xs → Run (timed v n) (timeless xs) w → Run v xs (timed w (latest v.time xs))
 runs-back v [] w n h s r = same-timed _ w v.time r

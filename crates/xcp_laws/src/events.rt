@@ -4,24 +4,41 @@ ghost use Rattle.arrayvec.specs.ArrayVec.{ArrayVec};
 ghost use Rattle.xcp_packet.specs.ByteOrder.{double_bytes};
 ghost use Rattle.xcp_packet.specs.declared.Command.{Command};
 ghost use Rattle.xcp_memory.specs.Layout.{IsPlain, no_event, epk, description};
+ghost use Rattle.xcp_memory.specs.declared.Class.{Class};
 ghost use Rattle.xcp_transfer.specs.declared.Mta.{Mta};
 ghost use Rattle.xcp_transfer.specs.declared.TextId.{TextId};
 ghost use Rattle.xcp_transfer.specs.Uploads.{text_of_kind};
 ghost use Rattle.xcp_slave.specs.AcceptedCommands.{Accepts};
-ghost use Rattle.xcp_slave.specs.Step.{Answers};
+ghost use Rattle.xcp_slave.specs.SlaveInvariant.{IsSlave};
+ghost use Rattle.xcp_slave.specs.Step.{Answers, with_part};
 ghost use Rattle.xcp_slave.specs.SlaveValue.{SlaveValue, layout_of};
 ghost use Rattle.xcp_slave.specs.Outcomes.{Answer};
 ghost use Rattle.xcp_slave.specs.declared.Outcome.{Outcome};
 ghost use Rattle.xcp_slave.specs.declared.Request.{Request};
 
 /// An event whose channel the layout doesn't have is refused for that, whatever its signals are; an event of a
-/// channel that it has is refused if its signals are not as many bytes as the layout says. Either leaves the slave
-/// as it was. Any other is sampled or overruns, and its signals are then in their place.
+/// channel that it has is refused if its signals are not as many bytes as the layout says, and in the large class only if they are more.
+/// Either leaves the slave as it was. Any other is sampled or overruns, and its signals are then in their place; what it doesn't hand
+/// over stays.
 /// ASAM MCD-1 XCP, protocol layer: DAQ, event channels.
 pub fn an_event_is_asked_for_its_channel_first()
     ensures channel { (v w : SlaveValue) (channel : ℕ) (signals : ArrayVec ℕ) (a : Answer) → length (layout_of v).events ≤ channel → Answers v (Request.Event channel signals) a w → (a ≡ Outcome.NoChannel) × (w ≡ v) }
-    ensures signals { (v w : SlaveValue) (channel : ℕ) (signals : ArrayVec ℕ) (a : Answer) → channel < length (layout_of v).events → length signals.items ≢ (layout_of v).signals_length → Answers v (Request.Event channel signals) a w → (a ≡ Outcome.BadSignals) × (w ≡ v) }
-    ensures taken { (v w : SlaveValue) (channel : ℕ) (signals : ArrayVec ℕ) (a : Answer) → channel < length (layout_of v).events → length signals.items ≡ (layout_of v).signals_length → Answers v (Request.Event channel signals) a w → ((a ≡ Outcome.Overrun) ⊎ ((n : ℕ) × (a ≡ Outcome.Sampled n))) × (w.transfer.pages.signals ≡ signals.items) }
+    ensures signals { (v w : SlaveValue) (channel : ℕ) (signals : ArrayVec ℕ) (a : Answer) → channel < length (layout_of v).events → (layout_of v).class ≡ Class.Papers → length signals.items ≢ (layout_of v).signals_length → Answers v (Request.Event channel signals) a w → (a ≡ Outcome.BadSignals) × (w ≡ v) }
+    ensures long { (v w : SlaveValue) (channel : ℕ) (signals : ArrayVec ℕ) (a : Answer) → channel < length (layout_of v).events → (layout_of v).class ≡ Class.Large → (layout_of v).signals_length < length signals.items → Answers v (Request.Event channel signals) a w → (a ≡ Outcome.BadSignals) × (w ≡ v) }
+    ensures taken { (v w : SlaveValue) (channel : ℕ) (signals : ArrayVec ℕ) (a : Answer) → IsSlave v → channel < length (layout_of v).events → length signals.items ≡ (layout_of v).signals_length → Answers v (Request.Event channel signals) a w → ((a ≡ Outcome.Overrun) ⊎ ((n : ℕ) × (a ≡ Outcome.Sampled n))) × (w.transfer.pages.signals ≡ signals.items) }
+    ensures part { (v w : SlaveValue) (channel : ℕ) (signals : ArrayVec ℕ) (a : Answer) → channel < length (layout_of v).events → (layout_of v).class ≡ Class.Large → length signals.items ≤ (layout_of v).signals_length → Answers v (Request.Event channel signals) a w → ((a ≡ Outcome.Overrun) ⊎ ((n : ℕ) × (a ≡ Outcome.Sampled n))) × (w.transfer.pages.signals ≡ signals.items ++ drop (length signals.items) v.transfer.pages.signals) }
+{}
+
+/// A controller hands over signals by themselves, before an event of theirs: these bytes are then in their place, and all others
+/// of the slave stay as they were. Where they don't all lie in the signals area, none is taken.
+/// ASAM MCD-1 XCP, protocol layer: DAQ, event channels.
+pub fn signals_are_handed_over_in_parts()
+    ensures inside { (v w : SlaveValue) (place : ℕ) (bytes : ArrayVec ℕ) (a : Answer) → place + length bytes.items ≤ (layout_of v).signals_length → Answers v (Request.Signals place bytes) a w → (a ≡ Outcome.Silent) × (w ≡ with_part place bytes.items v) }
+    ensures outside { (v w : SlaveValue) (place : ℕ) (bytes : ArrayVec ℕ) (a : Answer) → (layout_of v).signals_length < place + length bytes.items → Answers v (Request.Signals place bytes) a w → (a ≡ Outcome.BadSignals) × (w ≡ v) }
+    ensures stays { (v : SlaveValue) (place : ℕ) (bytes : List ℕ) → IsSlave v → place + length bytes ≤ (layout_of v).signals_length
+        → (take (length bytes) (drop place (with_part place bytes v).transfer.pages.signals) ≡ bytes)
+        × (take place (with_part place bytes v).transfer.pages.signals ≡ take place v.transfer.pages.signals)
+        × (drop (place + length bytes) (with_part place bytes v).transfer.pages.signals ≡ drop (place + length bytes) v.transfer.pages.signals) }
 {}
 
 /// What a tool uploads at the name of an event channel, to which GET_DAQ_EVENT_INFO leaves the MTA, is that

@@ -34,6 +34,7 @@ pub use bits::bits_are_modified_one_by_one;
 pub use checksums::{a_checksum_adds_each_number, a_long_sum_is_told_the_greatest};
 pub use events::{
     a_text_is_uploaded_as_it_is, an_a2l_file_is_uploaded, an_event_is_asked_for_its_channel_first,
+    signals_are_handed_over_in_parts,
 };
 pub use images::an_image_has_the_controllers_bytes;
 pub use infos::{

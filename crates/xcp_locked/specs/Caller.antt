@@ -1,9 +1,9 @@
 -- A caller, as contracts see it.
-use Rattle.std.specs.Prelude.{ℕ, zero, suc, ◌+◌, List, [], ◌∷◌, ◌++◌, length}
+use Rattle.std.specs.Prelude.{ℕ, zero, suc, ◌+◌, List, [], ◌∷◌, ◌++◌, length, min}
 use Rattle.xcp_memory.specs.Layout.{LayoutValue}
 use Rattle.xcp_locked.specs.declared.receipt.Receipt.{Receipt}
 
--- A caller: its number, the layout's number of event channels and the length of its signals, its receipts, and how many of its
+-- A caller: its number, the layout's number of event channels and how many bytes of signals an event of a task hands over, its receipts, and how many of its
 -- calls were accepted.
 pub record CallerValue : Type 0 where
   pub number : ℕ
@@ -22,7 +22,7 @@ accepting c r = record c { accepted = c.accepted + 1; receipts = c.receipts ++ r
 
 -- a caller that has made no call
 abbrev pub fresh_caller : LayoutValue → ℕ → CallerValue
-fresh_caller l number = record { number = number; events = length l.events; signals = l.signals_length; receipts = []; accepted = 0 }
+fresh_caller l number = record { number = number; events = length l.events; signals = min l.signals_length 64; receipts = []; accepted = 0 }
 
 -- n callers that have made no call, numbered from 0
 abbrev pub callers_of : LayoutValue → ℕ → List CallerValue

@@ -28,7 +28,7 @@ duty c task = record { events = c.events; signals = c.signals; task = task }
 abbrev pub requests_of : List Receipt → List Request
 requests_of receipts = map (λ (r : Receipt). r.request) receipts
 
--- the event of a cycle: on the task's channel, with all signals as the cycle's number says
+-- the event of a cycle: on the task's channel, with all signals that it hands over as the cycle's number says
 abbrev pub event_of : Duty → ℕ → Request
 event_of p cycle = requests.Event (p.task % p.events) (record { items = replicate p.signals (cycle % 256) })
 

@@ -21,6 +21,9 @@ use xcp_memory::{Clock, Layout};
 use xcp_slave::Slave;
 use xcp_trace::Journal;
 
+/// The most bytes of signals that an event of a task hands over.
+const EVENT_BYTES: usize = 64;
+
 /// A slave at its opening, for a number of callers, which no type names yet, and a bank in which its
 /// first image is published.
 #[derive(Drop)]
@@ -211,7 +214,7 @@ fn new_caller<N: Name>(alloc: Global, number: u8, layout: &Layout, share: Share<
     Caller {
         number,
         events: layout.event_count(),
-        signals: layout.signals_length(),
+        signals: layout.signals_length().min(EVENT_BYTES),
         receipts: Receipts::new(alloc),
         accepted: 0,
         share,

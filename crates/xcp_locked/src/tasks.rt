@@ -201,7 +201,7 @@ fn cycle<N: Name, G: Gate>(
 }
 
 /// The event that a task submits in a cycle: on the channel of its number, modulo the number of channels, with all
-/// signals the cycle's number, modulo 256.
+/// signals that it hands over, the first 64 bytes at most, the cycle's number, modulo 256.
 pub fn event<N: Name>(caller: &Caller<N>, task: u8, cycle: u32) -> Request
     ensures { result ≡ event_of (duty caller.now task) cycle }
 {

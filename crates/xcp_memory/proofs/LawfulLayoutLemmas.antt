@@ -158,16 +158,16 @@ extents-areas l =
 pub record NoneBroken (p : Parts) : Type 0 where
   pub own : first_holding (own_limits p) ≡ None
   pub segments : first_holding (segments_limits p.class p.segments.items) ≡ None
-  pub signals : first_holding (signals_limits p.signals_address p.signals_length) ≡ None
+  pub signals : first_holding (signals_limits p.class p.signals_address p.signals_length) ≡ None
   pub events : first_holding (events_limits p.class p.events.items) ≡ None
   pub apart : first_holding (apart_limits (areas (layout_of p))) ≡ None
 
 -- parts that break no limit break none in any group of them
 pub none_broken : (p : Parts) → first_fault p ≡ None → NoneBroken p
 none_broken p h =
-    let a = none_both (own_limits p ++ segments_limits p.class p.segments.items ++ signals_limits p.signals_address p.signals_length ++ events_limits p.class p.events.items) (apart_limits (areas (layout_of p))) h in
-    let b = none_both (own_limits p ++ segments_limits p.class p.segments.items ++ signals_limits p.signals_address p.signals_length) (events_limits p.class p.events.items) a.0 in
-    let c = none_both (own_limits p ++ segments_limits p.class p.segments.items) (signals_limits p.signals_address p.signals_length) b.0 in
+    let a = none_both (own_limits p ++ segments_limits p.class p.segments.items ++ signals_limits p.class p.signals_address p.signals_length ++ events_limits p.class p.events.items) (apart_limits (areas (layout_of p))) h in
+    let b = none_both (own_limits p ++ segments_limits p.class p.segments.items ++ signals_limits p.class p.signals_address p.signals_length) (events_limits p.class p.events.items) a.0 in
+    let c = none_both (own_limits p ++ segments_limits p.class p.segments.items) (signals_limits p.class p.signals_address p.signals_length) b.0 in
     let d = none_both (own_limits p) (segments_limits p.class p.segments.items) c.0 in
     record { own = d.0; segments = d.1; signals = c.1; events = b.1; apart = a.1 }
 
@@ -241,8 +241,8 @@ lawful p h =
     let a2l = text_or_none 64 p.extras.a2l.items (kept _ own.1.1.1.1.0) in
     let unit = within_number 0 12 p.clock.unit (kept _ own.1.1.1.1.1.1.1.0) in
     let ticks = within_number 1 65535 p.clock.ticks (kept _ own.1.1.1.1.1.1.1.1.0) in
-    let signals = all_kept (signals_limits p.signals_address p.signals_length) g.signals in
-    let signals_number = within_number 1 64 p.signals_length (kept _ signals.1.0) in
+    let signals = all_kept (signals_limits p.class p.signals_address p.signals_length) g.signals in
+    let signals_number = within_number 1 (limits_of p.class).signals p.signals_length (kept _ signals.1.0) in
     let signals_end : nat_le (number p.signals_address + number p.signals_length) 0xFFFF_FFFF ≡ true = kept _ signals.1.1.0 in
     let segments : segments_counted p.class ss = counted _ _ _ g.segments in
     let events : events_counted p.class es = counted _ _ _ g.events in

@@ -157,15 +157,15 @@ events_keep p h n =
     let each : All KeepsEvent es = λ k d b. record { lengths = names k d b; printable_all = texts k d b; numbers = n.events k d b } in
     none_left (event_counts p.class (length es)) (flat_map event_limits (enumerate_from 0 es)) counts ∙ each_keeps event_limits KeepsEvent event_keeps 0 es each
 
-signals_keep : (p : Parts) → IsLayout (layout_of p) → AreNumbers p → first_holding (signals_limits p.signals_address p.signals_length) ≡ None
+signals_keep : (p : Parts) → IsLayout (layout_of p) → AreNumbers p → first_holding (signals_limits p.class p.signals_address p.signals_length) ≡ None
 signals_keep p h n =
     let l = layout_of p in
     let P : Extent → Type 0 = λ e. e.address + e.size ≤ 0xFFFF_FFFF in
     let ends = subst P (extents-signals l) (All-get_or P (extents l) (length l.segments) no_extent (omega (arith, length-extents l)) h.last) in
     let least = h.signals_least in
     let address = within 0 0xFFFF_FFFE p.signals_address n.signals_address (omega arith) (omega arith) in
-    let bytes = within 1 64 p.signals_length n.signals_length least h.signals_most in
-    keeps (signals_limits p.signals_address p.signals_length) (ap not address, (ap not bytes, (ap not (at_most (number p.signals_address + number p.signals_length) 0xFFFF_FFFF ends), tt)))
+    let bytes = within 1 (limits_of p.class).signals p.signals_length n.signals_length least h.signals_most in
+    keeps (signals_limits p.class p.signals_address p.signals_length) (ap not address, (ap not bytes, (ap not (at_most (number p.signals_address + number p.signals_length) 0xFFFF_FFFF ends), tt)))
 
 not_three : (n : ℕ) → n ≢ 3 → not (not (n == 3)) ≡ false
 not_three n h = grind (arith, nat_tests)
@@ -187,7 +187,7 @@ own_keep p h n =
 
 keep : (p : Parts) → IsLayout (layout_of p) → AreNumbers p → first_fault p ≡ None
 keep p h n =
-    behind_4 (own_limits p) (segments_limits p.class p.segments.items) (signals_limits p.signals_address p.signals_length) (events_limits p.class p.events.items) (apart_limits (areas (layout_of p))) (own_keep p h n) (segments_keep p h n) (signals_keep p h n) (events_keep p h n)
+    behind_4 (own_limits p) (segments_limits p.class p.segments.items) (signals_limits p.class p.signals_address p.signals_length) (events_limits p.class p.events.items) (apart_limits (areas (layout_of p))) (own_keep p h n) (segments_keep p h n) (signals_keep p h n) (events_keep p h n)
     ∙ areas_apart (layout_of p) h
 
 -- parts that break no limit have such numbers
@@ -208,7 +208,7 @@ numbers : (p : Parts) → first_fault p ≡ None → AreNumbers p
 numbers p h =
     let g = none_broken p h in
     let own = all_kept (own_limits p) g.own in
-    let signals = all_kept (signals_limits p.signals_address p.signals_length) g.signals in
+    let signals = all_kept (signals_limits p.class p.signals_address p.signals_length) g.signals in
     let ss = p.segments.items in
     let es = p.events.items in
     let segments : segments_counted p.class ss = counted _ _ _ g.segments in
@@ -225,7 +225,7 @@ numbers p h =
       ticks = natural 1 65535 p.clock.ticks (kept _ own.1.1.1.1.1.1.1.1.0);
       segments = each_kept (limits_in p.class ss) (λ s. IsNatural s.address × IsNatural s.pages) (segment_numbers p.class ss) 0 ss segments.behind;
       signals_address = natural 0 0xFFFF_FFFE p.signals_address (kept _ signals.0);
-      signals_length = natural 1 64 p.signals_length (kept _ signals.1.0);
+      signals_length = natural 1 (limits_of p.class).signals p.signals_length (kept _ signals.1.0);
       events = each_kept event_limits (λ e. IsByte e.cycle × IsByte e.unit × IsByte e.priority) event_numbers 0 es events.behind;
     }
 

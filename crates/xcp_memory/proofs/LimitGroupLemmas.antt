@@ -18,7 +18,7 @@ pub fault_of_own : (p : Parts) (f : LayoutFault) → first_holding (own_limits p
 fault_of_own p f h =
     let a = own_limits p in
     let b = segments_limits p.class p.segments.items in
-    let c = signals_limits p.signals_address p.signals_length in
+    let c = signals_limits p.class p.signals_address p.signals_length in
     let d = events_limits p.class p.events.items in
     let e = apart_limits (areas (layout_of p)) in
     holding_1_of_5 a b c d e f h
@@ -28,37 +28,37 @@ pub fault_of_segments : (p : Parts) (f : LayoutFault) → first_holding (own_lim
 fault_of_segments p f h i =
     let a = own_limits p in
     let b = segments_limits p.class p.segments.items in
-    let c = signals_limits p.signals_address p.signals_length in
+    let c = signals_limits p.class p.signals_address p.signals_length in
     let d = events_limits p.class p.events.items in
     let e = apart_limits (areas (layout_of p)) in
     holding_2_of_5 a b c d e f h i
 
 -- a fault of the signals, where the segments are good, too
-pub fault_of_signals : (p : Parts) (f : LayoutFault) → first_holding (own_limits p) ≡ None → first_holding (segments_limits p.class p.segments.items) ≡ None → first_holding (signals_limits p.signals_address p.signals_length) ≡ Some f → first_fault p ≡ Some f
+pub fault_of_signals : (p : Parts) (f : LayoutFault) → first_holding (own_limits p) ≡ None → first_holding (segments_limits p.class p.segments.items) ≡ None → first_holding (signals_limits p.class p.signals_address p.signals_length) ≡ Some f → first_fault p ≡ Some f
 fault_of_signals p f h i j =
     let a = own_limits p in
     let b = segments_limits p.class p.segments.items in
-    let c = signals_limits p.signals_address p.signals_length in
+    let c = signals_limits p.class p.signals_address p.signals_length in
     let d = events_limits p.class p.events.items in
     let e = apart_limits (areas (layout_of p)) in
     holding_3_of_5 a b c d e f h i j
 
 -- a fault of the event channels, where the signals are good, too
-pub fault_of_events : (p : Parts) (f : LayoutFault) → first_holding (own_limits p) ≡ None → first_holding (segments_limits p.class p.segments.items) ≡ None → first_holding (signals_limits p.signals_address p.signals_length) ≡ None → first_holding (events_limits p.class p.events.items) ≡ Some f → first_fault p ≡ Some f
+pub fault_of_events : (p : Parts) (f : LayoutFault) → first_holding (own_limits p) ≡ None → first_holding (segments_limits p.class p.segments.items) ≡ None → first_holding (signals_limits p.class p.signals_address p.signals_length) ≡ None → first_holding (events_limits p.class p.events.items) ≡ Some f → first_fault p ≡ Some f
 fault_of_events p f h i j k =
     let a = own_limits p in
     let b = segments_limits p.class p.segments.items in
-    let c = signals_limits p.signals_address p.signals_length in
+    let c = signals_limits p.class p.signals_address p.signals_length in
     let d = events_limits p.class p.events.items in
     let e = apart_limits (areas (layout_of p)) in
     holding_4_of_5 a b c d e f h i j k
 
 -- where all values are good, the areas decide
-pub fault_of_areas : (p : Parts) → first_holding (own_limits p) ≡ None → first_holding (segments_limits p.class p.segments.items) ≡ None → first_holding (signals_limits p.signals_address p.signals_length) ≡ None → first_holding (events_limits p.class p.events.items) ≡ None → first_fault p ≡ first_holding (apart_limits (areas (layout_of p)))
+pub fault_of_areas : (p : Parts) → first_holding (own_limits p) ≡ None → first_holding (segments_limits p.class p.segments.items) ≡ None → first_holding (signals_limits p.class p.signals_address p.signals_length) ≡ None → first_holding (events_limits p.class p.events.items) ≡ None → first_fault p ≡ first_holding (apart_limits (areas (layout_of p)))
 fault_of_areas p h i j k =
     let a = own_limits p in
     let b = segments_limits p.class p.segments.items in
-    let c = signals_limits p.signals_address p.signals_length in
+    let c = signals_limits p.class p.signals_address p.signals_length in
     let d = events_limits p.class p.events.items in
     let e = apart_limits (areas (layout_of p)) in
     behind_4 a b c d e h i j k

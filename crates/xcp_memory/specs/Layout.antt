@@ -139,7 +139,7 @@ pub record IsLayout (l : LayoutValue) : Type 0 where
   pub total : sum_by (λ s. length s.bytes) l.segments ≤ (limits_of l.class).bytes
   pub paged : All (λ s. (2 ≤ s.pages) × (s.pages ≤ 4)) l.segments
   pub signals_least : 1 ≤ l.signals_length
-  pub signals_most : l.signals_length ≤ 64
+  pub signals_most : l.signals_length ≤ (limits_of l.class).signals
   pub events_least : 1 ≤ length l.events
   pub events_most : length l.events ≤ (limits_of l.class).events
   pub names : All (λ e. (1 ≤ length e.name) × (length e.name ≤ 32)) l.events

@@ -12,6 +12,7 @@ pub mod PageSwitch
 pub mod PageCopy
 pub mod Freeze
 pub mod ReferencePage
+pub mod Signals
 pub mod Checksum
 pub mod EcuImage
 pub mod AccessLaws

@@ -133,17 +133,17 @@ limits_in class ss (i, s) = segment_limits class i (sum_by size (take (i + 1) ss
 abbrev pub segments_limits : Class → List SegmentPart → List Limit
 segments_limits class ss = segment_counts class (length ss) ++ flat_map (limits_in class ss) (enumerate_from 0 ss)
 
--- where the signals stand, and how many bytes they have
+-- where the signals stand, and how many bytes they have, by the layout's class
 abbrev pub signals_address_limit : ℤ → Limit
 signals_address_limit = number_limit 0 0xFFFF_FFFE key.SignalsAddress
 
-abbrev pub signals_length_limit : ℤ → Limit
-signals_length_limit = number_limit 1 64 key.SignalsLength
+abbrev pub signals_length_limit : Class → ℤ → Limit
+signals_length_limit class = number_limit 1 (limits_of class).signals key.SignalsLength
 
-abbrev pub signals_limits : ℤ → ℤ → List Limit
-signals_limits address n =
+abbrev pub signals_limits : Class → ℤ → ℤ → List Limit
+signals_limits class address n =
     signals_address_limit address
-    ∷ signals_length_limit n
+    ∷ signals_length_limit class n
     ∷ end_limit key.SignalsAddress address (number n)
     ∷ []
 
@@ -191,7 +191,7 @@ abbrev pub limits : Parts → List Limit
 limits p =
     own_limits p
     ++ segments_limits p.class p.segments.items
-    ++ signals_limits p.signals_address p.signals_length
+    ++ signals_limits p.class p.signals_address p.signals_length
     ++ events_limits p.class p.events.items
     ++ apart_limits (areas (layout_of p))
 

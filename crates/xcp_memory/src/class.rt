@@ -2,7 +2,7 @@
 ghost use Rattle.std.specs.Prelude.{◌≡◌, ◌≤◌};
 ghost use Rattle.xcp_memory.specs.ClassLimits.{limits_of};
 
-use crate::limits::{IMAGE_SIZE, MAX_BYTES, MAX_EVENTS, MAX_SEGMENTS};
+use crate::limits::{IMAGE_SIZE, MAX_BYTES, MAX_EVENTS, MAX_SEGMENTS, MAX_SIGNALS};
 
 /// Which limits a layout is held to.
 #[derive(Clone, Copy, Debug, PartialEq, Eq)]
@@ -21,6 +21,8 @@ pub struct ClassLimits {
     pub bytes: usize,
     /// How many segments there are at most.
     pub segments: usize,
+    /// How many bytes of signals there are at most.
+    pub signals: u32,
     /// How many event channels there are at most.
     pub events: usize,
     /// How many DAQ lists a tool allocates at most.
@@ -39,6 +41,7 @@ pub struct ClassLimits {
 const PAPERS: ClassLimits = ClassLimits {
     bytes: IMAGE_SIZE,
     segments: 4,
+    signals: 64,
     events: 8,
     lists: 16,
     odts: 64,
@@ -51,6 +54,7 @@ const PAPERS: ClassLimits = ClassLimits {
 const LARGE: ClassLimits = ClassLimits {
     bytes: MAX_BYTES,
     segments: MAX_SEGMENTS,
+    signals: MAX_SIGNALS,
     events: MAX_EVENTS,
     lists: 64,
     odts: 252,
@@ -65,6 +69,7 @@ impl Class {
         ensures value { result ≡ limits_of self }
         ensures bytes { (2040 ≤ result.bytes) × (result.bytes ≤ 1048576) }
         ensures segments { (4 ≤ result.segments) × (result.segments ≤ 16) }
+        ensures signals { (64 ≤ result.signals) × (result.signals ≤ 16384) }
         ensures events { (8 ≤ result.events) × (result.events ≤ 64) }
         ensures lists { (16 ≤ result.lists) × (result.lists ≤ 64) }
         ensures odts { (64 ≤ result.odts) × (result.odts ≤ 252) }

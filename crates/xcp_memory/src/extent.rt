@@ -5,8 +5,8 @@ ghost use Rattle.xcp_packet.specs.Rows.{first_holding};
 ghost use Rattle.xcp_memory.specs.Limits.{is_apart, signals_limits};
 ghost use Rattle.xcp_memory.specs.LayoutParts.{number};
 
-use crate::limits::{LAST_ADDRESS, MAX_SIGNALS};
-use crate::{Key, LayoutFault, checks};
+use crate::limits::LAST_ADDRESS;
+use crate::{Class, Key, LayoutFault, checks};
 use std::marker::Model;
 
 /// Where an area lies: its first address, and how many bytes it has.
@@ -70,13 +70,13 @@ impl Extent {
     }
 }
 
-/// Where the signals lie.
-pub(crate) fn read_signals(address: i64, length: i64) -> Result<Extent, LayoutFault>
-    ensures ok { IfOk result (λ e. (first_holding (signals_limits address length) ≡ None) × (e ≡ record { address = number address; size = number length })) }
-    ensures refused { IfErr result (λ e. first_holding (signals_limits address length) ≡ Some e) }
+/// Where the signals of a layout of this class lie.
+pub(crate) fn read_signals(class: Class, address: i64, length: i64) -> Result<Extent, LayoutFault>
+    ensures ok { IfOk result (λ e. (first_holding (signals_limits class address length) ≡ None) × (e ≡ record { address = number address; size = number length })) }
+    ensures refused { IfErr result (λ e. first_holding (signals_limits class address length) ≡ Some e) }
 {
     let first = checks::number(address, 0, LAST_ADDRESS, Key::SignalsAddress)?;
-    let size = checks::number(length, 1, MAX_SIGNALS, Key::SignalsLength)?;
+    let size = checks::number(length, 1, class.limits().signals, Key::SignalsLength)?;
     if size - 1 > LAST_ADDRESS - first {
         return Err(LayoutFault::Range(Key::SignalsAddress));
     }

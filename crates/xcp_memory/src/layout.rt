@@ -10,6 +10,7 @@ ghost use Rattle.xcp_memory.specs.declared.key.LayoutFault.{LayoutFault};
 ghost use Rattle.xcp_memory.specs.LayoutParts.{clock_of, layout_of, number, kind_numbered};
 ghost use Rattle.xcp_packet.specs.Rows.{first_holding};
 ghost use Rattle.xcp_memory.specs.Limits.{first_fault, own_limits};
+ghost use Rattle.xcp_memory.specs.Signals.{takes_signals};
 ghost use Rattle.xcp_memory.specs.ComputedAccess.{segment_of, is_inside, Located};
 
 use crate::areas::{areas_of, check_apart};
@@ -110,7 +111,7 @@ impl Layout {
             ..
         } = parts;
         let segments = read_segments(class, segments)?;
-        let signals = read_signals(signals_address, signals_length)?;
+        let signals = read_signals(class, signals_address, signals_length)?;
         let events = read_events(class, events)?;
         check_apart(&areas_of(&segments, signals))?;
         Ok(Layout {
@@ -341,9 +342,21 @@ impl Layout {
     pub fn signals_length(&self) -> usize
         ensures value { result ≡ self.now.signals_length }
         ensures least { 1 ≤ result }
-        ensures most { result ≤ 64 }
+        ensures most { result ≤ (limits_of self.now.class).signals }
+        ensures bound { result ≤ 16384 }
     {
+        let _limits = self.class.limits();
         self.signals.size() as usize
+    }
+
+    /// Whether an event may hand over so many bytes of signals.
+    pub fn takes_signals(&self, n: usize) -> bool
+        ensures { result ≡ takes_signals self.now n }
+    {
+        match self.class {
+            Class::Papers => n == self.signals_length(),
+            Class::Large => n <= self.signals_length(),
+        }
     }
 
     /// How many event channels there are.

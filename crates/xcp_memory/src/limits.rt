@@ -21,8 +21,8 @@ pub const MAX_EVENTS: usize = 64;
 /// How many areas there are at most: the segments and the signals.
 pub const MAX_AREAS: usize = 17;
 
-/// How many bytes of signals there are at most.
-pub const MAX_SIGNALS: u32 = 64;
+/// How many bytes of signals there are at most, in the class that has the most.
+pub const MAX_SIGNALS: u32 = 16_384;
 
 /// How long the identification is at most.
 pub const MAX_ID: usize = 64;

@@ -1,5 +1,6 @@
 //! The pages of all segments.
-ghost use Rattle.std.specs.Prelude.{◌≡◌, ◌≢◌, ◌<◌, length, IfOk, MatchBool};
+ghost use Rattle.std.specs.Prelude.{◌≡◌, ◌≢◌, ◌+◌, ◌<◌, ◌≤◌, length, IfOk, MatchBool};
+ghost use Rattle.xcp_memory.specs.ComputedAccess.{overwritten};
 ghost use Rattle.xcp_memory.specs.Layout.{IsLayout};
 ghost use Rattle.xcp_memory.specs.Pages.{opening_pages, IsPages};
 
@@ -12,7 +13,7 @@ mod summing;
 mod switching;
 
 use crate::Layout;
-use crate::page_set::PageSet;
+use crate::page_set::{PageSet, overwrite};
 use std::alloc::{AllocError, Global};
 use std::marker::Model;
 
@@ -83,12 +84,12 @@ impl Pages {
         &self.layout
     }
 
-    /// Makes these bytes the content of the signals area.
-    pub fn set_signals(&mut self, bytes: &[u8])
-        requires { length bytes.now ≡ self.old.layout.signals_length }
-        ensures { self.new ≡ record self.old { signals = bytes.now } }
+    /// Makes these bytes the content of the signals area from a place on.
+    pub fn set_signals(&mut self, place: usize, bytes: &[u8])
+        requires { place + length bytes.now ≤ self.old.layout.signals_length }
+        ensures { self.new ≡ record self.old { signals = overwritten self.old.signals place bytes.now } }
     {
-        self.signals.copy_from_slice(bytes);
+        overwrite(&mut self.signals, place, bytes);
     }
 
     /// Tells a caller's proof what is true of all pages.

@@ -24,7 +24,7 @@ pub struct Parts {
     pub segments: Vec<SegmentPart>,
     /// The first address of the signals: 0 to 0xFFFF_FFFE, and so for their last address.
     pub signals_address: i64,
-    /// How many bytes of signals there are: 1 to 64.
+    /// How many bytes of signals there are: 1 to as many as the class has.
     pub signals_length: i64,
     /// The event channels: 1 to 8.
     pub events: Vec<EventPart>,

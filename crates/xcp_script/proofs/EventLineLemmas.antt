@@ -6,7 +6,7 @@ use Rattle.std.specs.Char.{digit_value, is_ascii_digit}
 use Rattle.std.proofs.lemmas.List.{drop_all}
 use Rattle.std.proofs.lemmas.Bool.Decides.{nat_tests}
 use Rattle.xcp_script.specs.declared.line.Line.TheVariants.{Faulty}
-use Rattle.xcp_script.specs.ScriptLine.{event_of, event_with, channel_of, hex_bytes, is_space, time_of}
+use Rattle.xcp_script.specs.ScriptLine.{event_of, event_with, channel_of, hex_bytes, is_space, signals_of, signals_with, time_of}
 
 found : (b : Bool) (n i : ℕ) → Some i ≡ cond b (Some n) None → i ≡ n
 found true n i h = cc
@@ -31,6 +31,24 @@ pub no_space : (text : List ℕ) → None ≡ position is_space text → Faulty 
 no_space text h =
     let far : length text ≤ position_or_len is_space text + 1 = grind (arith, nat_tests, lost _ _ h) in
     sym (rw (drop_all (position_or_len is_space text + 1) text far, no_hex) (no_signals _))
+
+-- nor are signals that are handed over by themselves without any, or without a place
+no_part : (place : Option ℕ) → signals_with place None ≡ Faulty
+no_part None = refl
+no_part (Some n) = refl
+
+no_part_hex : hex_bytes 255 [] ≡ None
+unfolding hex_bytes
+no_part_hex = refl
+
+pub no_space_behind : (text : List ℕ) → None ≡ position is_space text → Faulty ≡ signals_of text
+no_space_behind text h =
+    let far : length text ≤ position_or_len is_space text + 1 = grind (arith, nat_tests, lost _ _ h) in
+    sym (rw (drop_all (position_or_len is_space text + 1) text far, no_part_hex) (no_part _))
+
+-- and they are cut at the first space
+pub cut_behind : (text : List ℕ) (i : ℕ) → Some i ≡ position is_space text → signals_of text ≡ signals_with (channel_of (take i text)) (hex_bytes 255 (drop (i + 1) text))
+cut_behind text i h = rw (found _ _ _ h) refl
 
 -- an event's text is cut at its first space: the channel stands before it, the signals' digits behind it
 pub cut_at : (text : List ℕ) (i : ℕ) → Some i ≡ position is_space text → event_of text ≡ event_with (channel_of (take i text)) (hex_bytes 64 (drop (i + 1) text))

@@ -215,4 +215,5 @@ faulty_in parseds.Drain command signals h = absurd (cc)
 faulty_in parseds.FinishStore command signals h = absurd (cc)
 faulty_in parseds.Hangup command signals h = absurd (cc)
 faulty_in (parseds.Time time) command signals h = absurd (cc)
+faulty_in (parseds.Signals place) command signals h = absurd (cc)
 faulty_in parseds.Faulty command signals h = refl

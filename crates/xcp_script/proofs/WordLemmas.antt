@@ -2,11 +2,11 @@
 use Rattle.std.proofs.Common.{◌≡◌, ◌<◌, ◌≤◌, ℕ, Bool, true, false, MatchBool, List, [], ◌∷◌, length, slice_index, refl, arith}
 use Rattle.std.specs.Prelude.{⊤, nat_le}
 use Rattle.std.proofs.lemmas.Bool.Decides.{nat_tests}
-use Rattle.xcp_script.specs.ScriptLine.{meaning, command_of, is_skipped}
+use Rattle.xcp_script.specs.ScriptLine.{meaning, command_of, handed_or_command, is_skipped}
 
 -- a line whose first character stands before the lower-case letters is a command, if it says anything
 no_word : (max_cto b : ℕ) (bs : List ℕ) → b < 97 → is_skipped (b ∷ bs) ≡ false → length (b ∷ bs) ≤ 1024 → meaning max_cto (b ∷ bs) ≡ command_of max_cto (b ∷ bs)
-unfolding meaning
+unfolding meaning handed_or_command
 no_word max_cto b bs h some short = grind (arith, nat_tests, h, some, short)
 
 either : (t : Bool) (b : ℕ) (bs : List ℕ) → nat_le 97 b ≡ t → is_skipped (b ∷ bs) ≡ false → length (b ∷ bs) ≤ 1024

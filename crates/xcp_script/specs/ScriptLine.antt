@@ -31,7 +31,7 @@ hex_bytes most digits =
     if nat_lt 0 (length digits) && nat_le (length digits) (2 * most)
     then bytes_if_ok (decode_of digits) else None
 
--- the number of an event channel: one or more decimal digits of a value of at most 65,535
+-- the number of an event channel, or a place in the signals: one or more decimal digits of a value of at most 65,535
 unfoldable pub channel_of : List ℕ → Option ℕ
 channel_of digits =
     if nat_lt 0 (length digits) && list_all is_ascii_digit digits && nat_le (digits_value 10 digits) 65535
@@ -56,6 +56,15 @@ abbrev pub event_of : List ℕ → Line
 event_of text =
     event_with (channel_of (before_first is_space text)) (hex_bytes 64 (after_first is_space text))
 
+abbrev pub signals_with : Option ℕ → Option (List ℕ) → Line
+signals_with (Some place) (Some bytes) = Ask (requests.Signals place (record { items = bytes }))
+signals_with _ _ = Faulty
+
+-- `PLACE HEX`, with one space between: HEX 1 to 255 bytes of signals that stand from this place on
+abbrev pub signals_of : List ℕ → Line
+signals_of text =
+    signals_with (channel_of (before_first is_space text)) (hex_bytes 255 (after_first is_space text))
+
 abbrev pub command_with : Option (List ℕ) → Line
 command_with (Some packet) = Ask (requests.Command (record { items = packet }))
 command_with None = Faulty
@@ -63,6 +72,11 @@ command_with None = Faulty
 -- a command packet of at most max_cto bytes in hex, in which spaces may stand
 abbrev pub command_of : ℕ → List ℕ → Line
 command_of max_cto line = command_with (hex_bytes max_cto (filter (λ b. not (is_space b)) line))
+
+-- what a line says that hands signals over by themselves, or is a command packet
+unfoldable pub handed_or_command : ℕ → List ℕ → Line
+handed_or_command max_cto line =
+    if is_word (codes "signals ") (take 8 line) then signals_of (drop 8 line) else command_of max_cto line
 
 -- what a line says, where packets have at most max_cto (MAX_CTO) bytes
 unfoldable pub meaning : ℕ → List ℕ → Line
@@ -74,4 +88,4 @@ meaning max_cto line =
     if is_word (codes "hangup") line then Ask requests.Hangup else (
     if is_word (codes "event ") (take 6 line) then event_of (drop 6 line) else (
     if is_word (codes "time ") (take 5 line) then time_with (time_of (drop 5 line)) else
-    command_of max_cto line))))))
+    handed_or_command max_cto line))))))

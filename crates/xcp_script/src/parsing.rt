@@ -1,11 +1,11 @@
 //! The lines of a script, read one by one.
 ghost use Rattle.std.specs.Prelude.{◌≡◌, ◌≤◌, ⊤, ℕ, MatchBool, MatchOption, codes, drop, position, length, take, true, false, Some, None};
-ghost use Rattle.xcp_script.specs.ScriptLine.{meaning, channel_of, command_of, command_with, event_of, event_with, hex_bytes, is_skipped, is_space, is_word, time_of, time_with};
+ghost use Rattle.xcp_script.specs.ScriptLine.{meaning, channel_of, command_of, command_with, event_of, event_with, handed_or_command, hex_bytes, is_skipped, is_space, is_word, signals_of, signals_with, time_of, time_with};
 ghost use Rattle.xcp_script.specs.private.LineInSlot.{line_in};
 
 use crate::Line;
 use crate::digits::{GREATEST_BYTE, digit_value};
-use crate::slot::{Parsed, SIGNAL_BYTES, Slot};
+use crate::slot::{PART_BYTES, Parsed, SIGNAL_BYTES, Slot};
 use arrayvec::ArrayVec;
 
 /// The most bytes of a line, without its line feed and the carriage return before that.
@@ -83,22 +83,59 @@ fn parse_words(line: &[u8], slot: &mut Slot) -> Option<Parsed>
     if line == b"hangup".as_slice() {
         return Some(Parsed::Hangup);
     }
-    match event_text(line) {
-        Some(text) => Some(parse_event(text, slot)),
-        None => parse_timed(line, slot),
+    if let Some(text) = event_text(line) {
+        return Some(parse_event(text, slot));
+    }
+    match time_text(line) {
+        Some(digits) => Some(parse_time(digits, slot)),
+        None => parse_handed(line, slot),
     }
 }
 
-/// What a line says that begins with `time `, if it does.
-fn parse_timed(line: &[u8], slot: &Slot) -> Option<Parsed>
-    ensures { MatchOption result (is_word (codes "time ") (take 5 line.now) ≡ false)
-        (λ parsed. (is_word (codes "time ") (take 5 line.now) ≡ true)
-        × (line_in parsed slot.now.command slot.now.signals ≡ time_with (time_of (drop 5 line.now)))) }
+/// What a line says that begins with `signals `, if it does.
+#[tactic(auto, unfolding(crate::specs::ScriptLine::handed_or_command))]
+fn parse_handed(line: &[u8], slot: &mut Slot) -> Option<Parsed>
+    ensures { MatchOption result ((max_cto : ℕ) → handed_or_command max_cto line.now ≡ command_of max_cto line.now)
+        (λ parsed. (max_cto : ℕ) → line_in parsed slot.new.command slot.new.signals ≡ handed_or_command max_cto line.now) }
 {
-    match time_text(line) {
-        Some(digits) => Some(parse_time(digits, slot)),
+    match signals_text(line) {
+        Some(text) => Some(parse_signals(text, slot)),
         None => None,
     }
+}
+
+/// What stands behind `signals ` in a line that begins with it.
+fn signals_text(line: &[u8]) -> Option<&[u8]>
+    ensures { MatchOption result (is_word (codes "signals ") (take 8 line.now) ≡ false)
+        (λ text. (is_word (codes "signals ") (take 8 line.now) ≡ true) × (text.now ≡ drop 8 line.now)) }
+{
+    match line {
+        [b's', ..] => line.strip_prefix(b"signals "),
+        _ => None,
+    }
+}
+
+/// What `signals PLACE HEX` says, from behind its first space.
+fn parse_signals(text: &[u8], slot: &mut Slot) -> Parsed
+    ensures { line_in result slot.new.command slot.new.signals ≡ signals_of text.now }
+{
+    let Some(space) = first_space(text) else {
+        return Parsed::Faulty;
+    };
+    let Some(place) = parse_channel(&text[..space]) else {
+        return Parsed::Faulty;
+    };
+    read_signals(place, &text[space + 1..], slot)
+}
+
+/// Reads signals that are handed over by themselves straight into the slot, where a command packet stands else.
+fn read_signals(place: u16, digits: &[u8], slot: &mut Slot) -> Parsed
+    ensures { line_in result slot.new.command slot.new.signals ≡ signals_with (Some place) (hex_bytes 255 digits.now) }
+{
+    if !read_hex(PART_BYTES, digits, &mut slot.command) {
+        return Parsed::Faulty;
+    }
+    Parsed::Signals(place)
 }
 
 /// What stands behind `time ` in a line that begins with it.

@@ -199,6 +199,7 @@ fn asked_in<'a>(
         Parsed::FinishStore => Ok(Some(Asked::FinishStore)),
         Parsed::Hangup => Ok(Some(Asked::Hangup)),
         Parsed::Time(time) => Ok(Some(Asked::Time(time))),
+        Parsed::Signals(place) => Ok(Some(Asked::Signals(place, command.as_slice()))),
     }
 }
 

@@ -10,6 +10,9 @@ use xcp_slave::Request;
 /// The most bytes of an event's signals.
 pub(crate) const SIGNAL_BYTES: usize = 64;
 
+/// The most bytes of signals that are handed over by themselves.
+pub(crate) const PART_BYTES: usize = 255;
+
 /// What a line says, beside the slot that was lent to it.
 #[derive(Clone, Copy)]
 pub(crate) enum Parsed {
@@ -27,6 +30,8 @@ pub(crate) enum Parsed {
     Hangup,
     /// `time T`.
     Time(u64),
+    /// Signals from this place on, which stand where the slot's command packet does.
+    Signals(u16),
     /// No request.
     Faulty,
 }
@@ -61,6 +66,7 @@ impl Slot {
             Parsed::FinishStore => Line::Ask(Request::FinishStore),
             Parsed::Hangup => Line::Ask(Request::Hangup),
             Parsed::Time(time) => Line::Ask(Request::Time(time)),
+            Parsed::Signals(place) => Line::Ask(Request::Signals(place, self.command)),
             Parsed::Faulty => Line::Faulty,
         }
     }

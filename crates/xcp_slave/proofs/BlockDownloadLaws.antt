@@ -17,13 +17,14 @@ use Rattle.xcp_slave.specs.Outcomes.{Answer}
 use Rattle.xcp_slave.specs.declared.outcome.Outcome.TheVariants as answers
 use Rattle.xcp_slave.specs.declared.exchange.Exchange.{Exchange}
 use Rattle.xcp_slave.specs.SlaveValue.{SlaveValue, layout_of}
-use Rattle.xcp_slave.specs.Step.{Answers, Heeds, stored, with_event, with_signals, at_time}
+use Rattle.xcp_slave.specs.Step.{Answers, Heeds, stored, with_event, with_signals, at_time, with_part}
 use Rattle.xcp_slave.specs.SlaveInvariant.{IsSlave}
 use Rattle.xcp_slave.specs.AcceptedCommands.{Accepts}
 use Rattle.xcp_slave.specs.BlockDownload.{IsBetween, Brings, Gathers, Comes}
 use Rattle.xcp_slave.proofs.MemoryLaws.{block-both}
 use Rattle.xcp_slave.proofs.BlockLaws.{block-begins, block-goes-on, begin-room, next-room}
 use Rattle.xcp_slave.proofs.UnaffectedPartLaws.{drains-part, fires-part, stores-part}
+use Rattle.xcp_slave.proofs.StepLaws.{hands-part}
 
 -- a slave on which a block of n bytes at a has these bytes so far
 record Holds (n a : ℕ) (came : List ℕ) (u : SlaveValue) : Type 0 where
@@ -41,19 +42,20 @@ empty-packet v p a w e k =
     (subst (λ (d : Result Command Refuse). Heeds v d a w) same k.2).1
 
 -- what comes between leaves a part
-between-part : {A : Type 0} (f : SlaveValue → A) (v : SlaveValue) (q : Request) (a : Answer) (w : SlaveValue) → ((o : List (ArrayVec ℕ)) → f (record v { outbox = o }) ≡ f v) → ((channel : ℕ) (signals : List ℕ) (o : List (ArrayVec ℕ)) (lost : Bool) → f (record (with_event channel (with_signals signals v)) { outbox = o; overloaded = lost }) ≡ f v) → (q ≡ requests.FinishStore → f (stored v) ≡ f v) → ((time : ℕ) → f (at_time time v) ≡ f v) → IsBetween q → Answers v q a w → f w ≡ f v
-between-part f v (requests.Command p) a w d e s t b k = ap f (empty-packet v p a w b k)
-between-part f v (requests.Event channel signals) a w d e s t b k = fires-part f channel signals.items v a w (e channel signals.items) k
-between-part f v requests.Drain a w d e s t b k = drains-part f v.outbox v a w d k
-between-part f v requests.FinishStore a w d e s t b k = stores-part f v a w (s refl) k
-between-part f v requests.Hangup a w d e s t b k = absurd b
-between-part f v (requests.Time time) a w d e s t b k = ap f k.1 ∙ t time
+between-part : {A : Type 0} (f : SlaveValue → A) (v : SlaveValue) (q : Request) (a : Answer) (w : SlaveValue) → ((o : List (ArrayVec ℕ)) → f (record v { outbox = o }) ≡ f v) → ((channel : ℕ) (signals : List ℕ) (o : List (ArrayVec ℕ)) (lost : Bool) → f (record (with_event channel (with_signals signals v)) { outbox = o; overloaded = lost }) ≡ f v) → ((place : ℕ) (bytes : List ℕ) → f (with_part place bytes v) ≡ f v) → (q ≡ requests.FinishStore → f (stored v) ≡ f v) → ((time : ℕ) → f (at_time time v) ≡ f v) → IsBetween q → Answers v q a w → f w ≡ f v
+between-part f v (requests.Command c) a w d e p s t b k = ap f (empty-packet v c a w b k)
+between-part f v (requests.Event channel signals) a w d e p s t b k = fires-part f channel signals.items v a w (e channel signals.items) k
+between-part f v requests.Drain a w d e p s t b k = drains-part f v.outbox v a w d k
+between-part f v requests.FinishStore a w d e p s t b k = stores-part f v a w (s refl) k
+between-part f v requests.Hangup a w d e p s t b k = absurd b
+between-part f v (requests.Time time) a w d e p s t b k = ap f k.1 ∙ t time
+between-part f v (requests.Signals place bytes) a w d e p s t b k = hands-part f place bytes.items v a w (p place bytes.items) k
 
 between-holds : (n a : ℕ) (came : List ℕ) (v : SlaveValue) (q : Request) (x : Answer) (w : SlaveValue) → Holds n a came v → IsBetween q → Answers v q x w → Holds n a came w
 between-holds n a came v q x w h b k = record {
-  on = between-part (λ y. y.connected) v q x w (λ o. refl) (λ c s o lost. refl) (λ e. refl) (λ time. refl) b k ∙ h.on;
+  on = between-part (λ y. y.connected) v q x w (λ o. refl) (λ c s o lost. refl) (λ i s. refl) (λ e. refl) (λ time. refl) b k ∙ h.on;
   block = h.block;
-  way = between-part (λ y. y.transfer.block) v q x w (λ o. refl) (λ c s o lost. refl) (λ e. refl) (λ time. refl) b k ∙ h.way;
+  way = between-part (λ y. y.transfer.block) v q x w (λ o. refl) (λ c s o lost. refl) (λ i s. refl) (λ e. refl) (λ time. refl) b k ∙ h.way;
   address = h.address;
   bytes = h.bytes;
   long = h.long;
@@ -116,7 +118,7 @@ block-gathered v u n a xs came k = let h = comes-holds v u n a xs came k in (h.b
 -- the pages of the segments
 
 segments-between : (v : SlaveValue) (q : Request) (a : Answer) (w : SlaveValue) → q ≢ requests.FinishStore → IsBetween q → Answers v q a w → w.transfer.pages.segments ≡ v.transfer.pages.segments
-segments-between v q a w n b k = between-part (λ y. y.transfer.pages.segments) v q a w (λ o. refl) (λ c s o lost. refl) (λ e. absurd (n e)) (λ time. refl) b k
+segments-between v q a w n b k = between-part (λ y. y.transfer.pages.segments) v q a w (λ o. refl) (λ c s o lost. refl) (λ i s. refl) (λ e. absurd (n e)) (λ time. refl) b k
 
 segments-gathered : (n a : ℕ) (came : List ℕ) (v : SlaveValue) (xs : List Exchange) (rest : List ℕ) (u : SlaveValue) → All (λ (x : Exchange). x.request ≢ requests.FinishStore) xs → Holds n a came v → Gathers v xs rest u → u.transfer.pages.segments ≡ v.transfer.pages.segments
 segments-gathered n a came v [] rest u s h k = ap (λ (y : SlaveValue). y.transfer.pages.segments) k.1

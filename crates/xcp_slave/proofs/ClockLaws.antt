@@ -38,6 +38,7 @@ use Rattle.xcp_slave.specs.SlaveClock.{IsTimeless}
 use Rattle.xcp_slave.specs.SlaveInvariant.{IsSlave, IsStampOf}
 use Rattle.xcp_slave.specs.Step.{Answers, Heeds, Executes, answer_of, sent_reply, later, found_by}
 use Rattle.xcp_slave.proofs.UnaffectedPartLaws.{packet-part, drains-part, fires-part, stores-part}
+use Rattle.xcp_slave.proofs.StepLaws.{hands-part}
 
 -- the later of two times is one of them, and no earlier than either
 pub is-later : (now time : ℕ) → (time ≤ later now time) × (now ≤ later now time) × ((later now time ≡ time) ⊎ (later now time ≡ now))
@@ -68,6 +69,7 @@ time-others v requests.Drain a w h k = drains-part (λ x. x.time) v.outbox v a w
 time-others v requests.FinishStore a w h k = stores-part (λ x. x.time) v a w refl k
 time-others v requests.Hangup a w h k = ap (λ (x : SlaveValue). x.time) k.1
 time-others v (requests.Time time) a w h k = absurd h
+time-others v (requests.Signals place bytes) a w h k = hands-part (λ x. x.time) place bytes.items v a w refl k
 
 time-step : (v : SlaveValue) (q : Request) (a : Answer) (w : SlaveValue) → Answers v q a w → v.time ≤ w.time
 time-step v (requests.Time time) a w k = (time-told v time a w k).1
@@ -76,6 +78,7 @@ time-step v (requests.Event channel signals) a w k = let e = time-others v (requ
 time-step v requests.Drain a w k = let e = time-others v requests.Drain a w tt k in omega (arith, e)
 time-step v requests.FinishStore a w k = let e = time-others v requests.FinishStore a w tt k in omega (arith, e)
 time-step v requests.Hangup a w k = let e = time-others v requests.Hangup a w tt k in omega (arith, e)
+time-step v (requests.Signals place bytes) a w k = let e = time-others v (requests.Signals place bytes) a w tt k in omega (arith, e)
 
 pub time-run : (v : SlaveValue) (xs : List Exchange) (w : SlaveValue) → Run v xs w → v.time ≤ w.time
 time-run v [] w r = let e = ap (λ (x : SlaveValue). x.time) r in omega (arith, e)

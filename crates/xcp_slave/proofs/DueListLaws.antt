@@ -11,6 +11,7 @@ use Rattle.xcp_packet.specs.declared.Code.TheVariants.{OutOfRange, DaqConfig, Mo
 use Rattle.xcp_daq.specs.DaqLists.{DaqValue, DaqList, no_list, list_at, lacks_list, has_large_odt}
 use Rattle.xcp_daq.specs.Sample.{counted, due, after_event}
 use Rattle.xcp_daq.specs.Starting.{switched, synchronised}
+use Rattle.xcp_memory.specs.Signals.{takes_signals}
 use Rattle.xcp_slave.specs.declared.request.Request.{Request}
 use Rattle.xcp_slave.specs.declared.request.Request.TheVariants as requests
 use Rattle.xcp_slave.specs.Outcomes.{Answer}
@@ -45,7 +46,7 @@ event-counts : (v : SlaveValue) (channel : ℕ) (signals : ArrayVec ℕ) (a : An
 unfolding Counted
 event-counts v channel signals a w k =
     either (nat_lt channel (length (layout_of v).events)) _ _ _ k
-    (λ m. either (length signals.items == (layout_of v).signals_length) _ _ _ m
+    (λ m. either (takes_signals (layout_of v) (length signals.items)) _ _ _ m
     (λ n. either (nat_le (length v.outbox + length (with_overload (outbox_size v) v.overloaded (event_packets v channel signals.items))) (outbox_size v)) _ _ _ n
     (λ o. inl (daq-of _ w o.1, λ c. counted-with c channel signals (answers.Sampled (length (with_overload (outbox_size v) v.overloaded (event_packets v channel signals.items)))) a o.0))
     (λ o. inl (daq-of _ w o.1, λ c. counted-with c channel signals answers.Overrun a o.0)))
@@ -105,6 +106,7 @@ step-advances v requests.Drain a w i h r b k = kept-steps v requests.Drain a w i
 step-advances v requests.FinishStore a w i h r b k = kept-steps v requests.FinishStore a w i h r refl (lists-kept v requests.FinishStore a w tt tt (λ e. cc) k)
 step-advances v requests.Hangup a w i h r b k = absurd b
 step-advances v (requests.Time time) a w i h r b k = kept-steps v (requests.Time time) a w i h r refl (lists-kept v (requests.Time time) a w tt tt (λ e. cc) k)
+step-advances v (requests.Signals place bytes) a w i h r b k = kept-steps v (requests.Signals place bytes) a w i h r refl (lists-kept v (requests.Signals place bytes) a w tt tt (λ e. cc) k)
 
 two-later : (l m x : DaqList) (n k : ℕ) → Advanced l n m → Advanced m k x → Advanced l (n + k) x
 two-later l m x n k f g = record {
@@ -213,6 +215,7 @@ step-still v requests.Drain a w i r b k = list-in w.daq v.daq i (lists-kept v re
 step-still v requests.FinishStore a w i r b k = list-in w.daq v.daq i (lists-kept v requests.FinishStore a w tt tt (λ e. cc) k)
 step-still v requests.Hangup a w i r b k = absurd b
 step-still v (requests.Time time) a w i r b k = list-in w.daq v.daq i (lists-kept v (requests.Time time) a w tt tt (λ e. cc) k)
+step-still v (requests.Signals place bytes) a w i r b k = list-in w.daq v.daq i (lists-kept v (requests.Signals place bytes) a w tt tt (λ e. cc) k)
 
 run-still : (v : SlaveValue) (xs : List Exchange) (w : SlaveValue) (i : ℕ) → (list_at v.daq i).running ≡ false → All (λ (x : Exchange). KeepsLists x.request) xs → Run v xs w → list_at w.daq i ≡ list_at v.daq i
 run-still v [] w i r b k = list-in w.daq v.daq i (daq-of v w k)

@@ -23,6 +23,7 @@ use Rattle.xcp_packet.specs.declared.Code.{Code}
 use Rattle.xcp_packet.specs.declared.Code.TheVariants.{CmdSynch, CmdUnknown, CmdSyntax}
 use Rattle.xcp_memory.specs.Freeze.{frozen_count}
 use Rattle.xcp_memory.specs.Layout.{LayoutValue}
+use Rattle.xcp_memory.specs.Signals.{takes_signals}
 use Rattle.xcp_slave.specs.declared.request.Request.{Request}
 use Rattle.xcp_slave.specs.declared.request.Request.TheVariants as requests
 use Rattle.xcp_slave.specs.Outcomes.{Answer}
@@ -76,12 +77,14 @@ pub every-error : (v : SlaveValue) (q : Request) (a : Answer) (w : SlaveValue) �
 every-error v (requests.Command p) a w h k r = error-leaves v p a w k r
 every-error v (requests.Event channel signals) a w h k r =
     either (nat_lt channel (length (layout_of v).events)) _ _ _ k
-    (λ m. either (length signals.items == (layout_of v).signals_length) _ _ _ m (λ n. samples-error channel _ (with_signals signals.items v) a w _ r n) (λ n. other-error answers.BadSignals a _ refl n.0 r))
+    (λ m. either (takes_signals (layout_of v) (length signals.items)) _ _ _ m (λ n. samples-error channel _ (with_signals signals.items v) a w _ r n) (λ n. other-error answers.BadSignals a _ refl n.0 r))
     (λ m. other-error answers.NoChannel a _ refl m.0 r)
 every-error v requests.Drain a w h k r = drains-error v.outbox v a w _ h.waiting k r
 every-error v requests.FinishStore a w h k r = either v.store _ _ _ k (λ m. either (v.connected && nat_le (outbox_size v) (length v.outbox)) _ _ _ m (λ n. other-error answers.Later a _ refl n.0 r) (λ n. other-error (answers.Stored (frozen_count v.transfer.pages)) a _ refl n.0 r)) (λ m. other-error answers.NoStore a _ refl m.0 r)
 every-error v requests.Hangup a w h k r = other-error answers.Silent a _ refl k.0 r
 every-error v (requests.Time time) a w h k r = other-error answers.Silent a _ refl k.0 r
+every-error v (requests.Signals place bytes) a w h k r =
+    either (nat_le (place + length bytes.items) (layout_of v).signals_length) _ _ _ k (λ m. other-error answers.Silent a _ refl m.0 r) (λ m. other-error answers.BadSignals a _ refl m.0 r)
 
 -- the bytes of an error packet of a command
 

@@ -8,6 +8,7 @@ use Rattle.xcp_packet.specs.declared.Refuse.{Refuse}
 use Rattle.xcp_packet.specs.declared.Refuse.TheVariants as refuses
 use Rattle.xcp_packet.specs.declared.Reply.{Reply}
 use Rattle.xcp_memory.specs.Layout.{LayoutValue}
+use Rattle.xcp_memory.specs.Signals.{takes_signals}
 use Rattle.xcp_memory.specs.Pages.{PagesValue}
 use Rattle.xcp_memory.specs.ComputedAccess.{written_by}
 use Rattle.xcp_transfer.specs.declared.Mta.{Mta}
@@ -89,7 +90,7 @@ samples-layout channel packets v a w h =
 fires-layout : (channel : ℕ) (signals : List ℕ) (v : SlaveValue) (a : Answer) (w : SlaveValue) → Fires channel signals v a w → layout_of w ≡ layout_of v
 fires-layout channel signals v a w h =
     either (nat_lt channel (length (layout_of v).events)) _ _ _ h
-    (λ k. either (length signals == (layout_of v).signals_length) _ _ _ k (samples-layout channel _ (with_signals signals v) a w) (λ l. same-layout v w l.1))
+    (λ k. either (takes_signals (layout_of v) (length signals)) _ _ _ k (samples-layout channel _ (with_signals signals v) a w) (λ l. same-layout v w l.1))
     (λ k. same-layout v w k.1)
 
 -- no request changes the layout
@@ -100,3 +101,5 @@ answers-layout v requests.Drain a w h = drains-layout v.outbox v a w h
 answers-layout v requests.FinishStore a w h = either v.store _ _ _ h (stores-layout v a w) (λ k. same-layout v w k.1)
 answers-layout v requests.Hangup a w h = ap (λ (x : SlaveValue). layout_of x) h.1
 answers-layout v (requests.Time time) a w h = ap (λ (x : SlaveValue). layout_of x) h.1
+answers-layout v (requests.Signals place bytes) a w h =
+    either (nat_le (place + length bytes.items) (layout_of v).signals_length) _ _ _ h (λ k. ap (λ (x : SlaveValue). layout_of x) k.1) (λ k. same-layout v w k.1)

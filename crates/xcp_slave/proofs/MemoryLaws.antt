@@ -225,6 +225,7 @@ reads-step v requests.Drain a w q k = drains-reads v.outbox v a w k
 reads-step v requests.FinishStore a w q k = absurd q
 reads-step v requests.Hangup a w q k = led-same v (ended v) w k.1 (same-memory v.transfer.pages)
 reads-step v (requests.Time time) a w q k = led-same v (at_time time v) w k.1 (same-memory v.transfer.pages)
+reads-step v (requests.Signals place bytes) a w q k = absurd q
 
 -- a run that writes, switches and copies nothing, with no event and no FinishStore, leaves the memory as it was
 pub reads-run : (v : SlaveValue) (xs : List Exchange) (w : SlaveValue) → All (λ (x : Exchange). IsReading x.request) xs → Run v xs w → SameMemory v.transfer.pages w.transfer.pages

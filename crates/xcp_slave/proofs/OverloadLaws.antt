@@ -10,6 +10,7 @@ use Rattle.xcp_packet.specs.declared.Command.TheVariants as commands
 use Rattle.xcp_memory.specs.declared.Class.{Class}
 use Rattle.xcp_memory.specs.ClassLimits.{limits_of}
 use Rattle.xcp_memory.specs.Layout.{LayoutValue}
+use Rattle.xcp_memory.specs.Signals.{takes_signals}
 use Rattle.xcp_daq.specs.DaqInfo.{daq_properties}
 use Rattle.xcp_daq.specs.DaqLists.{has_stamp}
 use Rattle.xcp_slave.specs.declared.request.Request.{Request}
@@ -32,7 +33,7 @@ use Rattle.xcp_slave.proofs.OutboxInvariantLemmas.{sample}
 use Rattle.xcp_slave.proofs.PacketQueueLaws.{event-overrun, event-whole}
 use Rattle.xcp_slave.proofs.RefusalLaws.{overrun-leaves}
 use Rattle.xcp_slave.proofs.SampledByteLaws.{event-reads}
-use Rattle.xcp_slave.proofs.StepLaws.{either}
+use Rattle.xcp_slave.proofs.StepLaws.{either, hands-part}
 use Rattle.xcp_slave.proofs.UnaffectedPartLaws.{drains-part, packet-part, stores-part}
 
 flag-of : (y w : SlaveValue) → w ≡ y → w.overloaded ≡ y.overloaded
@@ -47,7 +48,7 @@ record Flagged (v : SlaveValue) (channel : ℕ) (signals : List ℕ) (a : Answer
 flagged : (v : SlaveValue) (channel : ℕ) (signals : List ℕ) (a : Answer) (w : SlaveValue) → Fires channel signals v a w → Flagged v channel signals a w
 flagged v channel signals a w k =
     either (nat_lt channel (length (layout_of v).events)) _ _ _ k
-    (λ m. either (length signals == (layout_of v).signals_length) _ _ _ m
+    (λ m. either (takes_signals (layout_of v) (length signals)) _ _ _ m
     (λ n. either (nat_le (length v.outbox + length (with_overload (outbox_size v) v.overloaded (event_packets v channel signals))) (outbox_size v)) _ _ _ n
     (λ o. record { ways = inl (o.0, flag-of (with_sample channel (event_packets v channel signals) (with_signals signals v)) w o.1) })
     (λ o. record { ways = inr (inl (o.0, flag-of (with_loss channel (with_signals signals v)) w o.1)) }))
@@ -90,6 +91,7 @@ flag-kept v requests.Drain a w h e k = drains-part (λ x. x.overloaded) v.outbox
 flag-kept v requests.FinishStore a w h e k = stores-part (λ x. x.overloaded) v a w refl k
 flag-kept v requests.Hangup a w h e k = absurd h
 flag-kept v (requests.Time time) a w h e k = flag-of _ w k.1
+flag-kept v (requests.Signals place bytes) a w h e k = hands-part (λ x. x.overloaded) place bytes.items v a w refl k
 
 -- nobody has to be told
 
@@ -107,6 +109,7 @@ step-untold v requests.Drain a w t h k = flag-kept v requests.Drain a w tt tt k 
 step-untold v requests.FinishStore a w t h k = flag-kept v requests.FinishStore a w tt tt k ∙ h
 step-untold v requests.Hangup a w t h k = flag-of _ w k.1
 step-untold v (requests.Time time) a w t h k = flag-of _ w k.1 ∙ h
+step-untold v (requests.Signals place bytes) a w t h k = flag-kept v (requests.Signals place bytes) a w tt tt k ∙ h
 
 -- no step makes that a tool has to be told, where the layout doesn't ask for it
 pub step-unasked : (v : SlaveValue) (q : Request) (a : Answer) (w : SlaveValue) → (layout_of v).extras.tells_overload ≡ false → v.overloaded ≡ false → Answers v q a w → w.overloaded ≡ false
@@ -260,6 +263,7 @@ step-told v requests.Drain a w t h i n k = flag-kept v requests.Drain a w i tt k
 step-told v requests.FinishStore a w t h i n k = flag-kept v requests.FinishStore a w i tt k ∙ h
 step-told v requests.Hangup a w t h i n k = absurd i
 step-told v (requests.Time time) a w t h i n k = flag-kept v (requests.Time time) a w i tt k ∙ h
+step-told v (requests.Signals place bytes) a w t h i n k = flag-kept v (requests.Signals place bytes) a w i tt k ∙ h
 
 run-told : (v : SlaveValue) (xs : List Exchange) (w : SlaveValue) → (layout_of v).extras.tells_overload ≡ true → v.overloaded ≡ true → All (λ (x : Exchange). IsWithin x.request) xs → All (λ (x : Exchange). PutsNoSample x.answer) xs → Run v xs w → w.overloaded ≡ true
 run-told v [] w t h i n r = flag-of v w r ∙ h

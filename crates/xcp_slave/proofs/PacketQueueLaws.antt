@@ -8,6 +8,7 @@ use Rattle.xcp_packet.specs.CommandForms.{code}
 use Rattle.xcp_packet.specs.declared.Command.{Command}
 use Rattle.xcp_packet.specs.declared.Command.TheVariants as commands
 use Rattle.xcp_memory.specs.Freeze.{frozen_count}
+use Rattle.xcp_memory.specs.Signals.{takes_signals}
 use Rattle.xcp_slave.specs.declared.request.Request.{Request}
 use Rattle.xcp_slave.specs.declared.request.Request.TheVariants as requests
 use Rattle.xcp_slave.specs.Outcomes.{Answer}
@@ -16,7 +17,7 @@ use Rattle.xcp_slave.specs.declared.exchange.Exchange.{Exchange}
 use Rattle.xcp_slave.specs.SlaveValue.{SlaveValue, layout_of}
 use Rattle.xcp_slave.specs.Rows.{row}
 use Rattle.xcp_slave.specs.Run.{Run}
-use Rattle.xcp_slave.specs.Step.{Answers, Drains, Fires, outbox_size, store_event, stored, with_loss, with_overload, with_sample, with_signals, found_by, at_time}
+use Rattle.xcp_slave.specs.Step.{Answers, Drains, Fires, outbox_size, store_event, stored, with_loss, with_overload, with_sample, with_signals, found_by, at_time, with_part}
 use Rattle.xcp_slave.specs.PacketQueue.{IsWithin, PutsIn, all_taken, event_packets, put_in, taken_out}
 use Rattle.xcp_slave.proofs.StepLaws.{either}
 use Rattle.xcp_slave.proofs.SlaveInvariantLaws.{either-test}
@@ -83,7 +84,7 @@ outbox-of y w e = ap (λ (x : SlaveValue). x.outbox) e
 pub fired : (v : SlaveValue) (channel : ℕ) (signals : List ℕ) (a : Answer) (w : SlaveValue) → Fires channel signals v a w → Fired v channel signals a w
 fired v channel signals a w k =
     either (nat_lt channel (length (layout_of v).events)) _ _ _ k
-    (λ m. either (length signals == (layout_of v).signals_length) _ _ _ m
+    (λ m. either (takes_signals (layout_of v) (length signals)) _ _ _ m
     (λ n. either-test (nat_le (length v.outbox + length (event_put v channel signals)) (outbox_size v)) _ _ _
     (λ r o. record { ways = inl (o.0, outbox-of (with_sample channel (event_packets v channel signals) (with_signals signals v)) w o.1, is-room _ _ r) })
     (λ r o. record { ways = inr (outbox-of (with_loss channel (with_signals signals v)) w o.1, inl (o.0, no-room _ _ r)) }) n)
@@ -118,6 +119,10 @@ step-queues v requests.Drain a w h k = drains-queue v.outbox v a w refl k
 step-queues v requests.FinishStore a w h k = stores-queue v a w k
 step-queues v requests.Hangup a w h k = absurd h
 step-queues v (requests.Time time) a w h k = as-these v (requests.Time time) answers.Silent a (at_time time v) w k.0 k.1 (nothing-put v)
+step-queues v (requests.Signals place bytes) a w h k =
+    either (nat_le (place + length bytes.items) (layout_of v).signals_length) _ _ _ k
+    (λ m. as-these v (requests.Signals place bytes) answers.Silent a (with_part place bytes.items v) w m.0 m.1 (nothing-put v))
+    (λ m. as-these v (requests.Signals place bytes) answers.BadSignals a v w m.0 m.1 (nothing-put v))
 
 -- runs
 

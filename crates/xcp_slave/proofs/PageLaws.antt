@@ -18,6 +18,7 @@ use Rattle.xcp_memory.specs.Freeze.{frozen_count, segment_frozen}
 use Rattle.xcp_memory.specs.Pages.{PagesValue, SegmentPages, segment_at, no_pages, xcp_page}
 use Rattle.xcp_memory.specs.ComputedAccess.{segment_of, write_refusal_by, Located, is_inside}
 use Rattle.xcp_memory.specs.Layout.{signals_extent}
+use Rattle.xcp_memory.specs.Signals.{takes_signals}
 use Rattle.xcp_memory.specs.PageSwitch.{segment_switched, is_of_all, lacks_page}
 use Rattle.xcp_memory.specs.PageCopy.{copy_refusal, lacks_segment, content, with_content}
 use Rattle.xcp_memory.proofs.AreaLaws as areas
@@ -32,7 +33,7 @@ use Rattle.xcp_slave.specs.Rows.{row}
 use Rattle.xcp_slave.specs.Step.{Answers, Heeds, Drains, Samples, Fires, outbox_size, with_overload, with_signals, found_by, is_connect}
 use Rattle.xcp_slave.specs.SlaveInvariant.{IsSlave}
 use Rattle.xcp_slave.specs.AcceptedCommands.{Accepts, Concerns}
-use Rattle.xcp_slave.proofs.StepLaws.{either}
+use Rattle.xcp_slave.proofs.StepLaws.{either, hands-part}
 use Rattle.xcp_slave.proofs.ListInvariantLemmas.{none-holds, is_below, equal, differs}
 use Rattle.xcp_slave.proofs.TransferInvariantLemmas.{none-refused, outside, unprotected}
 use Rattle.xcp_slave.proofs.SlaveInvariantLaws.{either-test}
@@ -241,7 +242,7 @@ samples-store channel packets v a w h k = either (nat_le (length v.outbox + leng
 fires-store : (channel : ℕ) (signals : List ℕ) (v : SlaveValue) (a : Answer) (w : SlaveValue) → v.store ≡ true → Fires channel signals v a w → w.store ≡ true
 fires-store channel signals v a w h k =
     either (nat_lt channel (length (layout_of v).events)) _ _ _ k
-    (λ m. either (length signals == (layout_of v).signals_length) _ _ _ m (samples-store channel _ (with_signals signals v) a w h) (λ n. same-store v w h n.1))
+    (λ m. either (takes_signals (layout_of v) (length signals)) _ _ _ m (samples-store channel _ (with_signals signals v) a w h) (λ n. same-store v w h n.1))
     (λ m. same-store v w h m.1)
 
 StoreDone : SlaveValue → Answer → SlaveValue → Type 0
@@ -255,6 +256,7 @@ step-store v requests.Drain a w h k = inl (drains-store v.outbox v a w h k)
 step-store v requests.FinishStore a w h k = either v.store _ _ _ k (λ m. either (v.connected && nat_le (outbox_size v) (length v.outbox)) _ _ _ m (λ n. inl (same-store v w h n.1)) (λ n. inr n.0)) (λ m. inl (same-store v w h m.1))
 step-store v requests.Hangup a w h k = inl (ap (λ (x : SlaveValue). x.store) k.1 ∙ h)
 step-store v (requests.Time time) a w h k = inl (ap (λ (x : SlaveValue). x.store) k.1 ∙ h)
+step-store v (requests.Signals place bytes) a w h k = inl (hands-part (λ x. x.store) place bytes.items v a w refl k ∙ h)
 
 done-by : (v : SlaveValue) (a : Answer) (w : SlaveValue) → StoreDone v a w → w.store ≡ false → a ≡ answers.Stored (frozen_count v.transfer.pages)
 unfolding StoreDone

@@ -21,7 +21,7 @@ use Rattle.xcp_slave.specs.declared.request.Request.{Request}
 use Rattle.xcp_slave.specs.declared.request.Request.TheVariants as requests
 use Rattle.xcp_slave.specs.Outcomes.{Answer}
 use Rattle.xcp_slave.specs.AcceptedCommands.{Accepts}
-use Rattle.xcp_slave.specs.CodesByEffect.{IsBeside, IsNoEvent, IsNone, mode_codes, switch_codes}
+use Rattle.xcp_slave.specs.CodesByEffect.{HandsNothing, IsBeside, IsNone, mode_codes, switch_codes}
 use Rattle.xcp_slave.specs.Rows.{row}
 use Rattle.xcp_slave.specs.SlaveValue.{SlaveValue}
 use Rattle.xcp_slave.specs.Step.{Answers, found_by}
@@ -30,6 +30,7 @@ use Rattle.xcp_slave.proofs.ListInvariantLemmas.{equal, is_below, none-holds}
 use Rattle.xcp_slave.proofs.PageLaws.{set-keeps}
 use Rattle.xcp_slave.proofs.TransferInvariantLemmas.{none-refused}
 use Rattle.xcp_slave.proofs.UnaffectedPartLaws.{drains-part, fires-part, packet-part, stores-part}
+use Rattle.xcp_slave.proofs.StepLaws.{hands-part}
 
 -- a part of a segment that no content of its pages changes
 Beside : {A : Type 0} → (SegmentPages → A) → Type 0
@@ -97,6 +98,7 @@ mode-kept v requests.Drain a w i b k = drains-part (λ x. (segment_at x.transfer
 mode-kept v requests.FinishStore a w i b k = stores-part (λ x. (segment_at x.transfer.pages i).freeze) v a w (frozen-part (λ s. s.freeze) freeze-beside v.transfer.pages i) k
 mode-kept v requests.Hangup a w i b k = ap (λ (x : SlaveValue). (segment_at x.transfer.pages i).freeze) k.1
 mode-kept v (requests.Time time) a w i b k = ap (λ (x : SlaveValue). (segment_at x.transfer.pages i).freeze) k.1
+mode-kept v (requests.Signals place bytes) a w i b k = hands-part (λ x. (segment_at x.transfer.pages i).freeze) place bytes.items v a w refl k
 
 -- page numbers
 
@@ -122,6 +124,7 @@ ecu-number v requests.Drain a w i b k = drains-part (λ x. (segment_at x.transfe
 ecu-number v requests.FinishStore a w i b k = stores-part (λ x. (segment_at x.transfer.pages i).ecu) v a w (frozen-part (λ s. s.ecu) ecu-beside v.transfer.pages i) k
 ecu-number v requests.Hangup a w i b k = ap (λ (x : SlaveValue). (segment_at x.transfer.pages i).ecu) k.1
 ecu-number v (requests.Time time) a w i b k = ap (λ (x : SlaveValue). (segment_at x.transfer.pages i).ecu) k.1
+ecu-number v (requests.Signals place bytes) a w i b k = hands-part (λ x. (segment_at x.transfer.pages i).ecu) place bytes.items v a w refl k
 
 xcp-beside : Beside (λ s. s.xcp)
 unfolding Beside
@@ -145,6 +148,7 @@ xcp-number v requests.Drain a w i b k = drains-part (λ x. (segment_at x.transfe
 xcp-number v requests.FinishStore a w i b k = stores-part (λ x. (segment_at x.transfer.pages i).xcp) v a w (frozen-part (λ s. s.xcp) xcp-beside v.transfer.pages i) k
 xcp-number v requests.Hangup a w i b k = ap (λ (x : SlaveValue). (segment_at x.transfer.pages i).xcp) k.1
 xcp-number v (requests.Time time) a w i b k = ap (λ (x : SlaveValue). (segment_at x.transfer.pages i).xcp) k.1
+xcp-number v (requests.Signals place bytes) a w i b k = hands-part (λ x. (segment_at x.transfer.pages i).xcp) place bytes.items v a w refl k
 
 -- a request that is no SET_CAL_PAGE keeps each segment's page numbers, of the controller and of the tool
 pub numbers-kept : (v : SlaveValue) (q : Request) (a : Answer) (w : SlaveValue) (i : ℕ) → IsBeside switch_codes q → Answers v q a w → ((segment_at w.transfer.pages i).ecu ≡ (segment_at v.transfer.pages i).ecu) × ((segment_at w.transfer.pages i).xcp ≡ (segment_at v.transfer.pages i).xcp)
@@ -177,14 +181,15 @@ row-signals (commands.ShortDownload n extension address bytes) v = written_at-si
 row-signals (commands.ModifyBits s ma mx) v = written_at-signals v.transfer.pages v.transfer.mta _
 row-signals _ v = refl
 
--- a request that is no event keeps the signals
-pub signals-kept : (v : SlaveValue) (q : Request) (a : Answer) (w : SlaveValue) → IsNoEvent q → Answers v q a w → w.transfer.pages.signals ≡ v.transfer.pages.signals
+-- a request that hands no signals over keeps them
+pub signals-kept : (v : SlaveValue) (q : Request) (a : Answer) (w : SlaveValue) → HandsNothing q → Answers v q a w → w.transfer.pages.signals ≡ v.transfer.pages.signals
 signals-kept v (requests.Command p) a w e k = packet-part (λ x. x.transfer.pages.signals) (λ n. Unit {0}) v p.items a w refl (λ c h. row-signals c v) tt k
 signals-kept v (requests.Event channel signals) a w e k = absurd e
 signals-kept v requests.Drain a w e k = drains-part (λ x. x.transfer.pages.signals) v.outbox v a w (λ o. refl) k
 signals-kept v requests.FinishStore a w e k = stores-part (λ x. x.transfer.pages.signals) v a w refl k
 signals-kept v requests.Hangup a w e k = ap (λ (x : SlaveValue). x.transfer.pages.signals) k.1
 signals-kept v (requests.Time time) a w e k = ap (λ (x : SlaveValue). x.transfer.pages.signals) k.1
+signals-kept v (requests.Signals place bytes) a w e k = absurd e
 
 -- SET_SEGMENT_MODE
 

@@ -6,6 +6,7 @@ use Rattle.xcp_packet.specs.ReplyPacket.{layout}
 use Rattle.xcp_packet.specs.declared.Order.{Order}
 use Rattle.xcp_packet.proofs.ReplyPacketLaws.{one_packet}
 use Rattle.xcp_memory.specs.Layout.{LayoutValue}
+use Rattle.xcp_memory.specs.Signals.{takes_signals}
 use Rattle.xcp_transfer.specs.TransferValue.{response_room}
 use Rattle.xcp_packet.specs.declared.Command.{Command}
 use Rattle.xcp_packet.specs.declared.Command.TheVariants as commands
@@ -122,7 +123,7 @@ samples-refusal channel packets v u a w h r = either (nat_le (length u.outbox + 
 fires-refusal : (channel : ℕ) (signals : List ℕ) (v : SlaveValue) (a : Answer) (w : SlaveValue) → Fires channel signals v a w → IsRefusal a → w ≡ v
 fires-refusal channel signals v a w h r =
     either (nat_lt channel (length (layout_of v).events)) _ _ _ h
-    (λ k. either (length signals == (layout_of v).signals_length) _ _ _ k (λ l. samples-refusal channel _ v (with_signals signals v) a w l r) (λ l. l.1))
+    (λ k. either (takes_signals (layout_of v) (length signals)) _ _ _ k (λ l. samples-refusal channel _ v (with_signals signals v) a w l r) (λ l. l.1))
     (λ k. k.1)
 
 -- what an overrun leaves
@@ -133,7 +134,7 @@ samples-overrun channel packets v w h = either (nat_le (length v.outbox + length
 pub overrun-leaves : (v : SlaveValue) (channel : ℕ) (signals : ArrayVec ℕ) (w : SlaveValue) → Answers v (requests.Event channel signals) answers.Overrun w → w ≡ record (with_event channel (with_signals signals.items v)) { overloaded = (layout_of v).extras.tells_overload }
 overrun-leaves v channel signals w h =
     either (nat_lt channel (length (layout_of v).events)) _ _ _ h
-    (λ k. either (length signals.items == (layout_of v).signals_length) _ _ _ k (samples-overrun channel _ (with_signals signals.items v) w) (λ l. let e = l.0 in cc))
+    (λ k. either (takes_signals (layout_of v) (length signals.items)) _ _ _ k (samples-overrun channel _ (with_signals signals.items v) w) (λ l. let e = l.0 in cc))
     (λ k. let e = k.0 in cc)
 
 -- an answer that says that nothing was done leaves the slave as it was
@@ -144,3 +145,5 @@ refusal-leaves v requests.Drain a w h r = drains-refusal v.outbox v a w h r
 refusal-leaves v requests.FinishStore a w h r = either v.store _ _ _ h (λ k. stores-refusal v a w k r) (λ k. k.1)
 refusal-leaves v requests.Hangup a w h r = absurd (subst IsRefusal h.0 r)
 refusal-leaves v (requests.Time time) a w h r = absurd (subst IsRefusal h.0 r)
+refusal-leaves v (requests.Signals place bytes) a w h r =
+    either (nat_le (place + length bytes.items) (layout_of v).signals_length) _ _ _ h (λ k. absurd (subst IsRefusal k.0 r)) (λ k. k.1)

@@ -13,6 +13,7 @@ use Rattle.xcp_packet.specs.declared.Refuse.TheVariants as refuses
 use Rattle.xcp_packet.specs.declared.Reply.{Reply}
 use Rattle.xcp_packet.specs.declared.Code.TheVariants.{OutOfRange, WriteProtected, SegmentNotValid, PageNotValid}
 use Rattle.xcp_memory.specs.Layout.{LayoutValue, SegmentValue, IsLayout}
+use Rattle.xcp_memory.specs.Signals.{takes_signals}
 use Rattle.xcp_memory.specs.Pages.{PagesValue, SegmentPages, IsPages, segment_at, no_pages, no_segment, ecu_page, xcp_page, opening_segment}
 use Rattle.xcp_memory.specs.Memory.{Writes, Tool, Stands}
 use Rattle.xcp_memory.specs.PageSwitch.{segment_switched, is_of_all, lacks_page}
@@ -28,7 +29,7 @@ use Rattle.xcp_slave.specs.Step.{Answers, Heeds, Drains, Samples, Fires, outbox_
 use Rattle.xcp_slave.specs.Run.{Run}
 use Rattle.xcp_slave.specs.SlaveInvariant.{IsSlave, IsOfBytes}
 use Rattle.xcp_slave.specs.MemoryEffects.{IsSteady, IsEventless, SameMemory, Write, Puts, Follows, byte_of, last_at, IsLeft}
-use Rattle.xcp_slave.proofs.StepLaws.{either}
+use Rattle.xcp_slave.proofs.StepLaws.{either, hands-part}
 use Rattle.xcp_slave.proofs.ListInvariantLemmas.{none-holds, differs}
 use Rattle.xcp_slave.proofs.TransferInvariantLemmas.{none-refused}
 use Rattle.xcp_slave.proofs.SlaveInvariantLaws.{answers-kept, found-kept, opening-slave}
@@ -88,7 +89,7 @@ samples-segments channel packets v a w k = either (nat_le (length v.outbox + len
 fires-segments : (channel : ℕ) (signals : List ℕ) (v : SlaveValue) (a : Answer) (w : SlaveValue) → Fires channel signals v a w → w.transfer.pages.segments ≡ v.transfer.pages.segments
 fires-segments channel signals v a w k =
     either (nat_lt channel (length (layout_of v).events)) _ _ _ k
-    (λ m. either (length signals == (layout_of v).signals_length) _ _ _ m (samples-segments channel _ (with_signals signals v) a w) (λ n. ap (λ (y : SlaveValue). y.transfer.pages.segments) n.1))
+    (λ m. either (takes_signals (layout_of v) (length signals)) _ _ _ m (samples-segments channel _ (with_signals signals v) a w) (λ n. ap (λ (y : SlaveValue). y.transfer.pages.segments) n.1))
     (λ m. ap (λ (y : SlaveValue). y.transfer.pages.segments) m.1)
 
 first-step : (v : SlaveValue) (q : Request) (a : Answer) (w : SlaveValue) → q ≢ requests.FinishStore → IsSlave v → Answers v q a w → SameFirst v w
@@ -98,6 +99,7 @@ first-step v requests.Drain a w n h k = led-first v w w refl (drains-segments v.
 first-step v requests.FinishStore a w n h k = absurd (n refl)
 first-step v requests.Hangup a w n h k = led-first v (ended v) w k.1 refl
 first-step v (requests.Time time) a w n h k = led-first v (at_time time v) w k.1 refl
+first-step v (requests.Signals place bytes) a w n h k = led-first v w w refl (hands-part (λ x. x.transfer.pages.segments) place bytes.items v a w refl k)
 
 -- no step but FinishStore changes a reference page
 pub reference-step : (v : SlaveValue) (q : Request) (a : Answer) (w : SlaveValue) (i : ℕ) → q ≢ requests.FinishStore → IsSlave v → Answers v q a w → get_or (segment_at w.transfer.pages i).pages 0 [] ≡ get_or (segment_at v.transfer.pages i).pages 0 []
@@ -150,6 +152,7 @@ page-step v requests.Drain a w i k s h apart r = page-segments v.transfer.pages 
 page-step v requests.FinishStore a w i k s h apart r = absurd s
 page-step v requests.Hangup a w i k s h apart r = page-segments v.transfer.pages w.transfer.pages i k (ap (λ (y : SlaveValue). y.transfer.pages.segments) r.1)
 page-step v (requests.Time time) a w i k s h apart r = page-segments v.transfer.pages w.transfer.pages i k (ap (λ (y : SlaveValue). y.transfer.pages.segments) r.1)
+page-step v (requests.Signals place bytes) a w i k s h apart r = page-segments v.transfer.pages w.transfer.pages i k (hands-part (λ x. x.transfer.pages.segments) place bytes.items v a w refl r)
 
 steady-run : (v : SlaveValue) (xs : List Exchange) (w : SlaveValue) (i k : ℕ) → IsSlave v → All (λ (x : Exchange). IsOfBytes x.request) xs → All (λ (x : Exchange). IsSteady x.request) xs → Run v xs w → k ≢ (segment_at v.transfer.pages i).xcp → KeepsPage v.transfer.pages w.transfer.pages i k
 steady-run v [] w i k h b s r apart = page-segments v.transfer.pages w.transfer.pages i k (ap (λ (y : SlaveValue). y.transfer.pages.segments) r)

@@ -6,6 +6,7 @@ use Rattle.std.proofs.lemmas.Bool.Decides.{nat_tests}
 use Rattle.std.proofs.lemmas.List.Elements.{All-head, All-tail}
 use Rattle.arrayvec.specs.ArrayVec.{ArrayVec}
 use Rattle.xcp_memory.specs.Layout.{IsLayout}
+use Rattle.xcp_memory.specs.Signals.{takes_signals}
 use Rattle.xcp_memory.specs.Memory.{Controller, LiesInside, Reads}
 use Rattle.xcp_memory.specs.Pages.{PagesValue, IsPages}
 use Rattle.xcp_memory.specs.ComputedAccess.{controller_bytes}
@@ -67,17 +68,17 @@ lists-packets channel time pages v i (x ∷ lists) l f h =
       refl,
     )
 
--- the signals of an event that is sampled are as long as the layout says
-signals-long : (v : SlaveValue) (channel n : ℕ) (signals : ArrayVec ℕ) (w : SlaveValue) → Answers v (requests.Event channel signals) (answers.Sampled n) w → length signals.items ≡ (layout_of v).signals_length
-signals-long v channel n signals w k =
+-- an event that is sampled hands over as many bytes as the layout takes
+signals-taken : (v : SlaveValue) (channel n : ℕ) (signals : ArrayVec ℕ) (w : SlaveValue) → Answers v (requests.Event channel signals) (answers.Sampled n) w → takes_signals (layout_of v) (length signals.items) ≡ true
+signals-taken v channel n signals w k =
     either (nat_lt channel (length (layout_of v).events)) _ _ _ k
-    (λ m. either-test (length signals.items == (layout_of v).signals_length) _ _ _ (λ long o. grind (arith, nat_tests, long)) (λ off o. absurd (let e = o.0 in cc)) m)
+    (λ m. either-test (takes_signals (layout_of v) (length signals.items)) _ _ _ (λ long o. long) (λ off o. absurd (let e = o.0 in cc)) m)
     (λ m. absurd (let e = m.0 in cc))
 
 -- an event that is sampled puts the packets of the lists that are due, with the bytes that the controller reads
 pub event-reads : (v : SlaveValue) (channel n : ℕ) (signals : ArrayVec ℕ) (w : SlaveValue) → IsSlave v → Answers v (requests.Event channel signals) (answers.Sampled n) w → (packets : List (ArrayVec ℕ)) × DuePackets channel v.time (with_signals signals.items v).transfer.pages v.daq 0 v.daq.lists packets × (w.outbox ≡ v.outbox ++ with_overload (outbox_size v) v.overloaded packets)
 event-reads v channel n signals w h k =
-    let lawful : IsLawful (with_signals signals.items v).transfer = transfers.signals-kept v.transfer signals.items h.transfer (signals-long v channel n signals w k) in (
+    let lawful : IsLawful (with_signals signals.items v).transfer = transfers.part-kept v.transfer 0 signals.items h.transfer (transfers.taken-fit (layout_of v).class (length signals.items) (layout_of v).signals_length (signals-taken v channel n signals w k)) in (
       event_packets v channel signals.items,
       lists-packets channel v.time (with_signals signals.items v).transfer.pages v.daq 0 v.daq.lists lawful.layout lawful.pages (subst (All (LiesWritten (layout_of v))) (entries_by_list v.daq.lists) h.lists.inside),
       (event-whole v channel n signals w k).1,

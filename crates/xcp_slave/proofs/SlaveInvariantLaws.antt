@@ -17,6 +17,7 @@ use Rattle.xcp_packet.specs.declared.Reply.{Reply}
 use Rattle.xcp_packet.specs.declared.Code.TheVariants.{OutOfRange}
 use Rattle.xcp_memory.specs.ClassLimits.{limits_of}
 use Rattle.xcp_memory.specs.Layout.{LayoutValue, IsLayout}
+use Rattle.xcp_memory.specs.Signals.{takes_signals}
 use Rattle.xcp_memory.specs.PageSwitch.{switch_refusal}
 use Rattle.xcp_memory.specs.PageCopy.{copy_refusal}
 use Rattle.xcp_memory.specs.Freeze.{set_freeze_refusal}
@@ -34,7 +35,7 @@ use Rattle.xcp_slave.specs.Outcomes.{Answer}
 use Rattle.xcp_slave.specs.declared.exchange.Exchange.{Exchange}
 use Rattle.xcp_slave.specs.SlaveValue.{SlaveValue, layout_of, noblock, ended, opening}
 use Rattle.xcp_slave.specs.Rows.{row}
-use Rattle.xcp_slave.specs.Step.{Answers, Heeds, Drains, Stores, Samples, Fires, outbox_size, stored, store_event, still_overloaded, with_loss, with_overload, with_sample, with_signals, found_by, is_connect, at_time}
+use Rattle.xcp_slave.specs.Step.{Answers, Heeds, Drains, Stores, Samples, Fires, outbox_size, stored, store_event, still_overloaded, with_loss, with_overload, with_sample, with_signals, found_by, is_connect, at_time, with_part}
 use Rattle.xcp_slave.specs.Run.{Run}
 use Rattle.xcp_slave.specs.SlaveInvariant.{IsLists, IsWaiting, IsSlave, IsOfBytes}
 use Rattle.xcp_slave.proofs.StepLaws.{either}
@@ -204,8 +205,11 @@ stores-kept v a w h k =
     }) m.1)
     k
 
-signals-kept : (signals : List ℕ) (v : SlaveValue) → IsSlave v → length signals ≡ (layout_of v).signals_length → IsSlave (with_signals signals v)
-signals-kept signals v h e = record { transfer = transfers.signals-kept v.transfer signals h.transfer e; lists = h.lists; few = h.few; waiting = h.waiting; asked = h.asked; idle = λ off. moved-idle (with_signals signals) v (λ x. refl) (h.idle off) }
+part-kept : (place : ℕ) (bytes : List ℕ) (v : SlaveValue) → IsSlave v → place + length bytes ≤ (layout_of v).signals_length → IsSlave (with_part place bytes v)
+part-kept place bytes v h e = record { transfer = transfers.part-kept v.transfer place bytes h.transfer e; lists = h.lists; few = h.few; waiting = h.waiting; asked = h.asked; idle = λ off. moved-idle (with_part place bytes) v (λ x. refl) (h.idle off) }
+
+signals-kept : (signals : List ℕ) (v : SlaveValue) → IsSlave v → takes_signals (layout_of v) (length signals) ≡ true → IsSlave (with_signals signals v)
+signals-kept signals v h e = part-kept 0 signals v h (transfers.taken-fit (layout_of v).class (length signals) (layout_of v).signals_length e)
 
 -- with the packets of an event
 sampled-by : ℕ → SlaveValue → SlaveValue
@@ -260,8 +264,8 @@ samples-kept channel v a w h k =
 fires-kept : (channel : ℕ) (signals : List ℕ) (v : SlaveValue) (a : Answer) (w : SlaveValue) → IsSlave v → Fires channel signals v a w → IsSlave w
 fires-kept channel signals v a w h k =
     either (nat_lt channel (length (layout_of v).events)) _ _ _ k
-    (λ m. either-test (length signals == (layout_of v).signals_length) _ _ _
-    (λ long n. (let e : length signals ≡ (layout_of v).signals_length = grind (arith, nat_tests, long) in samples-kept channel (with_signals signals v) a w (signals-kept signals v h e) n))
+    (λ m. either-test (takes_signals (layout_of v) (length signals)) _ _ _
+    (λ long n. samples-kept channel (with_signals signals v) a w (signals-kept signals v h long) n)
     (λ off n. same-kept v w h n.1)
     m)
     (λ m. same-kept v w h m.1)
@@ -283,6 +287,11 @@ answers-kept v requests.Drain a w b h k = drains-kept v.outbox v a w refl h k
 answers-kept v requests.FinishStore a w b h k = either v.store _ _ _ k (stores-kept v a w h) (λ m. same-kept v w h m.1)
 answers-kept v requests.Hangup a w b h k = same-kept (ended v) w (ended-kept v h) k.1
 answers-kept v (requests.Time time) a w b h k = same-kept (at_time time v) w (time-kept time v h) k.1
+answers-kept v (requests.Signals place bytes) a w b h k =
+    either-test (nat_le (place + length bytes.items) (layout_of v).signals_length) _ _ _
+    (λ fits m. same-kept (with_part place bytes.items v) w (part-kept place bytes.items v h (grind (arith, nat_tests, fits))) m.1)
+    (λ off m. same-kept v w h m.1)
+    k
 
 -- a slave at its opening is within its limits, where its layout is
 pub opening-slave : (l : LayoutValue) → IsLayout l → IsSlave (opening l)

@@ -4,6 +4,7 @@ use Rattle.std.specs.Prelude.{MatchBool}
 use Rattle.std.proofs.lemmas.Option.{none-some}
 use Rattle.xcp_packet.proofs.DecodingLaws.{decodes_once, decodes_total}
 use Rattle.xcp_memory.specs.Layout.{LayoutValue}
+use Rattle.xcp_memory.specs.Signals.{takes_signals}
 use Rattle.xcp_packet.specs.declared.Command.{Command}
 use Rattle.xcp_packet.specs.declared.Refuse.{Refuse}
 use Rattle.xcp_packet.specs.declared.Refuse.TheVariants as refuses
@@ -21,7 +22,7 @@ use Rattle.xcp_slave.specs.Outcomes.{Answer}
 use Rattle.xcp_slave.specs.declared.outcome.Outcome.TheVariants as answers
 use Rattle.xcp_slave.specs.SlaveValue.{SlaveValue, layout_of, noblock, ended}
 use Rattle.xcp_slave.specs.Rows.{row}
-use Rattle.xcp_slave.specs.Step.{Answers, Heeds, Executes, Ignores, Refuses, Drains, Stores, Samples, Fires, outbox_size, stored, with_loss, with_overload, with_sample, with_signals, answer_of, sent_reply, found_by, is_connect, at_time}
+use Rattle.xcp_slave.specs.Step.{Answers, Heeds, Executes, Ignores, Refuses, Drains, Stores, Samples, Fires, outbox_size, stored, with_loss, with_overload, with_sample, with_signals, answer_of, sent_reply, found_by, is_connect, at_time, Hands, with_part}
 
 -- whichever way a test goes
 pub either : (t : Bool) (P Q R : Type 0) → MatchBool t P Q → (P → R) → (Q → R) → R
@@ -117,6 +118,10 @@ samples-some channel packets v =
     (answers.Sampled (length (with_overload (outbox_size v) v.overloaded packets)), with_sample channel packets v, (refl, refl))
     (answers.Overrun, with_loss channel v, (refl, refl))
 
+-- signals that are handed over leave each part that they aren't
+pub hands-part : {A : Type 0} (f : SlaveValue → A) (place : ℕ) (bytes : List ℕ) (v : SlaveValue) (a : Answer) (w : SlaveValue) → f (with_part place bytes v) ≡ f v → Hands place bytes v a w → f w ≡ f v
+hands-part f place bytes v a w h k = either (nat_le (place + length bytes) (layout_of v).signals_length) _ _ _ k (λ m. ap f m.1 ∙ h) (λ m. ap f m.1)
+
 -- the sample of an event with its signals in place
 abbrev event_packets : ℕ → List ℕ → SlaveValue → List (ArrayVec ℕ)
 event_packets channel signals v = sampled channel v.time (with_signals signals v).transfer.pages v.daq
@@ -124,15 +129,15 @@ event_packets channel signals v = sampled channel v.time (with_signals signals v
 fires-single : (channel : ℕ) (signals : List ℕ) (v : SlaveValue) (a b : Answer) (w u : SlaveValue) → Fires channel signals v a w → Fires channel signals v b u → (a ≡ b) × (w ≡ u)
 fires-single channel signals v a b w u h k =
     both (nat_lt channel (length (layout_of v).events)) _ _ _ _ _ h k
-    (λ h k. both (length signals == (layout_of v).signals_length) _ _ _ _ _ h k (samples-single channel (event_packets channel signals v) (with_signals signals v) a b w u) (settled answers.BadSignals v a b w u))
+    (λ h k. both (takes_signals (layout_of v) (length signals)) _ _ _ _ _ h k (samples-single channel (event_packets channel signals v) (with_signals signals v) a b w u) (settled answers.BadSignals v a b w u))
     (settled answers.NoChannel v a b w u)
 
 fires-some : (channel : ℕ) (signals : List ℕ) (v : SlaveValue) → (a : Answer) × (w : SlaveValue) × Fires channel signals v a w
 fires-some channel signals v =
     one_of (nat_lt channel (length (layout_of v).events))
-    (λ a w. MatchBool (length signals == (layout_of v).signals_length) (Samples channel (event_packets channel signals v) (with_signals signals v) a w) ((a ≡ answers.BadSignals) × (w ≡ v)))
+    (λ a w. MatchBool (takes_signals (layout_of v) (length signals)) (Samples channel (event_packets channel signals v) (with_signals signals v) a w) ((a ≡ answers.BadSignals) × (w ≡ v)))
     (λ a w. (a ≡ answers.NoChannel) × (w ≡ v))
-    (one_of (length signals == (layout_of v).signals_length) (Samples channel (event_packets channel signals v) (with_signals signals v)) (λ a w. (a ≡ answers.BadSignals) × (w ≡ v))
+    (one_of (takes_signals (layout_of v) (length signals)) (Samples channel (event_packets channel signals v) (with_signals signals v)) (λ a w. (a ≡ answers.BadSignals) × (w ≡ v))
     (samples-some channel (event_packets channel signals v) (with_signals signals v))
     (answers.BadSignals, v, (refl, refl)))
     (answers.NoChannel, v, (refl, refl))
@@ -147,6 +152,8 @@ answers-single v requests.Drain a b w u h k = drains-single v.outbox v a b w u h
 answers-single v requests.FinishStore a b w u h k = both v.store _ _ _ _ _ h k (stores-single v a b w u) (settled answers.NoStore v a b w u)
 answers-single v requests.Hangup a b w u h k = settled answers.Silent (ended v) a b w u h k
 answers-single v (requests.Time time) a b w u h k = settled answers.Silent (at_time time v) a b w u h k
+answers-single v (requests.Signals place bytes) a b w u h k =
+    both (nat_le (place + length bytes.items) (layout_of v).signals_length) _ _ _ _ _ h k (settled answers.Silent (with_part place bytes.items v) a b w u) (settled answers.BadSignals v a b w u)
 
 -- and there are an answer and a slave after it
 pub answers-some : (v : SlaveValue) (q : Request) → (a : Answer) × (w : SlaveValue) × Answers v q a w
@@ -159,3 +166,6 @@ answers-some v requests.Drain = drains-some v.outbox v
 answers-some v requests.FinishStore = one_of v.store (Stores v) (λ a w. (a ≡ answers.NoStore) × (w ≡ v)) (stores-some v) (answers.NoStore, v, (refl, refl))
 answers-some v requests.Hangup = (answers.Silent, ended v, (refl, refl))
 answers-some v (requests.Time time) = (answers.Silent, at_time time v, (refl, refl))
+answers-some v (requests.Signals place bytes) =
+    one_of (nat_le (place + length bytes.items) (layout_of v).signals_length) (λ a w. (a ≡ answers.Silent) × (w ≡ with_part place bytes.items v)) (λ a w. (a ≡ answers.BadSignals) × (w ≡ v))
+    (answers.Silent, with_part place bytes.items v, (refl, refl)) (answers.BadSignals, v, (refl, refl))

@@ -32,6 +32,9 @@ use Rattle.xcp_transfer.specs.Uploads.{upload_row, short_upload_row, build_check
 use Rattle.xcp_transfer.specs.Downloads.{download_row, download_next_row, next_row, download_max_row, short_download_row, modify_bits_row, packet_room, greatest_download, max_bs, block_begun, block_with, downloaded}
 use Rattle.xcp_transfer.specs.Laws.{IsLawful}
 use Rattle.xcp_slave.proofs.ListInvariantLemmas.{NoneHolds, none-holds, is_below, is_true}
+use Rattle.xcp_memory.specs.declared.Class.{Class}
+use Rattle.xcp_memory.specs.declared.Class.TheVariants.{Papers, Large}
+use Rattle.xcp_memory.specs.Signals.{may_take}
 
 -- a write that isn't refused has a segment, whose tool doesn't have page 0
 pub outside : (b : Bool) → (if b then Some WriteProtected else Some AccessDenied) ≡ None → ⊥
@@ -319,3 +322,17 @@ pub signals-kept : (t : TransferValue) (signals : List ℕ) → IsLawful t → l
 signals-kept t signals h e =
     let q : PagesValue = record t.pages { signals = signals } in
     record { layout = h.layout; pages = record { count = h.pages.count; each = h.pages.each; signals = e }; transfer = record { mta = h.transfer.mta; block = block-kept t.pages q t.block (λ a n. signals-writable t.pages signals a n (segment_of t.pages.layout a n)) h.transfer.block } }
+
+-- how many bytes an event hands over is no more than there are
+no-more : (class : Class) (n size : ℕ) → may_take class n size ≡ true → n ≤ size
+no-more Papers n size h = grind (arith, nat_tests, h)
+no-more Large n size h = grind (arith, nat_tests, h)
+
+pub taken-fit : (class : Class) (n size : ℕ) → may_take class n size ≡ true → 0 + n ≤ size
+taken-fit class n size h = let few = no-more class n size h in omega (arith, few)
+
+-- signals that are handed over leave as many
+pub part-kept : (t : TransferValue) (place : ℕ) (bytes : List ℕ) → IsLawful t → place + length bytes ≤ t.pages.layout.signals_length → IsLawful (record t { pages = record t.pages { signals = overwritten t.pages.signals place bytes } })
+part-kept t place bytes h fits =
+    let long : place + length bytes ≤ length t.pages.signals = (let e = h.pages.signals in omega (arith, fits, e)) in
+    signals-kept t (overwritten t.pages.signals place bytes) h (length-overwritten t.pages.signals bytes place long ∙ h.pages.signals)

@@ -14,6 +14,7 @@ use Rattle.xcp_packet.specs.declared.Refuse.TheVariants as refuses
 use Rattle.xcp_packet.specs.declared.Reply.{Reply}
 use Rattle.xcp_packet.proofs.ByteOrderLemmas.{length-bytes_of}
 use Rattle.xcp_memory.specs.Layout.{LayoutValue, ExtrasValue, IsPlain, epk, description}
+use Rattle.xcp_memory.specs.Signals.{takes_signals}
 use Rattle.xcp_memory.specs.Memory.{Writes}
 use Rattle.xcp_memory.specs.Pages.{PagesValue}
 use Rattle.xcp_transfer.specs.declared.mta.Mta.TheVariants.{Nowhere, Memory, Text}
@@ -30,7 +31,7 @@ use Rattle.xcp_slave.specs.Step.{Answers, AnswersPacket, Heeds, Drains, Fires, o
 use Rattle.xcp_slave.specs.SlaveInvariant.{IsSlave}
 use Rattle.xcp_slave.specs.AcceptedCommands.{Accepts}
 use Rattle.xcp_slave.specs.CodesByEffect.{IsNone, IsBeside, IsNoEvent, mta_codes, session_codes, list_codes, store_codes}
-use Rattle.xcp_slave.proofs.StepLaws.{either}
+use Rattle.xcp_slave.proofs.StepLaws.{either, hands-part}
 use Rattle.xcp_slave.proofs.AcceptedCommandLaws.{accepted}
 use Rattle.xcp_slave.proofs.MemoryLaws.{bits-writes}
 
@@ -61,7 +62,7 @@ drains-part f (p ∷ rest) v a w h k = ap f k.1 ∙ h rest
 pub fires-part : {A : Type 0} (f : SlaveValue → A) (channel : ℕ) (signals : List ℕ) (v : SlaveValue) (a : Answer) (w : SlaveValue) → ((packets : List (ArrayVec ℕ)) (lost : Bool) → f (record (with_event channel (with_signals signals v)) { outbox = packets; overloaded = lost }) ≡ f v) → Fires channel signals v a w → f w ≡ f v
 fires-part f channel signals v a w h k =
     either (nat_lt channel (length (layout_of v).events)) _ _ _ k
-    (λ m. either (length signals == (layout_of v).signals_length) _ _ _ m
+    (λ m. either (takes_signals (layout_of v) (length signals)) _ _ _ m
     (λ n. either (nat_le (length v.outbox + length (with_overload (outbox_size v) v.overloaded _)) (outbox_size v)) _ _ _ n (λ o. ap f o.1 ∙ h _ _) (λ o. ap f o.1 ∙ h v.outbox _))
     (λ n. ap f n.1))
     (λ m. ap f m.1)
@@ -95,6 +96,7 @@ mta-kept v requests.Drain a w b n k = drains-part (λ x. x.transfer.mta) v.outbo
 mta-kept v requests.FinishStore a w b n k = stores-part (λ x. x.transfer.mta) v a w refl k
 mta-kept v requests.Hangup a w b n k = absurd (n refl)
 mta-kept v (requests.Time time) a w b n k = ap (λ (x : SlaveValue). x.transfer.mta) k.1
+mta-kept v (requests.Signals place bytes) a w b n k = hands-part (λ x. x.transfer.mta) place bytes.items v a w refl k
 
 -- whether a tool is connected
 
@@ -111,6 +113,7 @@ session-kept v requests.Drain a w b n k = drains-part (λ x. x.connected) v.outb
 session-kept v requests.FinishStore a w b n k = stores-part (λ x. x.connected) v a w refl k
 session-kept v requests.Hangup a w b n k = absurd (n refl)
 session-kept v (requests.Time time) a w b n k = ap (λ (x : SlaveValue). x.connected) k.1
+session-kept v (requests.Signals place bytes) a w b n k = hands-part (λ x. x.connected) place bytes.items v a w refl k
 
 -- the DAQ lists
 
@@ -138,6 +141,7 @@ lists-kept v requests.Drain a w b e n k = drains-part (λ x. x.daq) v.outbox v a
 lists-kept v requests.FinishStore a w b e n k = stores-part (λ x. x.daq) v a w refl k
 lists-kept v requests.Hangup a w b e n k = absurd (n refl)
 lists-kept v (requests.Time time) a w b e n k = ap (λ (x : SlaveValue). x.daq) k.1
+lists-kept v (requests.Signals place bytes) a w b e n k = hands-part (λ x. x.daq) place bytes.items v a w refl k
 
 -- the store request
 
@@ -153,6 +157,7 @@ store-kept v requests.Drain a w b n k = drains-part (λ x. x.store) v.outbox v a
 store-kept v requests.FinishStore a w b n k = absurd (n refl)
 store-kept v requests.Hangup a w b n k = ap (λ (x : SlaveValue). x.store) k.1
 store-kept v (requests.Time time) a w b n k = ap (λ (x : SlaveValue). x.store) k.1
+store-kept v (requests.Signals place bytes) a w b n k = hands-part (λ x. x.store) place bytes.items v a w refl k
 
 -- what a command changes, and nothing else
 

@@ -278,6 +278,7 @@ eventless-steps v requests.Drain a w q h k = inl (drains-still v.outbox v a w k)
 eventless-steps v requests.FinishStore a w q h k = absurd q
 eventless-steps v requests.Hangup a w q h k = inl (still v (ended v) w k.1 refl)
 eventless-steps v (requests.Time time) a w q h k = inl (still v (at_time time v) w k.1 refl)
+eventless-steps v (requests.Signals place bytes) a w q h k = absurd q
 
 -- a step without a switch, a copy, a store and an event leaves the memory as it was, or does one write
 pub eventless-touches : (v : SlaveValue) (q : Request) (a : Answer) (w : SlaveValue) → IsEventless q → IsSlave v → Answers v q a w → Touches v.transfer.pages w.transfer.pages

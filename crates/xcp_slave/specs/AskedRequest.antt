@@ -13,9 +13,11 @@ request_asked asks.Drain = requests.Drain
 request_asked asks.FinishStore = requests.FinishStore
 request_asked asks.Hangup = requests.Hangup
 request_asked (asks.Time time) = requests.Time time
+request_asked (asks.Signals place bytes) = requests.Signals place (record { items = bytes.now })
 
--- a command packet has at most 255 bytes, and an event at most 64 of signals
+-- a command packet has at most 255 bytes, an event at most 64 of signals, and signals that are handed over by themselves 255
 abbrev pub IsShort : Asked → Type 0
 IsShort (asks.Command bytes) = length bytes.now ≤ 255
 IsShort (asks.Event channel signals) = length signals.now ≤ 64
+IsShort (asks.Signals place bytes) = length bytes.now ≤ 255
 IsShort _ = ⊤

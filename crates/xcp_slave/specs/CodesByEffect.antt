@@ -44,3 +44,8 @@ IsBeside codes _ = Unit {0}
 abbrev pub IsNoEvent : Request → Type 0
 IsNoEvent (requests.Event channel signals) = ⊥
 IsNoEvent _ = Unit {0}
+
+-- nor signals
+abbrev pub HandsNothing : Request → Type 0
+HandsNothing (requests.Signals place bytes) = ⊥
+HandsNothing q = IsNoEvent q

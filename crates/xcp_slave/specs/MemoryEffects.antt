@@ -24,9 +24,10 @@ IsSteady (requests.Command packet) = (slice_index packet.items 0 ≢ 0xEB) × (s
 IsSteady requests.FinishStore = ⊥
 IsSteady _ = Unit {0}
 
--- nor an event, which brings new signals
+-- nor new signals, as an event brings them
 abbrev pub IsEventless : Request → Type 0
 IsEventless (requests.Event channel signals) = ⊥
+IsEventless (requests.Signals place bytes) = ⊥
 IsEventless q = IsSteady q
 
 -- nor a write (DOWNLOAD, F0, DOWNLOAD_NEXT, EF, DOWNLOAD_MAX, EE, SHORT_DOWNLOAD, ED, MODIFY_BITS, EC)

@@ -13,7 +13,9 @@ use Rattle.xcp_packet.specs.declared.Code.{Code}
 use Rattle.xcp_packet.specs.declared.Code.TheVariants.{CmdUnknown, CmdSyntax}
 use Rattle.xcp_memory.specs.Freeze.{pages_frozen, frozen_count}
 use Rattle.xcp_memory.specs.ClassLimits.{limits_of}
+use Rattle.xcp_memory.specs.ComputedAccess.{overwritten}
 use Rattle.xcp_memory.specs.Layout.{LayoutValue}
+use Rattle.xcp_memory.specs.Signals.{takes_signals}
 use Rattle.xcp_transfer.specs.TransferValue.{response_room}
 use Rattle.xcp_packet.specs.Rows.{Meets}
 use Rattle.xcp_daq.specs.Sample.{sampled, after_event}
@@ -101,9 +103,13 @@ Stores v a w =
     ((a ≡ answers.Later) × (w ≡ v))
     ((a ≡ answers.Stored (frozen_count v.transfer.pages)) × (w ≡ stored v))
 
--- the slave with these signals
+-- the slave with these bytes of signals from a place on; what isn't handed over stays
+abbrev pub with_part : ℕ → List ℕ → SlaveValue → SlaveValue
+with_part place bytes v = record v { transfer = record v.transfer { pages = record v.transfer.pages { signals = overwritten v.transfer.pages.signals place bytes } } }
+
+-- the slave with these first bytes of signals
 abbrev pub with_signals : List ℕ → SlaveValue → SlaveValue
-with_signals signals v = record v { transfer = record v.transfer { pages = record v.transfer.pages { signals = signals } } }
+with_signals signals v = with_part 0 signals v
 
 -- the slave once its lists have counted an event
 abbrev pub with_event : ℕ → SlaveValue → SlaveValue
@@ -149,15 +155,22 @@ Samples channel packets v a w =
     ((a ≡ answers.Sampled (length (with_overload (outbox_size v) v.overloaded packets))) × (w ≡ with_sample channel packets v))
     ((a ≡ answers.Overrun) × (w ≡ with_loss channel v))
 
--- An event: its channel has to be one of the layout's, and its signals as many bytes as the layout says; they become the
--- content of the signals area first.
+-- An event: its channel has to be one of the layout's, and its signals as many bytes as the layout takes; they become the first bytes of
+-- the signals area first.
 abbrev pub Fires : ℕ → List ℕ → SlaveValue → Answer → SlaveValue → Type 0
 Fires channel signals v a w =
     MatchBool (nat_lt channel (length (layout_of v).events))
-    (MatchBool (length signals == (layout_of v).signals_length)
+    (MatchBool (takes_signals (layout_of v) (length signals))
     (Samples channel (sampled channel v.time (with_signals signals v).transfer.pages v.daq) (with_signals signals v) a w)
     ((a ≡ answers.BadSignals) × (w ≡ v)))
     ((a ≡ answers.NoChannel) × (w ≡ v))
+
+-- Signals that are handed over by themselves, from a place on: all these bytes have to lie in the signals area.
+abbrev pub Hands : ℕ → List ℕ → SlaveValue → Answer → SlaveValue → Type 0
+Hands place bytes v a w =
+    MatchBool (nat_le (place + length bytes) (layout_of v).signals_length)
+    ((a ≡ answers.Silent) × (w ≡ with_part place bytes v))
+    ((a ≡ answers.BadSignals) × (w ≡ v))
 
 -- the later of two times
 abbrev pub later : ℕ → ℕ → ℕ
@@ -176,3 +189,4 @@ Answers v requests.Drain a w = Drains v.outbox v a w
 Answers v requests.FinishStore a w = MatchBool v.store (Stores v a w) ((a ≡ answers.NoStore) × (w ≡ v))
 Answers v requests.Hangup a w = (a ≡ answers.Silent) × (w ≡ ended v)
 Answers v (requests.Time time) a w = (a ≡ answers.Silent) × (w ≡ at_time time v)
+Answers v (requests.Signals place bytes) a w = Hands place bytes.items v a w

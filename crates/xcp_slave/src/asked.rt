@@ -10,7 +10,7 @@ use crate::packet::taken;
 pub enum Asked<'a> {
     /// A command packet (CTO) as it came, of at most 255 bytes.
     Command(&'a [u8]),
-    /// An event channel fires: its number, and the signals that the controller measured, at most 64 bytes.
+    /// An event channel fires: its number, and the first bytes of the signals that the controller measured, at most 64.
     Event(u16, &'a [u8]),
     /// The transport takes the first data or event packet that is ready to be sent.
     Drain,
@@ -20,6 +20,8 @@ pub enum Asked<'a> {
     Hangup,
     /// The clock stands at this time, in ticks of the layout's clock.
     Time(u64),
+    /// The controller hands signals over by themselves: from this place on, these bytes, at most 255.
+    Signals(u16, &'a [u8]),
 }
 
 impl Asked<'_> {
@@ -35,6 +37,7 @@ impl Asked<'_> {
             Asked::FinishStore => Request::FinishStore,
             Asked::Hangup => Request::Hangup,
             Asked::Time(time) => Request::Time(time),
+            Asked::Signals(place, bytes) => Request::Signals(place, taken(bytes)),
         }
     }
 }

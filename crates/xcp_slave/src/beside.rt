@@ -7,7 +7,7 @@ ghost use Rattle.xcp_memory.specs.Memory.{Writes};
 ghost use Rattle.xcp_memory.specs.Pages.{segment_at};
 ghost use Rattle.xcp_packet.specs.declared.Command.{Command};
 ghost use Rattle.xcp_slave.specs.AcceptedCommands.{Accepts};
-ghost use Rattle.xcp_slave.specs.CodesByEffect.{IsBeside, IsNoEvent, list_codes, mode_codes, mta_codes, session_codes, store_codes, switch_codes};
+ghost use Rattle.xcp_slave.specs.CodesByEffect.{HandsNothing, IsBeside, IsNoEvent, list_codes, mode_codes, mta_codes, session_codes, store_codes, switch_codes};
 ghost use Rattle.xcp_slave.specs.SlaveInvariant.{IsSlave};
 ghost use Rattle.xcp_slave.specs.Step.{Answers};
 ghost use Rattle.xcp_slave.specs.SlaveValue.{SlaveValue, layout_of};
@@ -43,7 +43,7 @@ pub fn a_session_changes_by_its_own_requests()
 pub fn numbers_modes_and_signals_change_by_their_own()
     ensures numbers { (v : SlaveValue) (q : Request) (a : Answer) (w : SlaveValue) (i : ℕ) → IsBeside switch_codes q → Answers v q a w → ((segment_at w.transfer.pages i).ecu ≡ (segment_at v.transfer.pages i).ecu) × ((segment_at w.transfer.pages i).xcp ≡ (segment_at v.transfer.pages i).xcp) }
     ensures modes { (v : SlaveValue) (q : Request) (a : Answer) (w : SlaveValue) (i : ℕ) → IsBeside mode_codes q → Answers v q a w → (segment_at w.transfer.pages i).freeze ≡ (segment_at v.transfer.pages i).freeze }
-    ensures signals { (v : SlaveValue) (q : Request) (a : Answer) (w : SlaveValue) → IsNoEvent q → Answers v q a w → w.transfer.pages.signals ≡ v.transfer.pages.signals }
+    ensures signals { (v : SlaveValue) (q : Request) (a : Answer) (w : SlaveValue) → HandsNothing q → Answers v q a w → w.transfer.pages.signals ≡ v.transfer.pages.signals }
 {}
 
 /// CONNECT begins a session with the MTA nowhere and no block under way, and changes nothing else, also

@@ -19,7 +19,7 @@ pub enum Outcome<P> {
     Overrun,
     /// The layout has no such event channel.
     NoChannel,
-    /// The signals aren't as many bytes as the layout's.
+    /// The signals aren't as many bytes as the layout takes, or don't lie in the signals area.
     BadSignals,
     /// No packet is ready.
     Nothing,

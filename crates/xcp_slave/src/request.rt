@@ -7,13 +7,13 @@ use crate::packet::copied;
 use arrayvec::ArrayVec;
 use xcp_packet::Packet;
 
-/// A request to a slave: a command packet of the tool, or one of the five things that the
+/// A request to a slave: a command packet of the tool, or one of the six things that the
 /// controller and the transport ask of it.
 #[derive(Debug, PartialEq, Eq, Drop)]
 pub enum Request {
     /// A command packet (CTO) as it came, of at most 255 bytes.
     Command(Packet),
-    /// An event channel fires: its number, and the signals that the controller measured.
+    /// An event channel fires: its number, and the first bytes of the signals that the controller measured.
     Event(u16, ArrayVec<u8, 64>),
     /// The transport takes the first data or event packet that is ready to be sent.
     Drain,
@@ -23,6 +23,8 @@ pub enum Request {
     Hangup,
     /// The clock stands at this time, in ticks of the layout's clock.
     Time(u64),
+    /// The controller hands signals over by themselves: from this place on, these bytes. What isn't handed over stays.
+    Signals(u16, ArrayVec<u8, 255>),
 }
 
 impl Request {
@@ -38,6 +40,7 @@ impl Request {
             Request::FinishStore => Asked::FinishStore,
             Request::Hangup => Asked::Hangup,
             Request::Time(time) => Asked::Time(*time),
+            Request::Signals(place, bytes) => Asked::Signals(*place, bytes),
         }
     }
 
@@ -52,6 +55,7 @@ impl Request {
             Request::FinishStore => Request::FinishStore,
             Request::Hangup => Request::Hangup,
             Request::Time(time) => Request::Time(*time),
+            Request::Signals(place, bytes) => Request::Signals(*place, copied(bytes)),
         }
     }
 }

@@ -266,6 +266,7 @@ impl Slave {
                 self.tick(time);
                 Told::Silent
             }
+            Asked::Signals(place, bytes) => self.hand_over(place, bytes),
         }
     }
 

@@ -1,5 +1,5 @@
 -- What is written is read again.
-use Rattle.std.proofs.Common.{◌≡◌, ◌≤◌, ◌<◌, ℕ, ◌/◌, ◌%◌, ◌^◌, List, drop, sym, [], ◌∷◌, ◌++◌, length, refl, ap, ◌∙◌, arith}
+use Rattle.std.proofs.Common.{◌≡◌, ◌≢◌, ◌≤◌, ◌<◌, ℕ, ◌/◌, ◌%◌, ◌^◌, List, drop, sym, [], ◌∷◌, ◌++◌, length, refl, ap, ◌∙◌, arith}
 use Rattle.std.specs.Prelude.{map, slice_index}
 use Rattle.std.specs.List.{AllByRecursion}
 use Rattle.std.proofs.Math.Nat.{mod-add-div', mod-eq_of_lt, mod-lt, div-lt_iff_lt-mul}
@@ -33,6 +33,7 @@ request_again requests.Drain h = refl
 request_again requests.FinishStore h = refl
 request_again requests.Hangup h = refl
 request_again (requests.Time time) h = ap requests.Time (time_again time h)
+request_again (requests.Signals place bytes) h = refl
 
 -- an exchange is read again off the string of its parts
 pub exchange_again : (r : Request) (tag n : ℕ) (bytes : List ℕ) → IsSpelt r → exchange_in (spelling r tag n bytes) ≡ record { request = r; answer = answer_of tag n bytes }
@@ -56,7 +57,7 @@ string_is r tag channel kind count pair asked told is_tag is_channel is_asked lo
     rw (is_pair, high_is channel low, is_tag, is_channel, is_asked) refl
 
 -- a spelling has its parts in their places
-pub fits : (r : Request) (kind count : ℕ) (told : List ℕ) → length (request_bytes r) ≤ 255 → (request_tag r ≡ 1 → length (request_bytes r) ≤ 64) → (4 < request_tag r → length (request_bytes r) ≡ 8)
+pub fits : (r : Request) (kind count : ℕ) (told : List ℕ) → length (request_bytes r) ≤ 255 → (request_tag r ≡ 1 → length (request_bytes r) ≤ 64) → (4 < request_tag r → request_tag r ≢ 6 → length (request_bytes r) ≡ 8)
     → length told ≤ 255 → (9 < kind → (7 ≤ count) × (count ≤ 254)) → IsExchangeString (spelling r kind count told)
 fits r kind count told asked signals time short width =
     let e = length-append (request_bytes r) told in

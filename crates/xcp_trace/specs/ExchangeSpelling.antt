@@ -1,6 +1,6 @@
 -- What exchange a string spells: a head of six bytes, then the bytes of the request and those of the answer. The head is the
 -- request's tag, its channel (the low byte first), the answer's tag, its number, and the length of the request's bytes.
-use Rattle.std.specs.Prelude.{◌≡◌, ◌≤◌, ◌<◌, ℕ, ◌+◌, ◌*◌, ◌/◌, ◌%◌, ◌^◌, List, [], ◌∷◌, ◌++◌, length, take, drop, slice_index, ◌==◌, if◌then◌else◌}
+use Rattle.std.specs.Prelude.{◌≡◌, ◌≢◌, ◌≤◌, ◌<◌, ℕ, ◌+◌, ◌*◌, ◌/◌, ◌%◌, ◌^◌, List, [], ◌∷◌, ◌++◌, length, take, drop, slice_index, ◌==◌, if◌then◌else◌}
 use Rattle.xcp_packet.specs.ByteOrder.{double_at, double_bytes}
 use Rattle.xcp_packet.specs.declared.Order.TheVariants.{Intel}
 use Rattle.xcp_packet.specs.PacketTrains.{block_packets}
@@ -22,7 +22,7 @@ abbrev pub IsSpelt : Request → Type 0
 IsSpelt (requests.Time time) = time < 2 ^ 64
 IsSpelt _ = Unit {0}
 
--- a request as a tag, a channel and bytes
+-- A request as a tag, a channel and bytes. Of signals that are handed over by themselves the place stands for the channel.
 abbrev pub request_tag : Request → ℕ
 request_tag (requests.Command packet) = 0
 request_tag (requests.Event channel signals) = 1
@@ -30,15 +30,18 @@ request_tag requests.Drain = 2
 request_tag requests.FinishStore = 3
 request_tag requests.Hangup = 4
 request_tag (requests.Time time) = 5
+request_tag (requests.Signals place bytes) = 6
 
 abbrev pub request_channel : Request → ℕ
 request_channel (requests.Event channel signals) = channel
+request_channel (requests.Signals place bytes) = place
 request_channel _ = 0
 
 abbrev pub request_bytes : Request → List ℕ
 request_bytes (requests.Command packet) = packet.items
 request_bytes (requests.Event channel signals) = signals.items
 request_bytes (requests.Time time) = time_bytes time
+request_bytes (requests.Signals place bytes) = bytes.items
 request_bytes _ = []
 
 -- the request of a tag, a channel and bytes
@@ -48,7 +51,8 @@ request_of tag channel bytes =
     if tag == 1 then requests.Event channel (record { items = bytes }) else (
     if tag == 2 then requests.Drain else (
     if tag == 3 then requests.FinishStore else (
-    if tag == 4 then requests.Hangup else requests.Time (time_in bytes)))))
+    if tag == 4 then requests.Hangup else (
+    if tag == 6 then requests.Signals channel (record { items = bytes }) else requests.Time (time_in bytes))))))
 
 -- The answer of a tag, a number and bytes: of tag 1 the packet of these bytes, and of 10 the block of them, so many to a
 -- packet.
@@ -71,7 +75,7 @@ pub record IsExchangeString (string : List ℕ) : Type 0 where
   pub whole : 6 + slice_index string 5 ≤ length string
   pub asked : slice_index string 5 ≤ 255
   pub signals : slice_index string 0 ≡ 1 → slice_index string 5 ≤ 64
-  pub time : 4 < slice_index string 0 → slice_index string 5 ≡ 8
+  pub time : 4 < slice_index string 0 → slice_index string 0 ≢ 6 → slice_index string 5 ≡ 8
   pub told : length string ≤ 6 + slice_index string 5 + 255
   pub width : 9 < slice_index string 3 → (7 ≤ slice_index string 4) × (slice_index string 4 ≤ 254)
 

@@ -30,8 +30,11 @@ pub(crate) fn first_string(bytes: &[u8]) -> Option<(&[u8], &[u8])>
     Some((string, others))
 }
 
-/// The last tag of a request that is no time.
+/// The last tag of a request that is neither a time nor signals.
 const TAG_OF_HANGUP: u8 = 4;
+
+/// The tag of a request that hands signals over. Each other one behind the last is a time.
+const TAG_OF_SIGNALS: u8 = 6;
 
 /// Whether a string spells an entry.
 fn spells_entry(string: &[u8]) -> bool
@@ -41,7 +44,7 @@ fn spells_entry(string: &[u8]) -> bool
         return false;
     }
     let asked = string[6] as usize;
-    if string[1] > TAG_OF_HANGUP && asked != TIME_BYTES {
+    if string[1] > TAG_OF_HANGUP && string[1] != TAG_OF_SIGNALS && asked != TIME_BYTES {
         return false;
     }
     let head = CALLER_BYTES + HEAD_BYTES + asked;

@@ -1,5 +1,5 @@
 //! The string of an exchange, in its parts.
-ghost use Rattle.std.specs.Prelude.{◌≡◌, ◌≤◌, ◌<◌, ◌++◌, length};
+ghost use Rattle.std.specs.Prelude.{◌≡◌, ◌≢◌, ◌≤◌, ◌<◌, ◌++◌, length};
 ghost use Rattle.xcp_slave.specs.Outcomes.{Answer};
 ghost use Rattle.xcp_slave.specs.AnswerInBytes.{answer_in};
 ghost use Rattle.xcp_slave.specs.AskedRequest.{IsShort, request_asked};
@@ -103,7 +103,7 @@ fn request_parts<'a>(request: Asked<'a>, clock: &'a mut [u8; TIME_BYTES]) -> (u8
     ensures bytes { result.2.now ≡ request_bytes (request_asked request.entry) }
     ensures short { length result.2.now ≤ 255 }
     ensures signals { result.0 ≡ 1 → length result.2.now ≤ 64 }
-    ensures time { 4 < result.0 → length result.2.now ≡ 8 }
+    ensures time { 4 < result.0 → result.0 ≢ 6 → length result.2.now ≡ 8 }
     ensures spelt { IsSpelt (request_asked request.entry) }
 {
     match request {
@@ -116,6 +116,7 @@ fn request_parts<'a>(request: Asked<'a>, clock: &'a mut [u8; TIME_BYTES]) -> (u8
             *clock = bytes_of_time(time);
             (5, 0, clock.as_slice())
         }
+        Asked::Signals(place, bytes) => (6, place, bytes),
     }
 }
 
@@ -165,7 +166,7 @@ fn answer_parts<'a>(told: &Told, packet: &'a Packet) -> (u8, u8, &'a [u8])
 fn request_of(tag: u8, channel: u16, bytes: &[u8]) -> Request
     requires short { length bytes.now ≤ 255 }
     requires signals { tag ≡ 1 → length bytes.now ≤ 64 }
-    requires time { 4 < tag → length bytes.now ≡ 8 }
+    requires time { 4 < tag → tag ≢ 6 → length bytes.now ≡ 8 }
     ensures { result ≡ request_of tag channel bytes.now }
 {
     match tag {
@@ -174,6 +175,7 @@ fn request_of(tag: u8, channel: u16, bytes: &[u8]) -> Request
         2 => Request::Drain,
         3 => Request::FinishStore,
         4 => Request::Hangup,
+        6 => Request::Signals(channel, taken(bytes)),
         _ => Request::Time(time_of(bytes)),
     }
 }

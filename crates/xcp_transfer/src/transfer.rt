@@ -1,5 +1,6 @@
 //! The tool's transfers: its memory transfer address, and the block under way.
-ghost use Rattle.std.specs.Prelude.{◌≡◌, ◌≢◌, length, None, OnOk, IfErr, IfOk, MatchBool};
+ghost use Rattle.std.specs.Prelude.{◌≡◌, ◌≢◌, ◌+◌, ◌≤◌, length, None, OnOk, IfErr, IfOk, MatchBool};
+ghost use Rattle.xcp_memory.specs.ComputedAccess.{overwritten};
 ghost use Rattle.xcp_memory.specs.PageCopy.{copy_refusal, pages_copied};
 ghost use Rattle.xcp_memory.specs.Freeze.{set_freeze_refusal, pages_with_mode, pages_frozen, frozen_count};
 ghost use Rattle.xcp_memory.specs.PageSwitch.{switch_refusal, pages_switched};
@@ -169,13 +170,12 @@ impl Transfer {
         self.pages.freeze()
     }
 
-    /// Makes these bytes, as many as the layout says, the content of the signals area. A block
-    /// under way goes on.
-    pub fn set_signals(&mut self, bytes: &[u8])
-        requires { length bytes.now ≡ self.old.pages.layout.signals_length }
-        ensures { self.new ≡ record self.old { pages = record self.old.pages { signals = bytes.now } } }
+    /// Makes these bytes the content of the signals area from a place on. A block under way goes on.
+    pub fn set_signals(&mut self, place: usize, bytes: &[u8])
+        requires { place + length bytes.now ≤ self.old.pages.layout.signals_length }
+        ensures { self.new ≡ record self.old { pages = record self.old.pages { signals = overwritten self.old.pages.signals place bytes.now } } }
     {
-        self.pages.set_signals(bytes);
+        self.pages.set_signals(place, bytes);
     }
 }
 

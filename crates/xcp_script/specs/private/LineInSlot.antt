@@ -9,7 +9,7 @@ use Rattle.xcp_script.specs.declared.line.Line.TheVariants as lines
 use Rattle.xcp_script.specs.declared.slot.Parsed.{Parsed}
 use Rattle.xcp_script.specs.declared.slot.Parsed.TheVariants as parseds
 
--- what a line says, with the request whose command or signals the slot has
+-- what a line says, with the request whose bytes the slot has: those of a command, and of signals that are handed over by themselves, in one place
 abbrev pub line_in : Parsed → ArrayVec ℕ → ArrayVec ℕ → Line
 line_in parseds.Skip command signals = lines.Skip
 line_in parseds.Command command signals = lines.Ask (requests.Command command)
@@ -18,6 +18,7 @@ line_in parseds.Drain command signals = lines.Ask requests.Drain
 line_in parseds.FinishStore command signals = lines.Ask requests.FinishStore
 line_in parseds.Hangup command signals = lines.Ask requests.Hangup
 line_in (parseds.Time time) command signals = lines.Ask (requests.Time time)
+line_in (parseds.Signals place) command signals = lines.Ask (requests.Signals place command)
 line_in parseds.Faulty command signals = lines.Faulty
 
 -- what a line says that isn't faulty, with the request that it asks, if any

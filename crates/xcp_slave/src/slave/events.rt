@@ -1,7 +1,7 @@
 //! What the controller and the transport ask: events, packets that wait, and stores.
-ghost use Rattle.std.specs.Prelude.{◌≡◌, ℕ, MatchBool, [], ◌∷◌};
+ghost use Rattle.std.specs.Prelude.{◌≡◌, ◌≤◌, ℕ, MatchBool, [], ◌∷◌, length};
 ghost use Rattle.arrayvec.specs.ArrayVec.{ArrayVec};
-ghost use Rattle.xcp_slave.specs.Step.{Drains, Fires, Samples, Stores, overload_event, store_event};
+ghost use Rattle.xcp_slave.specs.Step.{Drains, Fires, Hands, Samples, Stores, overload_event, store_event};
 ghost use Rattle.xcp_slave.specs.AnswerInBytes.{answer_in};
 ghost use Rattle.xcp_daq.specs.Sample.{sampled};
 
@@ -25,11 +25,24 @@ impl Slave {
         if channel as usize >= layout.event_count() {
             return Told::NoChannel;
         }
-        if signals.len() != layout.signals_length() {
+        if !layout.takes_signals(signals.len()) {
             return Told::BadSignals;
         }
-        self.transfer.set_signals(signals);
+        self.transfer.set_signals(0, signals);
         self.sample(channel)
+    }
+
+    /// Signals are handed over by themselves.
+    pub(super) fn hand_over(&mut self, place: u16, bytes: &[u8]) -> Told
+        requires { length bytes.now ≤ 255 }
+        ensures { (packet : ArrayVec ℕ) → Hands place bytes.now self.old (answer_in result packet) self.new }
+    {
+        let place = usize::from(place);
+        if place + bytes.len() > self.transfer.pages().layout().signals_length() {
+            return Told::BadSignals;
+        }
+        self.transfer.set_signals(place, bytes);
+        Told::Silent
     }
 
     /// All packets of a sample wait, or none: without room for them the event is counted alone, and nothing is sampled. Before

@@ -1,4 +1,4 @@
-use Rattle.xcp_laws.proofs.EventAnswers.{event-nowhere, event-unsized, event-taken}
+use Rattle.xcp_laws.proofs.EventAnswers.{event-long, event-nowhere, event-part, event-unsized, event-taken}
 use Rattle.xcp_laws.proofs.events.an_event_is_asked_for_its_channel_first.Goals as goal
 
 pub returns-clause-channel : goal.returns-clause-channel
@@ -9,3 +9,9 @@ returns-clause-signals c = event-unsized
 
 pub returns-clause-taken : goal.returns-clause-taken
 returns-clause-taken c = event-taken
+
+pub returns-clause-long : goal.returns-clause-long
+returns-clause-long c = event-long
+
+pub returns-clause-part : goal.returns-clause-part
+returns-clause-part c = event-part
